@@ -1,0 +1,3 @@
+pub mod PointOrder
+pub mod RangesLemmas
+pub mod TextsLemmas

@@ -1,0 +1,20 @@
+-- What a call answers, exact both ways.
+use Rattle.std.specs.Prelude.{◌≡◌, Option, Some, None, Result, Ok, Err}
+use Rattle.fdb_keys.specs.declared.refusal.Refusal.{Refusal}
+use Rattle.fdb_keys.specs.declared.refusal.Refusal.TheVariants.{NoMemory}
+use Rattle.fdb_keys.specs.declared.refusal.Refused.{Refused}
+
+-- The call is refused exactly where there is a fault, with that fault. Without one it may still
+-- lack memory, and otherwise what it gives has the property.
+abbrev pub Answers : {T : Type 0} → Result T Refusal → Option Refusal → (T → Type 0) → Type 0
+Answers (Ok given) None P = P given
+Answers (Ok given) (Some fault) P = ⊥
+Answers (Err why) None P = why ≡ NoMemory
+Answers (Err why) (Some fault) P = why ≡ fault
+
+-- The same where a refusal hands back what the call was given.
+abbrev pub AnswersOrHandsBack : {T B : Type 0} → Result T (Refused B) → B → Option Refusal → (T → Type 0) → Type 0
+AnswersOrHandsBack (Ok given) back None P = P given
+AnswersOrHandsBack (Ok given) back (Some fault) P = ⊥
+AnswersOrHandsBack (Err refused) back None P = (refused.why ≡ NoMemory) × (refused.back ≡ back)
+AnswersOrHandsBack (Err refused) back (Some fault) P = (refused.why ≡ fault) × (refused.back ≡ back)

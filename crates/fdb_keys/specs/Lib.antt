@@ -1,0 +1,5 @@
+pub mod Answers
+pub mod Points
+pub mod Ranges
+pub mod Refusals
+pub mod Texts

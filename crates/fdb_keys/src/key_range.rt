@@ -1,0 +1,106 @@
+use crate::key::Key;
+use crate::order::{have_common_point, is_before, is_behind_ff};
+use crate::refusal::Refusal;
+use bytes::Bytes;
+use std::alloc::Global;
+use std::marker::Model;
+
+/// The most bytes that a bound of a range may have. It is one more than a key has, so that a bound can
+/// come right behind every key.
+pub const BOUND_LIMIT: usize = 10_001;
+
+/// The keys from a begin up to but not including an end.
+#[derive(Clone, Debug, Drop, PartialEq, Eq)]
+pub struct KeyRange {
+    begin: Bytes,
+    end: Bytes,
+}
+
+impl Model for KeyRange {
+    ghost use Rattle.std.specs.Prelude.{◌&&◌, not, IsTrue};
+    ghost use Rattle.fdb_keys.specs.Points.{point_lt};
+    ghost use Rattle.fdb_keys.specs.Ranges.{Range};
+    ghost use Rattle.fdb_keys.specs.Texts.{is_bound};
+
+    ghost Value = { Range };
+
+    ghost view = { λ range. record { begin = range.begin; end = range.end } };
+
+    ghost invariant = { λ range. IsTrue (is_bound range.begin && is_bound range.end && not (point_lt range.end range.begin)) };
+
+    ghost inverse = { λ range. record { begin = range.begin; end = range.end } };
+}
+
+impl KeyRange {
+    ghost use Rattle.std.specs.Prelude.{◌≡◌, Some, None, IsTrue, ◌↔◌, Bool, true};
+    ghost use Rattle.fdb_keys.specs.Answers.{Answers};
+    ghost use Rattle.fdb_keys.specs.Points.{Point};
+    ghost use Rattle.fdb_keys.specs.Ranges.{in_range, single_range, is_empty_range, ranges_meet};
+    ghost use Rattle.fdb_keys.specs.Texts.{range_fault};
+
+    /// The range from `begin` up to but not including `end`. Refused as `KeyTooLarge` where a bound
+    /// exceeds 10,001 bytes, as `KeyOutsideLegalRange` where one comes behind the one byte `FF`, and as
+    /// `InvertedRange` where the end comes before the begin. Equal bounds give the empty range.
+    pub fn new(alloc: Global, begin: &[u8], end: &[u8]) -> Result<Self, Refusal>
+        ensures { Answers result (range_fault begin.now end.now) (λ range. range ≡ record { begin = begin.now; end = end.now }) }
+    {
+        if begin.len() > BOUND_LIMIT || end.len() > BOUND_LIMIT {
+            return Err(Refusal::KeyTooLarge);
+        }
+        if is_behind_ff(begin) || is_behind_ff(end) {
+            return Err(Refusal::KeyOutsideLegalRange);
+        }
+        if is_before(end, begin) {
+            return Err(Refusal::InvertedRange);
+        }
+        let begin = Bytes::copy_from_slice(alloc, begin)?;
+        let end = Bytes::copy_from_slice(alloc, end)?;
+        Ok(KeyRange { begin, end })
+    }
+
+    /// The range of one key alone, which ends right behind it.
+    pub fn single(alloc: Global, key: &Key) -> Result<Self, Refusal>
+        ensures { Answers result None (λ range. range ≡ single_range key.now) }
+    {
+        let mut end = Vec::with_capacity(alloc, key.bytes().len() + 1)?;
+        end.extend_from_slice(key.bytes())?;
+        end.push(0)?;
+        KeyRange::new(alloc, key.bytes(), end.as_slice())
+    }
+
+    /// The bytes of the range's begin, which it includes.
+    pub fn begin(&self) -> &[u8]
+        ensures { result.now ≡ self.now.begin }
+    {
+        self.begin.as_slice()
+    }
+
+    /// The bytes of the range's end, which it doesn't include.
+    pub fn end(&self) -> &[u8]
+        ensures { result.now ≡ self.now.end }
+    {
+        self.end.as_slice()
+    }
+
+    /// Whether the key lies in the range.
+    pub fn contains(&self, key: &Key) -> bool
+        ensures { result ≡ in_range self.now key.now }
+    {
+        !is_before(key.bytes(), self.begin()) && is_before(key.bytes(), self.end())
+    }
+
+    /// Whether some key or bound lies in both ranges.
+    pub fn meets(&self, other: &KeyRange) -> bool
+        ensures value { result ≡ ranges_meet self.now other.now }
+        ensures common { IsTrue result ↔ ((x : Point) × (in_range self.now x ≡ true) × (in_range other.now x ≡ true)) }
+    {
+        have_common_point(self.begin(), self.end(), other.begin(), other.end())
+    }
+
+    /// Whether the range has no point, as it has none where its bounds are equal.
+    pub fn is_empty(&self) -> bool
+        ensures { result ≡ is_empty_range self.now }
+    {
+        !is_before(self.begin(), self.end())
+    }
+}

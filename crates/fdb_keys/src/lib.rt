@@ -1,0 +1,15 @@
+//! Keys, ranges of keys and sets of ranges, with the refusals that every crate above answers.
+#![tactic(auto)]
+
+mod items;
+mod key;
+mod key_range;
+mod order;
+mod range_set;
+mod refusal;
+
+pub use items::Items;
+pub use key::{KEY_LIMIT, Key};
+pub use key_range::{BOUND_LIMIT, KeyRange};
+pub use range_set::RangeSet;
+pub use refusal::{Refusal, Refused};

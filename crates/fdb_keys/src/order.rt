@@ -1,0 +1,37 @@
+// The order of points, as tests over slices.
+ghost use Rattle.std.specs.Prelude.{◌≡◌};
+ghost use Rattle.fdb_keys.specs.Points.{point_lt};
+ghost use Rattle.fdb_keys.specs.Ranges.{Range, ranges_meet};
+ghost use Rattle.fdb_keys.specs.Texts.{begins_with_ff, is_behind_ff};
+
+#[tactic(auto, unfolding(crate::specs::Points::point_lt))]
+pub(crate) fn is_before(a: &[u8], b: &[u8]) -> bool
+    ensures { result ≡ point_lt a.now b.now }
+{
+    a.cmp(&b).is_lt()
+}
+
+pub(crate) fn begins_with_ff(text: &[u8]) -> bool
+    ensures { result ≡ begins_with_ff text.now }
+{
+    match text {
+        [] => false,
+        [first, ..] => *first == 0xff,
+    }
+}
+
+pub(crate) fn is_behind_ff(text: &[u8]) -> bool
+    ensures { result ≡ is_behind_ff text.now }
+{
+    is_before(&[0xff], text)
+}
+
+// Whether the ranges from a begin to an end have a point in common.
+pub(crate) fn have_common_point(a_begin: &[u8], a_end: &[u8], b_begin: &[u8], b_end: &[u8]) -> bool
+    ensures { result ≡ ranges_meet (record { begin = a_begin.now; end = a_end.now }) (record { begin = b_begin.now; end = b_end.now }) }
+{
+    is_before(a_begin, a_end)
+        && is_before(a_begin, b_end)
+        && is_before(b_begin, a_end)
+        && is_before(b_begin, b_end)
+}
