@@ -18,3 +18,10 @@ AnswersOrHandsBack (Ok given) back None P = P given
 AnswersOrHandsBack (Ok given) back (Some fault) P = ⊥
 AnswersOrHandsBack (Err refused) back None P = (refused.why ≡ NoMemory) × (refused.back ≡ back)
 AnswersOrHandsBack (Err refused) back (Some fault) P = (refused.why ≡ fault) × (refused.back ≡ back)
+
+-- The call is refused exactly where there is a fault, with that fault. It takes no memory.
+abbrev pub AnswersExactly : {T : Type 0} → Result T Refusal → Option Refusal → (T → Type 0) → Type 0
+AnswersExactly (Ok given) None P = P given
+AnswersExactly (Ok given) (Some fault) P = ⊥
+AnswersExactly (Err why) None P = ⊥
+AnswersExactly (Err why) (Some fault) P = why ≡ fault

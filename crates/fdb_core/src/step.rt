@@ -1,0 +1,125 @@
+use bytes::Bytes;
+use fdb_keys::{Items, Key};
+use fdb_mutations::Mutation;
+
+/// One step of a client or of a role. Roles, entries and sessions are named by their numbers, from 0.
+#[derive(Clone, Debug, Drop, PartialEq, Eq)]
+pub enum Step {
+    /// The session asks a read-version proxy for a transaction. One that is open is dropped.
+    Ask {
+        session: u32,
+        proxy: u32,
+    },
+    /// The read-version proxy serves all who ask there with the committed version.
+    Grant {
+        proxy: u32,
+    },
+    /// The session's transaction reads a key.
+    Get {
+        session: u32,
+        key: Key,
+        snapshot: bool,
+    },
+    /// The session's transaction buffers a mutation.
+    Write {
+        session: u32,
+        mutation: Mutation,
+    },
+    /// The session submits its transaction to a commit proxy.
+    Submit {
+        session: u32,
+        proxy: u32,
+    },
+    /// The commit proxy takes those who wait as one batch, at a version that is `advance` above the last.
+    Seal {
+        proxy: u32,
+        advance: u64,
+    },
+    /// The resolver takes its part of the entry.
+    Resolve {
+        entry: u32,
+        resolver: u32,
+    },
+    /// The resolver's verdicts on the entry reach its proxy.
+    Verdict {
+        entry: u32,
+        resolver: u32,
+    },
+    /// The commit proxy decides its batch.
+    Decide {
+        proxy: u32,
+    },
+    /// The log takes its message of the entry.
+    Push {
+        entry: u32,
+        log: u32,
+    },
+    /// The log's acknowledgement of the entry reaches its proxy.
+    Logged {
+        entry: u32,
+        log: u32,
+    },
+    /// The commit proxy reports the version of its batch to the sequencer.
+    Report {
+        proxy: u32,
+    },
+    /// The commit proxy answers the clients of its batch.
+    Answer {
+        proxy: u32,
+    },
+    /// The shard applies at most `limit` further messages that its log has.
+    Pull {
+        shard: u32,
+        limit: u32,
+    },
+}
+
+/// What a resolver says of a transaction.
+#[derive(Clone, Copy, Debug, PartialEq, Eq)]
+pub enum Verdict {
+    /// It may commit.
+    Yes,
+    /// Something that it read was written since its read version.
+    Conflict,
+    /// Its reads lie too far back to be judged.
+    Old,
+}
+
+/// What became of a submitted transaction.
+#[derive(Clone, Copy, Debug, PartialEq, Eq)]
+pub enum Outcome {
+    /// It is committed, at a version and a place of the version's batch.
+    Commit { version: u64, place: u32 },
+    /// Something that it read was written since its read version.
+    Conflict,
+    /// Its reads lie too far back to be judged.
+    Old,
+}
+
+/// What an accepted step answers.
+#[derive(Debug, Drop, PartialEq, Eq)]
+pub enum Answered {
+    /// The step gives nothing.
+    Done,
+    /// The sessions that were served, in order, each with its read version.
+    Granted(Items<(u32, u64)>),
+    /// The value that a key has, if any.
+    Value(Option<Bytes>),
+    /// The transaction wrote nothing and is committed at its read version.
+    ReadOnly(u64),
+    /// The entry that was added to the book.
+    Issued {
+        index: u32,
+        version: u64,
+        prev: u64,
+        places: u32,
+    },
+    /// The verdicts of a resolver, each with its place.
+    Verdicts(Items<(u32, Verdict)>),
+    /// What became of each place of a batch.
+    Decided(Items<Outcome>),
+    /// The committed version after a report, or a shard's version after a pull.
+    Version(u64),
+    /// What each client of a batch is told, by place, with its session.
+    Answers(Items<(u32, Outcome)>),
+}

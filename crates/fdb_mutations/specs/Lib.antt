@@ -1,0 +1,6 @@
+pub mod Maps
+pub mod Mutations
+pub use Rattle.fdb_keys.specs.Answers
+pub use Rattle.fdb_keys.specs.Points
+pub use Rattle.fdb_keys.specs.Ranges
+pub use Rattle.fdb_keys.specs.Texts

@@ -1,0 +1,65 @@
+use crate::mutation::Mutation;
+use bytes::Bytes;
+use fdb_keys::{Key, Refusal};
+use std::alloc::Global;
+use std::collections::BTreeMap;
+use std::marker::Model;
+
+/// A map from keys to values.
+#[derive(Debug, Drop)]
+pub struct PlainMap {
+    pairs: BTreeMap<Key, Bytes>,
+}
+
+impl Model for PlainMap {
+    ghost use Rattle.std.specs.FinMap.{from_entries};
+    ghost use Rattle.fdb_mutations.specs.Maps.{Map, map_code};
+
+    ghost Value = { Map };
+
+    ghost coded = { map_code };
+
+    ghost view = { λ map. from_entries map.pairs.entries };
+}
+
+impl PlainMap {
+    ghost use Rattle.std.specs.Prelude.{◌≡◌, None, OnErr};
+    ghost use Rattle.std.specs.Option.{option_copied};
+    ghost use Rattle.std.specs.FinMap as finite;
+    ghost use Rattle.fdb_keys.specs.Answers.{Answers};
+    ghost use Rattle.fdb_mutations.specs.Mutations.{effect};
+
+    /// The empty map. It takes no memory.
+    pub fn new(alloc: Global) -> Self
+        ensures { result ≡ finite.empty }
+    {
+        PlainMap {
+            pairs: BTreeMap::new(alloc),
+        }
+    }
+
+    /// Applies the mutation to the map. Refused only as `NoMemory`, and then nothing changes.
+    pub fn apply(&mut self, mutation: &Mutation) -> Result<(), Refusal>
+        ensures answers { Answers result None (λ _. self.new ≡ effect self.old mutation.now) }
+        ensures err { OnErr result (self.new ≡ self.old) }
+    {
+        match mutation {
+            Mutation::Set { key, value } => {
+                let key = key.clone()?;
+                let value = value.clone()?;
+                self.pairs.insert(key, value)?;
+            }
+            Mutation::Clear { key } => {
+                self.pairs.remove(key);
+            }
+        }
+        Ok(())
+    }
+
+    /// The value of the key, if it has one.
+    pub fn get(&self, key: &Key) -> Option<&Bytes>
+        ensures { option_copied result ≡ finite.get self.now key.now }
+    {
+        self.pairs.get(key)
+    }
+}

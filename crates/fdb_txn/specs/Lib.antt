@@ -1,0 +1,10 @@
+pub mod Admission
+pub mod Book
+pub mod Owners
+pub mod Run
+pub mod Transactions
+pub use Rattle.fdb_keys.specs.Answers
+pub use Rattle.fdb_keys.specs.Points
+pub use Rattle.fdb_keys.specs.Ranges
+pub use Rattle.fdb_mutations.specs.Maps
+pub use Rattle.fdb_mutations.specs.Mutations

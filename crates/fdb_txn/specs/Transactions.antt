@@ -1,0 +1,24 @@
+-- What a sealed transaction is.
+use Rattle.std.specs.Prelude.{◌≡◌, ℕ, Bool, true, List}
+use Rattle.std.specs.List.{list_any}
+use Rattle.fdb_keys.specs.Points.{Point}
+use Rattle.fdb_keys.specs.Ranges.{Range, in_set}
+use Rattle.fdb_mutations.specs.declared.mutation.Mutation.{Mutation}
+use Rattle.fdb_mutations.specs.Mutations.{names}
+use Rattle.fdb_txn.specs.declared.txn_id.TxnId.{TxnId}
+
+-- a read version, a read set, a write set and a list of mutations, under a name
+pub record Transaction : Type 0 where
+  pub id : TxnId
+  pub read : ℕ
+  pub reads : List Range
+  pub writes : List Range
+  pub mutations : List Mutation
+
+-- some mutation of the list names the point
+abbrev pub some_names : List Mutation → Point → Bool
+some_names mutations x = list_any (λ mutation. names mutation x) mutations
+
+-- every point that a mutation names is in the write set
+abbrev pub NamesWrites : Transaction → Type 0
+NamesWrites t = (x : Point) → some_names t.mutations x ≡ true → in_set t.writes x ≡ true

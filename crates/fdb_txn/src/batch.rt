@@ -1,0 +1,47 @@
+use crate::sealed::Sealed;
+use fdb_keys::Items;
+use std::marker::Model;
+
+/// The most transactions that a batch may have.
+pub const PLACE_LIMIT: usize = 4_096;
+
+/// The transactions of one entry, in the order of their places.
+#[derive(Clone, Debug, Drop, PartialEq, Eq)]
+pub struct Batch {
+    places: Items<Sealed>,
+}
+
+impl Model for Batch {
+    ghost use Rattle.std.specs.Prelude.{◌≤◌, List, length};
+    ghost use Rattle.fdb_txn.specs.Transactions.{Transaction};
+    ghost use Rattle.fdb_txn.specs.declared.batch.TheConstants.{PLACE_LIMIT};
+
+    ghost Value = { List Transaction };
+
+    ghost view = { λ batch. batch.places };
+
+    ghost invariant = { λ batch. length batch.places ≤ PLACE_LIMIT };
+
+    ghost inverse = { λ places. record { places = places } };
+}
+
+impl Batch {
+    ghost use Rattle.std.specs.Prelude.{◌≡◌, ◌≤◌, length};
+    ghost use Rattle.fdb_txn.specs.declared.batch.TheConstants.{PLACE_LIMIT};
+
+    /// The batch of these transactions, of which there are at most 4,096. It takes no memory.
+    pub fn new(places: Items<Sealed>) -> Self
+        requires { length places ≤ PLACE_LIMIT }
+        ensures { result ≡ places }
+    {
+        Batch { places }
+    }
+
+    /// The transactions, in the order of their places.
+    pub fn as_slice(&self) -> &[Sealed]
+        ensures places { result.now ≡ self.now }
+        ensures within { length self.now ≤ PLACE_LIMIT }
+    {
+        self.places.as_slice()
+    }
+}

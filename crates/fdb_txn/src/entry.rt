@@ -1,0 +1,24 @@
+use crate::batch::Batch;
+use fdb_keys::{Items, KeyRange};
+
+/// A range of keys goes over to another resolver.
+#[derive(Clone, Debug, Drop, PartialEq, Eq)]
+pub struct Move {
+    /// The keys that go over.
+    pub range: KeyRange,
+    /// The number of the resolver that owns them from then on.
+    pub to: u32,
+}
+
+/// An entry of the book: a batch of transactions at a version.
+#[derive(Clone, Debug, Drop, PartialEq, Eq)]
+pub struct Entry {
+    /// The version of the entry, which is the commit version of its transactions.
+    pub version: u64,
+    /// The version of the entry before it, 0 where it is the first.
+    pub prev: u64,
+    /// The moves that take effect at the entry's version, the earliest one first.
+    pub moves: Items<Move>,
+    /// The transactions, at places counted from 0.
+    pub batch: Batch,
+}

@@ -1,0 +1,15 @@
+//! Transactions, the book of batches, and the rules over it: who owns a key, who admits a transaction,
+//! what is committed, and the run of the committed transactions one at a time.
+#![tactic(auto)]
+
+mod batch;
+mod entry;
+mod sealed;
+mod spot;
+mod txn_id;
+
+pub use batch::{Batch, PLACE_LIMIT};
+pub use entry::{Entry, Move};
+pub use sealed::Sealed;
+pub use spot::Spot;
+pub use txn_id::TxnId;
