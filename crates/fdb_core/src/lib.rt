@@ -2,9 +2,12 @@
 #![tactic(auto)]
 
 mod config;
+mod parts;
+mod pool;
 mod program;
 mod step;
 
 pub use config::Config;
+pub use parts::{Begun, Lane, Placed, Reach, Stage, Submission};
 pub use program::{Op, Reply, Transcript};
 pub use step::{Answered, Outcome, Step, Verdict};

@@ -1,7 +1,8 @@
 -- What mutations do to maps.
-use Rattle.std.specs.Prelude.{◌≡◌, ℕ, Bool, nat_lt, List, [], ◌∷◌, length, Option, Some, None, if◌then◌else◌}
+use Rattle.std.specs.Prelude.{◌≡◌, ℕ, Bool, true, nat_lt, List, [], ◌∷◌, length, Option, Some, None, if◌then◌else◌}
 use Rattle.std.specs.FinMap.{get, insert, remove}
 use Rattle.fdb_keys.specs.Points.{Point, point_eq}
+use Rattle.fdb_keys.specs.Ranges.{Range, single_range}
 use Rattle.fdb_keys.specs.declared.refusal.Refusal.{Refusal}
 use Rattle.fdb_keys.specs.declared.refusal.Refusal.TheVariants.{ValueTooLarge}
 use Rattle.fdb_mutations.specs.declared.mutation.Mutation.{Mutation}
@@ -18,6 +19,16 @@ mutation_fault (Clear key) = None
 abbrev pub names : Mutation → Point → Bool
 names (Set key value) x = point_eq x key
 names (Clear key) x = point_eq x key
+
+-- the new value doesn't depend on the old one
+abbrev pub is_blind : Mutation → Bool
+is_blind (Set key value) = true
+is_blind (Clear key) = true
+
+-- the points that the mutation names, as a range
+abbrev pub named_range : Mutation → Range
+named_range (Set key value) = single_range key
+named_range (Clear key) = single_range key
 
 -- what stands at a point that the mutation names, by what stood there
 abbrev pub new_value : Mutation → Option (List ℕ) → Option (List ℕ)

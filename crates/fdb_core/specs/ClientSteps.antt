@@ -1,0 +1,159 @@
+-- The steps of clients, and of the read-version proxies that serve them.
+use Rattle.std.specs.Prelude.{ℕ, suc, ◌+◌, ◌^◌, ◌-◌, Bool, true, false, not, ◌&&◌, ◌||◌, ◌==◌, nat_lt, List, [], ◌∷◌, ◌++◌, fold, map, filter, length, Option, Some, None, Result, Ok, Err, slice_get, slice_set, position, if◌then◌else◌}
+use Rattle.std.specs.List.{list_any, remove}
+use Rattle.fdb_keys.specs.declared.refusal.Refusal.{Refusal}
+use Rattle.fdb_keys.specs.declared.refusal.Refusal.TheVariants.{TransactionTooOld, FutureVersion, Exhausted, WrongState}
+use Rattle.fdb_mutations.specs.declared.mutation.Mutation.{Mutation}
+use Rattle.fdb_mutations.specs.Mutations.{mutation_fault}
+use Rattle.fdb_txn.specs.declared.txn_id.TxnId.{TxnId}
+use Rattle.fdb_txn.specs.declared.spot.Spot.TheVariants as spot
+use Rattle.fdb_txn.specs.Transactions.{Transaction}
+use Rattle.fdb_txn.specs.Book.{seen_of}
+use Rattle.fdb_txn.specs.Owners.{first_owner}
+use Rattle.fdb_txn.specs.Run.{map_at}
+use Rattle.fdb_core.specs.declared.parts.Submission.{Submission}
+use Rattle.fdb_core.specs.declared.parts.Placed.{Placed}
+use Rattle.fdb_core.specs.declared.parts.Lane.{Lane}
+use Rattle.fdb_core.specs.declared.parts.Reach.{Reach}
+use Rattle.fdb_core.specs.declared.parts.Begun.{Begun}
+use Rattle.fdb_core.specs.declared.program.Op.{Op}
+use Rattle.fdb_core.specs.declared.program.Op.TheVariants as op
+use Rattle.fdb_core.specs.declared.program.Reply.{Reply}
+use Rattle.fdb_core.specs.declared.program.Reply.TheVariants as reply
+use Rattle.fdb_core.specs.declared.program.Transcript.{Transcript}
+use Rattle.fdb_core.specs.declared.step.Answered.{Answered}
+use Rattle.fdb_core.specs.declared.step.Answered.TheVariants as answered
+use Rattle.fdb_core.specs.Machine.{Machine, Turn, found, refused_where, last_version, seen_before, is_of, is_busy, with_opened}
+use Rattle.fdb_core.specs.Programs.{program, copy, reply_on, decided, sealed_of}
+
+-- Ask: refused while the session asks or waits for an answer. It drops an open transaction.
+unfoldable pub asks : Machine → ℕ → ℕ → Result Turn Refusal
+asks m session proxy = found (slice_get m.asking proxy) (λ there.
+    refused_where (is_busy session m) WrongState
+    (Ok (record {
+      said = answered.Done;
+      to = record m {
+        opened = filter (λ (transcript : Transcript). not (is_of session transcript)) m.opened;
+        asking = slice_set m.asking proxy (there ++ session ∷ []);
+      };
+    })))
+
+-- the place of the session's last transaction, if it began any
+abbrev pub begun_at : ℕ → List Begun → Option ℕ
+begun_at session begun = position (λ (last : Begun). last.session == session) begun
+
+-- the number of the last transaction that the session began
+abbrev pub last_begun : ℕ → List Begun → Option ℕ
+last_begun session begun = last_at (begun_at session begun)
+  where
+    last_there : Option Begun → Option ℕ
+    last_there None = None
+    last_there (Some last) = Some last.last
+    last_at : Option ℕ → Option ℕ
+    last_at None = None
+    last_at (Some i) = last_there (slice_get begun i)
+
+-- the number of a session's next transaction, by that of its last one
+abbrev pub next_number : Option ℕ → ℕ
+next_number None = 0
+next_number (Some last) = last + 1
+
+-- the session's transactions have used up all numbers
+abbrev pub has_no_number : List Begun → ℕ → Bool
+has_no_number begun session = nat_lt (2 ^ 64 - 1) (next_number (last_begun session begun))
+
+-- the list with the session's next transaction as its last one
+abbrev pub begin_next : List Begun → ℕ → List Begun
+begin_next begun session = noted (begun_at session begun)
+  where
+    next : Begun
+    next = record { session = session; last = next_number (last_begun session begun) }
+    noted : Option ℕ → List Begun
+    noted None = begun ++ next ∷ []
+    noted (Some i) = slice_set begun i next
+
+-- the session's next transaction, without an operation
+abbrev pub first_of : List Begun → ℕ → ℕ → Transcript
+first_of begun version session =
+    record { id = record { session = session; number = next_number (last_begun session begun) }; read_version = version; ops = [] }
+
+-- one more session begins a transaction at the version
+abbrev pub serve : ℕ → List Begun × List Transcript → ℕ → List Begun × List Transcript
+serve version served session = (begin_next served.0 session, served.1 ++ first_of served.0 version session ∷ [])
+
+-- Grant: all who ask there begin a transaction at the committed version, which is the greatest reported one.
+unfoldable pub grants : Machine → ℕ → Result Turn Refusal
+grants m proxy = found (slice_get m.asking proxy) (λ there.
+    refused_where (list_any (has_no_number m.begun) there) Exhausted
+    (let served = fold (serve m.committed) (m.begun, m.opened) there in
+     Ok (record {
+      said = answered.Granted (map (λ session. (session, m.committed)) there);
+      to = record m { begun = served.0; opened = served.1; asking = slice_set m.asking proxy [] };
+    })))
+
+-- the answer that gives a reply
+abbrev pub answered_by : Reply → Answered
+answered_by (reply.Value value) = answered.Value value
+answered_by reply.Done = answered.Done
+
+-- the machine with one more operation and its reply at the transaction with the place in the list
+abbrev pub note : Machine → ℕ → Transcript → Op → Reply → Machine
+note m i transcript op reply =
+    record m { opened = slice_set m.opened i (record transcript { ops = transcript.ops ++ (op, reply) ∷ [] }) }
+
+-- the version through which the shard applied the book
+abbrev pub version_of_shard : Machine → Reach → ℕ
+version_of_shard m reach = last_version (Rattle.std.specs.Prelude.take reach.pulled m.book)
+
+-- a step goes on where the shard that holds the point serves the version
+abbrev pub served_at : Machine → List ℕ → ℕ → Result Turn Refusal → Result Turn Refusal
+served_at m x version next = found (slice_get m.shards (first_owner m.config.shard_splits x)) (λ (reach : Reach).
+    refused_where (nat_lt version reach.floor) TransactionTooOld
+    (refused_where (nat_lt (version_of_shard m reach) version) FutureVersion next))
+
+-- Get: the reply of the program run on the map at its read version. A decided key asks no shard.
+unfoldable pub gets : Machine → ℕ → List ℕ → Bool → Result Turn Refusal
+gets m session key snapshot = with_opened session m.opened (λ i transcript.
+    let earlier = program transcript.ops in
+    let there = map_at m.config.resolver_splits transcript.read_version (seen_of m.book).places in
+    let operation = op.Get key snapshot in
+    let reply = reply_on (copy there earlier) operation in
+    let turn = Ok (record { said = answered_by reply; to = note m i transcript operation reply }) in
+    if decided earlier key then turn else served_at m key transcript.read_version turn)
+
+-- Write: the mutation is buffered.
+unfoldable pub writes : Machine → ℕ → Mutation → Result Turn Refusal
+writes m session mutation = with_opened session m.opened (λ i transcript. checked i transcript (mutation_fault mutation))
+  where
+    checked : ℕ → Transcript → Option Refusal → Result Turn Refusal
+    checked i transcript (Some fault) = Err fault
+    checked i transcript None = Ok (record { said = answered.Done; to = note m i transcript (op.Write mutation) reply.Done })
+
+-- the list is empty
+abbrev pub is_nil : {A : Type 0} → List A → Bool
+is_nil [] = true
+is_nil (x ∷ xs) = false
+
+-- Submit: a transaction that writes nothing is acknowledged at its read version, any other waits at the proxy.
+-- For now a proxy at which a request waits takes no other.
+unfoldable pub submits : Machine → ℕ → ℕ → Result Turn Refusal
+submits m session proxy = found (slice_get m.lanes proxy) (λ lane.
+    refused_where (not (is_nil lane.waiting)) WrongState
+    (with_opened session m.opened (λ i transcript.
+      let sealed = sealed_of transcript in
+      let others = remove m.opened i in
+      if is_nil sealed.mutations && is_nil sealed.writes
+      then Ok (record {
+        said = answered.ReadOnly transcript.read_version;
+        to = record m {
+          opened = others;
+          acknowledged = m.acknowledged ++ record { spot = spot.ReadOnly transcript.read_version; transcript = transcript } ∷ [];
+        };
+      })
+      else Ok (record {
+        said = answered.Done;
+        to = record m {
+          opened = others;
+          lanes = slice_set m.lanes proxy (record lane { waiting = lane.waiting ++ record { sealed = sealed; transcript = transcript } ∷ [] });
+        };
+      }))))

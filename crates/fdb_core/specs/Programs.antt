@@ -1,0 +1,94 @@
+-- Programs, how they are executed on a map, and what they read and write.
+use Rattle.std.specs.Prelude.{ℕ, Bool, true, false, not, ◌&&◌, ◌||◌, List, [], ◌∷◌, ◌++◌, fold, if◌then◌else◌}
+use Rattle.std.specs.FinMap.{get}
+use Rattle.fdb_keys.specs.Points.{Point, point_eq}
+use Rattle.fdb_keys.specs.Insertion.{with_range}
+use Rattle.fdb_keys.specs.Ranges.{Range, single_range}
+use Rattle.fdb_mutations.specs.declared.mutation.Mutation.{Mutation}
+use Rattle.fdb_mutations.specs.Maps.{Map}
+use Rattle.fdb_mutations.specs.Mutations.{effect, names, is_blind, named_range}
+use Rattle.fdb_txn.specs.Transactions.{Transaction}
+use Rattle.fdb_core.specs.declared.program.Op.{Op}
+use Rattle.fdb_core.specs.declared.program.Op.TheVariants.{Get, Write}
+use Rattle.fdb_core.specs.declared.program.Reply.{Reply}
+use Rattle.fdb_core.specs.declared.program.Reply.TheVariants.{Value, Done}
+use Rattle.fdb_core.specs.declared.program.Transcript.{Transcript}
+
+-- a transcript's operations as a program, which has the newest first
+abbrev pub program : List (Op × Reply) → List Op
+program ops = fold (λ (earlier : List Op) (done : Op × Reply). done.0 ∷ earlier) [] ops
+
+-- the copy of the map after one more operation
+abbrev pub copy_after : Map → Op → Map
+copy_after map (Get key snapshot) = map
+copy_after map (Write mutation) = effect map mutation
+
+-- the copy of the map after the program
+abbrev pub copy : Map → List Op → Map
+copy map [] = map
+copy map (op ∷ earlier) = copy_after (copy map earlier) op
+
+-- what an operation replies from a copy
+abbrev pub reply_on : Map → Op → Reply
+reply_on map (Get key snapshot) = Value (get map key)
+reply_on map (Write mutation) = Done
+
+-- the replies of the program on a map, the newest first
+abbrev pub exec : Map → List Op → List Reply
+exec map [] = []
+exec map (op ∷ earlier) = reply_on (copy map earlier) op ∷ exec map earlier
+
+-- the operation decides the point: what stands there afterwards doesn't depend on what stood there
+abbrev pub decides : Op → Point → Bool
+decides (Get key snapshot) x = false
+decides (Write mutation) x = is_blind mutation && names mutation x
+
+-- some operation of the program decides the point
+abbrev pub decided : List Op → Point → Bool
+decided [] x = false
+decided (op ∷ earlier) x = decides op x || decided earlier x
+
+-- the points that an operation reads behind the earlier ones
+abbrev pub reads_on : Map → List Op → Op → Point → Bool
+reads_on map earlier (Get key snapshot) x = not snapshot && point_eq x key && not (decided earlier x)
+reads_on map earlier (Write mutation) x = false
+
+-- the points that a program reads on a map
+abbrev pub read_set : Map → List Op → Point → Bool
+read_set map [] x = false
+read_set map (op ∷ earlier) x = reads_on (copy map earlier) earlier op x || read_set map earlier x
+
+-- the points that a program writes
+abbrev pub write_set : List Op → Point → Bool
+write_set [] x = false
+write_set (Get key snapshot ∷ earlier) x = write_set earlier x
+write_set (Write mutation ∷ earlier) x = names mutation x || write_set earlier x
+
+-- the mutations of a program, the first one first
+abbrev pub mutations_of : List Op → List Mutation
+mutations_of [] = []
+mutations_of (Get key snapshot ∷ earlier) = mutations_of earlier
+mutations_of (Write mutation ∷ earlier) = mutations_of earlier ++ mutation ∷ []
+
+-- the read set as ranges
+abbrev pub read_ranges : List Op → List Range
+read_ranges [] = []
+read_ranges (Get key snapshot ∷ earlier) =
+    if not snapshot && not (decided earlier key) then with_range (single_range key) (read_ranges earlier) else read_ranges earlier
+read_ranges (Write mutation ∷ earlier) = read_ranges earlier
+
+-- the ranges, and what the mutations name
+abbrev pub with_named : List Range → List Mutation → List Range
+with_named ranges mutations = fold (λ (set : List Range) (mutation : Mutation). with_range (named_range mutation) set) ranges mutations
+
+-- what is submitted of a transcript
+abbrev pub sealed_of : Transcript → Transaction
+sealed_of transcript =
+    let mutations = mutations_of (program transcript.ops) in
+    record {
+      id = transcript.id;
+      read = transcript.read_version;
+      reads = read_ranges (program transcript.ops);
+      writes = with_named [] mutations;
+      mutations = mutations;
+    }

@@ -1,0 +1,37 @@
+-- The steps of resolvers, logs and shards.
+use Rattle.std.specs.Prelude.{ℕ, suc, ◌+◌, ◌%◌, min, max, Bool, not, take, length, Option, Some, None, Result, Ok, Err, slice_get, slice_set}
+use Rattle.fdb_keys.specs.declared.refusal.Refusal.{Refusal}
+use Rattle.fdb_keys.specs.declared.refusal.Refusal.TheVariants.{Unknown}
+use Rattle.fdb_txn.specs.declared.entry.Entry.{Entry}
+use Rattle.fdb_core.specs.declared.parts.Reach.{Reach}
+use Rattle.fdb_core.specs.declared.step.Answered.TheVariants as answered
+use Rattle.fdb_core.specs.Machine.{Machine, Turn, found, refused_where, in_turn, is_set, last_version, seen_before}
+use Rattle.fdb_core.specs.Verdicts.{verdicts_on}
+
+-- Resolve: entries are taken in order, each once.
+unfoldable pub resolves : Machine → ℕ → ℕ → Result Turn Refusal
+resolves m i resolver = found (slice_get m.book i) (λ (entry : Entry). found (slice_get m.resolvers resolver) (λ (taken : ℕ).
+    in_turn taken i entry
+    (Ok (record {
+      said = answered.Verdicts (verdicts_on m.config.resolver_splits resolver (seen_before m.book i) entry);
+      to = record m { resolvers = slice_set m.resolvers resolver (taken + 1) };
+    }))))
+
+-- Push: a log's message is there once its entry is decided. Entries are taken in order, each once.
+unfoldable pub pushes : Machine → ℕ → ℕ → Result Turn Refusal
+pushes m i log = found (slice_get m.book i) (λ (entry : Entry). found (slice_get m.logs log) (λ (taken : ℕ).
+    refused_where (not (is_set m.decided i)) Unknown
+    (in_turn taken i entry
+    (Ok (record {
+      said = answered.Done;
+      to = record m { logs = slice_set m.logs log (taken + 1) };
+    })))))
+
+-- Pull: the shard applies the next messages that its log has, at most as many as the limit.
+unfoldable pub pulls : Machine → ℕ → ℕ → Result Turn Refusal
+pulls m shard limit = found (slice_get m.shards shard) (λ (reach : Reach). found (slice_get m.logs (shard % length m.logs)) (λ (has : ℕ).
+    let pulled = max reach.pulled (min has (reach.pulled + limit)) in
+    Ok (record {
+      said = answered.Version (last_version (take pulled m.book));
+      to = record m { shards = slice_set m.shards shard (record reach { pulled = pulled }) };
+    })))

@@ -1,0 +1,77 @@
+-- What the one resolver, the log and the shard keep, as functions of what they took of the book.
+use Rattle.std.specs.Prelude.{◌≡◌, ℕ, ◌+◌, Bool, not, ◌&&◌, ◌||◌, nat_lt, nat_le, List, [], ◌∷◌, ◌++◌, fold, Option, Some, None, if◌then◌else◌}
+use Rattle.std.specs.List.{list_any}
+use Rattle.fdb_keys.specs.Points.{Point}
+use Rattle.fdb_keys.specs.Ranges.{Range, ranges_meet}
+use Rattle.fdb_mutations.specs.declared.mutation.Mutation.{Mutation}
+use Rattle.fdb_mutations.specs.Mutations.{names, new_value}
+use Rattle.fdb_txn.specs.declared.entry.Entry.{Entry}
+use Rattle.fdb_txn.specs.Transactions.{Transaction}
+use Rattle.fdb_txn.specs.Book.{Stamped, Place, Seen, nothing, placed, add_entry}
+use Rattle.fdb_txn.specs.Owners.{window}
+use Rattle.fdb_txn.specs.Admission.{has_points, admits, committed}
+use Rattle.fdb_core.specs.declared.pool.Mark.{Mark}
+use Rattle.fdb_core.specs.declared.pool.Message.{Message}
+use Rattle.fdb_core.specs.declared.step.Verdict.{Verdict}
+use Rattle.fdb_core.specs.declared.step.Verdict.TheVariants as verdict
+use Rattle.fdb_core.specs.Verdicts.{moves_through}
+
+-- for each entry of a book what a function makes of it and of what was seen before it
+abbrev pub along : {A : Type 0} → (Seen → Entry → A) → List Entry → List A
+along {A} f book = behind.1
+  where
+    step : Seen × List A → Entry → Seen × List A
+    step made entry = (add_entry made.0 entry, made.1 ++ f made.0 entry ∷ [])
+    behind : Seen × List A
+    behind = fold step (nothing, []) book
+
+-- some range of the one set meets some range of the other
+abbrev pub sets_meet : List Range → List Range → Bool
+sets_meet some others = list_any (λ range. list_any (λ other. ranges_meet range other) others) some
+
+-- a mark above the read version meets the reads
+abbrev pub is_marked : List Mark → ℕ → List Range → Bool
+is_marked marks read reads = list_any (λ (mark : Mark). nat_lt read mark.version && sets_meet mark.writes reads) marks
+
+-- what one resolver that owns every key says of a transaction at a version, by the marks so far
+abbrev pub judgement : List Mark → ℕ → Transaction → Verdict
+judgement marks version t =
+    if has_points t.reads && nat_lt (t.read + window) version then verdict.Old
+    else (if is_marked marks t.read t.reads then verdict.Conflict else verdict.Yes)
+
+-- the marks with the transaction's writes, where it is admitted
+abbrev pub marked_after : List Mark → ℕ → Transaction → List Mark
+marked_after marks version t = marked (judgement marks version t)
+  where
+    marked : Verdict → List Mark
+    marked verdict.Yes = marks ++ record { version = version; writes = t.writes } ∷ []
+    marked verdict.Conflict = marks
+    marked verdict.Old = marks
+
+-- the marks of the places that resolver 0 admits, the earliest one first
+abbrev pub marks_of : List Place → List Mark
+marks_of [] = []
+marks_of (place ∷ earlier) =
+    if admits [] 0 earlier place then marks_of earlier ++ record { version = place.version; writes = place.transaction.writes } ∷ []
+    else marks_of earlier
+
+-- the mutations of those transactions of a batch that are committed, in order
+abbrev pub committed_from : List Point → ℕ → List Stamped → List Transaction → List Place → List Mutation
+committed_from splits version moves [] earlier = []
+committed_from splits version moves (t ∷ ts) earlier =
+    (if committed splits earlier (placed version moves t) then t.mutations else [])
+    ++ committed_from splits version moves ts (placed version moves t ∷ earlier)
+
+-- what logs get of an entry
+abbrev pub message_on : List Point → Seen → Entry → Message
+message_on splits before entry =
+    record { version = entry.version; body = committed_from splits entry.version (moves_through before entry) entry.batch before.places }
+
+-- what stands at a point after a mutation, by what stood there
+abbrev pub value_after : Point → Option (List ℕ) → Mutation → Option (List ℕ)
+value_after x value mutation = if names mutation x then new_value mutation value else value
+
+-- what stands at a point after the messages of version at most v, from nothing
+abbrev pub value_in : ℕ → Point → List Message → Option (List ℕ)
+value_in v x messages =
+    fold (λ (value : Option (List ℕ)) (message : Message). if nat_le message.version v then fold (value_after x) value message.body else value) None messages
