@@ -1,3 +1,4 @@
+pub mod InsertionLemmas
 pub mod PointOrder
 pub mod RangesLemmas
 pub mod TextsLemmas

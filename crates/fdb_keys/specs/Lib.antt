@@ -1,4 +1,6 @@
 pub mod Answers
+pub mod Equality
+pub mod Insertion
 pub mod Points
 pub mod Ranges
 pub mod Refusals

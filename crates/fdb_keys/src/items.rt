@@ -1,4 +1,4 @@
-ghost use Rattle.std.specs.Prelude.{◌≡◌, ◌==◌, [], ◌∷◌, ◌++◌, length, OnOk, OnErr, IfErr};
+ghost use Rattle.std.specs.Prelude.{◌≡◌, ◌==◌, ◌<◌, [], ◌∷◌, ◌++◌, length, slice_set, OnOk, OnErr, IfErr};
 ghost use Rattle.std.specs.List.{AllZip};
 ghost use Rattle.std.specs.Cmp.Lexicographic.{pointwise, lists_per};
 ghost use Rattle.std.proofs.lemmas.Cmp.{lists_equiv};
@@ -63,6 +63,21 @@ impl<T> Items<T> {
         ensures { result ≡ (length self.now == 0) }
     {
         self.list.is_empty()
+    }
+
+    // The allocator that the list was made with.
+    pub(crate) fn allocator(&self) -> Global {
+        *self.list.allocator()
+    }
+
+    /// Puts the item in the place of the one with the index. It takes no memory.
+    pub fn set(&mut self, index: usize, item: T)
+    where
+        T: Drop,
+        requires { index < length self.old }
+        ensures { self.new ≡ slice_set self.old index item }
+    {
+        self.list[index] = item;
     }
 
     /// Adds an item at the end. Where memory runs out, the error hands it back and nothing changes.

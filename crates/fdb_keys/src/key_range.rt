@@ -1,8 +1,8 @@
 use crate::key::Key;
-use crate::order::{have_common_point, is_before, is_behind_ff};
+use crate::order::{greater_bound, have_common_point, is_before, is_behind_ff, lesser_bound};
 use crate::refusal::Refusal;
 use bytes::Bytes;
-use std::alloc::Global;
+use std::alloc::{AllocError, Global};
 use std::marker::Model;
 
 /// The most bytes that a bound of a range may have. It is one more than a key has, so that a bound can
@@ -32,8 +32,9 @@ impl Model for KeyRange {
 }
 
 impl KeyRange {
-    ghost use Rattle.std.specs.Prelude.{◌≡◌, Some, None, IsTrue, ◌↔◌, Bool, true};
+    ghost use Rattle.std.specs.Prelude.{◌≡◌, Some, None, IsTrue, ◌↔◌, Bool, true, IfOk};
     ghost use Rattle.fdb_keys.specs.Answers.{Answers};
+    ghost use Rattle.fdb_keys.specs.Insertion.{joined_range};
     ghost use Rattle.fdb_keys.specs.Points.{Point};
     ghost use Rattle.fdb_keys.specs.Ranges.{in_range, single_range, is_empty_range, ranges_meet};
     ghost use Rattle.fdb_keys.specs.Texts.{range_fault};
@@ -102,5 +103,13 @@ impl KeyRange {
         ensures { result ≡ is_empty_range self.now }
     {
         !is_before(self.begin(), self.end())
+    }
+    // The shortest range that holds both.
+    pub(crate) fn joined(&self, other: &KeyRange) -> Result<KeyRange, AllocError>
+        ensures { IfOk result (λ range. range ≡ joined_range self.now other.now) }
+    {
+        let begin = lesser_bound(&self.begin, &other.begin)?;
+        let end = greater_bound(&self.end, &other.end)?;
+        Ok(KeyRange { begin, end })
     }
 }

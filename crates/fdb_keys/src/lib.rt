@@ -1,9 +1,11 @@
 //! Keys, ranges of keys and sets of ranges, with the refusals that every crate above answers.
 #![tactic(auto)]
 
+mod insertion;
 mod items;
 mod key;
 mod key_range;
+pub mod laws;
 mod order;
 mod range_set;
 mod refusal;

@@ -1,8 +1,12 @@
 // The order of points, as tests over slices.
-ghost use Rattle.std.specs.Prelude.{◌≡◌};
+ghost use Rattle.std.specs.Prelude.{◌≡◌, IfOk};
+ghost use Rattle.fdb_keys.specs.Insertion.{lesser_point, greater_point};
 ghost use Rattle.fdb_keys.specs.Points.{point_lt};
 ghost use Rattle.fdb_keys.specs.Ranges.{Range, ranges_meet};
 ghost use Rattle.fdb_keys.specs.Texts.{begins_with_ff, is_behind_ff};
+
+use bytes::Bytes;
+use std::alloc::AllocError;
 
 #[tactic(auto, unfolding(crate::specs::Points::point_lt))]
 pub(crate) fn is_before(a: &[u8], b: &[u8]) -> bool
@@ -34,4 +38,24 @@ pub(crate) fn have_common_point(a_begin: &[u8], a_end: &[u8], b_begin: &[u8], b_
         && is_before(a_begin, b_end)
         && is_before(b_begin, a_end)
         && is_before(b_begin, b_end)
+}
+
+pub(crate) fn lesser_bound(a: &Bytes, b: &Bytes) -> Result<Bytes, AllocError>
+    ensures { IfOk result (λ bound. bound ≡ lesser_point a.now b.now) }
+{
+    if is_before(b.as_slice(), a.as_slice()) {
+        b.clone()
+    } else {
+        a.clone()
+    }
+}
+
+pub(crate) fn greater_bound(a: &Bytes, b: &Bytes) -> Result<Bytes, AllocError>
+    ensures { IfOk result (λ bound. bound ≡ greater_point a.now b.now) }
+{
+    if is_before(a.as_slice(), b.as_slice()) {
+        b.clone()
+    } else {
+        a.clone()
+    }
 }

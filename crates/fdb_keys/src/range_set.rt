@@ -1,3 +1,4 @@
+use crate::insertion::insert;
 use crate::items::Items;
 use crate::key_range::KeyRange;
 use crate::refusal::Refusal;
@@ -25,9 +26,12 @@ impl Model for RangeSet {
 }
 
 impl RangeSet {
-    ghost use Rattle.std.specs.Prelude.{◌≡◌, [], IsTrue};
+    ghost use Rattle.std.specs.Prelude.{◌≡◌, ◌||◌, [], IsTrue, None, OnOk, OnErr};
     ghost use Rattle.std.specs.Slice.Iter.{iter_rest};
-    ghost use Rattle.fdb_keys.specs.Ranges.{is_apart};
+    ghost use Rattle.fdb_keys.specs.Answers.{Answers};
+    ghost use Rattle.fdb_keys.specs.Insertion.{with_range};
+    ghost use Rattle.fdb_keys.specs.Points.{Point};
+    ghost use Rattle.fdb_keys.specs.Ranges.{in_range, in_set, is_apart};
 
     /// The empty set. It takes no memory.
     pub fn new(alloc: Global) -> Self
@@ -36,6 +40,21 @@ impl RangeSet {
         RangeSet {
             ranges: Items::new(alloc),
         }
+    }
+
+    /// Adds the keys of the range. An empty range adds nothing. Refused only as `NoMemory`, and then
+    /// nothing changes.
+    pub fn add(&mut self, range: &KeyRange) -> Result<(), Refusal>
+        ensures answers { Answers result None (λ _. (x : Point) → in_set self.new x ≡ (in_range range.now x || in_set self.old x)) }
+        ensures list { OnOk result (self.new ≡ with_range range.now self.old) }
+        ensures err { OnErr result (self.new ≡ self.old) }
+    {
+        if range.is_empty() {
+            return Ok(());
+        }
+        let ranges = insert(self.ranges.allocator(), range, self.ranges.as_slice())?;
+        self.ranges = Items::from_vec(ranges);
+        Ok(())
     }
 
     /// The ranges of the set: sorted, none touching the next, and none empty.

@@ -1,0 +1,5 @@
+use Rattle.fdb_keys.specs.Equality.{items_eq_decides}
+use Rattle.fdb_keys.proofs.laws.equal_items_are_the_same.Goals as goal
+
+pub returns : goal.returns
+returns g c = λ decides. items_eq_decides g.T.PartialEq.eq decides
