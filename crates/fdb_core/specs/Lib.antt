@@ -7,6 +7,7 @@ pub mod Roles
 pub mod Steps
 pub mod Verdicts
 pub use Rattle.fdb_keys.specs.Answers
+pub use Rattle.fdb_keys.specs.Insertion
 pub use Rattle.fdb_keys.specs.Points
 pub use Rattle.fdb_keys.specs.Ranges
 pub use Rattle.fdb_mutations.specs.Maps

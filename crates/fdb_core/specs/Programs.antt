@@ -6,8 +6,8 @@ use Rattle.fdb_keys.specs.Insertion.{with_range}
 use Rattle.fdb_keys.specs.Ranges.{Range, single_range}
 use Rattle.fdb_mutations.specs.declared.mutation.Mutation.{Mutation}
 use Rattle.fdb_mutations.specs.Maps.{Map}
-use Rattle.fdb_mutations.specs.Mutations.{effect, names, is_blind, named_range}
-use Rattle.fdb_txn.specs.Transactions.{Transaction}
+use Rattle.fdb_mutations.specs.Mutations.{effect, names, is_blind}
+use Rattle.fdb_txn.specs.Transactions.{Transaction, with_named}
 use Rattle.fdb_core.specs.declared.program.Op.{Op}
 use Rattle.fdb_core.specs.declared.program.Op.TheVariants.{Get, Write}
 use Rattle.fdb_core.specs.declared.program.Reply.{Reply}
@@ -76,10 +76,6 @@ read_ranges [] = []
 read_ranges (Get key snapshot ∷ earlier) =
     if not snapshot && not (decided earlier key) then with_range (single_range key) (read_ranges earlier) else read_ranges earlier
 read_ranges (Write mutation ∷ earlier) = read_ranges earlier
-
--- the ranges, and what the mutations name
-abbrev pub with_named : List Range → List Mutation → List Range
-with_named ranges mutations = fold (λ (set : List Range) (mutation : Mutation). with_range (named_range mutation) set) ranges mutations
 
 -- what is submitted of a transcript
 abbrev pub sealed_of : Transcript → Transaction

@@ -32,10 +32,10 @@ impl Model for KeyRange {
 }
 
 impl KeyRange {
-    ghost use Rattle.std.specs.Prelude.{◌≡◌, Some, None, IsTrue, ◌↔◌, Bool, true, IfOk};
+    ghost use Rattle.std.specs.Prelude.{◌≡◌, Some, None, IfOk, IsTrue, ◌↔◌, Bool, true, IfOk};
     ghost use Rattle.fdb_keys.specs.Answers.{Answers};
     ghost use Rattle.fdb_keys.specs.Insertion.{joined_range};
-    ghost use Rattle.fdb_keys.specs.Points.{Point};
+    ghost use Rattle.fdb_keys.specs.Points.{Point, point_eq};
     ghost use Rattle.fdb_keys.specs.Ranges.{in_range, single_range, is_empty_range, ranges_meet};
     ghost use Rattle.fdb_keys.specs.Texts.{range_fault};
 
@@ -61,7 +61,8 @@ impl KeyRange {
 
     /// The range of one key alone, which ends right behind it.
     pub fn single(alloc: Global, key: &Key) -> Result<Self, Refusal>
-        ensures { Answers result None (λ range. range ≡ single_range key.now) }
+        ensures answers { Answers result None (λ range. range ≡ single_range key.now) }
+        ensures alone { IfOk result (λ range. (x : Point) → in_range range x ≡ point_eq x key.now) }
     {
         let mut end = Vec::with_capacity(alloc, key.bytes().len() + 1)?;
         end.extend_from_slice(key.bytes())?;

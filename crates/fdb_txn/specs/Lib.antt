@@ -4,6 +4,7 @@ pub mod Owners
 pub mod Run
 pub mod Transactions
 pub use Rattle.fdb_keys.specs.Answers
+pub use Rattle.fdb_keys.specs.Insertion
 pub use Rattle.fdb_keys.specs.Points
 pub use Rattle.fdb_keys.specs.Ranges
 pub use Rattle.fdb_mutations.specs.Maps

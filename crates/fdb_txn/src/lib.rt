@@ -7,9 +7,10 @@ mod entry;
 mod sealed;
 mod spot;
 mod txn_id;
+mod writes;
 
 pub use batch::{Batch, PLACE_LIMIT};
 pub use entry::{Entry, Move};
-pub use sealed::Sealed;
+pub use sealed::{Sealed, Unsealed};
 pub use spot::Spot;
 pub use txn_id::TxnId;
