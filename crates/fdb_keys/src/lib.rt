@@ -9,6 +9,8 @@ pub mod laws;
 mod order;
 mod range_set;
 mod refusal;
+#[cfg(test)]
+mod tests;
 
 pub use items::Items;
 pub use key::{KEY_LIMIT, Key};

@@ -1,0 +1,157 @@
+// Calls with known answers.
+use crate::items::Items;
+use crate::key::Key;
+use crate::key_range::KeyRange;
+use crate::range_set::RangeSet;
+use crate::refusal::Refusal;
+use std::alloc::Global;
+use std::test::Fail;
+
+// The code of the refusal, or 0 where the text is a key.
+fn key_code(alloc: Global, text: &[u8]) -> u32 {
+    match Key::new(alloc, text) {
+        Ok(_key) => 0,
+        Err(why) => why.code(),
+    }
+}
+
+// The code of the refusal, or 0 where the two texts are a range.
+fn range_code(alloc: Global, begin: &[u8], end: &[u8]) -> u32 {
+    match KeyRange::new(alloc, begin, end) {
+        Ok(_range) => 0,
+        Err(why) => why.code(),
+    }
+}
+
+fn add(set: &mut RangeSet, alloc: Global, begin: &[u8], end: &[u8]) -> Result<(), Refusal> {
+    let range = KeyRange::new(alloc, begin, end)?;
+    set.add(&range)
+}
+
+// The keys from a to d, of which the first come in two ranges that touch.
+fn keys_to_d(alloc: Global) -> Result<RangeSet, Refusal> {
+    let mut set = RangeSet::new(alloc);
+    add(&mut set, alloc, b"a", b"c")?;
+    add(&mut set, alloc, b"c", b"d")?;
+    add(&mut set, alloc, b"e", b"e")?;
+    Ok(set)
+}
+
+fn has_bounds(range: &KeyRange, begin: &[u8], end: &[u8]) -> bool {
+    range.begin() == begin && range.end() == end
+}
+
+// Whether the set is the one range.
+fn is_one_range(set: &RangeSet, begin: &[u8], end: &[u8]) -> bool {
+    match set.iter().as_slice() {
+        [range] => has_bounds(range, begin, end),
+        _ => false,
+    }
+}
+
+fn seven(alloc: Global) -> Result<Items<u8>, Refusal> {
+    let mut items = Items::new(alloc);
+    items.push(7)?;
+    Ok(items)
+}
+
+#[test]
+fn keys_are_short_and_come_before_ff(rt: HostRuntime) -> Result<(), Fail> {
+    let longest = vec![in rt.alloc(); b'a'; 10_000]?;
+    let too_long = vec![in rt.alloc(); b'a'; 10_001]?;
+    assert_eq!(rt; key_code(rt.alloc(), &longest), 0);
+    assert_eq!(rt; key_code(rt.alloc(), &too_long), 2102);
+    assert_eq!(rt; key_code(rt.alloc(), &[0xff]), 2004);
+    Ok(())
+}
+
+#[test]
+fn ranges_are_ordered_and_end_at_ff(rt: HostRuntime) {
+    assert_eq!(rt; range_code(rt.alloc(), b"a", &[0xff]), 0);
+    assert_eq!(rt; range_code(rt.alloc(), b"a", &[0xff, 0]), 2004);
+    assert_eq!(rt; range_code(rt.alloc(), b"b", b"a"), 2005);
+}
+
+#[test]
+fn range_has_its_begin_and_not_its_end(rt: HostRuntime) -> Result<(), Fail> {
+    let range = KeyRange::new(rt.alloc(), b"a", b"c")?;
+    let first = Key::new(rt.alloc(), b"a")?;
+    let next = Key::new(rt.alloc(), b"c")?;
+    assert!(rt; range.contains(&first));
+    assert!(rt; !range.contains(&next));
+    assert!(rt; !range.is_empty());
+    Ok(())
+}
+
+#[test]
+fn touching_ranges_do_not_meet(rt: HostRuntime) -> Result<(), Fail> {
+    let range = KeyRange::new(rt.alloc(), b"a", b"c")?;
+    let touching = KeyRange::new(rt.alloc(), b"c", b"d")?;
+    let crossing = KeyRange::new(rt.alloc(), b"b", b"d")?;
+    assert!(rt; !range.meets(&touching));
+    assert!(rt; range.meets(&crossing));
+    Ok(())
+}
+
+#[test]
+fn range_of_one_key_ends_right_behind_it(rt: HostRuntime) -> Result<(), Fail> {
+    let key = Key::new(rt.alloc(), b"a")?;
+    let range = KeyRange::single(rt.alloc(), &key)?;
+    assert_eq!(rt; key.bytes(), b"a".as_slice());
+    assert!(rt; has_bounds(&range, b"a", b"a\0"));
+    Ok(())
+}
+
+#[test]
+fn touching_ranges_are_joined(rt: HostRuntime) -> Result<(), Fail> {
+    let set = keys_to_d(rt.alloc())?;
+    assert!(rt; is_one_range(&set, b"a", b"d"));
+    Ok(())
+}
+
+#[test]
+fn copies_of_keys_are_equal(rt: HostRuntime) -> Result<(), Fail> {
+    let key = Key::new(rt.alloc(), b"a")?;
+    let copy = key.clone()?;
+    assert!(rt; copy == key);
+    Ok(())
+}
+
+#[test]
+fn copies_of_sets_are_equal(rt: HostRuntime) -> Result<(), Fail> {
+    let set = keys_to_d(rt.alloc())?;
+    let copy = set.clone()?;
+    assert!(rt; copy == set);
+    Ok(())
+}
+
+#[test]
+fn items_come_in_order(rt: HostRuntime) -> Result<(), Fail> {
+    let items = seven(rt.alloc())?;
+    assert_eq!(rt; items.as_slice(), [7].as_slice());
+    assert_eq!(rt; items.len(), 1);
+    assert!(rt; !items.is_empty());
+    let copy = items.clone()?;
+    assert!(rt; copy == items);
+    Ok(())
+}
+
+#[test]
+fn items_are_the_items_of_a_vector(rt: HostRuntime) -> Result<(), Fail> {
+    let items = Items::from_vec(vec![in rt.alloc(); 1u8, 2]?);
+    let list = items.into_vec();
+    assert_eq!(rt; list.as_slice(), [1, 2].as_slice());
+    Ok(())
+}
+
+#[test]
+fn refusals_have_codes_and_texts(rt: HostRuntime) -> Result<(), Fail> {
+    let why = Refusal::NotYet(5);
+    let text = format!(in rt.alloc(); "{why}")?;
+    assert_eq!(rt; why.code(), 9002);
+    assert_eq!(rt;
+        text.as_str(),
+        "something that comes before this, numbered 5, has not come yet"
+    );
+    Ok(())
+}
