@@ -1,12 +1,13 @@
 -- The steps of clients, and of the read-version proxies that serve them.
-use Rattle.std.specs.Prelude.{ℕ, suc, ◌+◌, ◌^◌, ◌-◌, Bool, true, false, not, ◌&&◌, ◌||◌, ◌==◌, nat_lt, List, [], ◌∷◌, ◌++◌, fold, map, filter, length, Option, Some, None, Result, Ok, Err, slice_get, slice_set, position, if◌then◌else◌}
+use Rattle.std.specs.Prelude.{ℕ, suc, ◌+◌, ◌^◌, ◌-◌, min, Bool, true, false, not, ◌&&◌, ◌||◌, ◌==◌, nat_lt, List, [], ◌∷◌, ◌++◌, fold, take, map, filter, length, Option, Some, None, Result, Ok, Err, slice_get, slice_set, position, if◌then◌else◌}
 use Rattle.std.specs.List.{list_any, remove}
 use Rattle.fdb_keys.specs.declared.refusal.Refusal.{Refusal}
-use Rattle.fdb_keys.specs.declared.refusal.Refusal.TheVariants.{TransactionTooOld, FutureVersion, Exhausted, WrongState}
+use Rattle.fdb_keys.specs.declared.refusal.Refusal.TheVariants.{TransactionTooOld, FutureVersion, Exhausted, WrongState, Unknown}
 use Rattle.fdb_mutations.specs.declared.mutation.Mutation.{Mutation}
 use Rattle.fdb_mutations.specs.Mutations.{mutation_fault}
 use Rattle.fdb_txn.specs.declared.txn_id.TxnId.{TxnId}
 use Rattle.fdb_txn.specs.declared.spot.Spot.TheVariants as spot
+use Rattle.fdb_txn.specs.declared.entry.Entry.{Entry}
 use Rattle.fdb_txn.specs.Transactions.{Transaction}
 use Rattle.fdb_txn.specs.Book.{seen_of}
 use Rattle.fdb_txn.specs.Owners.{first_owner}
@@ -23,17 +24,25 @@ use Rattle.fdb_core.specs.declared.program.Reply.TheVariants as reply
 use Rattle.fdb_core.specs.declared.program.Transcript.{Transcript}
 use Rattle.fdb_core.specs.declared.step.Answered.{Answered}
 use Rattle.fdb_core.specs.declared.step.Answered.TheVariants as answered
-use Rattle.fdb_core.specs.Machine.{Machine, Turn, found, refused_where, last_version, seen_before, is_of, is_busy, with_opened}
+use Rattle.fdb_core.specs.Machine.{Machine, Turn, found, refused_where, refused_by, last_version, seen_before, is_of, is_busy, with_opened}
 use Rattle.fdb_core.specs.Programs.{program, copy, reply_on, decided, sealed_of}
+
+-- the open transactions without the session's
+abbrev pub without_at : List Transcript → Option ℕ → List Transcript
+without_at opened None = opened
+without_at opened (Some i) = remove opened i
+
+abbrev pub without : ℕ → List Transcript → List Transcript
+without session opened = without_at opened (position (is_of session) opened)
 
 -- Ask: refused while the session asks or waits for an answer. It drops an open transaction.
 unfoldable pub asks : Machine → ℕ → ℕ → Result Turn Refusal
 asks m session proxy = found (slice_get m.asking proxy) (λ there.
-    refused_where (is_busy session m) WrongState
+    refused_where (is_busy session m.asking m.lanes) WrongState
     (Ok (record {
       said = answered.Done;
       to = record m {
-        opened = filter (λ (transcript : Transcript). not (is_of session transcript)) m.opened;
+        opened = without session m.opened;
         asking = slice_set m.asking proxy (there ++ session ∷ []);
       };
     })))
@@ -53,14 +62,22 @@ last_begun session begun = last_at (begun_at session begun)
     last_at None = None
     last_at (Some i) = last_there (slice_get begun i)
 
+-- the greatest number that a transaction may have
+abbrev pub greatest_number : ℕ
+greatest_number = 2 ^ 64 - 1
+
 -- the number of a session's next transaction, by that of its last one
 abbrev pub next_number : Option ℕ → ℕ
 next_number None = 0
-next_number (Some last) = last + 1
+next_number (Some last) = min (last + 1) greatest_number
 
 -- the session's transactions have used up all numbers
+abbrev pub has_used_up : Option ℕ → Bool
+has_used_up None = false
+has_used_up (Some last) = last == greatest_number
+
 abbrev pub has_no_number : List Begun → ℕ → Bool
-has_no_number begun session = nat_lt (2 ^ 64 - 1) (next_number (last_begun session begun))
+has_no_number begun session = has_used_up (last_begun session begun)
 
 -- the list with the session's next transaction as its last one
 abbrev pub begin_next : List Begun → ℕ → List Begun
@@ -101,33 +118,38 @@ abbrev pub note : Machine → ℕ → Transcript → Op → Reply → Machine
 note m i transcript op reply =
     record m { opened = slice_set m.opened i (record transcript { ops = transcript.ops ++ (op, reply) ∷ [] }) }
 
--- the version through which the shard applied the book
-abbrev pub version_of_shard : Machine → Reach → ℕ
-version_of_shard m reach = last_version (Rattle.std.specs.Prelude.take reach.pulled m.book)
+-- the version through which a shard applied the book
+abbrev pub version_of_shard : List Entry → Reach → ℕ
+version_of_shard book reach = last_version (take reach.pulled book)
 
--- a step goes on where the shard that holds the point serves the version
-abbrev pub served_at : Machine → List ℕ → ℕ → Result Turn Refusal → Result Turn Refusal
-served_at m x version next = found (slice_get m.shards (first_owner m.config.shard_splits x)) (λ (reach : Reach).
-    refused_where (nat_lt version reach.floor) TransactionTooOld
-    (refused_where (nat_lt (version_of_shard m reach) version) FutureVersion next))
+-- why a shard does not serve a version
+abbrev pub shard_fault : List Entry → ℕ → Option Reach → Option Refusal
+shard_fault book version None = Some Unknown
+shard_fault book version (Some reach) =
+    if nat_lt version reach.floor then Some TransactionTooOld
+    else (if nat_lt (version_of_shard book reach) version then Some FutureVersion else None)
 
--- Get: the reply of the program run on the map at its read version. A decided key asks no shard.
+-- why a key is not read behind the earlier operations; a decided key asks no shard
+abbrev pub read_fault : Machine → List Op → ℕ → List ℕ → Option Refusal
+read_fault m earlier version key =
+    if decided earlier key then None
+    else shard_fault m.book version (slice_get m.shards (first_owner m.config.shard_splits key))
+
+-- Get: the reply of the program run on the map at its read version.
 unfoldable pub gets : Machine → ℕ → List ℕ → Bool → Result Turn Refusal
 gets m session key snapshot = with_opened session m.opened (λ i transcript.
     let earlier = program transcript.ops in
     let there = map_at m.config.resolver_splits transcript.read_version (seen_of m.book).places in
     let operation = op.Get key snapshot in
     let reply = reply_on (copy there earlier) operation in
-    let turn = Ok (record { said = answered_by reply; to = note m i transcript operation reply }) in
-    if decided earlier key then turn else served_at m key transcript.read_version turn)
+    refused_by (read_fault m earlier transcript.read_version key)
+    (Ok (record { said = answered_by reply; to = note m i transcript operation reply })))
 
 -- Write: the mutation is buffered.
 unfoldable pub writes : Machine → ℕ → Mutation → Result Turn Refusal
-writes m session mutation = with_opened session m.opened (λ i transcript. checked i transcript (mutation_fault mutation))
-  where
-    checked : ℕ → Transcript → Option Refusal → Result Turn Refusal
-    checked i transcript (Some fault) = Err fault
-    checked i transcript None = Ok (record { said = answered.Done; to = note m i transcript (op.Write mutation) reply.Done })
+writes m session mutation = with_opened session m.opened (λ i transcript.
+    refused_by (mutation_fault mutation)
+    (Ok (record { said = answered.Done; to = note m i transcript (op.Write mutation) reply.Done })))
 
 -- the list is empty
 abbrev pub is_nil : {A : Type 0} → List A → Bool

@@ -1,4 +1,5 @@
 pub mod ClientSteps
+pub mod Kernel
 pub mod Machine
 pub mod Programs
 pub mod ProxySteps

@@ -59,6 +59,11 @@ refused_where false refusal next = next
 abbrev pub in_turn : ℕ → ℕ → Entry → Result Turn Refusal → Result Turn Refusal
 in_turn taken i entry next = refused_where (nat_lt i taken) Stale (refused_where (nat_lt taken i) (NotYet entry.prev) next)
 
+-- a step goes on where there is no fault
+abbrev pub refused_by : Option Refusal → Result Turn Refusal → Result Turn Refusal
+refused_by None next = next
+refused_by (Some fault) next = Err fault
+
 -- a step waits for the least one that is missing
 abbrev pub lacks : Option ℕ → Result Turn Refusal → Result Turn Refusal
 lacks None next = next
@@ -90,10 +95,13 @@ abbrev pub waits_at : ℕ → Lane → Bool
 waits_at session lane =
     list_any (λ (submission : Submission). is_of session submission.transcript) lane.waiting || list_any (is_of session) lane.in_flight
 
+-- the session is among those who ask at a read-version proxy
+abbrev pub asks_at : ℕ → List ℕ → Bool
+asks_at session there = list_any (λ (asker : ℕ). asker == session) there
+
 -- the session asks, or waits for an answer
-abbrev pub is_busy : ℕ → Machine → Bool
-is_busy session m =
-    list_any (λ (there : List ℕ). list_any (λ (asker : ℕ). asker == session) there) m.asking || list_any (waits_at session) m.lanes
+abbrev pub is_busy : ℕ → List (List ℕ) → List Lane → Bool
+is_busy session asking lanes = list_any (asks_at session) asking || list_any (waits_at session) lanes
 
 -- a step goes on with the session's open transaction and its place in the list
 abbrev pub with_opened : ℕ → List Transcript → (ℕ → Transcript → Result Turn Refusal) → Result Turn Refusal

@@ -64,18 +64,26 @@ write_set [] x = false
 write_set (Get key snapshot ∷ earlier) x = write_set earlier x
 write_set (Write mutation ∷ earlier) x = names mutation x || write_set earlier x
 
+-- the mutations with that of an operation, if it is a write
+abbrev pub add_mutation : Op → List Mutation → List Mutation
+add_mutation (Get key snapshot) mutations = mutations
+add_mutation (Write mutation) mutations = mutations ++ mutation ∷ []
+
 -- the mutations of a program, the first one first
 abbrev pub mutations_of : List Op → List Mutation
 mutations_of [] = []
-mutations_of (Get key snapshot ∷ earlier) = mutations_of earlier
-mutations_of (Write mutation ∷ earlier) = mutations_of earlier ++ mutation ∷ []
+mutations_of (op ∷ earlier) = add_mutation op (mutations_of earlier)
+
+-- the ranges with what an operation reads behind the earlier ones
+abbrev pub add_reads : List Op → Op → List Range → List Range
+add_reads earlier (Get key snapshot) ranges =
+    if not snapshot && not (decided earlier key) then with_range (single_range key) ranges else ranges
+add_reads earlier (Write mutation) ranges = ranges
 
 -- the read set as ranges
 abbrev pub read_ranges : List Op → List Range
 read_ranges [] = []
-read_ranges (Get key snapshot ∷ earlier) =
-    if not snapshot && not (decided earlier key) then with_range (single_range key) (read_ranges earlier) else read_ranges earlier
-read_ranges (Write mutation ∷ earlier) = read_ranges earlier
+read_ranges (op ∷ earlier) = add_reads earlier op (read_ranges earlier)
 
 -- what is submitted of a transcript
 abbrev pub sealed_of : Transcript → Transaction

@@ -1,5 +1,5 @@
 -- What the one resolver, the log and the shard keep, as functions of what they took of the book.
-use Rattle.std.specs.Prelude.{◌≡◌, ℕ, ◌+◌, Bool, not, ◌&&◌, ◌||◌, nat_lt, nat_le, List, [], ◌∷◌, ◌++◌, fold, Option, Some, None, if◌then◌else◌}
+use Rattle.std.specs.Prelude.{◌≡◌, ℕ, zero, suc, ◌+◌, Bool, true, false, not, ◌&&◌, ◌||◌, ◌==◌, nat_lt, nat_le, List, [], ◌∷◌, ◌++◌, fold, Option, Some, None, if◌then◌else◌}
 use Rattle.std.specs.List.{list_any}
 use Rattle.fdb_keys.specs.Points.{Point}
 use Rattle.fdb_keys.specs.Ranges.{Range, ranges_meet}
@@ -14,6 +14,11 @@ use Rattle.fdb_core.specs.declared.pool.Mark.{Mark}
 use Rattle.fdb_core.specs.declared.pool.Message.{Message}
 use Rattle.fdb_core.specs.declared.step.Verdict.{Verdict}
 use Rattle.fdb_core.specs.declared.step.Verdict.TheVariants as verdict
+use Rattle.fdb_core.specs.declared.step.Outcome.{Outcome}
+use Rattle.fdb_core.specs.declared.step.Outcome.TheVariants as outcome
+use Rattle.fdb_core.specs.declared.program.Op.{Op}
+use Rattle.fdb_core.specs.declared.program.Op.TheVariants as op
+use Rattle.fdb_core.specs.declared.program.Reply.{Reply}
 use Rattle.fdb_core.specs.Verdicts.{moves_through}
 
 -- for each entry of a book what a function makes of it and of what was seen before it
@@ -75,3 +80,56 @@ value_after x value mutation = if names mutation x then new_value mutation value
 abbrev pub value_in : ℕ → Point → List Message → Option (List ℕ)
 value_in v x messages =
     fold (λ (value : Option (List ℕ)) (message : Message). if nat_le message.version v then fold (value_after x) value message.body else value) None messages
+
+-- what a resolver made of the places of a batch so far: its marks, its verdicts, and how many places they were
+pub record Judged : Type 0 where
+  pub marks : List Mark
+  pub verdicts : List (ℕ × Verdict)
+  pub places : ℕ
+
+-- one place more; only a transaction with a point in its sets is judged
+abbrev pub judge_next : ℕ → Judged → Transaction → Judged
+judge_next version so_far t =
+    record {
+      marks = marked_after so_far.marks version t;
+      verdicts =
+        if has_points t.writes || has_points t.reads
+        then so_far.verdicts ++ (so_far.places, judgement so_far.marks version t) ∷ []
+        else so_far.verdicts;
+      places = so_far.places + 1;
+    }
+
+-- all places of a batch, one after another
+abbrev pub judged : List Mark → ℕ → List Transaction → Judged
+judged marks version batch = fold (judge_next version) (record { marks = marks; verdicts = []; places = 0 }) batch
+
+-- what is made of a verdict on a place; without a verdict nothing stands against it
+abbrev pub outcome_by : ℕ → ℕ → Verdict → Outcome
+outcome_by version place verdict.Yes = outcome.Commit version place
+outcome_by version place verdict.Conflict = outcome.Conflict
+outcome_by version place verdict.Old = outcome.Old
+
+abbrev pub verdict_for : List (ℕ × Verdict) → ℕ → Verdict
+verdict_for [] place = verdict.Yes
+verdict_for (said ∷ others) place = if said.0 == place then said.1 else verdict_for others place
+
+-- the outcomes of as many places, from the verdicts of the one resolver
+abbrev pub outcomes_by : ℕ → List (ℕ × Verdict) → ℕ → List Outcome
+outcomes_by version verdicts zero = []
+outcomes_by version verdicts (suc place) = outcomes_by version verdicts place ++ outcome_by version place (verdict_for verdicts place) ∷ []
+
+abbrev pub is_commit : Outcome → Bool
+is_commit (outcome.Commit version place) = true
+is_commit outcome.Conflict = false
+is_commit outcome.Old = false
+
+-- the mutations of those transactions whose outcome is a commit, in order
+abbrev pub body_by : List Transaction → List Outcome → List Mutation
+body_by [] outcomes = []
+body_by (t ∷ ts) [] = []
+body_by (t ∷ ts) (outcome ∷ outcomes) = (if is_commit outcome then t.mutations else []) ++ body_by ts outcomes
+
+-- what stands at a point after an operation, by what stood there
+abbrev pub value_after_op : Point → Option (List ℕ) → Op × Reply → Option (List ℕ)
+value_after_op x value (op.Get key snapshot, reply) = value
+value_after_op x value (op.Write mutation, reply) = value_after x value mutation

@@ -1,10 +1,17 @@
 //! The transaction system as a machine over a list of steps, with all roles as parts of one world.
 #![tactic(auto)]
 
+mod client_steps;
 mod config;
+mod deciding;
+mod judging;
+mod kernel;
 mod parts;
 mod pool;
 mod program;
+mod sealing;
+mod serving;
+mod sessions;
 mod step;
 
 pub use config::Config;

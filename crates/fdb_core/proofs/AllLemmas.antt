@@ -1,0 +1,41 @@
+-- What holds of each item of a list, when the list changes.
+use Rattle.std.proofs.Common.{◌≡◌, ℕ, zero, suc, List, [], ◌∷◌, ◌++◌, take, drop, length, Option, Some, sym, subst, ap}
+use Rattle.std.specs.List.{AllByRecursion, slice_get, slice_set, remove}
+
+module _ {A : Type 0} (P : A → Type 0) where
+  pub all-push : (xs : List A) (x : A) → AllByRecursion P xs → P x → AllByRecursion P (xs ++ x ∷ [])
+  all-push [] x all here = (here, tt)
+  all-push (y ∷ ys) x all here = (all.0, all-push ys x all.1 here)
+
+  pub all-remove : (xs : List A) (i : ℕ) → AllByRecursion P xs → AllByRecursion P (remove xs i)
+  all-remove [] zero all = tt
+  all-remove [] (suc i) all = tt
+  all-remove (y ∷ ys) zero all = all.1
+  all-remove (y ∷ ys) (suc i) all = (all.0, all-remove ys i all.1)
+
+  pub all-set : (xs : List A) (i : ℕ) (x : A) → AllByRecursion P xs → P x → AllByRecursion P (slice_set xs i x)
+  all-set [] zero x all here = tt
+  all-set [] (suc i) x all here = tt
+  all-set (y ∷ ys) zero x all here = (here, all.1)
+  all-set (y ∷ ys) (suc i) x all here = (all.0, all-set ys i x all.1 here)
+
+  pub all-at : (xs : List A) (i : ℕ) (x : A) → AllByRecursion P xs → slice_get xs i ≡ Some x → P x
+  all-at [] i x all there = cc
+  all-at (y ∷ ys) zero x all there = let same : y ≡ x = cc in subst P same all.0
+  all-at (y ∷ ys) (suc i) x all there = all-at ys i x all.1 there
+
+  pub all-drop : (n : ℕ) (xs : List A) → AllByRecursion P xs → AllByRecursion P (drop n xs)
+  all-drop zero [] all = tt
+  all-drop (suc n) [] all = tt
+  all-drop zero (y ∷ ys) all = all
+  all-drop (suc n) (y ∷ ys) all = all-drop n ys all.1
+
+  pub all-take : (n : ℕ) (xs : List A) → AllByRecursion P xs → AllByRecursion P (take n xs)
+  all-take zero [] all = tt
+  all-take (suc n) [] all = tt
+  all-take zero (y ∷ ys) all = tt
+  all-take (suc n) (y ∷ ys) all = (all.0, all-take n ys all.1)
+
+pub all-weaken : {A : Type 0} (P Q : A → Type 0) → ((x : A) → P x → Q x) → (xs : List A) → AllByRecursion P xs → AllByRecursion Q xs
+all-weaken P Q weaker [] all = tt
+all-weaken P Q weaker (x ∷ xs) all = (weaker x all.0, all-weaken P Q weaker xs all.1)

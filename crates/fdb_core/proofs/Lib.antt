@@ -1,0 +1,4 @@
+pub mod AllLemmas
+pub mod Ties
+pub mod OneResolver
+pub mod RunLaws

@@ -1,0 +1,264 @@
+-- What logs and shards keep, and the run of the committed transactions.
+use Rattle.std.proofs.Common.{◌≡◌, ◌∙◌, sym, ap, refl, ℕ, zero, suc, ◌<◌, ◌≤◌, Bool, true, false, if◌then◌else◌, nat_le, append_assoc, append-nil, take-append-drop, le_trans, le_refl, le_of_lt, ⊎_elim, subst, List, [], ◌∷◌, ◌++◌, take, drop, fold, length, slice_get, Option, Some, arith}
+use Rattle.std.specs.Ordering.{nat_cmp}
+use Rattle.std.specs.Cmp.Lexicographic.{slice_cmp}
+use Rattle.std.specs.FinMap.{get, get-empty}
+use Rattle.std.proofs.lemmas.Bool.{cases_Bool, cond-true, cond-false, leb-true, leb-false, le-leb, lt-leb}
+use Rattle.std.proofs.lemmas.List.Sums.{fold-append}
+use Rattle.fdb_keys.specs.Points.{Point}
+use Rattle.fdb_mutations.specs.declared.mutation.Mutation.{Mutation}
+use Rattle.fdb_mutations.specs.Maps.{Map}
+use Rattle.fdb_mutations.specs.Mutations.{effect, effects}
+use Rattle.fdb_mutations.proofs.Effects.{at_every_point}
+use Rattle.fdb_txn.specs.declared.entry.Entry.{Entry}
+use Rattle.fdb_txn.specs.Transactions.{Transaction}
+use Rattle.fdb_txn.specs.Book.{Stamped, Place, Seen, nothing, placed, add_places, add_entry, seen_of}
+use Rattle.fdb_txn.specs.Admission.{committed}
+use Rattle.fdb_txn.specs.Run.{run, up_to, map_at}
+use Rattle.fdb_core.specs.declared.pool.Message.{Message}
+use Rattle.fdb_core.specs.Machine.{last_version, seen_before}
+use Rattle.fdb_core.specs.Verdicts.{moves_through}
+use Rattle.fdb_core.specs.Kernel.{IsRising}
+use Rattle.fdb_core.specs.Roles.{along, committed_from, message_on, value_after, value_in}
+
+-- what was seen of a book with one more entry
+pub seen_of-push : (book : List Entry) (entry : Entry) → seen_of (book ++ entry ∷ []) ≡ add_entry (seen_of book) entry
+seen_of-push book entry = fold-append add_entry nothing book (entry ∷ [])
+
+-- `along` from what was seen before, by recursion from the front
+along_from : {A : Type 0} → (Seen → Entry → A) → Seen → List Entry → List A
+along_from f seen [] = []
+along_from f seen (entry ∷ book) = f seen entry ∷ along_from f (add_entry seen entry) book
+
+-- one step of `along`
+abbrev along_step : {A : Type 0} → (Seen → Entry → A) → Seen × List A → Entry → Seen × List A
+along_step f made entry = (add_entry made.0 entry, made.1 ++ f made.0 entry ∷ [])
+
+-- the steps of `along` append what the recursion gives
+steps-along : {A : Type 0} (f : Seen → Entry → A) (seen : Seen) (made : List A) (book : List Entry)
+    → (fold (along_step f) (seen, made) book).1 ≡ made ++ along_from f seen book
+unfolding along_from
+steps-along f seen made [] = sym (append-nil made)
+steps-along f seen made (entry ∷ book) =
+    steps-along f (add_entry seen entry) (made ++ f seen entry ∷ []) book ∙ append_assoc made (f seen entry ∷ []) (along_from f (add_entry seen entry) book)
+
+-- `along` is the recursion
+along-is : {A : Type 0} (f : Seen → Entry → A) (book : List Entry) → along f book ≡ along_from f nothing book
+along-is f book = steps-along f nothing [] book
+
+-- one for each entry
+length-from : {A : Type 0} (f : Seen → Entry → A) (seen : Seen) (book : List Entry) → length (along_from f seen book) ≡ length book
+unfolding along_from
+length-from f seen [] = refl
+length-from f seen (entry ∷ book) = ap suc (length-from f (add_entry seen entry) book)
+
+-- one for each entry
+pub length-along : {A : Type 0} (f : Seen → Entry → A) (book : List Entry) → length (along f book) ≡ length book
+length-along f book = ap length (along-is f book) ∙ length-from f nothing book
+
+-- one more entry adds one at the end
+push-from : {A : Type 0} (f : Seen → Entry → A) (seen : Seen) (book : List Entry) (entry : Entry)
+    → along_from f seen (book ++ entry ∷ []) ≡ along_from f seen book ++ f (fold add_entry seen book) entry ∷ []
+unfolding along_from
+push-from f seen [] entry = refl
+push-from f seen (first ∷ book) entry = ap (λ made. f seen first ∷ made) (push-from f (add_entry seen first) book entry)
+
+-- one more entry adds one at the end
+pub along-push : {A : Type 0} (f : Seen → Entry → A) (book : List Entry) (entry : Entry)
+    → along f (book ++ entry ∷ []) ≡ along f book ++ f (seen_of book) entry ∷ []
+along-push f book entry =
+    along-is f (book ++ entry ∷ []) ∙ push-from f nothing book entry ∙ ap (λ made. made ++ f (seen_of book) entry ∷ []) (sym (along-is f book))
+
+-- what stands at a number is made of the entry there and of what was seen before it
+slice_get-from : {A : Type 0} (f : Seen → Entry → A) (seen : Seen) (book : List Entry) (i : ℕ) (entry : Entry)
+    → slice_get book i ≡ Some entry → slice_get (along_from f seen book) i ≡ Some (f (fold add_entry seen (take i book)) entry)
+unfolding along_from
+slice_get-from f seen [] i entry there = cc
+slice_get-from f seen (first ∷ book) zero entry there = let same : first ≡ entry = cc in ap (λ (e : Entry). Some (f seen e)) same
+slice_get-from f seen (first ∷ book) (suc i) entry there = slice_get-from f (add_entry seen first) book i entry there
+
+-- what stands at a number is made of the entry there and of what was seen before it
+pub slice_get-along : {A : Type 0} (f : Seen → Entry → A) (book : List Entry) (i : ℕ) (entry : Entry)
+    → slice_get book i ≡ Some entry → slice_get (along f book) i ≡ Some (f (seen_before book i) entry)
+slice_get-along f book i entry there = ap (λ made. slice_get made i) (along-is f book) ∙ slice_get-from f nothing book i entry there
+
+-- the first ones are those of the first entries
+take-from : {A : Type 0} (f : Seen → Entry → A) (seen : Seen) (n : ℕ) (book : List Entry) → take n (along_from f seen book) ≡ along_from f seen (take n book)
+unfolding along_from
+take-from f seen zero book = refl
+take-from f seen (suc n) [] = refl
+take-from f seen (suc n) (entry ∷ book) = ap (λ made. f seen entry ∷ made) (take-from f (add_entry seen entry) n book)
+
+-- the first ones are those of the first entries
+pub take-along : {A : Type 0} (f : Seen → Entry → A) (n : ℕ) (book : List Entry) → take n (along f book) ≡ along f (take n book)
+take-along f n book = ap (take n) (along-is f book) ∙ take-from f nothing n book ∙ sym (along-is f (take n book))
+
+-- the run goes on through a batch by the mutations of its committed transactions
+pub run-add_places : (splits : List Point) (version : ℕ) (moves : List Stamped) (batch : List Transaction) (earlier : List Place)
+    → run splits (add_places version moves batch earlier) ≡ effects (run splits earlier) (committed_from splits version moves batch earlier)
+run-add_places splits version moves [] earlier = refl
+run-add_places splits version moves (t ∷ ts) earlier =
+    run-add_places splits version moves ts (place ∷ earlier)
+    ∙ ap (λ (map : Map). effects map others) (effects_if (run splits earlier) (committed splits earlier place) t.mutations)
+    ∙ sym (fold-append effect (run splits earlier) (if committed splits earlier place then t.mutations else []) others)
+  where
+    place : Place
+    place = placed version moves t
+    others : List Mutation
+    others = committed_from splits version moves ts (place ∷ earlier)
+    effects_if : (map : Map) (is_committed : Bool) (mutations : List Mutation)
+      → (if is_committed then effects map mutations else map) ≡ effects map (if is_committed then mutations else [])
+    effects_if map true mutations = refl
+    effects_if map false mutations = refl
+
+-- mutations change a map point by point
+pub get-effects : (map : Map) (mutations : List Mutation) (x : Point) → get (effects map mutations) x ≡ fold (value_after x) (get map x) mutations
+get-effects map [] x = refl
+get-effects map (mutation ∷ mutations) x =
+    get-effects (effect map mutation) mutations x ∙ ap (λ (value : Option (List ℕ)). fold (value_after x) value mutations) (at_every_point map mutation x)
+
+-- each entry's version is greater than that of the entry before it, and the first one's greater than the least
+abbrev RisesFrom : ℕ → List Entry → Type 0
+RisesFrom least [] = Unit
+RisesFrom least (entry ∷ book) = (least < entry.version) × RisesFrom entry.version book
+
+-- the version of the last entry, else the least
+abbrev last_from : ℕ → List Entry → ℕ
+last_from least book = fold (λ (last : ℕ) (entry : Entry). entry.version) least book
+
+-- a rising book in this form
+rises : (least : ℕ) (book : List Entry) → ((i : ℕ) (entry : Entry) → slice_get book i ≡ Some entry → last_from least (take i book) < entry.version)
+    → RisesFrom least book
+rises least [] rising = tt
+rises least (entry ∷ book) rising = (rising 0 entry refl, rises entry.version book (λ i other there. rising (suc i) other there))
+
+-- its first entries rise
+rises-take : (least n : ℕ) (book : List Entry) → RisesFrom least book → RisesFrom least (take n book)
+rises-take least zero book rising = tt
+rises-take least (suc n) [] rising = tt
+rises-take least (suc n) (entry ∷ book) rising = (rising.0, rises-take entry.version n book rising.1)
+
+-- its other entries rise from the last one of those
+rises-drop : (least n : ℕ) (book : List Entry) → RisesFrom least book → RisesFrom (last_from least (take n book)) (drop n book)
+rises-drop least zero book rising = rising
+rises-drop least (suc n) [] rising = tt
+rises-drop least (suc n) (entry ∷ book) rising = rises-drop entry.version n book rising.1
+
+-- a book that rises stays so with an entry of a greater version
+rises-push : (least : ℕ) (book : List Entry) (entry : Entry) → RisesFrom least book → last_from least book < entry.version → RisesFrom least (book ++ entry ∷ [])
+rises-push least [] entry rising above = (above, tt)
+rises-push least (first ∷ book) entry rising above = (rising.0, rises-push first.version book entry rising.1 above)
+
+-- back to the form by number
+rises-at : (least : ℕ) (book : List Entry) → RisesFrom least book
+    → (i : ℕ) (entry : Entry) → slice_get book i ≡ Some entry → last_from least (take i book) < entry.version
+rises-at least [] rising i entry there = cc
+rises-at least (first ∷ book) rising zero entry there =
+    let same : first ≡ entry = cc in subst (λ (e : Entry). least < e.version) same rising.0
+rises-at least (first ∷ book) rising (suc i) entry there = rises-at first.version book rising.1 i entry there
+
+-- the empty book rises
+pub rising-nil : IsRising []
+rising-nil = rises-at 0 [] tt
+
+-- a rising book goes on with an entry of a greater version than the last one's
+pub rising-push : (book : List Entry) (entry : Entry) → IsRising book → last_version book < entry.version → IsRising (book ++ entry ∷ [])
+rising-push book entry rising above = rises-at 0 (book ++ entry ∷ []) (rises-push 0 book entry (rises 0 book rising) above)
+
+-- the first entries of a rising book rise
+pub rising-take : (n : ℕ) (book : List Entry) → IsRising book → IsRising (take n book)
+rising-take n book rising = rises-at 0 (take n book) (rises-take 0 n book (rises 0 book rising))
+
+-- no place has a greater version
+abbrev AtMost : ℕ → List Place → Type 0
+AtMost v [] = Unit
+AtMost v (place ∷ places) = (place.version ≤ v) × AtMost v places
+
+-- at most v is at most a greater number
+at_most-more : (v w : ℕ) (places : List Place) → v ≤ w → AtMost v places → AtMost w places
+at_most-more v w [] more at_most = tt
+at_most-more v w (place ∷ places) more at_most = (le_trans at_most.0 more, at_most-more v w places more at_most.1)
+
+-- places of a version at most v come in
+at_most-places : (v version : ℕ) (moves : List Stamped) (batch : List Transaction) (earlier : List Place) → version ≤ v → AtMost v earlier
+    → AtMost v (add_places version moves batch earlier)
+at_most-places v version moves [] earlier reached at_most = at_most
+at_most-places v version moves (t ∷ ts) earlier reached at_most = at_most-places v version moves ts (placed version moves t ∷ earlier) reached (reached, at_most)
+
+-- places of versions at most v all stay
+up_to-all : (v : ℕ) (places : List Place) → AtMost v places → up_to v places ≡ places
+up_to-all v [] at_most = refl
+up_to-all v (place ∷ places) at_most =
+    cond-true _ (place ∷ up_to v places) (up_to v places) (le-leb place.version v at_most.0) ∙ ap (λ others. place ∷ others) (up_to-all v places at_most.1)
+
+-- the places of an entry of a greater version are left out
+up_to-above : (v version : ℕ) (moves : List Stamped) (batch : List Transaction) (earlier : List Place) → v < version
+    → up_to v (add_places version moves batch earlier) ≡ up_to v earlier
+up_to-above v version moves [] earlier above = refl
+up_to-above v version moves (t ∷ ts) earlier above =
+    up_to-above v version moves ts (placed version moves t ∷ earlier) above
+    ∙ cond-false _ (placed version moves t ∷ up_to v earlier) (up_to v earlier) (lt-leb version v above)
+
+-- and so are all behind a version that v doesn't pass
+up_to-behind : (v least : ℕ) (seen : Seen) (book : List Entry) → v ≤ least → RisesFrom least book
+    → up_to v (fold add_entry seen book).places ≡ up_to v seen.places
+up_to-behind v least seen [] reached rising = refl
+up_to-behind v least seen (entry ∷ book) reached rising =
+    up_to-behind v entry.version (add_entry seen entry) book (omega (arith, rising.0)) rising.1
+    ∙ up_to-above v entry.version (moves_through seen entry) entry.batch seen.places (omega (arith, rising.0))
+
+-- what stands at a point after a message
+abbrev value_with : ℕ → Point → Option (List ℕ) → Message → Option (List ℕ)
+value_with v x value message = if nat_le message.version v then fold (value_after x) value message.body else value
+
+-- an entry's message answers as the run through the entry
+value-message : (splits : List Point) (v : ℕ) (x : Point) (seen : Seen) (entry : Entry) → AtMost entry.version seen.places
+    → value_with v x (get (map_at splits v seen.places) x) (message_on splits seen entry) ≡ get (map_at splits v (add_entry seen entry).places) x
+value-message splits v x seen entry at_most = ⊎_elim
+    (λ reached. let up : entry.version ≤ v = leb-true entry.version v reached in
+      let older : up_to v seen.places ≡ seen.places = up_to-all v seen.places (at_most-more entry.version v seen.places up at_most) in
+      let all : up_to v places ≡ places =
+        up_to-all v places (at_most-places v entry.version moves entry.batch seen.places up (at_most-more entry.version v seen.places up at_most)) in
+      cond-true _ _ _ reached
+      ∙ ap (λ (now : List Place). fold (value_after x) (get (run splits now) x) body) older
+      ∙ sym (get-effects (run splits seen.places) body x)
+      ∙ ap (λ (map : Map). get map x) (sym (run-add_places splits entry.version moves entry.batch seen.places))
+      ∙ ap (λ (now : List Place). get (run splits now) x) (sym all))
+    (λ above. cond-false _ _ _ above
+      ∙ ap (λ (now : List Place). get (run splits now) x) (sym (up_to-above v entry.version moves entry.batch seen.places (leb-false entry.version v above))))
+    (cases_Bool (nat_le entry.version v))
+  where
+    moves : List Stamped
+    moves = moves_through seen entry
+    places : List Place
+    places = add_places entry.version moves entry.batch seen.places
+    body : List Mutation
+    body = committed_from splits entry.version moves entry.batch seen.places
+
+-- so do the messages of a rising book
+value-messages : (splits : List Point) (v : ℕ) (x : Point) (least : ℕ) (seen : Seen) (book : List Entry) → AtMost least seen.places → RisesFrom least book
+    → fold (value_with v x) (get (map_at splits v seen.places) x) (along_from (message_on splits) seen book)
+    ≡ get (map_at splits v (fold add_entry seen book).places) x
+unfolding along_from
+value-messages splits v x least seen [] at_most rising = refl
+value-messages splits v x least seen (entry ∷ book) at_most rising =
+    let here : AtMost entry.version seen.places = at_most-more least entry.version seen.places (le_of_lt rising.0) at_most in
+    ap (λ (value : Option (List ℕ)). fold (value_with v x) value (along_from (message_on splits) (add_entry seen entry) book))
+      (value-message splits v x seen entry here)
+    ∙ value-messages splits v x entry.version (add_entry seen entry) book
+      (at_most-places entry.version entry.version (moves_through seen entry) entry.batch seen.places (le_refl entry.version) here) rising.1
+
+-- the messages that a shard applied answer, at any version up to its own, as the run's map at that version
+pub value-of-run : (splits : List Point) (book : List Entry) → IsRising book → (pulled v : ℕ) → v ≤ last_version (take pulled book)
+    → (x : Point) → value_in v x (take pulled (along (message_on splits) book)) ≡ get (map_at splits v (seen_of book).places) x
+value-of-run splits book rising pulled v reached x =
+    let whole : RisesFrom 0 book = rises 0 book rising in
+    let parts : seen_of book ≡ fold add_entry (seen_of (take pulled book)) (drop pulled book) =
+      ap seen_of (sym (take-append-drop pulled book)) ∙ fold-append add_entry nothing (take pulled book) (drop pulled book) in
+    ap (λ (messages : List Message). value_in v x messages) (take-along (message_on splits) pulled book ∙ along-is (message_on splits) (take pulled book))
+    ∙ ap (λ (value : Option (List ℕ)). fold (value_with v x) value (along_from (message_on splits) nothing (take pulled book)))
+      (sym (get-empty {X = List ℕ} (slice_cmp nat_cmp) x))
+    ∙ value-messages splits v x 0 nothing (take pulled book) tt (rises-take 0 pulled book whole)
+    ∙ ap (λ (now : List Place). get (run splits now) x)
+      (sym (ap (λ (seen : Seen). up_to v seen.places) parts
+        ∙ up_to-behind v (last_version (take pulled book)) (seen_of (take pulled book)) (drop pulled book) reached (rises-drop 0 pulled book whole)))
