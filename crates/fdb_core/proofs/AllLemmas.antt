@@ -1,5 +1,5 @@
 -- What holds of each item of a list, when the list changes.
-use Rattle.std.proofs.Common.{◌≡◌, ℕ, zero, suc, List, [], ◌∷◌, ◌++◌, take, drop, length, Option, Some, sym, subst, ap}
+use Rattle.std.proofs.Common.{◌≡◌, ◌<◌, refl, arith, ℕ, zero, suc, List, [], ◌∷◌, ◌++◌, take, drop, length, Option, Some, sym, subst, ap}
 use Rattle.std.specs.List.{AllByRecursion, slice_get, slice_set, remove}
 
 module _ {A : Type 0} (P : A → Type 0) where
@@ -39,3 +39,9 @@ module _ {A : Type 0} (P : A → Type 0) where
 pub all-weaken : {A : Type 0} (P Q : A → Type 0) → ((x : A) → P x → Q x) → (xs : List A) → AllByRecursion P xs → AllByRecursion Q xs
 all-weaken P Q weaker [] all = tt
 all-weaken P Q weaker (x ∷ xs) all = (weaker x all.0, all-weaken P Q weaker xs all.1)
+
+-- there is an item at each place within a list
+pub within-item : {A : Type 0} (xs : List A) (i : ℕ) → i < length xs → (x : A) × (slice_get xs i ≡ Some x)
+within-item [] i within = absurd (omega (arith, within))
+within-item (x ∷ xs) zero within = (x, refl)
+within-item (x ∷ xs) (suc i) within = within-item xs i (omega (arith, within))

@@ -1,4 +1,7 @@
 pub mod AllLemmas
-pub mod Ties
+pub mod BatchLaws
 pub mod OneResolver
+pub mod ProgramLaws
 pub mod RunLaws
+pub mod Ties
+pub mod Turns

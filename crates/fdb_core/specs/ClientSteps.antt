@@ -113,10 +113,13 @@ abbrev pub answered_by : Reply → Answered
 answered_by (reply.Value value) = answered.Value value
 answered_by reply.Done = answered.Done
 
+-- the open transactions with one more operation and its reply at one of them
+abbrev pub noted : List Transcript → ℕ → Transcript → Op → Reply → List Transcript
+noted opened i transcript op reply = slice_set opened i (record transcript { ops = transcript.ops ++ (op, reply) ∷ [] })
+
 -- the machine with one more operation and its reply at the transaction with the place in the list
 abbrev pub note : Machine → ℕ → Transcript → Op → Reply → Machine
-note m i transcript op reply =
-    record m { opened = slice_set m.opened i (record transcript { ops = transcript.ops ++ (op, reply) ∷ [] }) }
+note m i transcript op reply = record m { opened = noted m.opened i transcript op reply }
 
 -- the version through which a shard applied the book
 abbrev pub version_of_shard : List Entry → Reach → ℕ
@@ -153,8 +156,7 @@ writes m session mutation = with_opened session m.opened (λ i transcript.
 
 -- the list is empty
 abbrev pub is_nil : {A : Type 0} → List A → Bool
-is_nil [] = true
-is_nil (x ∷ xs) = false
+is_nil xs = length xs == 0
 
 -- Submit: a transaction that writes nothing is acknowledged at its read version, any other waits at the proxy.
 -- For now a proxy at which a request waits takes no other.

@@ -4,6 +4,7 @@
 mod client_steps;
 mod config;
 mod deciding;
+mod granting;
 mod judging;
 mod kernel;
 mod parts;
@@ -13,6 +14,7 @@ mod sealing;
 mod serving;
 mod sessions;
 mod step;
+mod versions;
 
 pub use config::Config;
 pub use parts::{Begun, Lane, Placed, Reach, Stage, Submission};

@@ -1,13 +1,17 @@
 // What is submitted of a transaction's operations.
-ghost use Rattle.std.specs.Prelude.{◌≡◌, None};
+ghost use Rattle.std.specs.Prelude.{◌≡◌, not, None, IfOk};
+ghost use Rattle.std.specs.List.{AllByRecursion};
 ghost use Rattle.fdb_keys.specs.Answers.{Answers};
-ghost use Rattle.fdb_core.specs.Programs.{program, mutations_of, add_mutation, read_ranges, add_reads};
+ghost use Rattle.fdb_mutations.specs.Mutations.{mutation_fault};
+ghost use Rattle.fdb_core.specs.ClientSteps.{is_nil};
+ghost use Rattle.fdb_core.specs.Programs.{program, mutations_of, add_mutation, read_ranges, add_reads, sealed_of};
 
-use crate::program::{Op, Reply};
+use crate::program::{Op, Reply, Transcript};
 use crate::serving::is_decided;
 use fdb_keys::{Items, KeyRange, RangeSet, Refusal};
 use fdb_mutations::Mutation;
-use std::alloc::Global;
+use fdb_txn::Sealed;
+use std::alloc::{AllocError, Global};
 
 fn add_read(
     alloc: Global,
@@ -58,4 +62,44 @@ pub(crate) fn mutations_of(alloc: Global, ops: &[(Op, Reply)]) -> Result<Items<M
         add_mutation(&mut mutations, &done.0)?;
     }
     Ok(mutations)
+}
+
+/// Whether the set has a range.
+pub(crate) fn has_ranges(set: &RangeSet) -> bool
+    ensures { result ≡ not (is_nil set.now) }
+{
+    set.iter().as_slice().len() != 0
+}
+
+fn parts_of(
+    alloc: Global,
+    ops: &[(Op, Reply)],
+) -> Result<(RangeSet, Items<Mutation>), Refusal>
+    ensures { Answers result None (λ parts. (parts.0 ≡ read_ranges (program ops.now)) × (parts.1 ≡ mutations_of (program ops.now))) }
+{
+    let reads = reads_of(alloc, ops)?;
+    let mutations = mutations_of(alloc, ops)?;
+    Ok((reads, mutations))
+}
+
+/// What is submitted of a transcript.
+pub(crate) fn seal(alloc: Global, transcript: &Transcript) -> Result<Sealed, AllocError>
+    requires { AllByRecursion (λ mutation. mutation_fault mutation ≡ None) (mutations_of (program transcript.now.ops)) }
+    ensures { IfOk result (λ sealed. sealed ≡ sealed_of transcript.now) }
+{
+    let Ok((reads, mutations)) = parts_of(alloc, transcript.ops.as_slice()) else {
+        return Err(AllocError);
+    };
+    let writes = RangeSet::new(alloc);
+    match Sealed::new(
+        alloc,
+        transcript.id,
+        transcript.read_version,
+        reads,
+        writes,
+        mutations,
+    ) {
+        Ok(sealed) => Ok(sealed),
+        Err(_) => Err(AllocError),
+    }
 }

@@ -1,5 +1,5 @@
 // What a shard answers from the messages that it applied, and a transaction's own writes over it.
-ghost use Rattle.std.specs.Prelude.{◌≡◌, fold};
+ghost use Rattle.std.specs.Prelude.{◌≡◌, fold, IfOk};
 ghost use Rattle.std.specs.Option.{option_copied};
 ghost use Rattle.fdb_mutations.specs.Mutations.{names};
 ghost use Rattle.fdb_core.specs.Programs.{program, decided};
@@ -10,6 +10,7 @@ use crate::program::{Op, Reply};
 use bytes::Bytes;
 use fdb_keys::Key;
 use fdb_mutations::Mutation;
+use std::alloc::AllocError;
 
 fn value_after<'a>(
     key: &Key,
@@ -104,4 +105,17 @@ pub(crate) fn value_after_ops<'a>(
         }
     }
     value
+}
+
+/// A copy of the value, if there is one.
+pub(crate) fn copied(value: Option<&Bytes>) -> Result<Option<Bytes>, AllocError>
+    ensures { IfOk result (λ copy. copy ≡ option_copied value.entry) }
+{
+    match value {
+        None => Ok(None),
+        Some(value) => {
+            let copy = value.clone()?;
+            Ok(Some(copy))
+        }
+    }
 }

@@ -1,12 +1,13 @@
 // Looking for sessions in the world's lists.
-ghost use Rattle.std.specs.Prelude.{◌≡◌, ◌<◌, position, length, IfSome};
+ghost use Rattle.std.specs.Prelude.{◌≡◌, ◌<◌, position, slice_get, length, Some, IfSome, OnOk};
 ghost use Rattle.std.specs.List.{list_any};
-ghost use Rattle.fdb_core.specs.ClientSteps.{without};
+ghost use Rattle.fdb_core.specs.ClientSteps.{noted, without};
 ghost use Rattle.fdb_core.specs.Machine.{is_of, asks_at, waits_at, is_busy};
 
 use crate::parts::{Lane, Submission};
-use crate::program::Transcript;
+use crate::program::{Op, Reply, Transcript};
 use fdb_keys::Items;
+use std::alloc::AllocError;
 
 fn is_of(transcript: &Transcript, session: u32) -> bool
     ensures { result ≡ is_of session transcript.now }
@@ -91,4 +92,20 @@ pub(crate) fn is_busy(asking: &[Items<u32>], lanes: &[Lane], session: u32) -> bo
     ensures { result ≡ is_busy session asking.now lanes.now }
 {
     asks_somewhere(asking, session) || waits_somewhere(lanes, session)
+}
+
+/// Notes an operation with its reply at the open transaction with the place.
+pub(crate) fn note(
+    opened: &mut Vec<Transcript>,
+    place: usize,
+    op: Op,
+    reply: Reply,
+) -> Result<(), AllocError>
+    requires { place < length opened.old.items }
+    ensures { OnOk result ((transcript : Transcript) → slice_get opened.old.items place ≡ Some transcript
+        → opened.new.items ≡ noted opened.old.items place transcript op reply) }
+{
+    let transcript = &mut opened[place];
+    transcript.ops.push((op, reply))?;
+    Ok(())
 }

@@ -1,0 +1,47 @@
+-- What the machine's longer steps come to, once what they look at is known.
+use Rattle.std.proofs.Common.{◌≡◌, ◌∙◌, sym, ap, ℕ, Bool, true, false, List, fold, Option, Some, None, Result, Ok, Err}
+use Rattle.std.specs.Prelude.{position}
+use Rattle.std.specs.List.{slice_get}
+use Rattle.std.specs.FinMap.{get}
+use Rattle.fdb_keys.specs.declared.refusal.Refusal.{Refusal}
+use Rattle.fdb_keys.specs.Answers.{AnswersExactly}
+use Rattle.fdb_mutations.specs.Maps.{Map}
+use Rattle.fdb_txn.specs.Book.{seen_of}
+use Rattle.fdb_txn.specs.Owners.{first_owner}
+use Rattle.fdb_txn.specs.Run.{map_at}
+use Rattle.fdb_core.specs.declared.program.Op.{Op}
+use Rattle.fdb_core.specs.declared.program.Reply.{Reply}
+use Rattle.fdb_core.specs.declared.program.Op.TheVariants as op
+use Rattle.fdb_core.specs.declared.program.Reply.TheVariants as reply
+use Rattle.fdb_core.specs.declared.program.Transcript.{Transcript}
+use Rattle.fdb_core.specs.declared.step.Answered.TheVariants as answered
+use Rattle.fdb_core.specs.ClientSteps.{gets, note, read_fault, shard_fault}
+use Rattle.fdb_core.specs.Machine.{Machine, Turn, is_of}
+use Rattle.fdb_core.specs.Programs.{program, copy, decided}
+use Rattle.fdb_core.specs.Roles.{value_after_op}
+use Rattle.fdb_core.proofs.ProgramLaws.{get-copy, decided-value}
+
+-- a read that finds the session's transaction, without a fault
+pub gets-turn : (m : Machine) (session : ℕ) (key : List ℕ) (snapshot : Bool) (i : ℕ) (transcript : Transcript) (value : Option (List ℕ))
+    → position (is_of session) m.opened ≡ Some i → slice_get m.opened i ≡ Some transcript
+    → read_fault m (program transcript.ops) transcript.read_version key ≡ None
+    → value ≡ get (copy (map_at m.config.resolver_splits transcript.read_version (seen_of m.book).places) (program transcript.ops)) key
+    → gets m session key snapshot ≡ Ok (record { said = answered.Value value; to = note m i transcript (op.Get key snapshot) (reply.Value value) })
+unfolding gets
+gets-turn m session key snapshot i transcript value at there fault is =
+    rw (at, there, fault) (ap (λ (v : Option (List ℕ)). Ok (record { said = answered.Value v; to = note m i transcript (op.Get key snapshot) (reply.Value v) })) (sym is))
+
+-- a decided key stands as the transaction's own writes leave it, whatever stood there
+pub answers-decided : (m : Machine) (map : Map) (ops : List (Op × Reply)) (version : ℕ) (key : List ℕ) (value : Option (List ℕ))
+    → decided (program ops) key ≡ true → value ≡ fold (value_after_op key) None ops
+    → AnswersExactly (Ok value) (read_fault m (program ops) version key) (λ v. v ≡ get (copy map (program ops)) key)
+answers-decided m map ops version key value own is =
+    rw own (is ∙ decided-value ops key own None (get map key) ∙ sym (get-copy map ops key))
+
+-- any other key stands as those writes leave it on what a shard that serves the version has
+pub answers-undecided : (m : Machine) (map : Map) (ops : List (Op × Reply)) (version : ℕ) (key : List ℕ) (there value : Option (List ℕ))
+    → decided (program ops) key ≡ false → shard_fault m.book version (slice_get m.shards (first_owner m.config.shard_splits key)) ≡ None
+    → there ≡ get map key → value ≡ fold (value_after_op key) there ops
+    → AnswersExactly (Ok value) (read_fault m (program ops) version key) (λ v. v ≡ get (copy map (program ops)) key)
+answers-undecided m map ops version key there value other served holds is =
+    rw (other, served) (is ∙ ap (λ (base : Option (List ℕ)). fold (value_after_op key) base ops) holds ∙ sym (get-copy map ops key))

@@ -1,0 +1,24 @@
+use Rattle.std.proofs.Common.{◌≡◌, ◌∙◌, refl, sym, ap, ◌<◌, length, ℕ, List, Option, Some, None, Result, Ok, Err, slice_get, rules}
+use Rattle.std.specs.Bool.{⊤}
+use Rattle.fdb_mutations.specs.declared.mutation.Mutation.{Mutation}
+use Rattle.fdb_mutations.specs.Mutations.{mutation_fault}
+use Rattle.fdb_core.specs.declared.program.Op.TheVariants as op
+use Rattle.fdb_core.specs.declared.program.Reply.TheVariants as reply
+use Rattle.fdb_core.specs.ClientSteps.{noted}
+use Rattle.fdb_core.proofs.AllLemmas.{within-item}
+use Rattle.fdb_core.proofs.Ties.{given-fault, opened-write}
+use Rattle.fdb_core.proofs.kernel.Kernel.write.Goals as goal
+
+pub returns-clause-tied : goal.returns-clause-tied
+returns-clause-tied c =
+    let before = c.requires in
+    let within : c.in-Some.place < length c.args.self.now.opened.items = search rules in
+    let there = within-item c.args.self.now.opened.items c.in-Some.place within in
+    let faultless : mutation_fault c.args.mutation.now ≡ None = (given-fault (mutation_fault c.args.mutation.now) c.in_default-check.field-0 (λ _. ⊤) c.in_default-check.ensures).0 in
+    let same : c.in_ok-mutation.mutation ≡ c.args.mutation.now = search rules in
+    let written = opened-write c.args.self.now.committed c.args.self.now.opened.items c.in-Some.place there.0 c.args.mutation.now reply.Done faultless before.opened there.1 in
+    record {
+      plain = before.plain; room = before.room; pending = before.pending; committed = before.committed; book = before.book;
+      resolver = before.resolver; log = before.log; lanes = before.lanes;
+      opened = rw (c.in_ok-note.ensures there.0 there.1, same) written;
+    }
