@@ -1,5 +1,6 @@
 pub mod AllLemmas
 pub mod BatchLaws
+pub mod LaneTies
 pub mod OneResolver
 pub mod ProgramLaws
 pub mod RunLaws

@@ -1,5 +1,5 @@
 -- The world's parts as the machine, and what ties the roles' own lists to it.
-use Rattle.std.specs.Prelude.{◌≡◌, ◌≢◌, ℕ, suc, ◌<◌, ◌≤◌, Bool, true, false, not, List, [], ◌∷◌, take, length, Option, Some, None, Result, Ok, Err, slice_get, ⊤}
+use Rattle.std.specs.Prelude.{◌≡◌, ◌≢◌, ℕ, suc, ◌<◌, ◌≤◌, Bool, true, false, not, List, [], ◌∷◌, take, length, Option, Some, None, Result, Ok, Err, slice_get, if◌then◌else◌}
 use Rattle.std.specs.List.{AllByRecursion}
 use Rattle.fdb_mutations.specs.declared.mutation.Mutation.{Mutation}
 use Rattle.fdb_mutations.specs.Mutations.{mutation_fault}
@@ -21,7 +21,7 @@ use Rattle.fdb_core.specs.declared.step.Outcome.{Outcome}
 use Rattle.fdb_core.specs.Machine.{Machine, is_set, last_version, seen_before}
 use Rattle.fdb_core.specs.Programs.{program, mutations_of}
 use Rattle.fdb_core.specs.ProxySteps.{is_idle, is_resolving}
-use Rattle.fdb_core.specs.Roles.{along, marks_of, message_on}
+use Rattle.fdb_core.specs.Roles.{along, marks_of, message_on, outcomes_by, body_by}
 use Rattle.fdb_core.specs.Verdicts.{verdicts_on, outcomes_on}
 
 -- the machine that the world's parts stand for
@@ -102,6 +102,7 @@ WaitsOk committed submission = submission.sealed.read ≤ committed
 pub record LaneOk (book : List Entry) (resolvers : List ℕ) (committed : ℕ) (lane : Lane) (outcomes : List Outcome) : Type 0 where
   pub waiting : AllByRecursion (WaitsOk committed) lane.waiting
   pub in_book : is_idle lane.stage ≡ false → lane.entry < length book
+  pub aligned : (entry : Entry) → is_idle lane.stage ≡ false → slice_get book lane.entry ≡ Some entry → length lane.in_flight ≡ length entry.batch
   pub heard : is_idle lane.stage ≡ false → length lane.heard ≡ 1
   pub delivered : (taken : ℕ) → is_idle lane.stage ≡ false → is_set lane.heard 0 ≡ true → slice_get resolvers 0 ≡ Some taken → lane.entry < taken
   pub decision : (entry : Entry) → is_idle lane.stage ≡ false → is_resolving lane.stage ≡ false → slice_get book lane.entry ≡ Some entry
@@ -116,6 +117,14 @@ pub record LanesOk (book : List Entry) (resolvers : List ℕ) (committed : ℕ) 
 pub record OpenOk (committed : ℕ) (transcript : Transcript) : Type 0 where
   pub below : transcript.read_version ≤ committed
   pub legal : AllByRecursion (λ mutation. mutation_fault mutation ≡ None) (mutations_of (program transcript.ops))
+
+-- the outcomes and the message of entry i, by the verdicts on it where they were heard, else by none
+abbrev pub IsDecision : List Entry → List (List (ℕ × Verdict)) → ℕ → Bool → List Outcome × Message → Type 0
+IsDecision book verdicts i is_heard decision =
+    (entry : Entry) (sent : List (ℕ × Verdict)) → slice_get book i ≡ Some entry → (is_heard ≡ true → slice_get verdicts i ≡ Some sent) →
+    let said = if is_heard then sent else [] in
+    (decision.0 ≡ outcomes_by entry.version said (length entry.batch))
+    × (decision.1 ≡ record { version = entry.version; body = body_by entry.batch decision.0 })
 
 -- what holds of the world's parts between two steps
 pub record Tied (k : Kernel) : Type 0 where

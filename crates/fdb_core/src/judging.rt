@@ -1,5 +1,5 @@
 // The one resolver's rule, over the write sets that it admitted.
-ghost use Rattle.std.specs.Prelude.{◌≡◌, ◌<◌, ◌^◌, ◌+◌, not, length, IfOk, OnOk};
+ghost use Rattle.std.specs.Prelude.{◌≡◌, ◌<◌, ◌^◌, ◌+◌, ◌||◌, not, length, IfOk, OnOk};
 ghost use Rattle.std.specs.List.{list_any};
 ghost use Rattle.std.specs.Slice.Iter.{iter_rest};
 ghost use Rattle.fdb_keys.specs.Ranges.{ranges_meet};
@@ -86,6 +86,24 @@ fn mark(marks: &mut Vec<Mark>, version: u64, txn: &Sealed) -> Result<Verdict, Al
     Ok(verdict)
 }
 
+fn is_judged(txn: &Sealed) -> bool
+    ensures { result ≡ (points txn.now.writes || points txn.now.reads) }
+{
+    has_points(txn.writes()) || has_points(txn.reads())
+}
+
+/// Whether a transaction of the batch has a point in its sets, so that the resolver is asked about it.
+pub(crate) fn are_any_judged(batch: &[Sealed]) -> bool
+    ensures { result ≡ list_any (λ txn. points txn.writes || points txn.reads) batch.now }
+{
+    for txn in batch {
+        if is_judged(txn) {
+            return true;
+        }
+    }
+    false
+}
+
 /// Judges the places of a batch one after another, and marks what is admitted.
 pub(crate) fn judge_batch(
     alloc: Global,
@@ -100,7 +118,7 @@ pub(crate) fn judge_batch(
     let mut verdicts = Items::new(alloc);
     for (place, txn) in batch.iter().enumerate() {
         let verdict = mark(marks, version, txn)?;
-        if has_points(txn.writes()) || has_points(txn.reads()) {
+        if is_judged(txn) {
             verdicts.push((place as u32, verdict))?;
         }
     }

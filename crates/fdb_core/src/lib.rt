@@ -1,15 +1,21 @@
 //! The transaction system as a machine over a list of steps, with all roles as parts of one world.
 #![tactic(auto)]
 
+mod answering;
+mod batching;
 mod client_steps;
 mod config;
 mod deciding;
+mod flags;
 mod granting;
 mod judging;
 mod kernel;
+mod messages;
 mod parts;
 mod pool;
 mod program;
+mod proxy_steps;
+mod role_steps;
 mod sealing;
 mod serving;
 mod sessions;

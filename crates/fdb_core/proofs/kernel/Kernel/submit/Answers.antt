@@ -1,4 +1,36 @@
+use Rattle.std.proofs.Common.{◌≡◌, ◌∙◌, refl, sym, ap, subst, ◌<◌, ◌≤◌, length, ℕ, List, [], ◌∷◌, ◌++◌, Option, Some, slice_get, slice_set, arith, rules}
+use Rattle.std.specs.List.{AllByRecursion, remove}
+use Rattle.std.proofs.lemmas.Option.{slice_get_read}
+use Rattle.fdb_core.specs.declared.parts.Lane.{Lane}
+use Rattle.fdb_txn.specs.Transactions.{Transaction}
+use Rattle.fdb_core.specs.declared.parts.Submission.{Submission}
+use Rattle.fdb_core.specs.declared.program.Transcript.{Transcript}
+use Rattle.fdb_core.specs.Kernel.{OpenOk, LanesOk, WaitsOk}
+use Rattle.fdb_core.specs.Programs.{sealed_of}
+use Rattle.fdb_core.proofs.AllLemmas.{all-at, all-remove}
+use Rattle.fdb_core.proofs.LaneTies.{lanes-set, lane-submit}
 use Rattle.fdb_core.proofs.kernel.Kernel.submit.Goals as goal
 
 pub returns-clause-tied : goal.returns-clause-tied
-returns-clause-tied c = ?
+returns-clause-tied c =
+    let before = c.requires in
+    let k = c.args.self.now in
+    let place = c.in-Some.place in
+    let transcript = c.index-2.result.now in
+    let lane = c.index_mut-lane.result.now in
+    let submission : Submission = record { sealed = c.in_ok-sealed.sealed; transcript = c.remove-transcript.result } in
+    let within : place < length k.opened.items = search rules in
+    let there : slice_get k.opened.items place ≡ Some transcript = slice_get_read k.opened.items (length k.opened.items) place transcript refl within c.index-2.ensures in
+    let ok = all-at (OpenOk k.committed) k.opened.items place transcript before.opened there in
+    let read : c.in_ok-sealed.sealed.read ≡ transcript.read_version = ap (λ (t : Transaction). t.read) c.in_ok-sealed.ensures in
+    let waits : WaitsOk k.committed submission = omega (arith, ok.below, read) in
+    let inside : c.args.proxy < length k.lanes.items = search rules in
+    let lane_there : slice_get k.lanes.items c.args.proxy ≡ Some lane = slice_get_read k.lanes.items (length k.lanes.items) c.args.proxy lane refl inside c.index_mut-lane.ensures.value in
+    record {
+      plain = before.plain; room = before.room; pending = before.pending; committed = before.committed; book = before.book;
+      resolver = before.resolver; log = before.log;
+      lanes = rw c.in_ok-push-2.ensures.ok
+        (lanes-set k.book.items k.book.items k.resolvers.items k.resolvers.items k.committed k.committed k.outcomes k.outcomes k.lanes.items c.args.proxy lane _
+          before.lanes lane_there (lane-submit k.book.items k.resolvers.items k.committed k.outcomes lane submission waits));
+      opened = rw c.remove-transcript.ensures.items (all-remove (OpenOk k.committed) k.opened.items place before.opened);
+    }
