@@ -3,6 +3,7 @@ pub mod BatchLaws
 pub mod LaneTies
 pub mod OneResolver
 pub mod ProgramLaws
+pub mod RoleTies
 pub mod RunLaws
 pub mod Ties
 pub mod Turns

@@ -1,11 +1,13 @@
 -- What the machine's longer steps come to, once what they look at is known.
-use Rattle.std.proofs.Common.{◌≡◌, ◌∙◌, sym, ap, ℕ, Bool, true, false, List, fold, Option, Some, None, Result, Ok, Err}
+use Rattle.std.proofs.Common.{◌≡◌, ◌∙◌, refl, sym, ap, arith, ℕ, ◌+◌, Bool, true, false, List, fold, Option, Some, None, Result, Ok, Err}
 use Rattle.std.specs.Prelude.{position}
-use Rattle.std.specs.List.{slice_get}
+use Rattle.std.specs.List.{slice_get, slice_set}
+use Rattle.std.proofs.lemmas.Bool.{le-ltb}
 use Rattle.std.specs.FinMap.{get}
 use Rattle.fdb_keys.specs.declared.refusal.Refusal.{Refusal}
 use Rattle.fdb_keys.specs.Answers.{AnswersExactly}
 use Rattle.fdb_mutations.specs.Maps.{Map}
+use Rattle.fdb_txn.specs.declared.entry.Entry.{Entry}
 use Rattle.fdb_txn.specs.Book.{seen_of}
 use Rattle.fdb_txn.specs.Owners.{first_owner}
 use Rattle.fdb_txn.specs.Run.{map_at}
@@ -16,7 +18,9 @@ use Rattle.fdb_core.specs.declared.program.Reply.TheVariants as reply
 use Rattle.fdb_core.specs.declared.program.Transcript.{Transcript}
 use Rattle.fdb_core.specs.declared.step.Answered.TheVariants as answered
 use Rattle.fdb_core.specs.ClientSteps.{gets, note, read_fault, shard_fault}
-use Rattle.fdb_core.specs.Machine.{Machine, Turn, is_of}
+use Rattle.fdb_core.specs.Machine.{Machine, Turn, is_of, is_set, seen_before}
+use Rattle.fdb_core.specs.RoleSteps.{resolves, pushes}
+use Rattle.fdb_core.specs.Verdicts.{verdicts_on}
 use Rattle.fdb_core.specs.Programs.{program, copy, decided}
 use Rattle.fdb_core.specs.Roles.{value_after_op}
 use Rattle.fdb_core.proofs.ProgramLaws.{get-copy, decided-value}
@@ -45,3 +49,18 @@ pub answers-undecided : (m : Machine) (map : Map) (ops : List (Op × Reply)) (ve
     → AnswersExactly (Ok value) (read_fault m (program ops) version key) (λ v. v ≡ get (copy map (program ops)) key)
 answers-undecided m map ops version key there value other served holds is =
     rw (other, served) (is ∙ ap (λ (base : Option (List ℕ)). fold (value_after_op key) base ops) holds ∙ sym (get-copy map ops key))
+
+-- a resolver takes the entry that is next for it
+pub resolves-turn : (m : Machine) (i r : ℕ) (entry : Entry) → slice_get m.book i ≡ Some entry → slice_get m.resolvers r ≡ Some i
+    → resolves m i r ≡ Ok (record {
+        said = answered.Verdicts (verdicts_on m.config.resolver_splits r (seen_before m.book i) entry);
+        to = record m { resolvers = slice_set m.resolvers r (i + 1) };
+      })
+unfolding resolves
+resolves-turn m i r entry there at = rw (there, at, le-ltb i i (omega arith)) refl
+
+-- a log takes the message of the entry that is next for it, once that is decided
+pub pushes-turn : (m : Machine) (i l : ℕ) (entry : Entry) → slice_get m.book i ≡ Some entry → slice_get m.logs l ≡ Some i → is_set m.decided i ≡ true
+    → pushes m i l ≡ Ok (record { said = answered.Done; to = record m { logs = slice_set m.logs l (i + 1) } })
+unfolding pushes
+pushes-turn m i l entry there at made = rw (there, at, made, le-ltb i i (omega arith)) refl

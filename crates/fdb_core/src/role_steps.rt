@@ -11,7 +11,7 @@ use crate::parts::Reach;
 use crate::messages::{copied_message, copy_range};
 use crate::step::Answered;
 use crate::versions::last_version;
-use fdb_keys::Refusal;
+use fdb_keys::{Items, Refusal};
 use std::alloc::AllocError;
 
 impl Kernel {
@@ -40,7 +40,7 @@ impl Kernel {
         }
         let part = &self.book[i];
         let verdicts = judge_batch(self.alloc, &mut self.marks, part.version, part.batch.as_slice())?;
-        let answer = verdicts.clone()?;
+        let answer = Items::from_vec(Vec::from_slice(self.alloc, verdicts.as_slice())?);
         self.verdicts.push(verdicts)?;
         self.resolvers[of] = taken + 1;
         Ok(Ok(Answered::Verdicts(answer)))

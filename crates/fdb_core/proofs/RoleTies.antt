@@ -1,0 +1,175 @@
+-- The resolver, the log and the shard, kept tied through the steps.
+use Rattle.std.proofs.Common.{◌≡◌, ◌∙◌, refl, sym, ap, subst, ℕ, zero, suc, ◌+◌, ◌-◌, ◌<◌, ◌≤◌, min, Bool, true, false, List, [], ◌∷◌, ◌++◌, length, take, drop, Option, Some, None, arith, add-one}
+use Rattle.std.specs.List.{AllByRecursion, slice_get, slice_set}
+use Rattle.std.proofs.lemmas.Grind.{fold-append}
+use Rattle.std.proofs.lemmas.List.{length-take, take_all}
+use Rattle.std.proofs.lemmas.Option.{slice_get_within}
+use Rattle.std.proofs.Math.Seq.{take-add}
+use Rattle.fdb_txn.specs.declared.entry.Entry.{Entry}
+use Rattle.fdb_txn.specs.Book.{add_entry, seen_of}
+use Rattle.fdb_core.specs.declared.parts.Lane.{Lane}
+use Rattle.fdb_core.specs.declared.parts.Reach.{Reach}
+use Rattle.fdb_core.specs.declared.pool.Mark.{Mark}
+use Rattle.fdb_core.specs.declared.pool.Message.{Message}
+use Rattle.fdb_core.specs.declared.step.Outcome.{Outcome}
+use Rattle.fdb_core.specs.declared.step.Verdict.{Verdict}
+use Rattle.fdb_core.specs.Kernel.{NoMovesIn, IsRising, ReadsBelow, ResolverOk, LogOk, LaneOk, LanesOk}
+use Rattle.fdb_core.specs.Machine.{last_version, seen_before}
+use Rattle.fdb_core.specs.Roles.{along, judged, marks_of, message_on}
+use Rattle.fdb_core.specs.Verdicts.{verdicts_on}
+use Rattle.fdb_core.proofs.AllLemmas.{all-at, within-item}
+use Rattle.fdb_core.proofs.BatchLaws.{judged-verdicts, judged-marks}
+use Rattle.fdb_core.proofs.OneResolver.{no_moves-at, no_moves-before}
+use Rattle.fdb_core.proofs.RunLaws.{seen_of-push, slice_get-along, length-along}
+
+-- a front of a list with the next item
+pub take-next : {A : Type 0} (xs : List A) (i : ℕ) (x : A) → slice_get xs i ≡ Some x → take (suc i) xs ≡ take i xs ++ x ∷ []
+take-next [] i x there = cc
+take-next (y ∷ ys) zero x there = let same : y ≡ x = cc in ap (λ z. z ∷ []) same
+take-next (y ∷ ys) (suc i) x there = ap (λ zs. y ∷ zs) (take-next ys i x there)
+
+-- what was seen before the next entry
+pub seen_before-next : (book : List Entry) (i : ℕ) (entry : Entry) → slice_get book i ≡ Some entry → seen_before book (suc i) ≡ add_entry (seen_before book i) entry
+seen_before-next book i entry there = ap seen_of (take-next book i entry there) ∙ seen_of-push (take i book) entry
+
+-- the one number of a list is found under 0 alone
+pub one-at : {A : Type 0} (one x : A) (r : ℕ) → slice_get (one ∷ []) r ≡ Some x → (r ≡ 0) × (one ≡ x)
+one-at one x zero there = (refl, cc)
+one-at one x (suc r) there = cc
+
+-- the resolver takes the next entry
+module _ (book : List Entry) (resolvers : List ℕ) (marks : List Mark) (verdicts : List (List (ℕ × Verdict))) (r i : ℕ) (entry : Entry)
+    (ok : ResolverOk book resolvers marks verdicts) (still : NoMovesIn book) (below : AllByRecursion ReadsBelow book)
+    (there : slice_get book i ≡ Some entry) (at : slice_get resolvers r ≡ Some i) where
+  resolver-is : (r ≡ 0) × (ok.taken ≡ i)
+  resolver-is = one-at ok.taken i r (rw ok.one at at)
+
+  marks-before : marks ≡ marks_of (seen_before book i).places
+  marks-before = ok.marked ∙ ap (λ (n : ℕ). marks_of (seen_before book n).places) resolver-is.1
+
+  pub resolver-said : (judged marks entry.version entry.batch).verdicts ≡ verdicts_on [] r (seen_before book i) entry
+  resolver-said =
+      ap (λ (ms : List Mark). (judged ms entry.version entry.batch).verdicts) marks-before
+      ∙ judged-verdicts (seen_before book i) entry (no_moves-before book still i) (no_moves-at book still i entry there) (all-at ReadsBelow book i entry below there)
+      ∙ ap (λ (n : ℕ). verdicts_on [] n (seen_before book i) entry) (sym resolver-is.0)
+
+  pub resolver-next : (later : List Mark) (sent : List (ℕ × Verdict)) → later ≡ (judged marks entry.version entry.batch).marks
+      → sent ≡ (judged marks entry.version entry.batch).verdicts → ResolverOk book (slice_set resolvers r (i + 1)) later (verdicts ++ sent ∷ [])
+  resolver-next later sent marked said = record {
+      taken = suc i;
+      one = rw (ok.one, resolver-is.0, add-one) refl;
+      within = slice_get_within book i entry there;
+      marked = marked ∙ ap (λ (ms : List Mark). (judged ms entry.version entry.batch).marks) marks-before
+        ∙ judged-marks (seen_before book i) entry (no_moves-before book still i) (no_moves-at book still i entry there) (all-at ReadsBelow book i entry below there)
+        ∙ ap (λ seen. marks_of seen.places) (sym (seen_before-next book i entry there));
+      sent = ap (λ vs. vs ++ sent ∷ []) (ok.sent ∙ ap (λ (n : ℕ). take n (along (verdicts_on [] 0) book)) resolver-is.1)
+        ∙ ap (λ v. take i (along (verdicts_on [] 0) book) ++ v ∷ []) (said ∙ resolver-said ∙ ap (λ (n : ℕ). verdicts_on [] n (seen_before book i) entry) resolver-is.0)
+        ∙ sym (take-next (along (verdicts_on [] 0) book) i _ (slice_get-along (verdicts_on [] 0) book i entry there));
+    }
+
+  -- what was delivered stays delivered
+  pub lane-resolved : (committed : ℕ) (lane : Lane) (outcomes : List Outcome) → LaneOk book resolvers committed lane outcomes
+      → LaneOk book (slice_set resolvers r (i + 1)) committed lane outcomes
+  lane-resolved committed lane outcomes tied = record {
+      waiting = tied.waiting; in_book = tied.in_book; aligned = tied.aligned; heard = tied.heard; decision = tied.decision;
+      delivered = λ taken busy heard now.
+        let one : slice_get ((i + 1) ∷ []) 0 ≡ Some taken = rw (ok.one, resolver-is.0) at now in
+        let same = (one-at (i + 1) taken 0 one).1 in
+        let before = tied.delivered i busy heard (rw resolver-is.0 at at) in
+        omega (arith, before, same);
+    }
+
+  pub lanes-resolved : (committed : ℕ) (lanes : List Lane) (outcomes : List Outcome) → LanesOk book resolvers committed lanes outcomes
+      → LanesOk book (slice_set resolvers r (i + 1)) committed lanes outcomes
+  lanes-resolved committed lanes outcomes tied = record { lane = tied.lane; one = tied.one; ok = lane-resolved committed tied.lane outcomes tied.ok }
+
+-- the log takes the message of the next entry
+module _ (book : List Entry) (logs : List ℕ) (shards : List Reach) (log shard : List Message) (l i : ℕ) (entry : Entry)
+    (ok : LogOk book logs shards log shard) (there : slice_get book i ≡ Some entry) (at : slice_get logs l ≡ Some i) where
+  log-is : (l ≡ 0) × (ok.taken ≡ i)
+  log-is = one-at ok.taken i l (rw ok.one_log at at)
+
+  pub log-next : (message : Message) → message ≡ message_on [] (seen_before book i) entry → LogOk book (slice_set logs l (i + 1)) shards (log ++ message ∷ []) shard
+  log-next message is = record {
+      taken = suc i;
+      pulled = ok.pulled;
+      one_log = rw (ok.one_log, log-is.0, add-one) refl;
+      one_shard = ok.one_shard;
+      within = slice_get_within book i entry there;
+      behind = omega (arith, ok.behind, log-is.1);
+      logged = ap (λ ms. ms ++ message ∷ []) (ok.logged ∙ ap (λ (n : ℕ). take n (along (message_on []) book)) log-is.1)
+        ∙ ap (λ m. take i (along (message_on []) book) ++ m ∷ []) is
+        ∙ sym (take-next (along (message_on []) book) i _ (slice_get-along (message_on []) book i entry there));
+      applied = ok.applied;
+    }
+
+-- a front of a front
+take-take : {A : Type 0} (xs : List A) (p t : ℕ) → p ≤ t → take p (take t xs) ≡ take p xs
+take-take [] zero zero h = refl
+take-take [] (suc p) zero h = refl
+take-take [] zero (suc t) h = refl
+take-take [] (suc p) (suc t) h = refl
+take-take (x ∷ xs) zero zero h = refl
+take-take (x ∷ xs) (suc p) zero h = absurd (omega (arith, h))
+take-take (x ∷ xs) zero (suc t) h = refl
+take-take (x ∷ xs) (suc p) (suc t) h = ap (λ ys. x ∷ ys) (take-take xs p t (omega (arith, h)))
+
+-- the shard applies further messages of the log
+module _ (book : List Entry) (logs : List ℕ) (shards : List Reach) (log shard : List Message) (ok : LogOk book logs shards log shard) where
+  pub length-log : length log ≡ ok.taken
+  length-log =
+      let through : length log ≡ min ok.taken (length (along (message_on []) book)) = ap length ok.logged ∙ length-take ok.taken (along (message_on []) book) in
+      omega (arith, through, length-along (message_on []) book, ok.within)
+
+  pub pulled-next : (s q : ℕ) (reach : Reach) → slice_get shards s ≡ Some reach → reach.pulled ≤ q → q ≤ length log
+      → LogOk book logs (slice_set shards s (record { pulled = q; floor = reach.floor })) log (shard ++ take (q - reach.pulled) (drop reach.pulled log))
+  pulled-next s q reach there from until =
+      let found = one-at (record { pulled = ok.pulled; floor = 0 }) reach s (rw ok.one_shard at there) in
+      let from_there : ok.pulled ≡ reach.pulled = ap (λ (r : Reach). r.pulled) found.1 in
+      let floor : 0 ≡ reach.floor = ap (λ (r : Reach). r.floor) found.1 in
+      let below : q ≤ ok.taken = omega (arith, length-log, until) in
+      let whole : reach.pulled + (q - reach.pulled) ≡ q = omega (arith, from) in
+      record {
+        taken = ok.taken;
+        pulled = q;
+        one_log = ok.one_log;
+        one_shard = rw (ok.one_shard, found.0, ← floor) refl;
+        within = ok.within;
+        behind = below;
+        logged = ok.logged;
+        applied =
+          ap (λ ms. ms ++ take (q - reach.pulled) (drop reach.pulled log))
+            (ok.applied ∙ ap (λ (n : ℕ). take n (along (message_on []) book)) from_there
+             ∙ sym (take-take (along (message_on []) book) reach.pulled ok.taken (omega (arith, ok.behind, from_there)))
+             ∙ ap (λ (ms : List Message). take reach.pulled ms) (sym ok.logged))
+          ∙ sym (take-add reach.pulled (q - reach.pulled) log)
+          ∙ ap (λ (n : ℕ). take n log) whole
+          ∙ ap (λ (ms : List Message). take q ms) ok.logged
+          ∙ take-take (along (message_on []) book) q ok.taken below;
+      }
+
+-- the last version of a book that grows
+pub last-push : (book : List Entry) (entry : Entry) → last_version (book ++ entry ∷ []) ≡ entry.version
+last-push book entry = fold-append (λ (last : ℕ) (e : Entry). e.version) 0 book (entry ∷ [])
+
+-- no entry's version is above the last
+module _ (book : List Entry) (rising : IsRising book) (i : ℕ) (entry : Entry) (there : slice_get book i ≡ Some entry) where
+  below-later : (d : ℕ) → i + suc d ≤ length book → entry.version ≤ last_version (take (i + suc d) book)
+  below-later zero within =
+      let last : last_version (take (suc i) book) ≡ entry.version = ap last_version (take-next book i entry there) ∙ last-push (take i book) entry in
+      let next : i + 1 ≡ suc i = omega arith in
+      rw (next, last) (omega arith)
+  below-later (suc d) within =
+      let later = within-item book (i + suc d) (omega (arith, within)) in
+      let last : last_version (take (suc (i + suc d)) book) ≡ later.0.version = ap last_version (take-next book (i + suc d) later.0 later.1) ∙ last-push (take (i + suc d) book) later.0 in
+      let next : i + suc (suc d) ≡ suc (i + suc d) = omega arith in
+      let before = below-later d (omega (arith, within)) in
+      let above = rising (i + suc d) later.0 later.1 in
+      rw (next, last) (omega (arith, before, above))
+
+  pub below-last : entry.version ≤ last_version book
+  below-last =
+      let within = slice_get_within book i entry there in
+      let count : i + suc (length book - suc i) ≡ length book = omega (arith, within) in
+      let before = below-later (length book - suc i) (omega (arith, count)) in
+      rw (count, take_all (length book) book (omega arith)) at before

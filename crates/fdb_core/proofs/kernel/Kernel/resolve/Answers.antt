@@ -1,0 +1,70 @@
+use Rattle.std.proofs.Common.{◌≡◌, ◌∙◌, refl, sym, ap, ◌+◌, ◌<◌, length, ℕ, List, Option, Some, Result, Ok, slice_get, slice_set, arith, rules}
+use Rattle.std.proofs.lemmas.Option.{slice_get_read}
+use Rattle.fdb_keys.specs.Points.{Point}
+use Rattle.fdb_txn.specs.Transactions.{Transaction}
+use Rattle.fdb_core.specs.declared.step.Answered.TheVariants as answered
+use Rattle.fdb_core.specs.declared.step.Verdict.{Verdict}
+use Rattle.fdb_core.specs.Kernel.{machine_of}
+use Rattle.fdb_core.specs.Machine.{Machine, seen_before}
+use Rattle.fdb_core.specs.Roles.{judged}
+use Rattle.fdb_core.specs.RoleSteps.{resolves}
+use Rattle.fdb_core.specs.Steps.{answer_of, after}
+use Rattle.fdb_core.specs.Verdicts.{verdicts_on}
+use Rattle.fdb_core.proofs.RoleTies.{resolver-said, resolver-next, lanes-resolved}
+use Rattle.fdb_core.proofs.Turns.{resolves-turn}
+use Rattle.fdb_core.proofs.kernel.Kernel.resolve.Goals as goal
+use Rattle.fdb_core.proofs.kernel.Kernel.resolve.Goals.{After-self-1}
+
+-- the entry is there, and is the next one for the resolver
+same : (c : After-self-1) → c.index-taken.result.now ≡ c.args.entry
+same c = omega (arith, c.if-entry-taken.false, c.if-taken-entry.false)
+
+there : (c : After-self-1) → slice_get c.args.self.now.book.items c.args.entry ≡ Some c.index-part.result.now
+there c =
+    let inside : c.args.entry < length c.args.self.now.book.items = search rules in
+    slice_get_read c.args.self.now.book.items (length c.args.self.now.book.items) c.args.entry c.index-part.result.now refl inside c.index-part.ensures
+
+at : (c : After-self-1) → slice_get c.args.self.now.resolvers.items c.args.resolver ≡ Some c.args.entry
+at c =
+    let inside : c.args.resolver < length c.args.self.now.resolvers.items = search rules in
+    slice_get_read c.args.self.now.resolvers.items (length c.args.self.now.resolvers.items) c.args.resolver c.index-taken.result.now refl inside c.index-taken.ensures
+    ∙ ap (λ (n : ℕ). Some n) (same c)
+
+-- the verdicts are the definition's
+said : (c : After-self-1) → c.in_ok-verdicts.verdicts ≡ verdicts_on c.args.self.now.config.resolver_splits c.args.resolver (seen_before c.args.self.now.book.items c.args.entry) c.index-part.result.now
+said c =
+    let k = c.args.self.now in
+    let before = c.requires in
+    c.in_ok-verdicts.ensures.verdicts
+    ∙ ap (λ (batch : List Transaction). (judged k.marks.items c.index-part.result.now.version batch).verdicts) c.as_slice.ensures.places
+    ∙ resolver-said k.book.items k.resolvers.items k.marks.items k.verdicts.items c.args.resolver c.args.entry c.index-part.result.now before.resolver before.book.no_moves before.book.reads_below (there c) (at c)
+    ∙ ap (λ (splits : List Point). verdicts_on splits c.args.resolver (seen_before k.book.items c.args.entry) c.index-part.result.now) (sym before.plain.resolver_splits)
+
+pub returns-clause-answer : goal.returns-clause-answer
+returns-clause-answer c =
+    let copy : c.from_vec-answer.result ≡ c.in_ok-verdicts.verdicts = search rules in
+    rw (resolves-turn (machine_of c.args.self.now) c.args.entry c.args.resolver c.index-part.result.now (there c) (at c))
+      (ap (λ (verdicts : List (ℕ × Verdict)). Ok (answered.Verdicts verdicts)) (copy ∙ said c))
+
+pub returns-clause-after : goal.returns-clause-after
+returns-clause-after c =
+    rw (resolves-turn (machine_of c.args.self.now) c.args.entry c.args.resolver c.index-part.result.now (there c) (at c))
+      (ap (λ (n : ℕ). record (machine_of c.args.self.now) { resolvers = slice_set c.args.self.now.resolvers.items c.args.resolver (n + 1) }) (same c))
+
+pub returns-clause-tied : goal.returns-clause-tied
+returns-clause-tied c =
+    let k = c.args.self.now in
+    let before = c.requires in
+    let marked = c.in_ok-verdicts.ensures.marks ∙ ap (λ (batch : List Transaction). (judged k.marks.items c.index-part.result.now.version batch).marks) c.as_slice.ensures.places in
+    let sent = c.in_ok-verdicts.ensures.verdicts ∙ ap (λ (batch : List Transaction). (judged k.marks.items c.index-part.result.now.version batch).verdicts) c.as_slice.ensures.places in
+    let resolver = resolver-next k.book.items k.resolvers.items k.marks.items k.verdicts.items c.args.resolver c.args.entry c.index-part.result.now before.resolver before.book.no_moves before.book.reads_below (there c) (at c)
+      c.judge_batch.new.marks.items c.in_ok-verdicts.verdicts marked sent in
+    let lanes = lanes-resolved k.book.items k.resolvers.items k.marks.items k.verdicts.items c.args.resolver c.args.entry c.index-part.result.now before.resolver before.book.no_moves before.book.reads_below (there c) (at c)
+      k.committed k.lanes.items k.outcomes before.lanes in
+    record {
+      plain = before.plain; room = before.room; pending = before.pending; committed = before.committed; book = before.book;
+      resolver = rw (c.in_ok-push.ensures.items, same c) resolver;
+      log = before.log;
+      lanes = rw (same c) lanes;
+      opened = before.opened;
+    }
