@@ -1,5 +1,5 @@
 -- The resolver, the log and the shard, kept tied through the steps.
-use Rattle.std.proofs.Common.{◌≡◌, ◌∙◌, refl, sym, ap, subst, ℕ, zero, suc, ◌+◌, ◌-◌, ◌<◌, ◌≤◌, min, Bool, true, false, List, [], ◌∷◌, ◌++◌, length, take, drop, Option, Some, None, arith, add-one}
+use Rattle.std.proofs.Common.{◌≡◌, ◌∙◌, refl, sym, ap, subst, ℕ, zero, suc, ◌+◌, ◌-◌, ◌<◌, ◌≤◌, min, max, Bool, true, false, List, [], ◌∷◌, ◌++◌, length, take, drop, Option, Some, None, arith, add-one}
 use Rattle.std.specs.List.{AllByRecursion, slice_get, slice_set}
 use Rattle.std.proofs.lemmas.Grind.{fold-append}
 use Rattle.std.proofs.lemmas.List.{length-take, take_all}
@@ -120,6 +120,15 @@ module _ (book : List Entry) (logs : List ℕ) (shards : List Reach) (log shard 
   length-log =
       let through : length log ≡ min ok.taken (length (along (message_on []) book)) = ap length ok.logged ∙ length-take ok.taken (along (message_on []) book) in
       omega (arith, through, length-along (message_on []) book, ok.within)
+
+  -- what is pulled is in the log
+  pub pulled-until : (i has s n q : ℕ) (reach : Reach) → slice_get logs i ≡ Some has → slice_get shards s ≡ Some reach
+      → q ≡ max reach.pulled (min has n) → q ≤ length log
+  pulled-until i has s n q reach at there is =
+      let found = one-at (record { pulled = ok.pulled; floor = 0 }) reach s (rw ok.one_shard at there) in
+      let from_there : ok.pulled ≡ reach.pulled = ap (λ (r : Reach). r.pulled) found.1 in
+      let same = (one-at ok.taken has i (rw ok.one_log at at)).1 in
+      omega (arith, is, from_there, same, length-log, ok.behind)
 
   pub pulled-next : (s q : ℕ) (reach : Reach) → slice_get shards s ≡ Some reach → reach.pulled ≤ q → q ≤ length log
       → LogOk book logs (slice_set shards s (record { pulled = q; floor = reach.floor })) log (shard ++ take (q - reach.pulled) (drop reach.pulled log))

@@ -1,3 +1,4 @@
+pub mod Equality
 pub mod Maps
 pub mod Mutations
 pub use Rattle.fdb_keys.specs.Answers

@@ -1,7 +1,18 @@
+//! What holds of mutations, for the proofs of the crates that use them.
+ghost use Rattle.std.specs.Prelude.{◌≡◌};
+ghost use Rattle.std.specs.Bool.{Decides};
+ghost use Rattle.fdb_mutations.specs.Equality.{mutation_eq};
 ghost use Rattle.fdb_mutations.specs.Mutations.{EffectAtEveryPoint};
+
+use crate::mutation::Mutation;
 
 /// At a point that a mutation names, its effect leaves the new value, and at every other point what
 /// stood there.
 pub fn effect_at_every_point()
     ensures { EffectAtEveryPoint }
+{}
+
+/// Two mutations are equal exactly where they are the same.
+pub fn equal_mutations_are_the_same()
+    ensures { (a b : Mutation) → Decides (mutation_eq a b) (a ≡ b) }
 {}

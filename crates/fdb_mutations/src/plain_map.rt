@@ -39,21 +39,18 @@ impl PlainMap {
     }
 
     /// Applies the mutation to the map. Refused only as `NoMemory`, and then nothing changes.
+    #[tactic(auto, unfolding(crate::specs::Mutations::effect))]
     pub fn apply(&mut self, mutation: &Mutation) -> Result<(), Refusal>
         ensures answers { Answers result None (λ _. self.new ≡ effect self.old mutation.now) }
         ensures err { OnErr result (self.new ≡ self.old) }
     {
         match mutation {
-            Mutation::Set { key, value } => {
-                let key = key.clone()?;
-                let value = value.clone()?;
-                self.pairs.insert(key, value)?;
-            }
+            Mutation::Set { key, value } => self.set(key.clone()?, value.clone()?),
             Mutation::Clear { key } => {
-                self.pairs.remove(key);
+                self.clear(key);
+                Ok(())
             }
         }
-        Ok(())
     }
 
     /// The value of the key, if it has one.
@@ -61,5 +58,21 @@ impl PlainMap {
         ensures { option_copied result ≡ finite.get self.now key.now }
     {
         self.pairs.get(key)
+    }
+
+    // Gives the key the value.
+    fn set(&mut self, key: Key, value: Bytes) -> Result<(), Refusal>
+        ensures answers { Answers result None (λ _. self.new ≡ finite.insert self.old key value) }
+        ensures err { OnErr result (self.new ≡ self.old) }
+    {
+        self.pairs.insert(key, value)?;
+        Ok(())
+    }
+
+    // Takes the key's value from it, if it has one.
+    fn clear(&mut self, key: &Key)
+        ensures { self.new ≡ finite.remove self.old key.now }
+    {
+        self.pairs.remove(key);
     }
 }

@@ -1,5 +1,6 @@
 pub mod Admission
 pub mod Book
+pub mod Equality
 pub mod Owners
 pub mod Run
 pub mod Transactions

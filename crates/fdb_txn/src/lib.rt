@@ -4,8 +4,11 @@
 
 mod batch;
 mod entry;
+pub mod laws;
 mod sealed;
 mod spot;
+#[cfg(test)]
+mod tests;
 mod txn_id;
 mod writes;
 

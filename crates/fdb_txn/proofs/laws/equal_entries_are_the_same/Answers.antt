@@ -1,0 +1,5 @@
+use Rattle.fdb_txn.specs.Equality.{entry_eq_decides}
+use Rattle.fdb_txn.proofs.laws.equal_entries_are_the_same.Goals as goal
+
+pub returns : goal.returns
+returns c = entry_eq_decides

@@ -1,0 +1,181 @@
+// Calls with known answers.
+ghost use Rattle.std.specs.Prelude.{◌≡◌, All, None, IfOk};
+ghost use Rattle.fdb_mutations.specs.Mutations.{mutation_fault};
+
+use crate::batch::{Batch, PLACE_LIMIT};
+use crate::entry::{Entry, Move};
+use crate::sealed::Sealed;
+use crate::spot::Spot;
+use crate::txn_id::TxnId;
+use bytes::Bytes;
+use fdb_keys::{Items, Key, KeyRange, RangeSet, Refusal};
+use fdb_mutations::Mutation;
+use std::alloc::Global;
+use std::test::Fail;
+
+fn set_of(alloc: Global, begin: &[u8], end: &[u8]) -> Result<RangeSet, Refusal> {
+    let mut set = RangeSet::new(alloc);
+    let range = KeyRange::new(alloc, begin, end)?;
+    set.add(&range)?;
+    Ok(set)
+}
+
+// The one mutation that gives the key the value.
+fn one_set(alloc: Global, key: &[u8], value: &[u8]) -> Result<Items<Mutation>, Refusal>
+    ensures { IfOk result (λ mutations. All (λ mutation. mutation_fault mutation ≡ None) mutations) }
+{
+    let key = Key::new(alloc, key)?;
+    let value = Bytes::copy_from_slice(alloc, value)?;
+    let mutation = Mutation::Set { key, value };
+    mutation.check()?;
+    let mut mutations = Items::new(alloc);
+    mutations.push(mutation)?;
+    Ok(mutations)
+}
+
+// A transaction that read the keys from b to c, and writes the key a and the keys from x to y.
+fn sealed(alloc: Global, id: TxnId, read_version: u64) -> Result<Sealed, Refusal> {
+    let reads = set_of(alloc, b"b", b"c")?;
+    let writes = set_of(alloc, b"x", b"y")?;
+    let mutations = one_set(alloc, b"a", b"one")?;
+    match Sealed::new(alloc, id, read_version, reads, writes, mutations) {
+        Ok(sealed) => Ok(sealed),
+        Err(refused) => Err(refused.why),
+    }
+}
+
+// The transactions with the numbers 0 and 1 of one session.
+fn two_places(alloc: Global) -> Result<Batch, Refusal> {
+    let mut places = Items::new(alloc);
+    for number in 0..2 {
+        let place = sealed(alloc, TxnId { session: 3, number }, 40)?;
+        places.push(place)?;
+    }
+    if places.len() > PLACE_LIMIT {
+        return Err(Refusal::BookFull);
+    }
+    Ok(Batch::new(places))
+}
+
+fn one_move(alloc: Global, to: u32) -> Result<Items<Move>, Refusal> {
+    let range = KeyRange::new(alloc, b"m", b"n")?;
+    let mut moves = Items::new(alloc);
+    moves.push(Move { range, to })?;
+    Ok(moves)
+}
+
+// An entry of two places, with a move to the resolver.
+fn entry(alloc: Global, version: u64, to: u32) -> Result<Entry, Refusal> {
+    let moves = one_move(alloc, to)?;
+    let batch = two_places(alloc)?;
+    Ok(Entry {
+        version,
+        prev: 0,
+        moves,
+        batch,
+    })
+}
+
+fn has_bounds(range: &KeyRange, begin: &[u8], end: &[u8]) -> bool {
+    range.begin() == begin && range.end() == end
+}
+
+fn is_from_b_to_c(set: &RangeSet) -> bool {
+    match set.iter().as_slice() {
+        [range] => has_bounds(range, b"b", b"c"),
+        _ => false,
+    }
+}
+
+fn is_a_and_from_x_to_y(set: &RangeSet) -> bool {
+    match set.iter().as_slice() {
+        [first, second] => has_bounds(first, b"a", b"a\0") && has_bounds(second, b"x", b"y"),
+        _ => false,
+    }
+}
+
+fn is_pair(key: &Key, value: &Bytes, key_bytes: &[u8], value_bytes: &[u8]) -> bool {
+    key.bytes() == key_bytes && value.as_slice() == value_bytes
+}
+
+fn sets_a_to_one(mutations: &[Mutation]) -> bool {
+    match mutations {
+        [Mutation::Set { key, value }] => is_pair(key, value, b"a", b"one"),
+        _ => false,
+    }
+}
+
+fn has_numbers(places: &[Sealed], numbers: &[u64]) -> bool {
+    match (places, numbers) {
+        ([a, b], [x, y]) => a.id().number == *x && b.id().number == *y,
+        _ => false,
+    }
+}
+
+#[test]
+fn sealed_transaction_has_what_was_given(rt: HostRuntime) -> Result<(), Fail> {
+    let id = TxnId {
+        session: 3,
+        number: 7,
+    };
+    let sealed = sealed(rt.alloc(), id, 40)?;
+    assert_eq!(rt; sealed.id(), id);
+    assert_eq!(rt; sealed.read_version(), 40);
+    assert!(rt; is_from_b_to_c(sealed.reads()));
+    assert!(rt; sets_a_to_one(sealed.mutations()));
+    Ok(())
+}
+
+#[test]
+fn keys_of_mutations_join_the_writes(rt: HostRuntime) -> Result<(), Fail> {
+    let id = TxnId {
+        session: 3,
+        number: 7,
+    };
+    let sealed = sealed(rt.alloc(), id, 40)?;
+    assert!(rt; is_a_and_from_x_to_y(sealed.writes()));
+    Ok(())
+}
+
+#[test]
+fn places_of_a_batch_are_in_order(rt: HostRuntime) -> Result<(), Fail> {
+    let batch = two_places(rt.alloc())?;
+    assert!(rt; has_numbers(batch.as_slice(), &[0, 1]));
+    Ok(())
+}
+
+#[test]
+fn copies_of_entries_are_equal(rt: HostRuntime) -> Result<(), Fail> {
+    let first = entry(rt.alloc(), 50, 1)?;
+    let copy = first.clone()?;
+    assert!(rt; copy == first);
+    Ok(())
+}
+
+#[test]
+fn entries_of_other_versions_or_moves_differ(rt: HostRuntime) -> Result<(), Fail> {
+    let first = entry(rt.alloc(), 50, 1)?;
+    let later = entry(rt.alloc(), 51, 1)?;
+    let moved = entry(rt.alloc(), 50, 2)?;
+    assert!(rt; first != later);
+    assert!(rt; first != moved);
+    Ok(())
+}
+
+#[test]
+fn spots_of_one_version_differ(rt: HostRuntime) {
+    let read_only = Spot::ReadOnly { version: 50 };
+    let first = Spot::Entry {
+        index: 0,
+        place: 0,
+        version: 50,
+    };
+    let second = Spot::Entry {
+        index: 0,
+        place: 1,
+        version: 50,
+    };
+    assert!(rt; first == first);
+    assert!(rt; first != second);
+    assert!(rt; first != read_only);
+}
