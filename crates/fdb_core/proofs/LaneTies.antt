@@ -1,12 +1,14 @@
 -- The one commit proxy, kept tied through the steps.
-use Rattle.std.proofs.Common.{◌≡◌, ◌∙◌, sym, ap, subst, ℕ, zero, suc, ◌<◌, ◌≤◌, Bool, true, false, List, [], ◌∷◌, ◌++◌, Option, Some, None}
+use Rattle.std.proofs.Common.{◌≡◌, ◌∙◌, sym, ap, subst, ℕ, zero, suc, ◌<◌, ◌≤◌, Bool, true, false, List, [], ◌∷◌, ◌++◌, Option, Some, None, arith}
 use Rattle.std.specs.List.{AllByRecursion, slice_get, slice_set}
 use Rattle.fdb_txn.specs.declared.entry.Entry.{Entry}
 use Rattle.fdb_core.specs.declared.parts.Lane.{Lane}
+use Rattle.fdb_core.specs.declared.parts.Stage.TheVariants.{Logging, Reported}
 use Rattle.fdb_core.specs.declared.parts.Submission.{Submission}
 use Rattle.fdb_core.specs.declared.step.Outcome.{Outcome}
 use Rattle.fdb_core.specs.Kernel.{LaneOk, LanesOk, WaitsOk}
-use Rattle.fdb_core.proofs.AllLemmas.{all-push}
+use Rattle.fdb_core.specs.ProxySteps.{is_idle, is_resolving}
+use Rattle.fdb_core.proofs.AllLemmas.{all-push, all-weaken}
 
 -- the one lane is found under number 0 alone, and put back there
 set_one : (book later : List Entry) (resolvers others : List ℕ) (committed raised : ℕ) (outcomes decision : List Outcome) (one : Lane) (i : ℕ) (lane next : Lane)
@@ -34,3 +36,23 @@ lane-submit book resolvers committed outcomes lane submission waits ok = record 
     waiting = all-push (WaitsOk committed) lane.waiting submission ok.waiting waits;
     in_book = ok.in_book; aligned = ok.aligned; heard = ok.heard; delivered = ok.delivered; decision = ok.decision;
   }
+
+-- submissions that wait go on waiting when the committed version rises
+pub waiting-raised : (committed raised : ℕ) → committed ≤ raised → (waiting : List Submission) → AllByRecursion (WaitsOk committed) waiting → AllByRecursion (WaitsOk raised) waiting
+waiting-raised committed raised above waiting all = all-weaken (WaitsOk committed) (WaitsOk raised) (λ submission waits. omega (arith, waits, above)) waiting all
+
+-- the batch's version is reported
+pub lane-reported : (book : List Entry) (resolvers : List ℕ) (committed raised : ℕ) (outcomes : List Outcome) (lane : Lane)
+    → committed ≤ raised → lane.stage ≡ Logging → LaneOk book resolvers committed lane outcomes
+    → LaneOk book resolvers raised (record lane { stage = Reported }) outcomes
+lane-reported book resolvers committed raised outcomes lane above logging ok =
+    let busy : is_idle lane.stage ≡ false = ap is_idle logging in
+    let decided : is_resolving lane.stage ≡ false = ap is_resolving logging in
+    record {
+      waiting = waiting-raised committed raised above lane.waiting ok.waiting;
+      in_book = λ _. ok.in_book busy;
+      aligned = λ entry _. ok.aligned entry busy;
+      heard = λ _. ok.heard busy;
+      delivered = λ taken _. ok.delivered taken busy;
+      decision = λ entry _ _. ok.decision entry busy decided;
+    }
