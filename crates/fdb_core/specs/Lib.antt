@@ -7,6 +7,7 @@ pub mod RoleSteps
 pub mod Roles
 pub mod Steps
 pub mod Verdicts
+pub mod Worlds
 pub use Rattle.fdb_keys.specs.Answers
 pub use Rattle.fdb_keys.specs.Insertion
 pub use Rattle.fdb_keys.specs.Points

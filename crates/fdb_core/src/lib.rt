@@ -16,13 +16,18 @@ mod pool;
 mod program;
 mod proxy_steps;
 mod role_steps;
+mod runs;
 mod sealing;
 mod serving;
 mod sessions;
 mod step;
+mod stepping;
 mod versions;
+mod world;
 
 pub use config::Config;
 pub use parts::{Begun, Lane, Placed, Reach, Stage, Submission};
 pub use program::{Op, Reply, Transcript};
+pub use runs::run;
 pub use step::{Answered, Outcome, Step, Verdict};
+pub use world::{CheckFault, World};

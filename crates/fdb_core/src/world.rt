@@ -1,0 +1,86 @@
+use crate::config::Config;
+use crate::kernel::Kernel;
+use crate::step::{Answered, Step};
+use fdb_keys::Refusal;
+use fdb_txn::TxnId;
+use std::alloc::Global;
+use std::marker::Model;
+
+/// What a check of a world found.
+#[derive(Clone, Copy, Debug, PartialEq, Eq)]
+pub enum CheckFault {
+    /// The transaction was not answered as in the run of one transaction at a time.
+    Txn(TxnId),
+    /// The shard does not hold the run's map at its version.
+    Shard(u32),
+    /// Memory ran out.
+    NoMemory,
+}
+
+/// The transaction system: clients and roles as one machine over a list of steps.
+#[derive(Debug, Drop)]
+pub struct World {
+    kernel: Kernel,
+    // Memory ran out in a step, and what it was to change is only partly changed.
+    failed: bool,
+}
+
+impl Model for World {
+    ghost use Rattle.std.specs.Prelude.{◌≡◌, false, Option, Some, None, if◌then◌else◌};
+    ghost use Rattle.fdb_core.specs.Machine.{Machine};
+    ghost use Rattle.fdb_core.specs.Kernel.{machine_of, Tied};
+
+    ghost Value = { Option Machine };
+
+    ghost view = { λ world. if world.failed then None else Some (machine_of world.kernel) };
+
+    ghost invariant = { λ world. world.failed ≡ false → Tied world.kernel };
+}
+
+impl World {
+    ghost use Rattle.std.specs.Prelude.{◌≡◌, length, Some, IfSome, IfOk};
+    ghost use Rattle.fdb_keys.specs.Answers.{Answers};
+    ghost use Rattle.fdb_core.specs.Worlds.{config_fault, start, IsStep};
+
+    /// The world before its first step. Refused as `BadConfig` for a configuration that it does not
+    /// serve: for now it serves one proxy of each kind, one log, no splits and a book of 1 to 1,048,576
+    /// entries.
+    pub fn new(alloc: Global, config: Config) -> Result<Self, Refusal>
+        ensures { Answers result (config_fault config) (λ world. world ≡ Some (start config)) }
+    {
+        if config.proxies != 1 || config.logs != 1 {
+            return Err(Refusal::BadConfig);
+        }
+        if !config.resolver_splits.is_empty() || !config.shard_splits.is_empty() {
+            return Err(Refusal::BadConfig);
+        }
+        if config.book < 1 || config.book > 1_048_576 {
+            return Err(Refusal::BadConfig);
+        }
+        let kernel = Kernel::new(alloc, config)?;
+        Ok(World {
+            kernel,
+            failed: false,
+        })
+    }
+
+    /// Takes one step, and answers what the machine answers. A refused step changes nothing. Where memory
+    /// runs out in the step, the answer is `NoMemory`, and every later step is refused as `Failed`.
+    pub fn step(&mut self, step: Step) -> Result<Answered, Refusal>
+        ensures { IsStep self.old step result self.new }
+    {
+        self.take(&step)
+    }
+
+    pub(crate) fn take(&mut self, step: &Step) -> Result<Answered, Refusal>
+        ensures { IsStep self.old step.now result self.new }
+    {
+        if self.failed {
+            return Err(Refusal::Failed);
+        }
+        self.failed = true;
+        let answer = self.kernel.step(step)?;
+        self.failed = false;
+        answer
+    }
+}
