@@ -1,9 +1,13 @@
 pub mod AllLemmas
+pub mod AnswerLemmas
 pub mod BatchLaws
+pub mod DecideLemmas
 pub mod LaneTies
 pub mod OneResolver
 pub mod ProgramLaws
 pub mod RoleTies
 pub mod RunLaws
+pub mod RunsLemmas
+pub mod SealLemmas
 pub mod Ties
 pub mod Turns

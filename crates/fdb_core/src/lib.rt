@@ -3,6 +3,7 @@
 
 mod answering;
 mod batching;
+mod checking;
 mod client_steps;
 mod config;
 mod deciding;

@@ -1,3 +1,4 @@
+use crate::checking::check_all;
 use crate::config::Config;
 use crate::kernel::Kernel;
 use crate::step::{Answered, Step};
@@ -82,5 +83,14 @@ impl World {
         let answer = self.kernel.step(step)?;
         self.failed = false;
         answer
+    }
+
+    /// Compares the ordinary replies of every acknowledged transaction, and the shard at its version, with
+    /// the run of one transaction at a time. Answers the number of acknowledged transactions, or the first
+    /// that differs. Once memory ran out in a step, transactions alone are compared.
+    pub fn check(&self) -> Result<u64, CheckFault>
+        ensures { IfSome self.now (λ machine. IfOk result (λ count. count ≡ length machine.acknowledged)) }
+    {
+        check_all(&self.kernel, !self.failed)
     }
 }

@@ -1,0 +1,257 @@
+-- What the machine does where a commit proxy decides its batch, and what stays tied then.
+use Rattle.std.proofs.Common.{◌≡◌, ◌∙◌, sym, ap, ap₂, subst, refl, ◌<◌, ◌≤◌, ⊎_elim, ℕ, zero, suc, Bool, true, false, ◌&&◌, ◌||◌, not, List, [], ◌∷◌, take, length, get_or, unwrap_or, Option, Some, None, Ok, Err, if◌then◌else◌, arith, length-take-le, length-append}
+use Rattle.std.specs.List.{AllZip, list_any, slice_get, slice_set}
+use Rattle.std.specs.Vec.{with_item}
+use Rattle.std.proofs.lemmas.Bool.{cases_eq, true≢false}
+use Rattle.std.proofs.lemmas.Option.{same_Some, slice_get_read, slice_get_within}
+use Rattle.std.proofs.lemmas.List.{length-set}
+use Rattle.fdb_keys.specs.declared.refusal.Refusal.TheVariants.{NotYet}
+use Rattle.fdb_mutations.specs.declared.mutation.Mutation.{Mutation}
+use Rattle.fdb_txn.specs.declared.entry.Entry.{Entry}
+use Rattle.fdb_txn.specs.Transactions.{Transaction}
+use Rattle.fdb_txn.specs.Book.{Seen}
+use Rattle.fdb_txn.specs.Admission.{has_points}
+use Rattle.fdb_core.specs.declared.kernel.Kernel.{Kernel}
+use Rattle.fdb_core.specs.declared.parts.Lane.{Lane}
+use Rattle.fdb_core.specs.declared.parts.Stage.{Stage}
+use Rattle.fdb_core.specs.declared.parts.Stage.TheVariants.{Idle, Resolving, Logging, Reported}
+use Rattle.fdb_core.specs.declared.pool.Message.{Message}
+use Rattle.fdb_core.specs.declared.step.Verdict.{Verdict}
+use Rattle.fdb_core.specs.declared.step.Outcome.{Outcome}
+use Rattle.fdb_core.specs.declared.step.Answered.TheVariants as answered
+use Rattle.fdb_core.specs.Kernel.{machine_of, Tied, LaneOk, IsDecision, ReadsBelow}
+use Rattle.fdb_core.specs.Machine.{is_set, first_missing, seen_before}
+use Rattle.fdb_core.specs.ProxySteps.{decides, is_idle, is_resolving}
+use Rattle.fdb_core.specs.Roles.{along, message_on, outcomes_by, body_by}
+use Rattle.fdb_core.specs.Verdicts.{verdicts_on, is_needed, outcomes_on}
+use Rattle.fdb_core.proofs.AllLemmas.{all-at}
+use Rattle.fdb_core.proofs.BatchLaws.{needed-points, not_needed-verdicts, outcomes-decided, body-committed}
+use Rattle.fdb_core.proofs.LaneTies.{lanes-set}
+use Rattle.fdb_core.proofs.OneResolver.{IsStill, no_moves-before, no_moves-at}
+use Rattle.fdb_core.proofs.RunLaws.{slice_get-along, length-along}
+
+-- a list's item that was set, and any other one
+set-here : {A : Type 0} (xs : List A) (i : ℕ) (x : A) → i < length xs → slice_get (slice_set xs i x) i ≡ Some x
+set-here [] i x within = absurd (omega (arith, within))
+set-here (y ∷ ys) zero x within = refl
+set-here (y ∷ ys) (suc i) x within = set-here ys i x (omega (arith, within))
+
+set-other : {A : Type 0} (xs : List A) (i j : ℕ) (x : A) → (j ≡ i → ⊥) → slice_get (slice_set xs i x) j ≡ slice_get xs j
+set-other [] zero j x other = refl
+set-other [] (suc i) j x other = refl
+set-other (y ∷ ys) zero zero x other = absurd (other refl)
+set-other (y ∷ ys) zero (suc j) x other = refl
+set-other (y ∷ ys) (suc i) zero x other = refl
+set-other (y ∷ ys) (suc i) (suc j) x other = set-other ys i j x (λ same. other (ap suc same))
+
+-- what an index reads is the item there
+pub one-item : {A : Type 0} (xs : List A) (i : ℕ) (read x : A) → i < length xs → read ≡ get_or xs i read → slice_get xs i ≡ Some x → read ≡ x
+one-item xs i read x within is there = same_Some read x (sym (slice_get_read xs (length xs) i read refl within is) ∙ there)
+
+-- a copy of a list, item by item
+pub same-items : {A : Type 0} (xs ys : List A) → AllZip (λ x y. y ≡ x) xs ys → ys ≡ xs
+same-items [] [] all = refl
+same-items [] (y ∷ ys) all = absurd all
+same-items (x ∷ xs) [] all = absurd all
+same-items (x ∷ xs) (y ∷ ys) all = ap₂ (λ z zs. z ∷ zs) all.0 (same-items xs ys all.1)
+
+-- the first items of a list are its own
+taken-at : {A : Type 0} (xs : List A) (n i : ℕ) → i < n → slice_get (take n xs) i ≡ slice_get xs i
+taken-at [] zero i within = refl
+taken-at [] (suc n) i within = refl
+taken-at (y ∷ ys) zero i within = absurd (omega (arith, within))
+taken-at (y ∷ ys) (suc n) zero within = refl
+taken-at (y ∷ ys) (suc n) (suc i) within = taken-at ys n i (omega (arith, within))
+
+-- of the one resolver's flag alone
+missing-one : (needed : ℕ → Bool) (heard : List Bool) (is_heard : Bool) → length heard ≡ 1 → is_set heard 0 ≡ is_heard
+    → first_missing needed 0 heard ≡ (if needed 0 && not is_heard then Some 0 else None)
+missing-one needed [] is_heard one is = cc
+missing-one needed (flag ∷ []) is_heard one is = ap (λ (b : Bool). if needed 0 && not b then Some 0 else None) is
+missing-one needed (flag ∷ other ∷ more) is_heard one is = absurd (omega (arith, one))
+
+-- as many outcomes as places
+pub length-outcomes_by : (version : ℕ) (verdicts : List (ℕ × Verdict)) (count : ℕ) → length (outcomes_by version verdicts count) ≡ count
+length-outcomes_by version verdicts zero = refl
+length-outcomes_by version verdicts (suc place) =
+    let before = length-outcomes_by version verdicts place in
+    simp length-append (omega (arith, before))
+
+-- what a commit proxy finds that goes on to decide
+pub record Deciding (k : Kernel) (proxy : ℕ) (lane : Lane) (entry : Entry) : Type 0 where
+  pub lane_there : slice_get k.lanes.items proxy ≡ Some lane
+  pub resolving : is_resolving lane.stage ≡ true
+  pub entry_there : slice_get k.book.items lane.entry ≡ Some entry
+
+-- some transaction of the batch has a point in a set
+abbrev pub is_any_judged : Entry → Bool
+is_any_judged entry = list_any (λ (t : Transaction). has_points t.writes || has_points t.reads) entry.batch
+
+-- the one commit proxy, as it is found
+pub lane-at : (k : Kernel) (proxy : ℕ) (lane : Lane) → Tied k → slice_get k.lanes.items proxy ≡ Some lane
+    → LaneOk k.book.items k.resolvers.items k.committed lane k.outcomes
+lane-at k proxy lane tied there = one_of proxy (ap (λ (lanes : List Lane). slice_get lanes proxy) (sym tied.lanes.one) ∙ there)
+  where
+    one_of : (i : ℕ) → slice_get (tied.lanes.lane ∷ []) i ≡ Some lane → LaneOk k.book.items k.resolvers.items k.committed lane k.outcomes
+    one_of zero at = subst (λ (l : Lane). LaneOk k.book.items k.resolvers.items k.committed l k.outcomes) (same_Some tied.lanes.lane lane at) tied.lanes.ok
+    one_of (suc i) at = cc
+
+-- who resolves isn't idle
+busy : (stage : Stage) → is_resolving stage ≡ true → is_idle stage ≡ false
+busy Idle resolving = cc
+busy Resolving resolving = refl
+busy Logging resolving = refl
+busy Reported resolving = refl
+
+-- nothing is judged where that alone is false
+unjudged : (judged : Bool) → (judged && true) ≡ false → judged ≡ false
+unjudged true none = none
+unjudged false none = refl
+
+-- a message more, for an entry that is decided
+made-set : (decided : List Bool) (made : List Message) (messages : List (Option Message)) (i : ℕ) (new : Message)
+    → slice_get made i ≡ Some new → i < length messages
+    → ((j : ℕ) (message : Message) → is_set decided j ≡ true → slice_get made j ≡ Some message → slice_get messages j ≡ Some (Some message))
+    → (j : ℕ) (message : Message) → is_set (slice_set decided i true) j ≡ true → slice_get made j ≡ Some message
+    → slice_get (slice_set messages i (Some new)) j ≡ Some (Some message)
+made-set decided made messages i new there within before j message is at = ⊎_elim
+    (λ same. let same_message : new ≡ message = same_Some new message (sym there ∙ ap (slice_get made) (sym same) ∙ at) in
+      ap (slice_get (slice_set messages i (Some new))) same ∙ set-here messages i (Some new) within ∙ ap (λ (m : Message). Some (Some m)) same_message)
+    (λ other. set-other messages i j (Some new) other
+      ∙ before j message (ap (λ (flag : Option Bool). unwrap_or flag false) (sym (set-other decided i j true other)) ∙ is) at)
+    (cases_eq j i)
+
+-- the entry that is decided, without moves and of a version above its read versions
+module _ (k : Kernel) (proxy : ℕ) (lane : Lane) (entry : Entry) (tied : Tied k) (found : Deciding k proxy lane entry) where
+  still : IsStill (seen_before k.book.items lane.entry)
+  still = no_moves-before k.book.items tied.book.no_moves lane.entry
+
+  moveless : entry.moves ≡ []
+  moveless = no_moves-at k.book.items tied.book.no_moves lane.entry entry found.entry_there
+
+  below : ReadsBelow entry
+  below = all-at ReadsBelow k.book.items lane.entry entry tied.book.reads_below found.entry_there
+
+  ok : LaneOk k.book.items k.resolvers.items k.committed lane k.outcomes
+  ok = lane-at k proxy lane tied found.lane_there
+
+  not_idle : is_idle lane.stage ≡ false
+  not_idle = busy lane.stage found.resolving
+
+  -- what is missing
+  missing : (is_heard : Bool) → is_set lane.heard 0 ≡ is_heard
+      → first_missing (λ resolver. is_needed [] resolver (seen_before k.book.items lane.entry) entry) 0 lane.heard
+      ≡ (if is_any_judged entry && not is_heard then Some 0 else None)
+  missing is_heard is =
+      missing-one (λ resolver. is_needed [] resolver (seen_before k.book.items lane.entry) entry) lane.heard is_heard (ok.heard not_idle) is
+      ∙ ap (λ (needed : Bool). if needed && not is_heard then Some 0 else None) (needed-points (seen_before k.book.items lane.entry) entry still moveless below)
+
+  -- the resolver's verdicts are needed, and weren't heard
+  pub decides-waits : is_set lane.heard 0 ≡ false → is_any_judged entry ≡ true → decides (machine_of k) proxy ≡ Err (NotYet 0)
+  unfolding decides
+  decides-waits unheard judged =
+      rw (found.lane_there, found.resolving, found.entry_there, tied.plain.resolver_splits, missing false unheard, judged) refl
+
+  -- nothing is missing
+  pub decides-turn : (is_heard : Bool) → is_set lane.heard 0 ≡ is_heard → (is_any_judged entry && not is_heard) ≡ false
+      → decides (machine_of k) proxy ≡ Ok (record {
+          said = answered.Decided (outcomes_on [] (seen_before k.book.items lane.entry) entry);
+          to = record (machine_of k) {
+            decided = slice_set k.decided.items lane.entry true;
+            lanes = slice_set k.lanes.items proxy (record lane { stage = Logging });
+          };
+        })
+  unfolding decides
+  decides-turn is_heard is none =
+      rw (found.lane_there, found.resolving, found.entry_there, tied.plain.resolver_splits, missing is_heard is, none) refl
+
+  -- a flag that is set tells that the resolver took the entry
+  taken : is_set lane.heard 0 ≡ true → lane.entry < tied.resolver.taken
+  taken heard = ok.delivered tied.resolver.taken not_idle heard (ap (λ (resolvers : List ℕ). slice_get resolvers 0) tied.resolver.one)
+
+  -- and so there are verdicts on it
+  pub heard-taken : is_set lane.heard 0 ≡ true → lane.entry < length k.verdicts.items
+  heard-taken heard =
+      let made : List (List (ℕ × Verdict)) = along (verdicts_on [] 0) k.book.items in
+      let all : length made ≡ length k.book.items = length-along (verdicts_on [] 0) k.book.items in
+      let inside : tied.resolver.taken ≤ length made = omega (arith, all, tied.resolver.within) in
+      let count : length k.verdicts.items ≡ tied.resolver.taken =
+        ap (λ (verdicts : List (List (ℕ × Verdict))). length verdicts) tied.resolver.sent ∙ length-take-le tied.resolver.taken made inside in
+      omega (arith, count, taken heard)
+
+  -- the verdicts that the resolver sent
+  sent : is_set lane.heard 0 ≡ true → slice_get k.verdicts.items lane.entry ≡ Some (verdicts_on [] 0 (seen_before k.book.items lane.entry) entry)
+  sent heard =
+      ap (λ (verdicts : List (List (ℕ × Verdict))). slice_get verdicts lane.entry) tied.resolver.sent
+      ∙ taken-at (along (verdicts_on [] 0) k.book.items) tied.resolver.taken lane.entry (taken heard)
+      ∙ slice_get-along (verdicts_on [] 0) k.book.items lane.entry entry found.entry_there
+
+  -- what is decided is what becomes of the places
+  pub decision-outcomes : (is_heard : Bool) (decision : List Outcome × Message) → is_set lane.heard 0 ≡ is_heard → (is_any_judged entry && not is_heard) ≡ false
+      → IsDecision k.book.items k.verdicts.items lane.entry is_heard decision
+      → decision.0 ≡ outcomes_on [] (seen_before k.book.items lane.entry) entry
+  decision-outcomes true decision is none made =
+      (made entry (verdicts_on [] 0 (seen_before k.book.items lane.entry) entry) found.entry_there (λ heard. sent is)).0
+      ∙ outcomes-decided (seen_before k.book.items lane.entry) entry still moveless below
+  decision-outcomes false decision is none made =
+      let before : Seen = seen_before k.book.items lane.entry in
+      let unneeded : is_needed [] 0 before entry ≡ false = needed-points before entry still moveless below ∙ unjudged (is_any_judged entry) none in
+      (made entry [] found.entry_there (λ heard. absurd (true≢false (sym heard)))).0
+      ∙ ap (λ (said : List (ℕ × Verdict)). outcomes_by entry.version said (length entry.batch)) (sym (not_needed-verdicts [] 0 before entry unneeded))
+      ∙ outcomes-decided before entry still moveless below
+
+  -- and its message is what the log gets
+  pub decision-message : (is_heard : Bool) (decision : List Outcome × Message) → is_set lane.heard 0 ≡ is_heard → (is_any_judged entry && not is_heard) ≡ false
+      → IsDecision k.book.items k.verdicts.items lane.entry is_heard decision
+      → decision.1 ≡ message_on [] (seen_before k.book.items lane.entry) entry
+  decision-message is_heard decision is none made = by_heard is_heard is made
+      ∙ ap (λ (outcomes : List Outcome). message_by outcomes) (decision-outcomes is_heard decision is none made)
+      ∙ ap (λ (body : List Mutation). record { version = entry.version; body = body }) (body-committed [] (seen_before k.book.items lane.entry) entry)
+    where
+      message_by : List Outcome → Message
+      message_by outcomes = record { version = entry.version; body = body_by entry.batch outcomes }
+      by_heard : (heard : Bool) → is_set lane.heard 0 ≡ heard → IsDecision k.book.items k.verdicts.items lane.entry heard decision → decision.1 ≡ message_by decision.0
+      by_heard true is made = (made entry (verdicts_on [] 0 (seen_before k.book.items lane.entry) entry) found.entry_there (λ heard. sent is)).1
+      by_heard false is made = (made entry [] found.entry_there (λ heard. absurd (true≢false (sym heard)))).1
+
+  -- the lane goes on with its outcomes
+  lane-decided : (outcomes : List Outcome) → outcomes ≡ outcomes_on [] (seen_before k.book.items lane.entry) entry
+      → LaneOk k.book.items k.resolvers.items k.committed lane k.outcomes
+      → LaneOk k.book.items k.resolvers.items k.committed (record lane { stage = Logging }) outcomes
+  lane-decided outcomes are held = record {
+      waiting = held.waiting;
+      in_book = λ busy_now. held.in_book not_idle;
+      aligned = λ other busy_now there. held.aligned other not_idle there;
+      heard = λ busy_now. held.heard not_idle;
+      delivered = λ n busy_now heard there. held.delivered n not_idle heard there;
+      decision = λ other busy_now decided_now there.
+        are ∙ ap (λ (e : Entry). outcomes_on [] (seen_before k.book.items lane.entry) e) (same_Some entry other (sym found.entry_there ∙ there));
+    }
+
+  -- what stays tied
+  pub decided-tied : (outcomes : List Outcome) (message : Message)
+      → outcomes ≡ outcomes_on [] (seen_before k.book.items lane.entry) entry → message ≡ message_on [] (seen_before k.book.items lane.entry) entry
+      → Tied (record k {
+          decided = with_item k.decided lane.entry true;
+          lanes = with_item k.lanes proxy (record lane { stage = Logging });
+          outcomes = outcomes;
+          messages = with_item k.messages lane.entry (Some message);
+        })
+  decided-tied outcomes message are is =
+      let book = tied.book in
+      let made : slice_get (along (message_on []) k.book.items) lane.entry ≡ Some message =
+        slice_get-along (message_on []) k.book.items lane.entry entry found.entry_there ∙ ap (λ (m : Message). Some m) (sym is) in
+      let within : lane.entry < length k.messages.items = omega (arith, book.each_pooled, slice_get_within k.book.items lane.entry entry found.entry_there) in
+      record {
+        plain = tied.plain; room = tied.room; pending = tied.pending; committed = tied.committed;
+        book = record {
+          no_moves = book.no_moves; rising = book.rising; reads_below = book.reads_below; each_filed = book.each_filed;
+          each_flagged = length-set k.decided.items lane.entry true ∙ book.each_flagged;
+          each_pooled = length-set k.messages.items lane.entry (Some message) ∙ book.each_pooled;
+          made = made-set k.decided.items (along (message_on []) k.book.items) k.messages.items lane.entry message made within book.made;
+        };
+        resolver = tied.resolver; log = tied.log;
+        lanes = lanes-set k.book.items k.book.items k.resolvers.items k.resolvers.items k.committed k.committed k.outcomes outcomes k.lanes.items proxy lane
+          (record lane { stage = Logging }) tied.lanes found.lane_there (lane-decided outcomes are);
+        opened = tied.opened;
+      }
