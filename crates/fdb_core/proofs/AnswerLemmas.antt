@@ -44,11 +44,11 @@ module _ (k : Kernel) (proxy : ℕ) (lane : Lane) (entry : Entry) (tied : Tied k
 
   -- the turn that the machine takes
   pub answers-turn : answers (machine_of k) proxy ≡ Ok (record {
-      said = answered.Answers (told_from lane.in_flight k.outcomes);
-      to = record (machine_of k) {
-        acknowledged = k.acknowledged.items ++ placed_from lane.entry lane.in_flight k.outcomes;
-        lanes = slice_set k.lanes.items proxy (record lane { in_flight = []; stage = Idle });
-      };
-    })
+    said = answered.Answers (told_from lane.in_flight k.outcomes);
+    to = record (machine_of k) {
+      acknowledged = k.acknowledged.items ++ placed_from lane.entry lane.in_flight k.outcomes;
+      lanes = slice_set k.lanes.items proxy (record lane { in_flight = []; stage = Idle });
+    };
+  })
   unfolding answers
   answers-turn = rw (found.lane_there, (only_reported lane.stage found.reported).0, found.entry_there, found.reported, tied.plain.resolver_splits, kept) refl

@@ -36,22 +36,26 @@ step-judged : (version : ℕ) (earlier : List Place) (verdicts : List (ℕ × Ve
     ≡ so_far (placed version [] t ∷ earlier) (verdicts ++ verdict_if_asked earlier (placed version [] t) p) (suc p)
 step-judged version earlier verdicts p t still before =
     ap (λ (said : List (ℕ × Verdict)). record { marks = marks; verdicts = said; places = p + 1 })
-      (by_cases (has_points t.writes || has_points t.reads) (p, judged_now))
+    (by_cases (has_points t.writes || has_points t.reads) (p, judged_now))
     ∙ ap₂ (λ (asked : Bool) (kept : List Mark). made asked kept judged_now (p + 1))
-      (sym (asked-points place refl before)) (sym (marks_of-next earlier still version t))
+    (sym (asked-points place refl before)) (sym (marks_of-next earlier still version t))
     ∙ ap₂ (λ (said : Verdict) (n : ℕ). made (is_asked [] 0 place) (marks_of (place ∷ earlier)) said n)
-      (sym (verdict-judgement earlier still version t)) (add-one p)
+    (sym (verdict-judgement earlier still version t)) (add-one p)
   where
     place : Place
     place = placed version [] t
+
     marks : List Mark
     marks = marked_after (marks_of earlier) version t
+
     judged_now : Verdict
     judged_now = judgement (marks_of earlier) version t
+
     made : Bool → List Mark → Verdict → ℕ → Judged
     made asked kept said n = record { marks = kept; verdicts = verdicts ++ (if asked then (p, said) ∷ [] else []); places = n }
+
     by_cases : (asked : Bool) (said : ℕ × Verdict)
-      → (if asked then verdicts ++ said ∷ [] else verdicts) ≡ verdicts ++ (if asked then said ∷ [] else [])
+        → (if asked then verdicts ++ said ∷ [] else verdicts) ≡ verdicts ++ (if asked then said ∷ [] else [])
     by_cases true said = refl
     by_cases false said = sym (append-nil verdicts)
 
@@ -64,8 +68,9 @@ first-verdicts version earlier t ts p =
   where
     place : Place
     place = placed version [] t
+
     by_cases : (asked : Bool) (said : ℕ × Verdict) (others : List (ℕ × Verdict))
-      → (if asked then said ∷ others else others) ≡ (if asked then said ∷ [] else []) ++ others
+        → (if asked then said ∷ others else others) ≡ (if asked then said ∷ [] else []) ++ others
     by_cases true said others = refl
     by_cases false said others = refl
 
@@ -82,8 +87,8 @@ steps-judged version (t ∷ ts) earlier verdicts p still below =
     ap (λ (made : Judged). fold (judge_next version) made ts) (step-judged version earlier verdicts p t still below.0)
     ∙ steps-judged version ts (placed version [] t ∷ earlier) (verdicts ++ verdict_if_asked earlier (placed version [] t) p) (suc p) (refl, still) below.1
     ∙ ap₂ (λ said n. so_far (add_places version [] (t ∷ ts) earlier) said n)
-      (append_assoc verdicts _ _ ∙ ap (λ said. verdicts ++ said) (sym (first-verdicts version earlier t ts p)))
-      (count-next p (length ts))
+    (append_assoc verdicts _ _ ∙ ap (λ said. verdicts ++ said) (sym (first-verdicts version earlier t ts p)))
+    (count-next p (length ts))
 
 -- what the one resolver makes of an entry's batch
 judged-is : (before : Seen) (entry : Entry) → IsStill before → entry.moves ≡ [] → ReadsBelow entry
@@ -92,7 +97,7 @@ judged-is : (before : Seen) (entry : Entry) → IsStill before → entry.moves �
 judged-is before entry still none below =
     steps-judged entry.version entry.batch before.places [] 0 still.1 below
     ∙ ap₂ (λ moves n. so_far (add_places entry.version moves entry.batch before.places) (verdicts_from [] entry.version moves 0 entry.batch before.places 0) n)
-      (sym (no_moves-through before entry still.0 none)) (zero-add (length entry.batch))
+    (sym (no_moves-through before entry still.0 none)) (zero-add (length entry.batch))
 
 -- the verdicts that the one resolver gives on an entry
 pub judged-verdicts : (before : Seen) (entry : Entry) → IsStill before → entry.moves ≡ [] → ReadsBelow entry
@@ -138,8 +143,8 @@ its-verdict : (version : ℕ) (t : Transaction) (ts : List Transaction) (earlier
 its-verdict version t ts earlier p still before = ⊎_elim
     (λ asked. ap (λ said. verdict_for said p) (cond-true _ _ _ asked) ∙ cond-true _ _ _ (eq-eqb p p refl))
     (λ unasked. ap (λ said. verdict_for said p) (cond-false _ _ _ unasked)
-      ∙ none_before version ts (placed version [] t ∷ earlier) (suc p) p (omega arith)
-      ∙ sym (unasked-verdict earlier (placed version [] t) still refl before unasked))
+    ∙ none_before version ts (placed version [] t ∷ earlier) (suc p) p (omega arith)
+    ∙ sym (unasked-verdict earlier (placed version [] t) still refl before unasked))
     (cases_Bool (is_asked [] 0 (placed version [] t)))
 
 -- outcomes by a list of verdicts that agrees with those on the places from p on
@@ -149,12 +154,12 @@ steps-outcomes : (version : ℕ) (said : List (ℕ × Verdict)) (batch : List Tr
 steps-outcomes version said [] earlier p still below agree = append-nil _ ∙ ap (outcomes_by version said) (sym (add-zero p))
 steps-outcomes version said (t ∷ ts) earlier p still below agree =
     ap (λ here. outcomes_by version said p ++ here ∷ outcomes_from [] version [] ts (place ∷ earlier) (suc p))
-      (outcome-by earlier place p ∙ ap (outcome_by version p) (sym (agree p (le_refl p) ∙ its-verdict version t ts earlier p still below.0)))
+    (outcome-by earlier place p ∙ ap (outcome_by version p) (sym (agree p (le_refl p) ∙ its-verdict version t ts earlier p still below.0)))
     ∙ sym (append_assoc (outcomes_by version said p) _ _)
     ∙ steps-outcomes version said ts (place ∷ earlier) (suc p) (refl, still) below.1
-      (λ q later. agree q (le_of_lt later)
-        ∙ ap (λ others. verdict_for others q) (first-verdicts version earlier t ts p)
-        ∙ not_its-verdict earlier place p q (verdicts_from [] version [] 0 ts (place ∷ earlier) (suc p)) (ne_of_lt later))
+    (λ q later. agree q (le_of_lt later)
+    ∙ ap (λ others. verdict_for others q) (first-verdicts version earlier t ts p)
+    ∙ not_its-verdict earlier place p q (verdicts_from [] version [] 0 ts (place ∷ earlier) (suc p)) (ne_of_lt later))
     ∙ ap (outcomes_by version said) (count-next p (length ts))
   where
     place : Place
@@ -165,10 +170,10 @@ pub outcomes-decided : (before : Seen) (entry : Entry) → IsStill before → en
     → outcomes_by entry.version (verdicts_on [] 0 before entry) (length entry.batch) ≡ outcomes_on [] before entry
 outcomes-decided before entry still none below = subst
     (λ (moves : List Stamped). outcomes_by entry.version (verdicts_from [] entry.version moves 0 entry.batch before.places 0) (length entry.batch)
-      ≡ outcomes_from [] entry.version moves entry.batch before.places 0)
+    ≡ outcomes_from [] entry.version moves entry.batch before.places 0)
     (sym (no_moves-through before entry still.0 none))
     (sym (steps-outcomes entry.version said entry.batch before.places 0 still.1 below (λ q from_here. refl)
-      ∙ ap (outcomes_by entry.version said) (zero-add (length entry.batch))))
+    ∙ ap (outcomes_by entry.version said) (zero-add (length entry.batch))))
   where
     said : List (ℕ × Verdict)
     said = verdicts_from [] entry.version [] 0 entry.batch before.places 0
@@ -179,7 +184,7 @@ commit-at splits earlier place p =
     by_cases (is_fresh place) (no_conflict splits (length splits) earlier place) (all_below (length splits) (λ i. admits splits i earlier place))
   where
     by_cases : (fresh free others : Bool)
-      → is_commit (if fresh then (if fresh && free && others then outcome.Commit place.version p else outcome.Conflict) else outcome.Old) ≡ (fresh && free && others)
+        → is_commit (if fresh then (if fresh && free && others then outcome.Commit place.version p else outcome.Conflict) else outcome.Old) ≡ (fresh && free && others)
     by_cases false free others = refl
     by_cases true false others = refl
     by_cases true true false = refl

@@ -116,9 +116,9 @@ made-set : (decided : List Bool) (made : List Message) (messages : List (Option 
     → slice_get (slice_set messages i (Some new)) j ≡ Some (Some message)
 made-set decided made messages i new there within before j message is at = ⊎_elim
     (λ same. let same_message : new ≡ message = same_Some new message (sym there ∙ ap (slice_get made) (sym same) ∙ at) in
-      ap (slice_get (slice_set messages i (Some new))) same ∙ set-here messages i (Some new) within ∙ ap (λ (m : Message). Some (Some m)) same_message)
+    ap (slice_get (slice_set messages i (Some new))) same ∙ set-here messages i (Some new) within ∙ ap (λ (m : Message). Some (Some m)) same_message)
     (λ other. set-other messages i j (Some new) other
-      ∙ before j message (ap (λ (flag : Option Bool). unwrap_or flag false) (sym (set-other decided i j true other)) ∙ is) at)
+    ∙ before j message (ap (λ (flag : Option Bool). unwrap_or flag false) (sym (set-other decided i j true other)) ∙ is) at)
     (cases_eq j i)
 
 -- the entry that is decided, without moves and of a version above its read versions
@@ -155,12 +155,12 @@ module _ (k : Kernel) (proxy : ℕ) (lane : Lane) (entry : Entry) (tied : Tied k
   -- nothing is missing
   pub decides-turn : (is_heard : Bool) → is_set lane.heard 0 ≡ is_heard → (is_any_judged entry && not is_heard) ≡ false
       → decides (machine_of k) proxy ≡ Ok (record {
-          said = answered.Decided (outcomes_on [] (seen_before k.book.items lane.entry) entry);
-          to = record (machine_of k) {
-            decided = slice_set k.decided.items lane.entry true;
-            lanes = slice_set k.lanes.items proxy (record lane { stage = Logging });
-          };
-        })
+        said = answered.Decided (outcomes_on [] (seen_before k.book.items lane.entry) entry);
+        to = record (machine_of k) {
+          decided = slice_set k.decided.items lane.entry true;
+          lanes = slice_set k.lanes.items proxy (record lane { stage = Logging });
+        };
+      })
   unfolding decides
   decides-turn is_heard is none =
       rw (found.lane_there, found.resolving, found.entry_there, tied.plain.resolver_splits, missing is_heard is, none) refl
@@ -176,7 +176,7 @@ module _ (k : Kernel) (proxy : ℕ) (lane : Lane) (entry : Entry) (tied : Tied k
       let all : length made ≡ length k.book.items = length-along (verdicts_on [] 0) k.book.items in
       let inside : tied.resolver.taken ≤ length made = omega (arith, all, tied.resolver.within) in
       let count : length k.verdicts.items ≡ tied.resolver.taken =
-        ap (λ (verdicts : List (List (ℕ × Verdict))). length verdicts) tied.resolver.sent ∙ length-take-le tied.resolver.taken made inside in
+      ap (λ (verdicts : List (List (ℕ × Verdict))). length verdicts) tied.resolver.sent ∙ length-take-le tied.resolver.taken made inside in
       omega (arith, count, taken heard)
 
   -- the verdicts that the resolver sent
@@ -210,6 +210,7 @@ module _ (k : Kernel) (proxy : ℕ) (lane : Lane) (entry : Entry) (tied : Tied k
     where
       message_by : List Outcome → Message
       message_by outcomes = record { version = entry.version; body = body_by entry.batch outcomes }
+
       by_heard : (heard : Bool) → is_set lane.heard 0 ≡ heard → IsDecision k.book.items k.verdicts.items lane.entry heard decision → decision.1 ≡ message_by decision.0
       by_heard true is made = (made entry (verdicts_on [] 0 (seen_before k.book.items lane.entry) entry) found.entry_there (λ heard. sent is)).1
       by_heard false is made = (made entry [] found.entry_there (λ heard. absurd (true≢false (sym heard)))).1
@@ -219,39 +220,46 @@ module _ (k : Kernel) (proxy : ℕ) (lane : Lane) (entry : Entry) (tied : Tied k
       → LaneOk k.book.items k.resolvers.items k.committed lane k.outcomes
       → LaneOk k.book.items k.resolvers.items k.committed (record lane { stage = Logging }) outcomes
   lane-decided outcomes are held = record {
-      waiting = held.waiting;
-      in_book = λ busy_now. held.in_book not_idle;
-      aligned = λ other busy_now there. held.aligned other not_idle there;
-      heard = λ busy_now. held.heard not_idle;
-      delivered = λ n busy_now heard there. held.delivered n not_idle heard there;
-      decision = λ other busy_now decided_now there.
+    waiting = held.waiting;
+    in_book = λ busy_now. held.in_book not_idle;
+    aligned = λ other busy_now there. held.aligned other not_idle there;
+    heard = λ busy_now. held.heard not_idle;
+    delivered = λ n busy_now heard there. held.delivered n not_idle heard there;
+    decision = λ other busy_now decided_now there.
         are ∙ ap (λ (e : Entry). outcomes_on [] (seen_before k.book.items lane.entry) e) (same_Some entry other (sym found.entry_there ∙ there));
-    }
+  }
 
   -- what stays tied
   pub decided-tied : (outcomes : List Outcome) (message : Message)
       → outcomes ≡ outcomes_on [] (seen_before k.book.items lane.entry) entry → message ≡ message_on [] (seen_before k.book.items lane.entry) entry
       → Tied (record k {
-          decided = with_item k.decided lane.entry true;
-          lanes = with_item k.lanes proxy (record lane { stage = Logging });
-          outcomes = outcomes;
-          messages = with_item k.messages lane.entry (Some message);
-        })
+        decided = with_item k.decided lane.entry true;
+        lanes = with_item k.lanes proxy (record lane { stage = Logging });
+        outcomes = outcomes;
+        messages = with_item k.messages lane.entry (Some message);
+      })
   decided-tied outcomes message are is =
       let book = tied.book in
       let made : slice_get (along (message_on []) k.book.items) lane.entry ≡ Some message =
-        slice_get-along (message_on []) k.book.items lane.entry entry found.entry_there ∙ ap (λ (m : Message). Some m) (sym is) in
+      slice_get-along (message_on []) k.book.items lane.entry entry found.entry_there ∙ ap (λ (m : Message). Some m) (sym is) in
       let within : lane.entry < length k.messages.items = omega (arith, book.each_pooled, slice_get_within k.book.items lane.entry entry found.entry_there) in
       record {
-        plain = tied.plain; room = tied.room; pending = tied.pending; committed = tied.committed;
+        plain = tied.plain;
+        room = tied.room;
+        pending = tied.pending;
+        committed = tied.committed;
         book = record {
-          no_moves = book.no_moves; rising = book.rising; reads_below = book.reads_below; each_filed = book.each_filed;
+          no_moves = book.no_moves;
+          rising = book.rising;
+          reads_below = book.reads_below;
+          each_filed = book.each_filed;
           each_flagged = length-set k.decided.items lane.entry true ∙ book.each_flagged;
           each_pooled = length-set k.messages.items lane.entry (Some message) ∙ book.each_pooled;
           made = made-set k.decided.items (along (message_on []) k.book.items) k.messages.items lane.entry message made within book.made;
         };
-        resolver = tied.resolver; log = tied.log;
+        resolver = tied.resolver;
+        log = tied.log;
         lanes = lanes-set k.book.items k.book.items k.resolvers.items k.resolvers.items k.committed k.committed k.outcomes outcomes k.lanes.items proxy lane
-          (record lane { stage = Logging }) tied.lanes found.lane_there (lane-decided outcomes are);
+            (record lane { stage = Logging }) tied.lanes found.lane_there (lane-decided outcomes are);
         opened = tied.opened;
       }

@@ -26,16 +26,20 @@ pub lanes-set : (book later : List Entry) (resolvers others : List ℕ) (committ
     → LanesOk later others raised (slice_set lanes i next) decision
 lanes-set book later resolvers others committed raised outcomes decision lanes i lane next tied there step =
     subst (λ (ls : List Lane). LanesOk later others raised (slice_set ls i next) decision) (sym tied.one)
-      (set_one book later resolvers others committed raised outcomes decision tied.lane i lane next (rw tied.one at there) tied.ok step)
+    (set_one book later resolvers others committed raised outcomes decision tied.lane i lane next (rw tied.one at there) tied.ok step)
 
 -- one more submission waits
 pub lane-submit : (book : List Entry) (resolvers : List ℕ) (committed : ℕ) (outcomes : List Outcome) (lane : Lane) (submission : Submission)
     → WaitsOk committed submission → LaneOk book resolvers committed lane outcomes
     → LaneOk book resolvers committed (record lane { waiting = lane.waiting ++ submission ∷ [] }) outcomes
 lane-submit book resolvers committed outcomes lane submission waits ok = record {
-    waiting = all-push (WaitsOk committed) lane.waiting submission ok.waiting waits;
-    in_book = ok.in_book; aligned = ok.aligned; heard = ok.heard; delivered = ok.delivered; decision = ok.decision;
-  }
+  waiting = all-push (WaitsOk committed) lane.waiting submission ok.waiting waits;
+  in_book = ok.in_book;
+  aligned = ok.aligned;
+  heard = ok.heard;
+  delivered = ok.delivered;
+  decision = ok.decision;
+}
 
 -- submissions that wait go on waiting when the committed version rises
 pub waiting-raised : (committed raised : ℕ) → committed ≤ raised → (waiting : List Submission) → AllByRecursion (WaitsOk committed) waiting → AllByRecursion (WaitsOk raised) waiting

@@ -42,7 +42,7 @@ any_witness test [] some = absurd (both_ways _ refl some)
 any_witness test (x ∷ xs) some = ⊎_elim
     (λ here. (x, here, λ other holds. or_left (other x) (list_any other xs) holds))
     (λ there. let found : Witness test xs = any_witness test xs there in
-      (found.0, found.1, λ other holds. or_right (other x) (list_any other xs) (found.2 other holds)))
+    (found.0, found.1, λ other holds. or_right (other x) (list_any other xs) (found.2 other holds)))
     (or_cases (test x) (list_any test xs) some)
 
 -- what is in one of two lists is in both together
@@ -92,7 +92,7 @@ corner_from_meet some others test holds meet =
     let a : Witness (λ (range : Range). list_any (λ (other : Range). ranges_meet range other) others) some = any_witness _ some meet in
     let b : Witness (λ (other : Range). ranges_meet a.0 other) others = any_witness _ others a.1 in
     let within : (x : Point) → in_range a.0 x ≡ true → in_range b.0 x ≡ true → test x ≡ true =
-      λ x in_a in_b. holds x (a.2 (λ (range : Range). in_range range x) in_a) (b.2 (λ (range : Range). in_range range x) in_b) in
+    λ x in_a in_b. holds x (a.2 (λ (range : Range). in_range range x) in_a) (b.2 (λ (range : Range). in_range range x) in_b) in
     ⊎_elim
     (λ of_a. at_begin test (some ++ others) a.0 (in_left some others a.0 a.2) (within a.0.begin of_a.0 of_a.1))
     (λ of_b. at_begin test (some ++ others) b.0 (in_right some others b.0 b.2) (within b.0.begin of_b.0 of_b.1))
@@ -102,12 +102,12 @@ corner_from_meet some others test holds meet =
 still_overlap : (version : ℕ) (of : Transaction) (t : Place) → overlaps [] 0 (placed version [] of) t ≡ sets_meet of.writes t.transaction.reads
 still_overlap version of t = same_tests _ _
     (λ some. let found : Witness (overlaps_at [] 0 (placed version [] of) t) (corners [] [] (of.writes ++ t.transaction.reads)) =
-        any_witness _ (corners [] [] (of.writes ++ t.transaction.reads)) some in
-      let parts = and_parts _ _ found.1 in
-      let sets : (in_set of.writes found.0 ≡ true) × (in_set t.transaction.reads found.0 ≡ true) = and_parts _ _ parts.0 in
-      meet_from_point of.writes t.transaction.reads found.0 sets.0 sets.1)
+    any_witness _ (corners [] [] (of.writes ++ t.transaction.reads)) some in
+    let parts = and_parts _ _ found.1 in
+    let sets : (in_set of.writes found.0 ≡ true) × (in_set t.transaction.reads found.0 ≡ true) = and_parts _ _ parts.0 in
+    meet_from_point of.writes t.transaction.reads found.0 sets.0 sets.1)
     (λ meet. corner_from_meet of.writes t.transaction.reads (overlaps_at [] 0 (placed version [] of) t)
-      (λ x written is_read. and_from _ _ (and_from _ _ written is_read) refl) meet)
+    (λ x written is_read. and_from _ _ (and_from _ _ written is_read) refl) meet)
 
 -- resolver 0 finds an overlap just where the sets meet
 pub overlap-meets : (u t : Place) → u.moves ≡ [] → overlaps [] 0 u t ≡ sets_meet u.transaction.writes t.transaction.reads
@@ -158,7 +158,7 @@ verdict-judgement us still version t =
     ∙ by_cases (has_points t.reads && nat_lt (t.read + window) version) (is_marked (marks_of us) t.read t.reads)
   where
     by_cases : (old marked : Bool) → (if not old then (if not old && not marked then verdict.Yes else verdict.Conflict) else verdict.Old)
-      ≡ (if old then verdict.Old else (if marked then verdict.Conflict else verdict.Yes))
+        ≡ (if old then verdict.Old else (if marked then verdict.Conflict else verdict.Yes))
     by_cases true marked = refl
     by_cases false true = refl
     by_cases false false = refl
@@ -172,12 +172,14 @@ marks_of-next us still version t =
   where
     mark : Mark
     mark = record { version = version; writes = t.writes }
+
     marked : Verdict → List Mark
     marked verdict.Yes = marks_of us ++ mark ∷ []
     marked verdict.Conflict = marks_of us
     marked verdict.Old = marks_of us
+
     by_cases : (old meets : Bool) → (if not old && not meets then marks_of us ++ mark ∷ [] else marks_of us)
-      ≡ marked (if old then verdict.Old else (if meets then verdict.Conflict else verdict.Yes))
+        ≡ marked (if old then verdict.Old else (if meets then verdict.Conflict else verdict.Yes))
     by_cases true meets = refl
     by_cases false true = refl
     by_cases false false = refl
@@ -210,22 +212,23 @@ span_before t before = omega (arith, before)
 still_asked : (version : ℕ) (t : Transaction) → t.read < version → is_asked [] 0 (placed version [] t) ≡ (has_points t.writes || has_points t.reads)
 still_asked version t before = same_tests _ _
     (λ asked. let found : Witness test (corners [] [] (t.writes ++ t.reads)) = any_witness test (corners [] [] (t.writes ++ t.reads)) asked in
-      ⊎_elim
-      (λ written. or_left _ _ (has_points_from t.writes found.0 (and_parts _ true written).0))
-      (λ is_read. or_right _ _ (has_points_from t.reads found.0 (and_parts (in_set t.reads found.0) _ is_read).0))
-      (or_cases _ _ found.1))
+    ⊎_elim
+    (λ written. or_left _ _ (has_points_from t.writes found.0 (and_parts _ true written).0))
+    (λ is_read. or_right _ _ (has_points_from t.reads found.0 (and_parts (in_set t.reads found.0) _ is_read).0))
+    (or_cases _ _ found.1))
     (λ some. ⊎_elim
-      (λ of_writes. let a : Witness has_begin t.writes = any_witness has_begin t.writes of_writes in
-        at_begin test (t.writes ++ t.reads) a.0 (in_left t.writes t.reads a.0 a.2)
-        (or_left _ _ (and_from _ true (a.2 (λ (range : Range). in_range range a.0.begin) (begin_within a.0 a.1)) refl)))
-      (λ of_reads. let b : Witness has_begin t.reads = any_witness has_begin t.reads of_reads in
-        at_begin test (t.writes ++ t.reads) b.0 (in_right t.writes t.reads b.0 b.2)
-        (or_right _ _ (and_from _ _ (b.2 (λ (range : Range). in_range range b.0.begin) (begin_within b.0 b.1))
-          (always_owned (span_begin (placed version [] t)) version b.0.begin (span_before (placed version [] t) before)))))
-      (or_cases _ _ some))
+    (λ of_writes. let a : Witness has_begin t.writes = any_witness has_begin t.writes of_writes in
+    at_begin test (t.writes ++ t.reads) a.0 (in_left t.writes t.reads a.0 a.2)
+    (or_left _ _ (and_from _ true (a.2 (λ (range : Range). in_range range a.0.begin) (begin_within a.0 a.1)) refl)))
+    (λ of_reads. let b : Witness has_begin t.reads = any_witness has_begin t.reads of_reads in
+    at_begin test (t.writes ++ t.reads) b.0 (in_right t.writes t.reads b.0 b.2)
+    (or_right _ _ (and_from _ _ (b.2 (λ (range : Range). in_range range b.0.begin) (begin_within b.0 b.1))
+    (always_owned (span_begin (placed version [] t)) version b.0.begin (span_before (placed version [] t) before)))))
+    (or_cases _ _ some))
   where
     test : Point → Bool
     test = asked_at [] 0 (placed version [] t)
+
     has_begin : Range → Bool
     has_begin range = point_lt range.begin range.end
 
@@ -251,10 +254,10 @@ pub unasked-commits : (us : List Place) → NoMoves us → (t : Place) → t.mov
     → is_asked [] 0 t ≡ false → (is_fresh t ≡ true) × (committed [] us t ≡ true)
 unasked-commits us all_still t still before unasked =
     let none : (has_points t.transaction.writes ≡ false) × (has_points t.transaction.reads ≡ false) =
-      or_parts _ _ (sym (asked-points t still before) ∙ unasked) in
+    or_parts _ _ (sym (asked-points t still before) ∙ unasked) in
     let fresh : is_fresh t ≡ true = not_from_false _ (and_left _ _ none.1) in
     let free : no_conflict [] 0 us t ≡ true =
-      no_conflict-marks us all_still t ∙ not_from_false _ (unmarked (marks_of us) t.transaction.read t.transaction.reads none.1) in
+    no_conflict-marks us all_still t ∙ not_from_false _ (unmarked (marks_of us) t.transaction.read t.transaction.reads none.1) in
     (fresh, committed-admits us t ∙ and_from _ _ fresh free)
 
 -- the one resolver's verdict settles what becomes of a place
@@ -262,7 +265,7 @@ pub outcome-by : (us : List Place) (t : Place) (p : ℕ) → outcome_at [] us t 
 outcome-by us t p = by_cases (is_fresh t) (no_conflict [] 0 us t)
   where
     by_cases : (fresh none : Bool) → (if fresh then (if fresh && none && true then outcome.Commit t.version p else outcome.Conflict) else outcome.Old)
-      ≡ outcome_by t.version p (if fresh then (if fresh && none then verdict.Yes else verdict.Conflict) else verdict.Old)
+        ≡ outcome_by t.version p (if fresh then (if fresh && none then verdict.Yes else verdict.Conflict) else verdict.Old)
     by_cases false none = refl
     by_cases true true = refl
     by_cases true false = refl

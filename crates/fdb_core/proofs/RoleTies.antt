@@ -56,28 +56,32 @@ module _ (book : List Entry) (resolvers : List ℕ) (marks : List Mark) (verdict
   pub resolver-next : (later : List Mark) (sent : List (ℕ × Verdict)) → later ≡ (judged marks entry.version entry.batch).marks
       → sent ≡ (judged marks entry.version entry.batch).verdicts → ResolverOk book (slice_set resolvers r (i + 1)) later (verdicts ++ sent ∷ [])
   resolver-next later sent marked said = record {
-      taken = suc i;
-      one = rw (ok.one, resolver-is.0, add-one) refl;
-      within = slice_get_within book i entry there;
-      marked = marked ∙ ap (λ (ms : List Mark). (judged ms entry.version entry.batch).marks) marks-before
+    taken = suc i;
+    one = rw (ok.one, resolver-is.0, add-one) refl;
+    within = slice_get_within book i entry there;
+    marked = marked ∙ ap (λ (ms : List Mark). (judged ms entry.version entry.batch).marks) marks-before
         ∙ judged-marks (seen_before book i) entry (no_moves-before book still i) (no_moves-at book still i entry there) (all-at ReadsBelow book i entry below there)
         ∙ ap (λ seen. marks_of seen.places) (sym (seen_before-next book i entry there));
-      sent = ap (λ vs. vs ++ sent ∷ []) (ok.sent ∙ ap (λ (n : ℕ). take n (along (verdicts_on [] 0) book)) resolver-is.1)
+    sent = ap (λ vs. vs ++ sent ∷ []) (ok.sent ∙ ap (λ (n : ℕ). take n (along (verdicts_on [] 0) book)) resolver-is.1)
         ∙ ap (λ v. take i (along (verdicts_on [] 0) book) ++ v ∷ []) (said ∙ resolver-said ∙ ap (λ (n : ℕ). verdicts_on [] n (seen_before book i) entry) resolver-is.0)
         ∙ sym (take-next (along (verdicts_on [] 0) book) i _ (slice_get-along (verdicts_on [] 0) book i entry there));
-    }
+  }
 
   -- what was delivered stays delivered
   pub lane-resolved : (committed : ℕ) (lane : Lane) (outcomes : List Outcome) → LaneOk book resolvers committed lane outcomes
       → LaneOk book (slice_set resolvers r (i + 1)) committed lane outcomes
   lane-resolved committed lane outcomes tied = record {
-      waiting = tied.waiting; in_book = tied.in_book; aligned = tied.aligned; heard = tied.heard; decision = tied.decision;
-      delivered = λ taken busy heard now.
+    waiting = tied.waiting;
+    in_book = tied.in_book;
+    aligned = tied.aligned;
+    heard = tied.heard;
+    decision = tied.decision;
+    delivered = λ taken busy heard now.
         let one : slice_get ((i + 1) ∷ []) 0 ≡ Some taken = rw (ok.one, resolver-is.0) at now in
         let same = (one-at (i + 1) taken 0 one).1 in
         let before = tied.delivered i busy heard (rw resolver-is.0 at at) in
         omega (arith, before, same);
-    }
+  }
 
   pub lanes-resolved : (committed : ℕ) (lanes : List Lane) (outcomes : List Outcome) → LanesOk book resolvers committed lanes outcomes
       → LanesOk book (slice_set resolvers r (i + 1)) committed lanes outcomes
@@ -91,17 +95,17 @@ module _ (book : List Entry) (logs : List ℕ) (shards : List Reach) (log shard 
 
   pub log-next : (message : Message) → message ≡ message_on [] (seen_before book i) entry → LogOk book (slice_set logs l (i + 1)) shards (log ++ message ∷ []) shard
   log-next message is = record {
-      taken = suc i;
-      pulled = ok.pulled;
-      one_log = rw (ok.one_log, log-is.0, add-one) refl;
-      one_shard = ok.one_shard;
-      within = slice_get_within book i entry there;
-      behind = omega (arith, ok.behind, log-is.1);
-      logged = ap (λ ms. ms ++ message ∷ []) (ok.logged ∙ ap (λ (n : ℕ). take n (along (message_on []) book)) log-is.1)
+    taken = suc i;
+    pulled = ok.pulled;
+    one_log = rw (ok.one_log, log-is.0, add-one) refl;
+    one_shard = ok.one_shard;
+    within = slice_get_within book i entry there;
+    behind = omega (arith, ok.behind, log-is.1);
+    logged = ap (λ ms. ms ++ message ∷ []) (ok.logged ∙ ap (λ (n : ℕ). take n (along (message_on []) book)) log-is.1)
         ∙ ap (λ m. take i (along (message_on []) book) ++ m ∷ []) is
         ∙ sym (take-next (along (message_on []) book) i _ (slice_get-along (message_on []) book i entry there));
-      applied = ok.applied;
-    }
+    applied = ok.applied;
+  }
 
 -- a front of a front
 take-take : {A : Type 0} (xs : List A) (p t : ℕ) → p ≤ t → take p (take t xs) ≡ take p xs
@@ -147,14 +151,14 @@ module _ (book : List Entry) (logs : List ℕ) (shards : List Reach) (log shard 
         behind = below;
         logged = ok.logged;
         applied =
-          ap (λ ms. ms ++ take (q - reach.pulled) (drop reach.pulled log))
+            ap (λ ms. ms ++ take (q - reach.pulled) (drop reach.pulled log))
             (ok.applied ∙ ap (λ (n : ℕ). take n (along (message_on []) book)) from_there
-             ∙ sym (take-take (along (message_on []) book) reach.pulled ok.taken (omega (arith, ok.behind, from_there)))
-             ∙ ap (λ (ms : List Message). take reach.pulled ms) (sym ok.logged))
-          ∙ sym (take-add reach.pulled (q - reach.pulled) log)
-          ∙ ap (λ (n : ℕ). take n log) whole
-          ∙ ap (λ (ms : List Message). take q ms) ok.logged
-          ∙ take-take (along (message_on []) book) q ok.taken below;
+            ∙ sym (take-take (along (message_on []) book) reach.pulled ok.taken (omega (arith, ok.behind, from_there)))
+            ∙ ap (λ (ms : List Message). take reach.pulled ms) (sym ok.logged))
+            ∙ sym (take-add reach.pulled (q - reach.pulled) log)
+            ∙ ap (λ (n : ℕ). take n log) whole
+            ∙ ap (λ (ms : List Message). take q ms) ok.logged
+            ∙ take-take (along (message_on []) book) q ok.taken below;
       }
 
 -- the last version of a book that grows

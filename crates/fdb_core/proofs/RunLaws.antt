@@ -104,10 +104,12 @@ run-add_places splits version moves (t ∷ ts) earlier =
   where
     place : Place
     place = placed version moves t
+
     others : List Mutation
     others = committed_from splits version moves ts (place ∷ earlier)
+
     effects_if : (map : Map) (is_committed : Bool) (mutations : List Mutation)
-      → (if is_committed then effects map mutations else map) ≡ effects map (if is_committed then mutations else [])
+        → (if is_committed then effects map mutations else map) ≡ effects map (if is_committed then mutations else [])
     effects_if map true mutations = refl
     effects_if map false mutations = refl
 
@@ -216,22 +218,24 @@ value-message : (splits : List Point) (v : ℕ) (x : Point) (seen : Seen) (entry
     → value_with v x (get (map_at splits v seen.places) x) (message_on splits seen entry) ≡ get (map_at splits v (add_entry seen entry).places) x
 value-message splits v x seen entry at_most = ⊎_elim
     (λ reached. let up : entry.version ≤ v = leb-true entry.version v reached in
-      let older : up_to v seen.places ≡ seen.places = up_to-all v seen.places (at_most-more entry.version v seen.places up at_most) in
-      let all : up_to v places ≡ places =
-        up_to-all v places (at_most-places v entry.version moves entry.batch seen.places up (at_most-more entry.version v seen.places up at_most)) in
-      cond-true _ _ _ reached
-      ∙ ap (λ (now : List Place). fold (value_after x) (get (run splits now) x) body) older
-      ∙ sym (get-effects (run splits seen.places) body x)
-      ∙ ap (λ (map : Map). get map x) (sym (run-add_places splits entry.version moves entry.batch seen.places))
-      ∙ ap (λ (now : List Place). get (run splits now) x) (sym all))
+    let older : up_to v seen.places ≡ seen.places = up_to-all v seen.places (at_most-more entry.version v seen.places up at_most) in
+    let all : up_to v places ≡ places =
+    up_to-all v places (at_most-places v entry.version moves entry.batch seen.places up (at_most-more entry.version v seen.places up at_most)) in
+    cond-true _ _ _ reached
+    ∙ ap (λ (now : List Place). fold (value_after x) (get (run splits now) x) body) older
+    ∙ sym (get-effects (run splits seen.places) body x)
+    ∙ ap (λ (map : Map). get map x) (sym (run-add_places splits entry.version moves entry.batch seen.places))
+    ∙ ap (λ (now : List Place). get (run splits now) x) (sym all))
     (λ above. cond-false _ _ _ above
-      ∙ ap (λ (now : List Place). get (run splits now) x) (sym (up_to-above v entry.version moves entry.batch seen.places (leb-false entry.version v above))))
+    ∙ ap (λ (now : List Place). get (run splits now) x) (sym (up_to-above v entry.version moves entry.batch seen.places (leb-false entry.version v above))))
     (cases_Bool (nat_le entry.version v))
   where
     moves : List Stamped
     moves = moves_through seen entry
+
     places : List Place
     places = add_places entry.version moves entry.batch seen.places
+
     body : List Mutation
     body = committed_from splits entry.version moves entry.batch seen.places
 
@@ -244,9 +248,9 @@ value-messages splits v x least seen [] at_most rising = refl
 value-messages splits v x least seen (entry ∷ book) at_most rising =
     let here : AtMost entry.version seen.places = at_most-more least entry.version seen.places (le_of_lt rising.0) at_most in
     ap (λ (value : Option (List ℕ)). fold (value_with v x) value (along_from (message_on splits) (add_entry seen entry) book))
-      (value-message splits v x seen entry here)
+    (value-message splits v x seen entry here)
     ∙ value-messages splits v x entry.version (add_entry seen entry) book
-      (at_most-places entry.version entry.version (moves_through seen entry) entry.batch seen.places (le_refl entry.version) here) rising.1
+    (at_most-places entry.version entry.version (moves_through seen entry) entry.batch seen.places (le_refl entry.version) here) rising.1
 
 -- the messages that a shard applied answer, at any version up to its own, as the run's map at that version
 pub value-of-run : (splits : List Point) (book : List Entry) → IsRising book → (pulled v : ℕ) → v ≤ last_version (take pulled book)
@@ -254,11 +258,11 @@ pub value-of-run : (splits : List Point) (book : List Entry) → IsRising book �
 value-of-run splits book rising pulled v reached x =
     let whole : RisesFrom 0 book = rises 0 book rising in
     let parts : seen_of book ≡ fold add_entry (seen_of (take pulled book)) (drop pulled book) =
-      ap seen_of (sym (take-append-drop pulled book)) ∙ fold-append add_entry nothing (take pulled book) (drop pulled book) in
+    ap seen_of (sym (take-append-drop pulled book)) ∙ fold-append add_entry nothing (take pulled book) (drop pulled book) in
     ap (λ (messages : List Message). value_in v x messages) (take-along (message_on splits) pulled book ∙ along-is (message_on splits) (take pulled book))
     ∙ ap (λ (value : Option (List ℕ)). fold (value_with v x) value (along_from (message_on splits) nothing (take pulled book)))
-      (sym (get-empty {X = List ℕ} (slice_cmp nat_cmp) x))
+    (sym (get-empty {X = List ℕ} (slice_cmp nat_cmp) x))
     ∙ value-messages splits v x 0 nothing (take pulled book) tt (rises-take 0 pulled book whole)
     ∙ ap (λ (now : List Place). get (run splits now) x)
-      (sym (ap (λ (seen : Seen). up_to v seen.places) parts
-        ∙ up_to-behind v (last_version (take pulled book)) (seen_of (take pulled book)) (drop pulled book) reached (rises-drop 0 pulled book whole)))
+    (sym (ap (λ (seen : Seen). up_to v seen.places) parts
+    ∙ up_to-behind v (last_version (take pulled book)) (seen_of (take pulled book)) (drop pulled book) reached (rises-drop 0 pulled book whole)))

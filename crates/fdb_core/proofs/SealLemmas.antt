@@ -30,40 +30,40 @@ use Rattle.fdb_core.proofs.RunLaws.{along-push, length-along, rising-push}
 -- the entry that a seal makes of what waits
 abbrev pub sealed_entry : Machine → ℕ → Lane → Entry
 sealed_entry m advance lane = record {
-    version = next_version (last_version m.book) advance;
-    prev = last_version m.book;
-    moves = m.pending;
-    batch = map (λ (submission : Submission). submission.sealed) (take PLACE_LIMIT lane.waiting);
-  }
+  version = next_version (last_version m.book) advance;
+  prev = last_version m.book;
+  moves = m.pending;
+  batch = map (λ (submission : Submission). submission.sealed) (take PLACE_LIMIT lane.waiting);
+}
 
 -- the commit proxy with its batch in flight
 abbrev pub sealed_lane : Machine → Lane → Lane
 sealed_lane m lane = record {
-    waiting = drop PLACE_LIMIT lane.waiting;
-    in_flight = map (λ (submission : Submission). submission.transcript) (take PLACE_LIMIT lane.waiting);
-    stage = Resolving;
-    entry = length m.book;
-    heard = replicate (length m.resolvers) false;
-    acknowledged = replicate (length m.logs) false;
-  }
+  waiting = drop PLACE_LIMIT lane.waiting;
+  in_flight = map (λ (submission : Submission). submission.transcript) (take PLACE_LIMIT lane.waiting);
+  stage = Resolving;
+  entry = length m.book;
+  heard = replicate (length m.resolvers) false;
+  acknowledged = replicate (length m.logs) false;
+}
 
 -- the machine behind a seal
 abbrev pub sealed_machine : Machine → ℕ → ℕ → Lane → Machine
 sealed_machine m proxy advance lane = record m {
-    book = m.book ++ sealed_entry m advance lane ∷ [];
-    filed = m.filed ++ proxy ∷ [];
-    decided = m.decided ++ false ∷ [];
-    pending = [];
-    lanes = slice_set m.lanes proxy (sealed_lane m lane);
-  }
+  book = m.book ++ sealed_entry m advance lane ∷ [];
+  filed = m.filed ++ proxy ∷ [];
+  decided = m.decided ++ false ∷ [];
+  pending = [];
+  lanes = slice_set m.lanes proxy (sealed_lane m lane);
+}
 
 -- a proxy without a batch in flight seals, where there are versions and places in the book left
 pub seals-turn : (m : Machine) (proxy advance : ℕ) (lane : Lane) → slice_get m.lanes proxy ≡ Some lane → is_idle lane.stage ≡ true
     → next_version (last_version m.book) advance ≤ version_limit → length m.book < m.config.book
     → seals m proxy advance ≡ Ok (record {
-        said = answered.Issued (length m.book) (next_version (last_version m.book) advance) (last_version m.book) (length (take PLACE_LIMIT lane.waiting));
-        to = sealed_machine m proxy advance lane;
-      })
+      said = answered.Issued (length m.book) (next_version (last_version m.book) advance) (last_version m.book) (length (take PLACE_LIMIT lane.waiting));
+      to = sealed_machine m proxy advance lane;
+    })
 unfolding seals
 seals-turn m proxy advance lane there idle few room =
     rw (there, idle, le-ltb version_limit (next_version (last_version m.book) advance) few, lt-leb m.config.book (length m.book) room) refl
@@ -124,61 +124,61 @@ module _ (book : List Entry) (entry : Entry) where
   pub resolver-push : (resolvers : List ℕ) (marks : List Mark) (verdicts : List (List (ℕ × Verdict))) → ResolverOk book resolvers marks verdicts
       → ResolverOk (book ++ entry ∷ []) resolvers marks verdicts
   resolver-push resolvers marks verdicts ok = record {
-      taken = ok.taken;
-      one = ok.one;
-      within = omega (arith, length-append book (entry ∷ []), ok.within);
-      marked = ok.marked ∙ ap (λ (front : List Entry). marks_of (seen_of front).places) (sym (take-append-le ok.taken book (entry ∷ []) ok.within));
-      sent = ok.sent ∙ sym (along-front (verdicts_on [] 0) ok.taken ok.within);
-    }
+    taken = ok.taken;
+    one = ok.one;
+    within = omega (arith, length-append book (entry ∷ []), ok.within);
+    marked = ok.marked ∙ ap (λ (front : List Entry). marks_of (seen_of front).places) (sym (take-append-le ok.taken book (entry ∷ []) ok.within));
+    sent = ok.sent ∙ sym (along-front (verdicts_on [] 0) ok.taken ok.within);
+  }
 
   pub log-push : (logs : List ℕ) (shards : List Reach) (log shard : List Message) → LogOk book logs shards log shard
       → LogOk (book ++ entry ∷ []) logs shards log shard
   log-push logs shards log shard ok = record {
-      taken = ok.taken;
-      pulled = ok.pulled;
-      one_log = ok.one_log;
-      one_shard = ok.one_shard;
-      within = omega (arith, length-append book (entry ∷ []), ok.within);
-      behind = ok.behind;
-      logged = ok.logged ∙ sym (along-front (message_on []) ok.taken ok.within);
-      applied = ok.applied ∙ sym (along-front (message_on []) ok.pulled (omega (arith, ok.behind, ok.within)));
-    }
+    taken = ok.taken;
+    pulled = ok.pulled;
+    one_log = ok.one_log;
+    one_shard = ok.one_shard;
+    within = omega (arith, length-append book (entry ∷ []), ok.within);
+    behind = ok.behind;
+    logged = ok.logged ∙ sym (along-front (message_on []) ok.taken ok.within);
+    applied = ok.applied ∙ sym (along-front (message_on []) ok.pulled (omega (arith, ok.behind, ok.within)));
+  }
 
   pub book-push : (filed : List ℕ) (decided : List Bool) (messages : List (Option Message)) (proxy : ℕ) → BookOk book filed decided messages
       → entry.moves ≡ [] → last_version book < entry.version → ReadsBelow entry
       → BookOk (book ++ entry ∷ []) (filed ++ proxy ∷ []) (decided ++ false ∷ []) (messages ++ None ∷ [])
   book-push filed decided messages proxy ok still above below = record {
-      no_moves = no_moves-push book entry ok.no_moves still;
-      rising = rising-push book entry ok.rising above;
-      reads_below = all-push ReadsBelow book entry ok.reads_below below;
-      each_filed = omega (arith, length-append filed (proxy ∷ []), length-append book (entry ∷ []), ok.each_filed);
-      each_flagged = omega (arith, length-append decided (false ∷ []), length-append book (entry ∷ []), ok.each_flagged);
-      each_pooled = omega (arith, length-append messages (None ∷ []), length-append book (entry ∷ []), ok.each_pooled);
-      made = λ i message set there.
+    no_moves = no_moves-push book entry ok.no_moves still;
+    rising = rising-push book entry ok.rising above;
+    reads_below = all-push ReadsBelow book entry ok.reads_below below;
+    each_filed = omega (arith, length-append filed (proxy ∷ []), length-append book (entry ∷ []), ok.each_filed);
+    each_flagged = omega (arith, length-append decided (false ∷ []), length-append book (entry ∷ []), ok.each_flagged);
+    each_pooled = omega (arith, length-append messages (None ∷ []), length-append book (entry ∷ []), ok.each_pooled);
+    made = λ i message set there.
         let before = set-before decided i set in
         let early : i < length book = omega (arith, before.0, ok.each_flagged) in
         let in_along : i < length (along (message_on []) book) = omega (arith, early, length-along (message_on []) book) in
         let in_pool : i < length messages = omega (arith, early, ok.each_pooled) in
         let stood = sym (front-at (along (message_on []) book) (message_on [] (seen_of book) entry ∷ []) i in_along)
-          ∙ ap (λ (made : List Message). slice_get made i) (sym (along-push (message_on []) book entry)) ∙ there in
+        ∙ ap (λ (made : List Message). slice_get made i) (sym (along-push (message_on []) book entry)) ∙ there in
         front-at messages (None ∷ []) i in_pool ∙ ok.made i message before.1 stood;
-    }
+  }
 
   -- the commit proxy whose batch is that of the new entry
   pub lane-seal : (resolvers : List ℕ) (committed : ℕ) (lane : Lane) (outcomes : List Outcome) (limit : ℕ) (in_flight : List Transcript) (acknowledged : List Bool)
       → length resolvers ≡ 1 → length in_flight ≡ length entry.batch → LaneOk book resolvers committed lane outcomes
       → LaneOk (book ++ entry ∷ []) resolvers committed
-        (record { waiting = drop limit lane.waiting; in_flight = in_flight; stage = Resolving; entry = length book; heard = replicate (length resolvers) false; acknowledged = acknowledged }) outcomes
+      (record { waiting = drop limit lane.waiting; in_flight = in_flight; stage = Resolving; entry = length book; heard = replicate (length resolvers) false; acknowledged = acknowledged }) outcomes
   lane-seal resolvers committed lane outcomes limit in_flight acknowledged one aligned ok = record {
-      waiting = all-drop (WaitsOk committed) limit lane.waiting ok.waiting;
-      in_book = λ busy. omega (arith, length-append book (entry ∷ []));
-      aligned = λ other busy there.
+    waiting = all-drop (WaitsOk committed) limit lane.waiting ok.waiting;
+    in_book = λ busy. omega (arith, length-append book (entry ∷ []));
+    aligned = λ other busy there.
         let same : entry ≡ other = let last = last-at book entry in cc in
         aligned ∙ ap (λ (e : Entry). length e.batch) same;
-      heard = λ busy. length-replicate (length resolvers) false ∙ one;
-      delivered = λ taken busy set there. let none = none-set (length resolvers) 0 in cc;
-      decision = λ other busy decided there. cc;
-    }
+    heard = λ busy. length-replicate (length resolvers) false ∙ one;
+    delivered = λ taken busy set there. let none = none-set (length resolvers) 0 in cc;
+    decision = λ other busy decided there. cc;
+  }
 
 -- the commit proxy that was found is in order
 pub lane-at : (book : List Entry) (resolvers : List ℕ) (committed : ℕ) (lanes : List Lane) (outcomes : List Outcome) (i : ℕ) (lane : Lane)

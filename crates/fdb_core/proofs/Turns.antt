@@ -53,9 +53,9 @@ answers-undecided m map ops version key there value other served holds is =
 -- a resolver takes the entry that is next for it
 pub resolves-turn : (m : Machine) (i r : ℕ) (entry : Entry) → slice_get m.book i ≡ Some entry → slice_get m.resolvers r ≡ Some i
     → resolves m i r ≡ Ok (record {
-        said = answered.Verdicts (verdicts_on m.config.resolver_splits r (seen_before m.book i) entry);
-        to = record m { resolvers = slice_set m.resolvers r (i + 1) };
-      })
+      said = answered.Verdicts (verdicts_on m.config.resolver_splits r (seen_before m.book i) entry);
+      to = record m { resolvers = slice_set m.resolvers r (i + 1) };
+    })
 unfolding resolves
 resolves-turn m i r entry there at = rw (there, at, le-ltb i i (omega arith)) refl
 

@@ -58,6 +58,7 @@ last_begun session begun = last_at (begun_at session begun)
     last_there : Option Begun → Option ℕ
     last_there None = None
     last_there (Some last) = Some last.last
+
     last_at : Option ℕ → Option ℕ
     last_at None = None
     last_at (Some i) = last_there (slice_get begun i)
@@ -85,6 +86,7 @@ begin_next begun session = noted (begun_at session begun)
   where
     next : Begun
     next = record { session = session; last = next_number (last_begun session begun) }
+
     noted : Option ℕ → List Begun
     noted None = begun ++ next ∷ []
     noted (Some i) = slice_set begun i next
@@ -103,7 +105,7 @@ unfoldable pub grants : Machine → ℕ → Result Turn Refusal
 grants m proxy = found (slice_get m.asking proxy) (λ there.
     refused_where (list_any (has_no_number m.begun) there) Exhausted
     (let served = fold (serve m.committed) (m.begun, m.opened) there in
-     Ok (record {
+    Ok (record {
       said = answered.Granted (map (λ session. (session, m.committed)) there);
       to = record m { begun = served.0; opened = served.1; asking = slice_set m.asking proxy [] };
     })))
@@ -164,20 +166,20 @@ unfoldable pub submits : Machine → ℕ → ℕ → Result Turn Refusal
 submits m session proxy = found (slice_get m.lanes proxy) (λ lane.
     refused_where (not (is_nil lane.waiting)) WrongState
     (with_opened session m.opened (λ i transcript.
-      let sealed = sealed_of transcript in
-      let others = remove m.opened i in
-      if is_nil sealed.mutations && is_nil sealed.writes
-      then Ok (record {
-        said = answered.ReadOnly transcript.read_version;
-        to = record m {
-          opened = others;
-          acknowledged = m.acknowledged ++ record { spot = spot.ReadOnly transcript.read_version; transcript = transcript } ∷ [];
-        };
-      })
-      else Ok (record {
-        said = answered.Done;
-        to = record m {
-          opened = others;
-          lanes = slice_set m.lanes proxy (record lane { waiting = lane.waiting ++ record { sealed = sealed; transcript = transcript } ∷ [] });
-        };
-      }))))
+    let sealed = sealed_of transcript in
+    let others = remove m.opened i in
+    if is_nil sealed.mutations && is_nil sealed.writes
+    then Ok (record {
+      said = answered.ReadOnly transcript.read_version;
+      to = record m {
+        opened = others;
+        acknowledged = m.acknowledged ++ record { spot = spot.ReadOnly transcript.read_version; transcript = transcript } ∷ [];
+      };
+    })
+    else Ok (record {
+      said = answered.Done;
+      to = record m {
+        opened = others;
+        lanes = slice_set m.lanes proxy (record lane { waiting = lane.waiting ++ record { sealed = sealed; transcript = transcript } ∷ [] });
+      };
+    }))))

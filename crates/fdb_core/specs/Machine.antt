@@ -110,6 +110,7 @@ with_opened session opened next = opened_at (position (is_of session) opened)
     opened_there : ℕ → Option Transcript → Result Turn Refusal
     opened_there i None = Err NoTransaction
     opened_there i (Some transcript) = next i transcript
+
     opened_at : Option ℕ → Result Turn Refusal
     opened_at None = Err NoTransaction
     opened_at (Some i) = opened_there i (slice_get opened i)

@@ -82,49 +82,49 @@ unfoldable pub hears : Machine → ℕ → ℕ → Result Turn Refusal
 hears m entry resolver = found (slice_get m.resolvers resolver) (λ taken.
     refused_where (nat_le taken entry) Unknown
     (found (slice_get m.filed entry) (λ proxy. found (slice_get m.lanes proxy) (λ lane.
-      refused_where (not (is_resolving lane.stage && (lane.entry == entry)) || is_set lane.heard resolver) Stale
-      (Ok (record {
-        said = answered.Done;
-        to = record m { lanes = slice_set m.lanes proxy (record lane { heard = slice_set lane.heard resolver true }) };
-      }))))))
+    refused_where (not (is_resolving lane.stage && (lane.entry == entry)) || is_set lane.heard resolver) Stale
+    (Ok (record {
+      said = answered.Done;
+      to = record m { lanes = slice_set m.lanes proxy (record lane { heard = slice_set lane.heard resolver true }) };
+    }))))))
 
 -- Decide: waits for each resolver that is asked about some place of the batch.
 unfoldable pub decides : Machine → ℕ → Result Turn Refusal
 decides m proxy = found (slice_get m.lanes proxy) (λ lane.
     refused_where (not (is_resolving lane.stage)) WrongState
     (found (slice_get m.book lane.entry) (λ entry.
-      let before = seen_before m.book lane.entry in
-      lacks (first_missing (λ resolver. is_needed m.config.resolver_splits resolver before entry) 0 lane.heard)
-      (Ok (record {
-        said = answered.Decided (outcomes_on m.config.resolver_splits before entry);
-        to = record m {
-          decided = slice_set m.decided lane.entry true;
-          lanes = slice_set m.lanes proxy (record lane { stage = Logging });
-        };
-      })))))
+    let before = seen_before m.book lane.entry in
+    lacks (first_missing (λ resolver. is_needed m.config.resolver_splits resolver before entry) 0 lane.heard)
+    (Ok (record {
+      said = answered.Decided (outcomes_on m.config.resolver_splits before entry);
+      to = record m {
+        decided = slice_set m.decided lane.entry true;
+        lanes = slice_set m.lanes proxy (record lane { stage = Logging });
+      };
+    })))))
 
 -- Logged: refused where the log has not taken the entry, and for a double or a stranger.
 unfoldable pub notes_log : Machine → ℕ → ℕ → Result Turn Refusal
 notes_log m entry log = found (slice_get m.logs log) (λ taken.
     refused_where (nat_le taken entry) Unknown
     (found (slice_get m.filed entry) (λ proxy. found (slice_get m.lanes proxy) (λ lane.
-      refused_where (not (is_logging lane.stage && (lane.entry == entry)) || is_set lane.acknowledged log) Stale
-      (Ok (record {
-        said = answered.Done;
-        to = record m { lanes = slice_set m.lanes proxy (record lane { acknowledged = slice_set lane.acknowledged log true }) };
-      }))))))
+    refused_where (not (is_logging lane.stage && (lane.entry == entry)) || is_set lane.acknowledged log) Stale
+    (Ok (record {
+      said = answered.Done;
+      to = record m { lanes = slice_set m.lanes proxy (record lane { acknowledged = slice_set lane.acknowledged log true }) };
+    }))))))
 
 -- Report: waits for every log, and raises the committed version.
 unfoldable pub reports : Machine → ℕ → Result Turn Refusal
 reports m proxy = found (slice_get m.lanes proxy) (λ lane.
     refused_where (not (is_logging lane.stage)) WrongState
     (found (slice_get m.book lane.entry) (λ entry.
-      lacks (first_missing (λ log. true) 0 lane.acknowledged)
-      (let committed = max m.committed entry.version in
-       Ok (record {
-        said = answered.Version committed;
-        to = record m { committed = committed; lanes = slice_set m.lanes proxy (record lane { stage = Reported }) };
-      })))))
+    lacks (first_missing (λ log. true) 0 lane.acknowledged)
+    (let committed = max m.committed entry.version in
+    Ok (record {
+      said = answered.Version committed;
+      to = record m { committed = committed; lanes = slice_set m.lanes proxy (record lane { stage = Reported }) };
+    })))))
 
 -- those of the batch that are committed, each at its spot
 abbrev pub placed_from : ℕ → List Transcript → List Outcome → List Placed
@@ -146,12 +146,12 @@ unfoldable pub answers : Machine → ℕ → Result Turn Refusal
 answers m proxy = found (slice_get m.lanes proxy) (λ lane.
     refused_where (is_idle lane.stage) WrongState
     (found (slice_get m.book lane.entry) (λ entry.
-      let outcomes = outcomes_on m.config.resolver_splits (seen_before m.book lane.entry) entry in
-      refused_where (not (is_reported lane.stage)) (NotYet entry.version)
-      (Ok (record {
-        said = answered.Answers (told_from lane.in_flight outcomes);
-        to = record m {
-          acknowledged = m.acknowledged ++ placed_from lane.entry lane.in_flight outcomes;
-          lanes = slice_set m.lanes proxy (record lane { in_flight = []; stage = Idle });
-        };
-      })))))
+    let outcomes = outcomes_on m.config.resolver_splits (seen_before m.book lane.entry) entry in
+    refused_where (not (is_reported lane.stage)) (NotYet entry.version)
+    (Ok (record {
+      said = answered.Answers (told_from lane.in_flight outcomes);
+      to = record m {
+        acknowledged = m.acknowledged ++ placed_from lane.entry lane.in_flight outcomes;
+        lanes = slice_set m.lanes proxy (record lane { in_flight = []; stage = Idle });
+      };
+    })))))

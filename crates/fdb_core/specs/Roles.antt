@@ -27,6 +27,7 @@ along {A} f book = behind.1
   where
     step : Seen × List A → Entry → Seen × List A
     step made entry = (add_entry made.0 entry, made.1 ++ f made.0 entry ∷ [])
+
     behind : Seen × List A
     behind = fold step (nothing, []) book
 
@@ -93,9 +94,9 @@ judge_next version so_far t =
     record {
       marks = marked_after so_far.marks version t;
       verdicts =
-        if has_points t.writes || has_points t.reads
-        then so_far.verdicts ++ (so_far.places, judgement so_far.marks version t) ∷ []
-        else so_far.verdicts;
+          if has_points t.writes || has_points t.reads
+          then so_far.verdicts ++ (so_far.places, judgement so_far.marks version t) ∷ []
+          else so_far.verdicts;
       places = so_far.places + 1;
     }
 

@@ -30,13 +30,19 @@ abbrev pub start : Config → Machine
 start config =
     record {
       config = config;
-      book = []; filed = []; decided = []; pending = [];
+      book = [];
+      filed = [];
+      decided = [];
+      pending = [];
       lanes = replicate config.proxies idle_lane;
       resolvers = replicate (suc (length config.resolver_splits)) 0;
       logs = replicate config.logs 0;
       shards = replicate (suc (length config.shard_splits)) (record { pulled = 0; floor = 0 });
       asking = replicate config.proxies [];
-      opened = []; begun = []; committed = 0; acknowledged = [];
+      opened = [];
+      begun = [];
+      committed = 0;
+      acknowledged = [];
     }
 
 -- A world is the machine, or none once memory ran out in a step. A step answers what the machine answers

@@ -34,10 +34,7 @@ fn sort(
 }
 
 // Leaves at most as many as a batch may have, and gives the others.
-fn cut(
-    alloc: Global,
-    waiting: &mut Vec<Submission>,
-) -> Result<Vec<Submission>, AllocError>
+fn cut(alloc: Global, waiting: &mut Vec<Submission>) -> Result<Vec<Submission>, AllocError>
     ensures rest { IfOk result (λ rest. rest.items ≡ drop PLACE_LIMIT waiting.old.items) }
     ensures first { OnOk result (waiting.new.items ≡ take PLACE_LIMIT waiting.old.items) }
 {
@@ -49,10 +46,7 @@ fn cut(
 }
 
 /// Takes at most as many as a batch may have, in order.
-pub(crate) fn take_batch(
-    alloc: Global,
-    waiting: Items<Submission>,
-) -> Result<Taken, AllocError>
+pub(crate) fn take_batch(alloc: Global, waiting: Items<Submission>) -> Result<Taken, AllocError>
     ensures batch { IfOk result (λ taken. taken.batch ≡ map (λ submission. submission.sealed) (take PLACE_LIMIT waiting)) }
     ensures transcripts { IfOk result (λ taken. taken.transcripts ≡ map (λ submission. submission.transcript) (take PLACE_LIMIT waiting)) }
     ensures rest { IfOk result (λ taken. taken.rest ≡ drop PLACE_LIMIT waiting) }

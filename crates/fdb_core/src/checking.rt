@@ -93,7 +93,11 @@ fn apply(map: &mut PlainMap, mutations: &[Mutation]) -> Result<(), CheckFault> {
     Ok(())
 }
 
-fn outcomes_of(alloc: Global, marks: &mut Vec<Mark>, entry: &Entry) -> Result<Vec<Outcome>, CheckFault> {
+fn outcomes_of(
+    alloc: Global,
+    marks: &mut Vec<Mark>,
+    entry: &Entry,
+) -> Result<Vec<Outcome>, CheckFault> {
     let batch = entry.batch.as_slice();
     let Ok(verdicts) = judge_batch(alloc, marks, entry.version, batch) else {
         return Err(CheckFault::NoMemory);

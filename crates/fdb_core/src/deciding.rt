@@ -46,11 +46,7 @@ pub(crate) fn decide_batch(
     Ok(outcomes)
 }
 
-fn append(
-    body: &mut Items<Mutation>,
-    txn: &Sealed,
-    outcome: &Outcome,
-) -> Result<(), AllocError>
+fn append(body: &mut Items<Mutation>, txn: &Sealed, outcome: &Outcome) -> Result<(), AllocError>
     ensures { OnOk result (body.new ≡ body.old ++ (if is_commit outcome.now then txn.now.mutations else [])) }
 {
     if let Outcome::Commit { .. } = outcome {

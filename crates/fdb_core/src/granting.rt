@@ -38,9 +38,7 @@ fn is_used_up(begun: &[Begun], session: u32) -> bool
 pub(crate) fn are_used_up(begun: &[Begun], sessions: &[u32]) -> bool
     ensures { result ≡ list_any (has_no_number begun.now) sessions.now }
 {
-    sessions
-        .iter()
-        .any(|session| is_used_up(begun, *session))
+    sessions.iter().any(|session| is_used_up(begun, *session))
 }
 
 fn next_number(begun: &[Begun], session: u32) -> u64

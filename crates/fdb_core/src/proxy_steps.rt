@@ -154,11 +154,7 @@ impl Kernel {
     }
 
     // The outcomes of an entry's places and its message, by the verdicts that were heard.
-    fn decision(
-        &self,
-        i: usize,
-        is_heard: bool,
-    ) -> Result<(Items<Outcome>, Message), AllocError>
+    fn decision(&self, i: usize, is_heard: bool) -> Result<(Items<Outcome>, Message), AllocError>
         requires within { i < length self.now.book.items }
         requires heard { is_heard ≡ true → i < length self.now.verdicts.items }
         ensures { IfOk result (IsDecision self.now.book.items self.now.verdicts.items i is_heard) }

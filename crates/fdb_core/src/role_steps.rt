@@ -7,8 +7,8 @@ ghost use Rattle.fdb_core.specs.Steps.{answer_of, after};
 use crate::flags::is_set;
 use crate::judging::judge_batch;
 use crate::kernel::Kernel;
-use crate::parts::Reach;
 use crate::messages::{copied_message, copy_range};
+use crate::parts::Reach;
 use crate::step::Answered;
 use crate::versions::last_version;
 use fdb_keys::{Items, Refusal};
@@ -39,7 +39,12 @@ impl Kernel {
             return Ok(Err(Refusal::NotYet(self.book[i].prev)));
         }
         let part = &self.book[i];
-        let verdicts = judge_batch(self.alloc, &mut self.marks, part.version, part.batch.as_slice())?;
+        let verdicts = judge_batch(
+            self.alloc,
+            &mut self.marks,
+            part.version,
+            part.batch.as_slice(),
+        )?;
         let answer = Items::from_vec(Vec::from_slice(self.alloc, verdicts.as_slice())?);
         self.verdicts.push(verdicts)?;
         self.resolvers[of] = taken + 1;
@@ -96,9 +101,19 @@ impl Kernel {
         let from = of % self.logs.len();
         let reach = self.shards[of];
         let has = self.logs[from];
-        let pulled = reach.pulled.max(has.min(reach.pulled.saturating_add(limit)));
-        copy_range(&mut self.shard, &self.log, reach.pulled as usize, pulled as usize)?;
-        self.shards[of] = Reach { pulled, floor: reach.floor };
+        let pulled = reach
+            .pulled
+            .max(has.min(reach.pulled.saturating_add(limit)));
+        copy_range(
+            &mut self.shard,
+            &self.log,
+            reach.pulled as usize,
+            pulled as usize,
+        )?;
+        self.shards[of] = Reach {
+            pulled,
+            floor: reach.floor,
+        };
         Ok(Ok(Answered::Version(last_version(&self.book, pulled as usize))))
     }
 }

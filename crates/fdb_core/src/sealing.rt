@@ -71,10 +71,7 @@ pub(crate) fn has_ranges(set: &RangeSet) -> bool
     set.iter().as_slice().len() != 0
 }
 
-fn parts_of(
-    alloc: Global,
-    ops: &[(Op, Reply)],
-) -> Result<(RangeSet, Items<Mutation>), Refusal>
+fn parts_of(alloc: Global, ops: &[(Op, Reply)]) -> Result<(RangeSet, Items<Mutation>), Refusal>
     ensures { Answers result None (λ parts. (parts.0 ≡ read_ranges (program ops.now)) × (parts.1 ≡ mutations_of (program ops.now))) }
 {
     let reads = reads_of(alloc, ops)?;

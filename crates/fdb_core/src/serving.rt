@@ -12,36 +12,19 @@ use fdb_keys::Key;
 use fdb_mutations::Mutation;
 use std::alloc::AllocError;
 
-fn value_after<'a>(
-    key: &Key,
-    value: Option<&'a Bytes>,
-    mutation: &'a Mutation,
-) -> Option<&'a Bytes>
+fn value_after<'a>(key: &Key, value: Option<&'a Bytes>, mutation: &'a Mutation) -> Option<&'a Bytes>
     ensures { option_copied result ≡ value_after key.now (option_copied value.entry) mutation.now }
 {
     match mutation {
-        Mutation::Set { key: named, value: set } => {
-            if key == named {
-                Some(set)
-            } else {
-                value
-            }
-        }
-        Mutation::Clear { key: named } => {
-            if key == named {
-                None
-            } else {
-                value
-            }
-        }
+        Mutation::Set {
+            key: named,
+            value: set,
+        } => { if key == named { Some(set) } else { value } }
+        Mutation::Clear { key: named } => { if key == named { None } else { value } }
     }
 }
 
-fn value_behind<'a>(
-    key: &Key,
-    value: Option<&'a Bytes>,
-    body: &'a [Mutation],
-) -> Option<&'a Bytes>
+fn value_behind<'a>(key: &Key, value: Option<&'a Bytes>, body: &'a [Mutation]) -> Option<&'a Bytes>
     ensures { option_copied result ≡ fold (value_after key.now) (option_copied value.entry) body.now }
 {
     let mut value = value;
@@ -52,11 +35,7 @@ fn value_behind<'a>(
 }
 
 /// What stands at the key after the messages of version at most `version`.
-pub(crate) fn value_in<'a>(
-    messages: &'a [Message],
-    version: u64,
-    key: &Key,
-) -> Option<&'a Bytes>
+pub(crate) fn value_in<'a>(messages: &'a [Message], version: u64, key: &Key) -> Option<&'a Bytes>
     ensures { option_copied result ≡ value_in version key.now messages.now }
 {
     let mut value = None;

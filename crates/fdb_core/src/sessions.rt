@@ -20,7 +20,9 @@ pub(crate) fn position_of(opened: &[Transcript], session: u32) -> Option<usize>
     ensures value { result ≡ position (is_of session) opened.now }
     ensures within { IfSome result (λ place. place < length opened.now) }
 {
-    opened.iter().position(|transcript| transcript.id.session == session)
+    opened
+        .iter()
+        .position(|transcript| transcript.id.session == session)
 }
 
 /// Drops the session's open transaction.
@@ -80,7 +82,9 @@ fn waits_somewhere(lanes: &[Lane], session: u32) -> bool
     ensures { result ≡ list_any (waits_at session) lanes.now }
 {
     for lane in lanes {
-        if is_waiting(lane.waiting.as_slice(), session) || is_in_flight(lane.in_flight.as_slice(), session) {
+        if is_waiting(lane.waiting.as_slice(), session)
+            || is_in_flight(lane.in_flight.as_slice(), session)
+        {
             return true;
         }
     }

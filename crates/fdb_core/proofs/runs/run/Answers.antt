@@ -11,10 +11,10 @@ loop-step-preserved c =
     let step = c.step-item.result in
     let within : c.loop-step.step-index < length steps = search rules in
     let front : take (c.loop-step.step-index + 1) steps ≡ take c.loop-step.step-index steps ++ step ∷ [] =
-        take_more steps c.loop-step.step-index step within ∙ ap (λ (s : Step). take c.loop-step.step-index steps ++ s ∷ []) (sym c.step-item.is) in
+    take_more steps c.loop-step.step-index step within ∙ ap (λ (s : Step). take c.loop-step.step-index steps ++ s ∷ []) (sym c.step-item.is) in
     record {
       legal = c.loop-step.invariant.legal;
       ran = rw (front, c.in_ok-push.ensures.ok)
-        (run-push (Some (start c.args.config)) c.loop-step.world c.take-answer.new.self (take c.loop-step.step-index steps) c.loop-step.answers step c.take-answer.result
+          (run-push (Some (start c.args.config)) c.loop-step.world c.take-answer.new.self (take c.loop-step.step-index steps) c.loop-step.answers step c.take-answer.result
           c.loop-step.invariant.ran c.take-answer.ensures);
     }

@@ -4,6 +4,6 @@ use Rattle.fdb_core.proofs.runs.run.Given as goal
 
 abbrev pub invariant-loop-step : goal.invariant-loop-step
 invariant-loop-step l = record {
-    legal : config_fault l.fn.config ≡ None;
-    ran : IsRun (Some (start l.fn.config)) (take l.step-index l.steps) l.answers l.world;
-  }
+  legal : config_fault l.fn.config ≡ None;
+  ran : IsRun (Some (start l.fn.config)) (take l.step-index l.steps) l.answers l.world;
+}

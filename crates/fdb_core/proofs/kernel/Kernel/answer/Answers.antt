@@ -44,10 +44,10 @@ pub returns-clause-answer : goal.returns-clause-answer
 returns-clause-answer c =
     let found = answering (goal.at.returns-clause-answer c).After-as_slice-outcomes in
     let told : c.in_ok-told.told ≡ told_from c.index_mut-lane.result.now.in_flight c.args.self.now.outcomes =
-      c.in_ok-told.ensures
-      ∙ ap₂ (λ (transcripts : List Transcript) (outcomes : List Outcome). told_from transcripts outcomes) c.as_slice-transcripts.ensures c.as_slice-outcomes.ensures in
+    c.in_ok-told.ensures
+    ∙ ap₂ (λ (transcripts : List Transcript) (outcomes : List Outcome). told_from transcripts outcomes) c.as_slice-transcripts.ensures c.as_slice-outcomes.ensures in
     sym (ap answer_of (answers-turn c.args.self.now c.args.proxy c.index_mut-lane.result.now found.0 c.requires found.1)
-      ∙ ap (λ (said : List (ℕ × Outcome)). Ok (answered.Answers said)) (sym told))
+    ∙ ap (λ (said : List (ℕ × Outcome)). Ok (answered.Answers said)) (sym told))
 
 pub returns-clause-after : goal.returns-clause-after
 returns-clause-after c =
@@ -55,11 +55,11 @@ returns-clause-after c =
     let lane = c.index_mut-lane.result.now in
     let found = answering (goal.at.returns-clause-after c).After-as_slice-outcomes in
     let placed : c.place_all.new.placed.items ≡ k.acknowledged.items ++ placed_from lane.entry lane.in_flight k.outcomes =
-      c.in_ok-place_all.ensures
-      ∙ ap₂ (λ (transcripts : List Transcript) (outcomes : List Outcome). k.acknowledged.items ++ placed_from lane.entry transcripts outcomes)
-        c.as_slice-transcripts.ensures c.as_slice-outcomes.ensures in
+    c.in_ok-place_all.ensures
+    ∙ ap₂ (λ (transcripts : List Transcript) (outcomes : List Outcome). k.acknowledged.items ++ placed_from lane.entry transcripts outcomes)
+    c.as_slice-transcripts.ensures c.as_slice-outcomes.ensures in
     sym (ap (after (machine_of k)) (answers-turn k c.args.proxy lane found.0 c.requires found.1)
-      ∙ ap₂ (λ (acknowledged : List Placed) (in_flight : List Transcript). record (machine_of k) {
-          acknowledged = acknowledged;
-          lanes = slice_set k.lanes.items c.args.proxy (record lane { in_flight = in_flight; stage = Idle });
-        }) (sym placed) (sym c.new.ensures))
+    ∙ ap₂ (λ (acknowledged : List Placed) (in_flight : List Transcript). record (machine_of k) {
+      acknowledged = acknowledged;
+      lanes = slice_set k.lanes.items c.args.proxy (record lane { in_flight = in_flight; stage = Idle });
+    }) (sym placed) (sym c.new.ensures))

@@ -5,7 +5,13 @@ pub returns-clause-tied : goal.returns-clause-tied
 returns-clause-tied c =
     let before = c.requires in
     record {
-      plain = before.plain; room = before.room; pending = before.pending; committed = before.committed; book = before.book;
-      resolver = before.resolver; log = before.log; lanes = before.lanes;
+      plain = before.plain;
+      room = before.room;
+      pending = before.pending;
+      committed = before.committed;
+      book = before.book;
+      resolver = before.resolver;
+      log = before.log;
+      lanes = before.lanes;
       opened = rw c.drop_opened.ensures (opened-without _ c.args.session _ before.opened);
     }

@@ -41,7 +41,7 @@ waits c =
     let f = found_at (goal.at.returns-then-are_any_judged-clause-answer c).After-is_set-is_heard in
     let inside : lane.entry < length k.book.items = slice_get_within k.book.items lane.entry f.0 f.1.entry_there in
     let this : c.index-then-not-is_heard.result.now ≡ f.0 =
-      one-item k.book.items lane.entry c.index-then-not-is_heard.result.now f.0 inside c.index-then-not-is_heard.ensures f.1.entry_there in
+    one-item k.book.items lane.entry c.index-then-not-is_heard.result.now f.0 inside c.index-then-not-is_heard.ensures f.1.entry_there in
     let unheard : c.is_set-is_heard.result ≡ false = search rules in
     let judged : is_any_judged c.index-then-not-is_heard.result.now ≡ true = search rules in
     decides-waits k c.args.proxy lane f.0 c.requires f.1 (f.2 ∙ unheard) (ap is_any_judged (sym this) ∙ judged)
@@ -61,14 +61,15 @@ decision-requires-clause-heard c is =
 none_missing : (c : In_ok-answer) (entry : Entry) → slice_get c.args.self.now.book.items c.index-2.result.now.entry ≡ Some entry
     → (is_any_judged entry && not c.is_set-is_heard.result) ≡ false
 none_missing c entry there = elim c.else-not-is_heard.branch [
-    else-not-is_heard-via-then-not-is_heard+else-are_any_judged w ↦
+  | else-not-is_heard-via-then-not-is_heard+else-are_any_judged w ↦
       let k = c.args.self.now in
       let inside : c.index-2.result.now.entry < length k.book.items = slice_get_within k.book.items c.index-2.result.now.entry entry there in
       let this : w.index-then-not-is_heard.result.now ≡ entry =
-        one-item k.book.items c.index-2.result.now.entry w.index-then-not-is_heard.result.now entry inside w.index-then-not-is_heard.ensures there in
+      one-item k.book.items c.index-2.result.now.entry w.index-then-not-is_heard.result.now entry inside w.index-then-not-is_heard.ensures there in
       let unjudged : is_any_judged w.index-then-not-is_heard.result.now ≡ false = search rules in
       and_left (is_any_judged entry) (not c.is_set-is_heard.result) (ap is_any_judged (sym this) ∙ unjudged)
-  | else-not-is_heard-via-else-not-is_heard w ↦ and_right (is_any_judged entry) (not c.is_set-is_heard.result) (search rules) ]
+  | else-not-is_heard-via-else-not-is_heard w ↦ and_right (is_any_judged entry) (not c.is_set-is_heard.result) (search rules)
+]
 
 pub returns-clause-answer : goal.returns-clause-answer
 returns-clause-answer c =
@@ -80,7 +81,7 @@ returns-clause-answer c =
     let outcomes = decision-outcomes k c.args.proxy lane f.0 c.requires f.1 c.is_set-is_heard.result decision f.2 none c.in_ok-outcomes.ensures in
     let same : c.in_ok-answer.answer ≡ c.in_ok-outcomes.outcomes = same-items c.in_ok-outcomes.outcomes c.in_ok-answer.answer c.in_ok-answer.ensures.cases in
     sym (ap answer_of (decides-turn k c.args.proxy lane f.0 c.requires f.1 c.is_set-is_heard.result f.2 none)
-      ∙ ap (λ (said : List Outcome). Ok (answered.Decided said)) (sym (same ∙ outcomes)))
+    ∙ ap (λ (said : List Outcome). Ok (answered.Decided said)) (sym (same ∙ outcomes)))
 
 pub returns-clause-after : goal.returns-clause-after
 returns-clause-after c =
@@ -90,12 +91,12 @@ returns-clause-after c =
     let none = none_missing (goal.at.returns-clause-after c).In_ok-answer f.0 f.1.entry_there in
     let within : c.args.proxy < length k.lanes.items = slice_get_within k.lanes.items c.args.proxy lane f.1.lane_there in
     let same : c.index_mut-lane.result.now ≡ lane =
-      one-item k.lanes.items c.args.proxy c.index_mut-lane.result.now lane within c.index_mut-lane.ensures.value f.1.lane_there in
+    one-item k.lanes.items c.args.proxy c.index_mut-lane.result.now lane within c.index_mut-lane.ensures.value f.1.lane_there in
     sym (ap (after (machine_of k)) (decides-turn k c.args.proxy lane f.0 c.requires f.1 c.is_set-is_heard.result f.2 none)
-      ∙ ap (λ (l : Lane). record (machine_of k) {
-          decided = slice_set k.decided.items lane.entry true;
-          lanes = slice_set k.lanes.items c.args.proxy (record l { stage = Logging });
-        }) (sym same))
+    ∙ ap (λ (l : Lane). record (machine_of k) {
+      decided = slice_set k.decided.items lane.entry true;
+      lanes = slice_set k.lanes.items c.args.proxy (record l { stage = Logging });
+    }) (sym same))
 
 pub returns-clause-tied : goal.returns-clause-tied
 returns-clause-tied c =
@@ -108,10 +109,10 @@ returns-clause-tied c =
     let message = decision-message k c.args.proxy lane f.0 c.requires f.1 c.is_set-is_heard.result decision f.2 none c.in_ok-outcomes.ensures in
     let within : c.args.proxy < length k.lanes.items = slice_get_within k.lanes.items c.args.proxy lane f.1.lane_there in
     let same : c.index_mut-lane.result.now ≡ lane =
-      one-item k.lanes.items c.args.proxy c.index_mut-lane.result.now lane within c.index_mut-lane.ensures.value f.1.lane_there in
+    one-item k.lanes.items c.args.proxy c.index_mut-lane.result.now lane within c.index_mut-lane.ensures.value f.1.lane_there in
     subst (λ (l : Lane). Tied (record k {
-        decided = with_item k.decided lane.entry true;
-        lanes = with_item k.lanes c.args.proxy (record l { stage = Logging });
-        outcomes = c.in_ok-outcomes.outcomes;
-        messages = with_item k.messages lane.entry (Some c.in_ok-outcomes.message);
-      })) (sym same) (decided-tied k c.args.proxy lane f.0 c.requires f.1 c.in_ok-outcomes.outcomes c.in_ok-outcomes.message outcomes message)
+      decided = with_item k.decided lane.entry true;
+      lanes = with_item k.lanes c.args.proxy (record l { stage = Logging });
+      outcomes = c.in_ok-outcomes.outcomes;
+      messages = with_item k.messages lane.entry (Some c.in_ok-outcomes.message);
+    })) (sym same) (decided-tied k c.args.proxy lane f.0 c.requires f.1 c.in_ok-outcomes.outcomes c.in_ok-outcomes.message outcomes message)

@@ -15,31 +15,32 @@ use Rattle.fdb_core.proofs.kernel.Kernel.decision.Goals.{then-is_heard, else-is_
 pub committed_body-requires : goal.committed_body-requires
 committed_body-requires c =
     sym (ap (λ (outcomes : List Outcome). length outcomes) (c.as_slice.ensures ∙ c.in_ok-outcomes.ensures)
-      ∙ length-outcomes_by c.index-entry.result.now.version c.if-is_heard.said.now (length c.as_slice-batch.result.now))
+    ∙ length-outcomes_by c.index-entry.result.now.version c.if-is_heard.said.now (length c.as_slice-batch.result.now))
 
 pub returns : goal.returns
 returns c entry sent there heard =
     let k = c.args.self.now in
     let found : slice_get k.book.items c.args.i ≡ Some c.index-entry.result.now =
-      slice_get_read k.book.items (length k.book.items) c.args.i c.index-entry.result.now refl c.requires.within c.index-entry.ensures in
+    slice_get_read k.book.items (length k.book.items) c.args.i c.index-entry.result.now refl c.requires.within c.index-entry.ensures in
     let same : c.index-entry.result.now ≡ entry = same_Some c.index-entry.result.now entry (sym found ∙ there) in
     let said : c.if-is_heard.said.now ≡ (if c.args.is_heard then sent else []) = elim c.if-is_heard.branch [
-        then-is_heard w ↦
+      | then-is_heard w ↦
           let is : slice_get k.verdicts.items c.args.i ≡ Some w.index.result.now =
-            slice_get_read k.verdicts.items (length k.verdicts.items) c.args.i w.index.result.now refl (c.requires.heard w.if-is_heard.true) w.index.ensures in
+          slice_get_read k.verdicts.items (length k.verdicts.items) c.args.i w.index.result.now refl (c.requires.heard w.if-is_heard.true) w.index.ensures in
           ap (λ (verdicts : Bor (List (ℕ × Verdict))). verdicts.now) w.said-is ∙ w.as_slice-said.ensures
           ∙ same_Some w.index.result.now sent (sym is ∙ heard w.if-is_heard.true)
           ∙ sym (cond-true c.args.is_heard sent [] w.if-is_heard.true)
       | else-is_heard w ↦
-          ap (λ (verdicts : Bor (List (ℕ × Verdict))). verdicts.now) w.said-is ∙ sym (cond-false c.args.is_heard sent [] w.if-is_heard.false) ] in
+          ap (λ (verdicts : Bor (List (ℕ × Verdict))). verdicts.now) w.said-is ∙ sym (cond-false c.args.is_heard sent [] w.if-is_heard.false)
+    ] in
     let outcomes : c.in_ok-outcomes.outcomes ≡ outcomes_by entry.version (if c.args.is_heard then sent else []) (length entry.batch) =
-      c.in_ok-outcomes.ensures
-      ∙ ap (λ (count : ℕ). outcomes_by c.index-entry.result.now.version c.if-is_heard.said.now count)
-        (ap (λ (batch : List Transaction). length batch) c.as_slice-batch.ensures.places)
-      ∙ ap (λ (e : Entry). outcomes_by e.version c.if-is_heard.said.now (length e.batch)) same
-      ∙ ap (λ (verdicts : List (ℕ × Verdict)). outcomes_by entry.version verdicts (length entry.batch)) said in
+    c.in_ok-outcomes.ensures
+    ∙ ap (λ (count : ℕ). outcomes_by c.index-entry.result.now.version c.if-is_heard.said.now count)
+    (ap (λ (batch : List Transaction). length batch) c.as_slice-batch.ensures.places)
+    ∙ ap (λ (e : Entry). outcomes_by e.version c.if-is_heard.said.now (length e.batch)) same
+    ∙ ap (λ (verdicts : List (ℕ × Verdict)). outcomes_by entry.version verdicts (length entry.batch)) said in
     let body : c.in_ok-body.body ≡ body_by entry.batch c.in_ok-outcomes.outcomes =
-      c.in_ok-body.ensures
-      ∙ ap₂ (λ (batch : List Transaction) (made : List Outcome). body_by batch made)
-        (c.as_slice-batch.ensures.places ∙ ap (λ (e : Entry). e.batch) same) c.as_slice.ensures in
+    c.in_ok-body.ensures
+    ∙ ap₂ (λ (batch : List Transaction) (made : List Outcome). body_by batch made)
+    (c.as_slice-batch.ensures.places ∙ ap (λ (e : Entry). e.batch) same) c.as_slice.ensures in
     (outcomes, ap₂ (λ (version : ℕ) (made : List Mutation). record { version = version; body = made }) (ap (λ (e : Entry). e.version) same) body)

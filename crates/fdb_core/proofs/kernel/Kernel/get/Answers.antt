@@ -32,7 +32,7 @@ turn_of c =
     let transcript = c.index.result.now in
     let answers = rw c.in-Ok.is at c.in_ok-value.ensures in
     let given = given-fault (read_fault m (program transcript.ops) transcript.read_version c.args.key.now) c.in-Ok.value
-      (λ value. value ≡ get (copy (map_at m.config.resolver_splits transcript.read_version (seen_of m.book).places) (program transcript.ops)) c.args.key.now) answers in
+    (λ value. value ≡ get (copy (map_at m.config.resolver_splits transcript.read_version (seen_of m.book).places) (program transcript.ops)) c.args.key.now) answers in
     let at : position (is_of c.args.session) c.args.self.now.opened.items ≡ Some c.in-Some.place = search rules in
     gets-turn m c.args.session c.args.key.now c.args.snapshot c.in-Some.place transcript c.in-Ok.value at (there c) given.0 given.1
 
@@ -57,7 +57,13 @@ returns-clause-tied c =
     let before = c.requires in
     let read = opened-read c.args.self.now.committed c.args.self.now.opened.items c.in-Some.place c.index.result.now c.args.key.now c.args.snapshot (reply.Value c.in-Ok.value) before.opened (there c) in
     record {
-      plain = before.plain; room = before.room; pending = before.pending; committed = before.committed; book = before.book;
-      resolver = before.resolver; log = before.log; lanes = before.lanes;
+      plain = before.plain;
+      room = before.room;
+      pending = before.pending;
+      committed = before.committed;
+      book = before.book;
+      resolver = before.resolver;
+      log = before.log;
+      lanes = before.lanes;
       opened = rw (noted_as c) read;
     }

@@ -28,11 +28,16 @@ returns-clause-tied c =
     let from : c.index-reach.result.now.pulled ≤ c.max-pulled.result = omega (arith, is) in
     let until = pulled-until k.book.items k.logs.items k.shards.items k.log.items k.shard.items before.log (c.args.shard % c.len-2.result) c.index-has.result.now c.args.shard c.saturating_add.result c.max-pulled.result c.index-reach.result.now at there is in
     let applied : c.copy_range.new.shard.items ≡ k.shard.items ++ take (c.max-pulled.result - c.index-reach.result.now.pulled) (drop c.index-reach.result.now.pulled k.log.items) =
-        c.in_ok-copy_range.ensures
-        ∙ ap (λ (log : List Message). k.shard.items ++ take (c.max-pulled.result - c.index-reach.result.now.pulled) (drop c.index-reach.result.now.pulled log)) c.deref.ensures.value in
+    c.in_ok-copy_range.ensures
+    ∙ ap (λ (log : List Message). k.shard.items ++ take (c.max-pulled.result - c.index-reach.result.now.pulled) (drop c.index-reach.result.now.pulled log)) c.deref.ensures.value in
     record {
-      plain = before.plain; room = before.room; pending = before.pending; committed = before.committed; book = before.book;
+      plain = before.plain;
+      room = before.room;
+      pending = before.pending;
+      committed = before.committed;
+      book = before.book;
       resolver = before.resolver;
       log = rw applied (pulled-next k.book.items k.logs.items k.shards.items k.log.items k.shard.items before.log c.args.shard c.max-pulled.result c.index-reach.result.now there from until);
-      lanes = before.lanes; opened = before.opened;
+      lanes = before.lanes;
+      opened = before.opened;
     }

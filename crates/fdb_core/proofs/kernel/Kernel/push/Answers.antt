@@ -50,7 +50,7 @@ returns-clause-answer c = rw (pushes-turn (machine_of c.args.self.now) c.args.en
 pub returns-clause-after : goal.returns-clause-after
 returns-clause-after c =
     rw (pushes-turn (machine_of c.args.self.now) c.args.entry c.args.log (there c).0 (there c).1 (at c) (made c))
-      (ap (λ (n : ℕ). record (machine_of c.args.self.now) { logs = slice_set c.args.self.now.logs.items c.args.log (n + 1) }) (same c))
+    (ap (λ (n : ℕ). record (machine_of c.args.self.now) { logs = slice_set c.args.self.now.logs.items c.args.log (n + 1) }) (same c))
 
 pub returns-clause-tied : goal.returns-clause-tied
 returns-clause-tied c =
@@ -61,8 +61,13 @@ returns-clause-tied c =
     let copied : slice_get k.messages.items c.args.entry ≡ Some (Some c.in_ok-message.message) = search rules in
     let is : c.in_ok-message.message ≡ message = cc in
     record {
-      plain = before.plain; room = before.room; pending = before.pending; committed = before.committed; book = before.book;
+      plain = before.plain;
+      room = before.room;
+      pending = before.pending;
+      committed = before.committed;
+      book = before.book;
       resolver = before.resolver;
       log = rw (c.in_ok-push.ensures.items, same c) (log-next k.book.items k.logs.items k.shards.items k.log.items k.shard.items c.args.log c.args.entry (there c).0 before.log (there c).1 (at c) c.in_ok-message.message is);
-      lanes = before.lanes; opened = before.opened;
+      lanes = before.lanes;
+      opened = before.opened;
     }

@@ -29,9 +29,14 @@ returns-clause-tied c =
     let above : k.committed ≤ c.max-self.result = omega (arith, raised) in
     let within : c.max-self.result ≤ last_version k.book.items = omega (arith, raised, below, before.committed) in
     record {
-      plain = before.plain; room = before.room; pending = before.pending; committed = within; book = before.book;
-      resolver = before.resolver; log = before.log;
+      plain = before.plain;
+      room = before.room;
+      pending = before.pending;
+      committed = within;
+      book = before.book;
+      resolver = before.resolver;
+      log = before.log;
       lanes = lanes-set k.book.items k.book.items k.resolvers.items k.resolvers.items k.committed c.max-self.result k.outcomes k.outcomes k.lanes.items c.args.proxy lane _
-        before.lanes there (lane-reported k.book.items k.resolvers.items k.committed c.max-self.result k.outcomes lane above logging);
+          before.lanes there (lane-reported k.book.items k.resolvers.items k.committed c.max-self.result k.outcomes lane above logging);
       opened = all-weaken (OpenOk k.committed) (OpenOk c.max-self.result) (λ transcript ok. record { below = omega (arith, ok.below, above); legal = ok.legal }) k.opened.items before.opened;
     }

@@ -44,12 +44,12 @@ pub returns-clause-answer : goal.returns-clause-answer
 returns-clause-answer c =
     let copy : c.from_vec-answer.result ≡ c.in_ok-verdicts.verdicts = search rules in
     rw (resolves-turn (machine_of c.args.self.now) c.args.entry c.args.resolver c.index-part.result.now (there c) (at c))
-      (ap (λ (verdicts : List (ℕ × Verdict)). Ok (answered.Verdicts verdicts)) (copy ∙ said c))
+    (ap (λ (verdicts : List (ℕ × Verdict)). Ok (answered.Verdicts verdicts)) (copy ∙ said c))
 
 pub returns-clause-after : goal.returns-clause-after
 returns-clause-after c =
     rw (resolves-turn (machine_of c.args.self.now) c.args.entry c.args.resolver c.index-part.result.now (there c) (at c))
-      (ap (λ (n : ℕ). record (machine_of c.args.self.now) { resolvers = slice_set c.args.self.now.resolvers.items c.args.resolver (n + 1) }) (same c))
+    (ap (λ (n : ℕ). record (machine_of c.args.self.now) { resolvers = slice_set c.args.self.now.resolvers.items c.args.resolver (n + 1) }) (same c))
 
 pub returns-clause-tied : goal.returns-clause-tied
 returns-clause-tied c =
@@ -58,11 +58,15 @@ returns-clause-tied c =
     let marked = c.in_ok-verdicts.ensures.marks ∙ ap (λ (batch : List Transaction). (judged k.marks.items c.index-part.result.now.version batch).marks) c.as_slice.ensures.places in
     let sent = c.in_ok-verdicts.ensures.verdicts ∙ ap (λ (batch : List Transaction). (judged k.marks.items c.index-part.result.now.version batch).verdicts) c.as_slice.ensures.places in
     let resolver = resolver-next k.book.items k.resolvers.items k.marks.items k.verdicts.items c.args.resolver c.args.entry c.index-part.result.now before.resolver before.book.no_moves before.book.reads_below (there c) (at c)
-      c.judge_batch.new.marks.items c.in_ok-verdicts.verdicts marked sent in
+    c.judge_batch.new.marks.items c.in_ok-verdicts.verdicts marked sent in
     let lanes = lanes-resolved k.book.items k.resolvers.items k.marks.items k.verdicts.items c.args.resolver c.args.entry c.index-part.result.now before.resolver before.book.no_moves before.book.reads_below (there c) (at c)
-      k.committed k.lanes.items k.outcomes before.lanes in
+    k.committed k.lanes.items k.outcomes before.lanes in
     record {
-      plain = before.plain; room = before.room; pending = before.pending; committed = before.committed; book = before.book;
+      plain = before.plain;
+      room = before.room;
+      pending = before.pending;
+      committed = before.committed;
+      book = before.book;
       resolver = rw (c.in_ok-push.ensures.items, same c) resolver;
       log = before.log;
       lanes = rw (same c) lanes;

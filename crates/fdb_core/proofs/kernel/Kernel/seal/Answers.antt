@@ -92,7 +92,7 @@ book_then c = c.in_ok-push.ensures.items ∙ ap (λ (e : Entry). c.args.self.now
 
 lanes_then : (c : After-drop-index_mut-4)
     → slice_set (slice_set c.args.self.now.lanes.items c.args.proxy (record c.index_mut.result.now { waiting = c.replace-waiting.new.dest })) c.args.proxy
-      (record { waiting = c.in_ok-taken.taken.rest; in_flight = c.in_ok-taken.taken.transcripts; stage = Resolving; entry = c.len-index.result; heard = c.in_ok-heard.heard; acknowledged = c.in_ok-acknowledged.acknowledged })
+    (record { waiting = c.in_ok-taken.taken.rest; in_flight = c.in_ok-taken.taken.transcripts; stage = Resolving; entry = c.len-index.result; heard = c.in_ok-heard.heard; acknowledged = c.in_ok-acknowledged.acknowledged })
     ≡ slice_set c.args.self.now.lanes.items c.args.proxy (sealed_lane (machine_of c.args.self.now) c.index_mut.result.now)
 lanes_then c =
     set-twice c.args.self.now.lanes.items c.args.proxy (record c.index_mut.result.now { waiting = c.replace-waiting.new.dest }) _
@@ -105,18 +105,18 @@ pub returns-clause-answer : goal.returns-clause-answer
 returns-clause-answer c =
     let places : c.len-places.result ≡ length (take PLACE_LIMIT c.index_mut.result.now.waiting) = c.len-places.ensures ∙ length-sealed c.index_mut.result.now.waiting c.in_ok-taken.taken.batch (batch c) in
     rw (seals-turn (machine_of c.args.self.now) c.args.proxy c.args.advance c.index_mut.result.now (there c) (idle c) (few c) (room c))
-      (λ i. Ok (answered.Issued (count c i) (version c i) (prev c i) (places i)))
+    (λ i. Ok (answered.Issued (count c i) (version c i) (prev c i) (places i)))
 
 pub returns-clause-after : goal.returns-clause-after
 returns-clause-after c =
     rw (seals-turn (machine_of c.args.self.now) c.args.proxy c.args.advance c.index_mut.result.now (there c) (idle c) (few c) (room c))
-      (λ i. record (machine_of c.args.self.now) {
-        book = book_then c i;
-        filed = c.in_ok-push-2.ensures.items i;
-        decided = c.in_ok-push-3.ensures.items i;
-        pending = pending_then c i;
-        lanes = lanes_then c i;
-      })
+    (λ i. record (machine_of c.args.self.now) {
+      book = book_then c i;
+      filed = c.in_ok-push-2.ensures.items i;
+      decided = c.in_ok-push-3.ensures.items i;
+      pending = pending_then c i;
+      lanes = lanes_then c i;
+    })
 
 pub returns-clause-tied : goal.returns-clause-tied
 returns-clause-tied c =
@@ -131,20 +131,20 @@ returns-clause-tied c =
     let one : length k.resolvers.items ≡ 1 = ap (λ (rs : List ℕ). length rs) before.resolver.one in
     let fits : length k.book.items < k.config.book = room c in
     let aligned = length-map (take PLACE_LIMIT lane.waiting) (λ (submission : Submission). submission.transcript)
-      ∙ sym (length-map (take PLACE_LIMIT lane.waiting) (λ (submission : Submission). submission.sealed)) in
+    ∙ sym (length-map (take PLACE_LIMIT lane.waiting) (λ (submission : Submission). submission.sealed)) in
     record {
       plain = before.plain;
       room = rw (book_then c) (omega (arith, length-append k.book.items (e ∷ []), fits));
       pending = pending_then c;
       committed = rw (book_then c, last-push k.book.items e) (omega (arith, above, before.committed));
       book = rw (book_then c, c.in_ok-push-2.ensures.items, c.in_ok-push-3.ensures.items, c.in_ok-push-4.ensures.items)
-        (book-push k.book.items e k.filed.items k.decided.items k.messages.items c.args.proxy before.book before.pending above reads);
+          (book-push k.book.items e k.filed.items k.decided.items k.messages.items c.args.proxy before.book before.pending above reads);
       resolver = rw (book_then c) (resolver-push k.book.items e k.resolvers.items k.marks.items k.verdicts.items before.resolver);
       log = rw (book_then c) (log-push k.book.items e k.logs.items k.shards.items k.log.items k.shard.items before.log);
       lanes = rw (book_then c)
-        (subst (λ (lanes : List Lane). LanesOk (k.book.items ++ e ∷ []) k.resolvers.items k.committed lanes k.outcomes) (sym (lanes_then c))
+          (subst (λ (lanes : List Lane). LanesOk (k.book.items ++ e ∷ []) k.resolvers.items k.committed lanes k.outcomes) (sym (lanes_then c))
           (lanes-set k.book.items (k.book.items ++ e ∷ []) k.resolvers.items k.resolvers.items k.committed k.committed k.outcomes k.outcomes k.lanes.items c.args.proxy lane (sealed_lane m lane)
-            before.lanes (there c)
-            (lane-seal k.book.items e k.resolvers.items k.committed lane k.outcomes PLACE_LIMIT (sealed_lane m lane).in_flight (sealed_lane m lane).acknowledged one aligned)));
+          before.lanes (there c)
+          (lane-seal k.book.items e k.resolvers.items k.committed lane k.outcomes PLACE_LIMIT (sealed_lane m lane).in_flight (sealed_lane m lane).acknowledged one aligned)));
       opened = before.opened;
     }

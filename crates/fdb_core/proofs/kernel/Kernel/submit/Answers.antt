@@ -27,10 +27,15 @@ returns-clause-tied c =
     let inside : c.args.proxy < length k.lanes.items = search rules in
     let lane_there : slice_get k.lanes.items c.args.proxy ≡ Some lane = slice_get_read k.lanes.items (length k.lanes.items) c.args.proxy lane refl inside c.index_mut-lane.ensures.value in
     record {
-      plain = before.plain; room = before.room; pending = before.pending; committed = before.committed; book = before.book;
-      resolver = before.resolver; log = before.log;
+      plain = before.plain;
+      room = before.room;
+      pending = before.pending;
+      committed = before.committed;
+      book = before.book;
+      resolver = before.resolver;
+      log = before.log;
       lanes = rw c.in_ok-push-2.ensures.ok
-        (lanes-set k.book.items k.book.items k.resolvers.items k.resolvers.items k.committed k.committed k.outcomes k.outcomes k.lanes.items c.args.proxy lane _
+          (lanes-set k.book.items k.book.items k.resolvers.items k.resolvers.items k.committed k.committed k.outcomes k.outcomes k.lanes.items c.args.proxy lane _
           before.lanes lane_there (lane-submit k.book.items k.resolvers.items k.committed k.outcomes lane submission waits));
       opened = rw c.remove-transcript.ensures.items (all-remove (OpenOk k.committed) k.opened.items place before.opened);
     }

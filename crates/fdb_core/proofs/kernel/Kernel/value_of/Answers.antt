@@ -30,15 +30,15 @@ returns c =
     let log = c.requires.log in
     let other : decided (program transcript.ops) c.args.key.now ≡ false = search rules in
     let reach : c.index-reach.result.now ≡ record { pulled = log.pulled; floor = 0 } =
-        c.index-reach.ensures ∙ ap (λ (reaches : List Reach). get_or reaches 0 c.index-reach.result.now) log.one_shard in
+    c.index-reach.ensures ∙ ap (λ (reaches : List Reach). get_or reaches 0 c.index-reach.result.now) log.one_shard in
     let reached : transcript.read_version ≤ last_version (take log.pulled k.book.items) =
-        let known : c.last_version.result ≡ last_version (take log.pulled k.book.items) =
-            c.last_version.ensures ∙ ap (λ (r : Reach). last_version (take r.pulled c.deref.result.now)) reach
-            ∙ ap (λ (book : List Entry). last_version (take log.pulled book)) c.deref.ensures.value in
-        omega (arith, known, c.if-last_version-version.false) in
+    let known : c.last_version.result ≡ last_version (take log.pulled k.book.items) =
+    c.last_version.ensures ∙ ap (λ (r : Reach). last_version (take r.pulled c.deref.result.now)) reach
+    ∙ ap (λ (book : List Entry). last_version (take log.pulled book)) c.deref.ensures.value in
+    omega (arith, known, c.if-last_version-version.false) in
     let served : shard_fault k.book.items transcript.read_version (slice_get k.shards.items (first_owner k.config.shard_splits c.args.key.now)) ≡ None =
-        rw (log.one_shard, c.requires.plain.shard_splits, le-ltb transcript.read_version 0 (omega arith), le-ltb (last_version (take log.pulled k.book.items)) transcript.read_version reached) refl in
+    rw (log.one_shard, c.requires.plain.shard_splits, le-ltb transcript.read_version 0 (omega arith), le-ltb (last_version (take log.pulled k.book.items)) transcript.read_version reached) refl in
     let there : value_in transcript.read_version c.args.key.now k.shard.items ≡ get (map_at k.config.resolver_splits transcript.read_version (seen_of k.book.items).places) c.args.key.now =
-        rw (log.applied, c.requires.plain.resolver_splits) (value-of-run [] k.book.items c.requires.book.rising log.pulled transcript.read_version reached c.args.key.now) in
+    rw (log.applied, c.requires.plain.resolver_splits) (value-of-run [] k.book.items c.requires.book.rising log.pulled transcript.read_version reached c.args.key.now) in
     let value : c.in_ok-value-2.value ≡ fold (value_after_op c.args.key.now) (value_in transcript.read_version c.args.key.now k.shard.items) transcript.ops = search rules in
     answers-undecided (machine_of k) (map_at k.config.resolver_splits transcript.read_version (seen_of k.book.items).places) transcript.ops transcript.read_version c.args.key.now _ _ other served there value

@@ -18,7 +18,13 @@ returns-clause-tied c =
     let same : c.in_ok-mutation.mutation ≡ c.args.mutation.now = search rules in
     let written = opened-write c.args.self.now.committed c.args.self.now.opened.items c.in-Some.place there.0 c.args.mutation.now reply.Done faultless before.opened there.1 in
     record {
-      plain = before.plain; room = before.room; pending = before.pending; committed = before.committed; book = before.book;
-      resolver = before.resolver; log = before.log; lanes = before.lanes;
+      plain = before.plain;
+      room = before.room;
+      pending = before.pending;
+      committed = before.committed;
+      book = before.book;
+      resolver = before.resolver;
+      log = before.log;
+      lanes = before.lanes;
       opened = rw (c.in_ok-note.ensures there.0 there.1, same) written;
     }

@@ -1,0 +1,5 @@
+mod GrammarLemmas
+mod NumbersLemmas
+mod ReadBack
+mod TextsLemmas
+mod WordsLemmas

@@ -1,0 +1,8 @@
+use Rattle.std.proofs.lemmas.Result.{err_from_is_err_and}
+use Rattle.fdb_sim.proofs.GrammarLemmas.{no_ask}
+use Rattle.fdb_sim.proofs.step_line.read_ask.Goals as goal
+
+pub returns-in_err-session-clause-bad : goal.returns-in_err-session-clause-bad
+returns-in_err-session-clause-bad c =
+    let p = err_from_is_err_and c.from_residual.result c.from_residual.ensures.1 in
+    rw p.1 (λ bad. no_ask _ c.in_err-session.ensures.bad)

@@ -1,0 +1,159 @@
+use crate::step_line::Kind;
+use crate::texts::push_text;
+use bytes::Bytes;
+use fdb_core::{Answered, Outcome, Verdict};
+use fdb_keys::Refusal;
+use std::alloc::AllocError;
+use std::fmt;
+
+/// A refusal as a script prints it: its number, its name, and for `NotYet` what has not come.
+#[derive(Clone, Copy, Debug)]
+pub struct RefusalLine(pub Refusal);
+
+impl fmt::Display for RefusalLine {
+    fn fmt<W: fmt::Write>(&self, f: &mut fmt::Formatter<W>) -> fmt::Result {
+        let code = self.0.code();
+        let name = refusal_name(self.0);
+        write!(f, "refused {code} {name}")?;
+        match self.0 {
+            Refusal::NotYet(number) => write!(f, " {number}"),
+            _ => Ok(()),
+        }
+    }
+}
+
+fn refusal_name(refusal: Refusal) -> &'static str {
+    match refusal {
+        Refusal::TransactionTooOld => "TransactionTooOld",
+        Refusal::FutureVersion => "FutureVersion",
+        Refusal::NotCommitted => "NotCommitted",
+        Refusal::CommitUnknownResult => "CommitUnknownResult",
+        Refusal::KeyOutsideLegalRange => "KeyOutsideLegalRange",
+        Refusal::InvertedRange => "InvertedRange",
+        Refusal::TransactionTooLarge => "TransactionTooLarge",
+        Refusal::KeyTooLarge => "KeyTooLarge",
+        Refusal::ValueTooLarge => "ValueTooLarge",
+        Refusal::NoMemory => "NoMemory",
+        Refusal::NotYet(_) => "NotYet",
+        Refusal::Stale => "Stale",
+        Refusal::Failed => "Failed",
+        Refusal::Exhausted => "Exhausted",
+        Refusal::BookFull => "BookFull",
+        Refusal::Repeated(_) => "Repeated",
+        Refusal::BadOperand => "BadOperand",
+        Refusal::BadConfig => "BadConfig",
+        Refusal::Chain => "Chain",
+        Refusal::Taken => "Taken",
+        Refusal::MovesFull => "MovesFull",
+        Refusal::Closed => "Closed",
+        Refusal::WrongState => "WrongState",
+        Refusal::NoTransaction => "NoTransaction",
+        Refusal::Unknown => "Unknown",
+    }
+}
+
+/// Writes what a step of this kind answered, as a script prints it.
+pub fn push_answer(text: &mut String, kind: Kind, answered: &Answered) -> Result<(), AllocError> {
+    match answered {
+        Answered::Done => text.push_str("ok"),
+        Answered::Granted(served) => push_granted(text, served.as_slice()),
+        Answered::Value(value) => push_value(text, value),
+        Answered::ReadOnly(version) => write!(text, "readonly {version}"),
+        Answered::Issued {
+            index,
+            version,
+            prev,
+            places,
+        } => write!(
+            text,
+            "entry {index} version {version} prev {prev} places {places}"
+        ),
+        Answered::Verdicts(verdicts) => push_verdicts(text, verdicts.as_slice()),
+        Answered::Decided(outcomes) => push_decided(text, outcomes.as_slice()),
+        Answered::Version(version) => push_version(text, kind, *version),
+        Answered::Answers(answers) => push_answers(text, answers.as_slice()),
+    }
+}
+
+fn push_granted(text: &mut String, served: &[(u32, u64)]) -> Result<(), AllocError> {
+    text.push_str("grant")?;
+    for (session, version) in served {
+        write!(text, " {session}={version}")?;
+    }
+    Ok(())
+}
+
+fn push_value(text: &mut String, value: &Option<Bytes>) -> Result<(), AllocError> {
+    match value {
+        None => text.push_str("none"),
+        Some(bytes) => {
+            text.push_str("value ")?;
+            push_text(text, bytes.as_slice())
+        }
+    }
+}
+
+fn push_verdicts(text: &mut String, verdicts: &[(u32, Verdict)]) -> Result<(), AllocError> {
+    text.push_str("verdict")?;
+    for (place, verdict) in verdicts {
+        let name = verdict_name(*verdict);
+        write!(text, " {place}={name}")?;
+    }
+    Ok(())
+}
+
+fn verdict_name(verdict: Verdict) -> &'static str {
+    match verdict {
+        Verdict::Yes => "yes",
+        Verdict::Conflict => "conflict",
+        Verdict::Old => "old",
+    }
+}
+
+fn push_decided(text: &mut String, outcomes: &[Outcome]) -> Result<(), AllocError> {
+    text.push_str("decided")?;
+    for (place, outcome) in outcomes.iter().enumerate() {
+        let name = outcome_name(*outcome);
+        write!(text, " {place}={name}")?;
+    }
+    Ok(())
+}
+
+fn outcome_name(outcome: Outcome) -> &'static str {
+    match outcome {
+        Outcome::Commit { .. } => "commit",
+        Outcome::Conflict => "conflict",
+        Outcome::Old => "old",
+    }
+}
+
+// A report answers the committed version, and a pull the shard's.
+fn push_version(text: &mut String, kind: Kind, version: u64) -> Result<(), AllocError> {
+    match kind {
+        Kind::Pull => write!(text, "through {version}"),
+        _ => write!(text, "committed {version}"),
+    }
+}
+
+fn push_answers(text: &mut String, answers: &[(u32, Outcome)]) -> Result<(), AllocError> {
+    text.push_str("answer")?;
+    for (session, outcome) in answers {
+        write!(text, " {session}=")?;
+        push_outcome(text, *outcome)?;
+    }
+    Ok(())
+}
+
+// What a client is told: where its transaction stands, or the refusal's number.
+fn push_outcome(text: &mut String, outcome: Outcome) -> Result<(), AllocError> {
+    match outcome {
+        Outcome::Commit { version, place } => write!(text, "{version}/{place}"),
+        Outcome::Conflict => push_code(text, Refusal::NotCommitted),
+        Outcome::Old => push_code(text, Refusal::TransactionTooOld),
+    }
+}
+
+fn push_code(text: &mut String, refusal: Refusal) -> Result<(), AllocError> {
+    let code = refusal.code();
+    write!(text, "{code}")
+}

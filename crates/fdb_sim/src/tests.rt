@@ -1,0 +1,5 @@
+mod answers;
+mod failing;
+mod rows;
+mod scripts;
+mod words;

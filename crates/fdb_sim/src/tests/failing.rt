@@ -1,0 +1,160 @@
+// Readers and writers over memory, of which one call fails.
+use crate::script::run_script;
+use std::alloc::Global;
+use std::io;
+use std::io::{ErrorKind, Read, Write};
+use std::test::Fail;
+
+const SCRIPT: &[u8] = b"config proxies 1 logs 1 resolvers m shards - book 100\n\
+    ask 0 0\ngrant 0\nget 0 a\n# read-only\nsubmit 0 0\nget 0 %ff\n";
+
+/// The error that a failing call answers, which no other call does.
+const NUMBER: i32 = 5;
+
+/// Gives its text a few bytes a call. The call of one number fails.
+#[derive(Drop)]
+struct ChoppyReader<'a> {
+    rest: &'a [u8],
+    calls: u64,
+    bad_call: u64,
+    error: io::Error,
+}
+
+impl<'a> Read for ChoppyReader<'a> {
+    fn read(&mut self, buffer: &mut [u8]) -> io::Result<usize> {
+        let call = self.calls;
+        self.calls = call.saturating_add(1);
+        if call == self.bad_call {
+            return Err(self.error);
+        }
+        let most = buffer.len().min(7);
+        self.rest.read(&mut buffer[..most])
+    }
+}
+
+/// Takes a few bytes a call. The call of one number fails.
+#[derive(Drop)]
+struct ChoppyWriter {
+    written: Vec<u8>,
+    calls: u64,
+    bad_call: u64,
+}
+
+impl Write for ChoppyWriter {
+    fn write(&mut self, buffer: &[u8]) -> io::Result<usize> {
+        let call = self.calls;
+        self.calls = call.saturating_add(1);
+        if call == self.bad_call {
+            return Err(io::Error::from_raw_os_error(NUMBER));
+        }
+        let most = buffer.len().min(3);
+        self.written.extend_from_slice(&buffer[..most])?;
+        Ok(most)
+    }
+
+    fn flush(&mut self) -> io::Result<()> {
+        Ok(())
+    }
+}
+
+/// What became of a script.
+#[derive(Drop)]
+struct Ended {
+    outcome: Result<u8, io::Error>,
+    written: Vec<u8>,
+    reads: u64,
+    writes: u64,
+}
+
+fn run_choppy(alloc: Global, bad_read: u64, error: io::Error, bad_write: u64) -> Ended {
+    let mut reader = ChoppyReader {
+        rest: SCRIPT,
+        calls: 0,
+        bad_call: bad_read,
+        error,
+    };
+    let mut writer = ChoppyWriter {
+        written: Vec::new(alloc),
+        calls: 0,
+        bad_call: bad_write,
+    };
+    let outcome = run_script(alloc, &mut reader, &mut writer);
+    Ended {
+        outcome,
+        written: writer.written,
+        reads: reader.calls,
+        writes: writer.calls,
+    }
+}
+
+fn run_whole(alloc: Global) -> Ended {
+    run_choppy(
+        alloc,
+        u64::MAX,
+        io::Error::from_raw_os_error(NUMBER),
+        u64::MAX,
+    )
+}
+
+// The script ended with the one error, and what it had written is a prefix of the whole output.
+fn failed_within(ended: &Ended, whole: &[u8]) -> bool {
+    let is_the_error = match &ended.outcome {
+        Ok(_) => false,
+        Err(error) => error.raw_os_error() == Some(NUMBER),
+    };
+    is_the_error && whole.starts_with(ended.written.as_slice())
+}
+
+#[test]
+fn each_read_in_turn_fails(rt: HostRuntime) -> Result<(), Fail> {
+    let whole = run_whole(rt.alloc());
+    assert!(rt; whole.outcome.is_ok());
+    assert!(rt; whole.reads > 15);
+    for bad_read in 0..whole.reads {
+        let error = io::Error::from_raw_os_error(NUMBER);
+        let ended = run_choppy(rt.alloc(), bad_read, error, u64::MAX);
+        assert!(rt;
+            failed_within(&ended, whole.written.as_slice()),
+            "read {bad_read}"
+        );
+    }
+    Ok(())
+}
+
+#[test]
+fn each_write_in_turn_fails(rt: HostRuntime) -> Result<(), Fail> {
+    let whole = run_whole(rt.alloc());
+    assert!(rt; whole.writes > 15);
+    for bad_write in 0..whole.writes {
+        let error = io::Error::from_raw_os_error(NUMBER);
+        let ended = run_choppy(rt.alloc(), u64::MAX, error, bad_write);
+        assert!(rt;
+            failed_within(&ended, whole.written.as_slice()),
+            "write {bad_write}"
+        );
+        assert!(rt;
+            ended.written.len() < whole.written.len(),
+            "write {bad_write}"
+        );
+    }
+    Ok(())
+}
+
+#[test]
+fn an_interrupted_read_is_made_again(rt: HostRuntime) -> Result<(), Fail> {
+    let whole = run_whole(rt.alloc());
+    for bad_read in 0..whole.reads {
+        let ended = run_choppy(
+            rt.alloc(),
+            bad_read,
+            io::Error::from(ErrorKind::Interrupted),
+            u64::MAX,
+        );
+        assert!(rt; ended.outcome.is_ok(), "read {bad_read}");
+        assert!(rt;
+            ended.written.as_slice() == whole.written.as_slice(),
+            "read {bad_read}"
+        );
+    }
+    Ok(())
+}

@@ -1,0 +1,137 @@
+use crate::script::run_script;
+use std::alloc::Global;
+use std::process::Abort;
+use std::test::Fail;
+
+const CONFIG: &[u8] = b"config proxies 1 logs 1 resolvers - shards - book 100\n";
+
+fn check_script(
+    rt: &impl Abort,
+    alloc: Global,
+    script: &[u8],
+    status: u8,
+    output: &[u8],
+) -> Result<(), Fail> {
+    let mut reader = script;
+    let mut out: Vec<u8> = Vec::new(alloc);
+    let ended = run_script(alloc, &mut reader, &mut out)?;
+    assert!(rt; out.as_slice() == output);
+    assert!(rt; ended == status);
+    Ok(())
+}
+
+const FIRST_PATH: &[u8] = b"config proxies 1 logs 1 resolvers - shards - book 100\n\
+    ask 0 0\n\
+    grant 0\n\
+    write 0 set a 1\n\
+    submit 0 0\n\
+    seal 0 100\n\
+    resolve 0 0\n\
+    verdict 0 0\n\
+    decide 0\n\
+    push 0 0\n\
+    logged 0 0\n\
+    ask 1 0\n\
+    grant 0\n\
+    report 0\n\
+    answer 0\n\
+    ask 2 0\n\
+    grant 0\n\
+    get 2 a\n\
+    pull 0 9\n\
+    get 2 a\n\
+    get 1 a\n\
+    submit 2 0\n\
+    submit 1 0\n";
+
+const FIRST_PATH_OUTPUT: &[u8] = b"ok\n\
+    ok\n\
+    grant 0=0\n\
+    ok\n\
+    ok\n\
+    entry 0 version 100 prev 0 places 1\n\
+    verdict 0=yes\n\
+    ok\n\
+    decided 0=commit\n\
+    ok\n\
+    ok\n\
+    ok\n\
+    grant 1=0\n\
+    committed 100\n\
+    answer 0=100/0\n\
+    ok\n\
+    grant 2=100\n\
+    refused 1009 FutureVersion\n\
+    through 100\n\
+    value 1\n\
+    none\n\
+    readonly 100\n\
+    readonly 0\n\
+    checked 3\n";
+
+#[test]
+fn first_path(rt: HostRuntime) -> Result<(), Fail> {
+    check_script(&rt, rt.alloc(), FIRST_PATH, 0, FIRST_PATH_OUTPUT)
+}
+
+const EMPTY: &[u8] = b"config proxies 1 logs 1 resolvers - shards - book 100\n\
+    ask 0 0\n\
+    grant 0\n\
+    get 0 a\n\
+    submit 0 0\n";
+
+#[test]
+fn empty(rt: HostRuntime) -> Result<(), Fail> {
+    let output = b"ok\nok\ngrant 0=0\nnone\nreadonly 0\nchecked 1\n";
+    check_script(&rt, rt.alloc(), EMPTY, 0, output)
+}
+
+// A line that begins with the front and goes on with the count of letters.
+fn push_long_line(script: &mut Vec<u8>, front: &[u8], count: usize) -> Result<(), Fail> {
+    script.extend_from_slice(front)?;
+    script.resize(script.len().saturating_add(count), b'k')?;
+    script.push(b'\n')?;
+    Ok(())
+}
+
+#[test]
+fn longest_key(rt: HostRuntime) -> Result<(), Fail> {
+    let mut script = Vec::from_slice(rt.alloc(), CONFIG)?;
+    script.extend_from_slice(b"ask 0 0\ngrant 0\n")?;
+    push_long_line(&mut script, b"get 0 ", 10_000)?;
+    push_long_line(&mut script, b"get 0 ", 10_001)?;
+    script.extend_from_slice(b"get 0 %ff\nsubmit 0 0\n")?;
+    let output = b"ok\nok\ngrant 0=0\nnone\nrefused 2102 KeyTooLarge\n\
+        refused 2004 KeyOutsideLegalRange\nreadonly 0\nchecked 1\n";
+    check_script(&rt, rt.alloc(), script.as_slice(), 0, output)
+}
+
+#[test]
+fn longest_value(rt: HostRuntime) -> Result<(), Fail> {
+    let mut script = Vec::from_slice(rt.alloc(), CONFIG)?;
+    script.extend_from_slice(b"ask 0 0\ngrant 0\n")?;
+    push_long_line(&mut script, b"write 0 set a ", 100_000)?;
+    push_long_line(&mut script, b"write 0 set a ", 100_001)?;
+    let output = b"ok\nok\ngrant 0=0\nok\nrefused 2103 ValueTooLarge\nchecked 0\n";
+    check_script(&rt, rt.alloc(), script.as_slice(), 0, output)
+}
+
+#[test]
+fn cut_in_mid_line(rt: HostRuntime) -> Result<(), Fail> {
+    let script = b"config proxies 1 logs 1 resolvers - shards - book 100\nask 0 0\ngrant 0\nwri";
+    check_script(
+        &rt,
+        rt.alloc(),
+        script,
+        2,
+        b"ok\nok\ngrant 0=0\nbad line 4\n",
+    )
+}
+
+#[test]
+fn refused_configurations(rt: HostRuntime) -> Result<(), Fail> {
+    let none = b"config proxies 0 logs 1 resolvers - shards - book 100\nask 0 0\n";
+    check_script(&rt, rt.alloc(), none, 2, b"refused 9009 BadConfig\n")?;
+    let falling = b"config proxies 1 logs 1 resolvers t,m shards - book 100\n";
+    check_script(&rt, rt.alloc(), falling, 2, b"refused 9009 BadConfig\n")
+}
