@@ -81,11 +81,11 @@ in_either-joined a b x b_reaches a_reaches inside =
     let until = below_greater x a.end b.end parts.1 in
     ⊎_elim
     (λ b_first.
-        let from_b : point_lt x b.begin ≡ false = sym (ap (point_lt x) (cond-true _ _ _ b_first)) ∙ parts.0 in
-        or_comm (in_range a x) (in_range b x) ∙ in_either b a x from_b (⊎_elim inr inl until) b_reaches)
+    let from_b : point_lt x b.begin ≡ false = sym (ap (point_lt x) (cond-true _ _ _ b_first)) ∙ parts.0 in
+    or_comm (in_range a x) (in_range b x) ∙ in_either b a x from_b (⊎_elim inr inl until) b_reaches)
     (λ a_first.
-        let from_a : point_lt x a.begin ≡ false = sym (ap (point_lt x) (cond-false _ _ _ a_first)) ∙ parts.0 in
-        in_either a b x from_a until a_reaches)
+    let from_a : point_lt x a.begin ≡ false = sym (ap (point_lt x) (cond-false _ _ _ a_first)) ∙ parts.0 in
+    in_either a b x from_a until a_reaches)
     (cases_Bool (point_lt b.begin a.begin))
 
 in_joined-left : (a b : Range) (x : Point) → in_range a x ≡ true → in_range (joined_range a b) x ≡ true
@@ -133,22 +133,22 @@ in_inserted carried [] x = refl
 in_inserted carried (range ∷ ranges) x =
     ⊎_elim
     (λ before.
-        ap (λ (l : List Range). in_set l x) (inserted-before carried range ranges before)
-        ∙ ap (λ (t : Bool). in_range range x || t) (in_inserted carried ranges x)
-        ∙ sym (or_assoc (in_range range x) (in_range carried x) (in_set ranges x))
-        ∙ ap (λ (t : Bool). t || in_set ranges x) (or_comm (in_range range x) (in_range carried x))
-        ∙ or_assoc (in_range carried x) (in_range range x) (in_set ranges x))
+    ap (λ (l : List Range). in_set l x) (inserted-before carried range ranges before)
+    ∙ ap (λ (t : Bool). in_range range x || t) (in_inserted carried ranges x)
+    ∙ sym (or_assoc (in_range range x) (in_range carried x) (in_set ranges x))
+    ∙ ap (λ (t : Bool). t || in_set ranges x) (or_comm (in_range range x) (in_range carried x))
+    ∙ or_assoc (in_range carried x) (in_range range x) (in_set ranges x))
     (λ reaches.
-        ⊎_elim
-        (λ behind.
-            ap (λ (l : List Range). in_set l x) (inserted-behind carried range ranges reaches behind)
-            ∙ ap (λ (t : Bool). in_range carried x || t) (in_inserted range ranges x))
-        (λ reached.
-            ap (λ (l : List Range). in_set l x) (inserted-joined carried range ranges reaches reached)
-            ∙ in_inserted (joined_range carried range) ranges x
-            ∙ ap (λ (t : Bool). t || in_set ranges x) (in_joined carried range x reaches reached)
-            ∙ or_assoc (in_range carried x) (in_range range x) (in_set ranges x))
-        (cases_Bool (point_lt carried.end range.begin)))
+    ⊎_elim
+    (λ behind.
+    ap (λ (l : List Range). in_set l x) (inserted-behind carried range ranges reaches behind)
+    ∙ ap (λ (t : Bool). in_range carried x || t) (in_inserted range ranges x))
+    (λ reached.
+    ap (λ (l : List Range). in_set l x) (inserted-joined carried range ranges reaches reached)
+    ∙ in_inserted (joined_range carried range) ranges x
+    ∙ ap (λ (t : Bool). t || in_set ranges x) (in_joined carried range x reaches reached)
+    ∙ or_assoc (in_range carried x) (in_range range x) (in_set ranges x))
+    (cases_Bool (point_lt carried.end range.begin)))
     (cases_Bool (point_lt range.end carried.begin))
 
 apart_parts : (range : Range) (ranges : List Range) → is_apart (range ∷ ranges) ≡ true
@@ -184,13 +184,13 @@ begins_behind-inserted x carried (range ∷ ranges) first rest apart =
     ⊎_elim
     (λ before. ap (begins_behind x) (inserted-before carried range ranges before) ∙ rest)
     (λ reaches.
-        ⊎_elim
-        (λ behind. ap (begins_behind x) (inserted-behind carried range ranges reaches behind) ∙ first)
-        (λ reached.
-            ap (begins_behind x) (inserted-joined carried range ranges reaches reached)
-            ∙ begins_behind-inserted x (joined_range carried range) ranges (below_lesser x carried.begin range.begin first rest)
-              (begins_behind-sooner x range.end ranges (lt_chain x range.begin range.end rest parts.0) parts.1) parts.2)
-        (cases_Bool (point_lt carried.end range.begin)))
+    ⊎_elim
+    (λ behind. ap (begins_behind x) (inserted-behind carried range ranges reaches behind) ∙ first)
+    (λ reached.
+    ap (begins_behind x) (inserted-joined carried range ranges reaches reached)
+    ∙ begins_behind-inserted x (joined_range carried range) ranges (below_lesser x carried.begin range.begin first rest)
+    (begins_behind-sooner x range.end ranges (lt_chain x range.begin range.end rest parts.0) parts.1) parts.2)
+    (cases_Bool (point_lt carried.end range.begin)))
     (cases_Bool (point_lt range.end carried.begin))
 
 -- a range that has a point is inserted into a sorted list, and the list stays one
@@ -201,25 +201,25 @@ apart-inserted carried (range ∷ ranges) some apart =
     let parts = apart_parts range ranges apart in
     ⊎_elim
     (λ before.
-        ap is_apart (inserted-before carried range ranges before)
-        ∙ apart_from range (inserted carried ranges) parts.0 (begins_behind-inserted range.end carried ranges before parts.1 parts.2) (apart-inserted carried ranges some parts.2))
+    ap is_apart (inserted-before carried range ranges before)
+    ∙ apart_from range (inserted carried ranges) parts.0 (begins_behind-inserted range.end carried ranges before parts.1 parts.2) (apart-inserted carried ranges some parts.2))
     (λ reaches.
-        ⊎_elim
-        (λ behind.
-            ap is_apart (inserted-behind carried range ranges reaches behind)
-            ∙ apart_from carried (inserted range ranges) some
-              (begins_behind-inserted carried.end range ranges behind (begins_behind-sooner carried.end range.end ranges (lt_chain carried.end range.begin range.end behind parts.0) parts.1) parts.2)
-              (apart-inserted range ranges parts.0 parts.2))
-        (λ reached. ap is_apart (inserted-joined carried range ranges reaches reached) ∙ apart-inserted (joined_range carried range) ranges (some_joined carried range some) parts.2)
-        (cases_Bool (point_lt carried.end range.begin)))
+    ⊎_elim
+    (λ behind.
+    ap is_apart (inserted-behind carried range ranges reaches behind)
+    ∙ apart_from carried (inserted range ranges) some
+    (begins_behind-inserted carried.end range ranges behind (begins_behind-sooner carried.end range.end ranges (lt_chain carried.end range.begin range.end behind parts.0) parts.1) parts.2)
+    (apart-inserted range ranges parts.0 parts.2))
+    (λ reached. ap is_apart (inserted-joined carried range ranges reaches reached) ∙ apart-inserted (joined_range carried range) ranges (some_joined carried range some) parts.2)
+    (cases_Bool (point_lt carried.end range.begin)))
     (cases_Bool (point_lt range.end carried.begin))
 
 -- a range without a point has no point to add
 pub in_range-empty : (range : Range) (x : Point) → is_empty_range range ≡ true → in_range range x ≡ false
 in_range-empty range x empty =
     false_from_ne_true _ (λ inside.
-      let parts = in_range_parts range x inside in
-      both_ways _ (not-true _ empty) (le_lt_chain range.begin x range.end parts.0 parts.1))
+    let parts = in_range_parts range x inside in
+    both_ways _ (not-true _ empty) (le_lt_chain range.begin x range.end parts.0 parts.1))
 
 -- the begin and the end are bounds in their order
 abbrev HasLegalBounds : Range → Type 0
@@ -247,12 +247,12 @@ joined_is_legal a b legal_a legal_b =
     let bounds_a : (is_bound a.begin ≡ true) × (is_bound a.end ≡ true) = and_parts _ _ parts_a.0 in
     let bounds_b : (is_bound b.begin ≡ true) × (is_bound b.end ≡ true) = and_parts _ _ parts_b.0 in
     let ordered : point_lt (greater_point a.end b.end) (lesser_point a.begin b.begin) ≡ false =
-      le_chain (lesser_point a.begin b.begin) a.begin (greater_point a.end b.end) (lesser-left a.begin b.begin)
-      (le_chain a.begin a.end (greater_point a.end b.end) (not-true _ parts_a.1) (greater-left a.end b.end))
+    le_chain (lesser_point a.begin b.begin) a.begin (greater_point a.end b.end) (lesser-left a.begin b.begin)
+    (le_chain a.begin a.end (greater_point a.end b.end) (not-true _ parts_a.1) (greater-left a.end b.end))
     in
     and_from (is_bound (lesser_point a.begin b.begin) && is_bound (greater_point a.end b.end)) _
     (and_from (is_bound (lesser_point a.begin b.begin)) (is_bound (greater_point a.end b.end))
-      (is_bound-lesser a.begin b.begin bounds_a.0 bounds_b.0) (is_bound-greater a.end b.end bounds_a.1 bounds_b.1))
+    (is_bound-lesser a.begin b.begin bounds_a.0 bounds_b.0) (is_bound-greater a.end b.end bounds_a.1 bounds_b.1))
     (not_from_false _ ordered)
 
 -- a step along the list that puts a range down

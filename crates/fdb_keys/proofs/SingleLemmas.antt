@@ -41,15 +41,15 @@ in_range-single (k ∷ ks) [] = ap (λ before. not before && point_lt [] ((k ∷
 in_range-single (k ∷ ks) (x ∷ xs) =
     ⊎_elim
     (λ (same : x ≡ k). subst (λ (y : ℕ). in_range (single_range (k ∷ ks)) (y ∷ xs) ≡ point_eq (y ∷ xs) (k ∷ ks)) (sym same)
-      (ap (λ before. not before && point_lt (k ∷ xs) ((k ∷ ks) ++ 0 ∷ [])) (first_equal k xs ks)
-      ∙ ap (λ until. not (point_lt xs ks) && until) (first_equal k xs (ks ++ 0 ∷ []))
-      ∙ in_range-single ks xs
-      ∙ sym (ap (λ equal. equal && pointwise nat_eq xs ks) (eq-eqb k k refl))))
+    (ap (λ before. not before && point_lt (k ∷ xs) ((k ∷ ks) ++ 0 ∷ [])) (first_equal k xs ks)
+    ∙ ap (λ until. not (point_lt xs ks) && until) (first_equal k xs (ks ++ 0 ∷ []))
+    ∙ in_range-single ks xs
+    ∙ sym (ap (λ equal. equal && pointwise nat_eq xs ks) (eq-eqb k k refl))))
     (⊎_elim
-      (λ (less : x < k).
-        ap (λ before. not before && point_lt (x ∷ xs) ((k ∷ ks) ++ 0 ∷ [])) (first_less x k xs ks less)
-        ∙ sym (ap (λ equal. equal && pointwise nat_eq xs ks) (ne_eqb x k (λ same. omega arith))))
-      (λ (greater : k < x).
-        and_right _ _ (first_greater x k xs (ks ++ 0 ∷ []) greater)
-        ∙ sym (ap (λ equal. equal && pointwise nat_eq xs ks) (ne_eqb x k (λ same. omega arith)))))
+    (λ (less : x < k).
+    ap (λ before. not before && point_lt (x ∷ xs) ((k ∷ ks) ++ 0 ∷ [])) (first_less x k xs ks less)
+    ∙ sym (ap (λ equal. equal && pointwise nat_eq xs ks) (ne_eqb x k (λ same. omega arith))))
+    (λ (greater : k < x).
+    and_right _ _ (first_greater x k xs (ks ++ 0 ∷ []) greater)
+    ∙ sym (ap (λ equal. equal && pointwise nat_eq xs ks) (ne_eqb x k (λ same. omega arith)))))
     (cases_order x k)

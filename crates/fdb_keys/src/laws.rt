@@ -12,29 +12,24 @@ use crate::refusal::Refusal;
 /// Two keys are equal exactly where they are the same.
 pub fn equal_keys_are_the_same()
     ensures { (a b : Key) → Decides (key_eq a b) (a ≡ b) }
-{
-}
+{}
 
 /// Two ranges are equal exactly where they are the same.
 pub fn equal_ranges_are_the_same()
     ensures { (a b : KeyRange) → Decides (range_eq a b) (a ≡ b) }
-{
-}
+{}
 
 /// Two sets of ranges are equal exactly where they are the same.
 pub fn equal_range_sets_are_the_same()
     ensures { (a b : RangeSet) → Decides (range_set_eq a b) (a ≡ b) }
-{
-}
+{}
 
 /// Two refusals are equal exactly where they are the same.
 pub fn equal_refusals_are_the_same()
     ensures { (a b : Refusal) → Decides (refusal_eq a b) (a ≡ b) }
-{
-}
+{}
 
 /// Two lists of items are equal exactly where they are the same, if two items are.
 pub fn equal_items_are_the_same<T: PartialEq>()
     ensures { ((x y : T) → Decides (T.eq x y) (x ≡ y)) → (a b : List T) → Decides (pointwise T.eq a b) (a ≡ b) }
-{
-}
+{}
