@@ -8,12 +8,12 @@ use Rattle.fdb_core.specs.declared.parts.Stage.{Stage}
 use Rattle.fdb_core.specs.declared.parts.Stage.TheVariants.{Idle, Resolving, Logging, Reported}
 use Rattle.fdb_core.specs.declared.step.Answered.TheVariants as answered
 use Rattle.fdb_core.specs.declared.step.Outcome.{Outcome}
-use Rattle.fdb_core.specs.Kernel.{machine_of, Tied}
+use Rattle.fdb_core.specs.Kernel.{machine_of, LaneOk, Tied}
 use Rattle.fdb_core.specs.Machine.{seen_before}
 use Rattle.fdb_core.specs.ProxySteps.{answers, is_idle, is_resolving, is_reported, placed_from, told_from}
 use Rattle.fdb_core.specs.Verdicts.{outcomes_on}
 use Rattle.fdb_core.proofs.BatchLaws.{length-outcomes_on}
-use Rattle.fdb_core.proofs.DecideLemmas.{lane-at}
+use Rattle.fdb_core.proofs.LaneTies.{lane-at}
 
 -- what a commit proxy finds whose version was reported
 pub record Answering (k : Kernel) (proxy : ℕ) (lane : Lane) (entry : Entry) : Type 0 where
@@ -30,16 +30,19 @@ only_reported Reported reported = (refl, refl)
 
 -- the batch whose clients are answered
 module _ (k : Kernel) (proxy : ℕ) (lane : Lane) (entry : Entry) (tied : Tied k) (found : Answering k proxy lane entry) where
+  ok : LaneOk k.book.items k.resolvers.items k.committed lane k.outcomes
+  ok = lane-at k.book.items k.resolvers.items k.committed k.lanes.items k.outcomes proxy lane tied.lanes found.lane_there
+
   -- the outcomes that are kept are what became of the places
   kept : k.outcomes ≡ outcomes_on [] (seen_before k.book.items lane.entry) entry
   kept =
       let stage = only_reported lane.stage found.reported in
-      (lane-at k proxy lane tied found.lane_there).decision entry stage.0 stage.1 found.entry_there
+      ok.decision entry stage.0 stage.1 found.entry_there
 
   -- one for each transcript
   pub outcome-each : length lane.in_flight ≡ length k.outcomes
   outcome-each =
-      (lane-at k proxy lane tied found.lane_there).aligned entry (only_reported lane.stage found.reported).0 found.entry_there
+      ok.aligned entry (only_reported lane.stage found.reported).0 found.entry_there
       ∙ sym (ap (λ (outcomes : List Outcome). length outcomes) kept ∙ length-outcomes_on [] (seen_before k.book.items lane.entry) entry)
 
   -- the turn that the machine takes

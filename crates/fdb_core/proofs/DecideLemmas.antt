@@ -26,7 +26,7 @@ use Rattle.fdb_core.specs.Roles.{along, message_on, outcomes_by, body_by}
 use Rattle.fdb_core.specs.Verdicts.{verdicts_on, is_needed, outcomes_on}
 use Rattle.fdb_core.proofs.AllLemmas.{all-at}
 use Rattle.fdb_core.proofs.BatchLaws.{needed-points, not_needed-verdicts, outcomes-decided, body-committed}
-use Rattle.fdb_core.proofs.LaneTies.{lanes-set}
+use Rattle.fdb_core.proofs.LaneTies.{lane-at, lanes-set}
 use Rattle.fdb_core.proofs.OneResolver.{IsStill, no_moves-before, no_moves-at}
 use Rattle.fdb_core.proofs.RunLaws.{slice_get-along, length-along}
 
@@ -87,15 +87,6 @@ pub record Deciding (k : Kernel) (proxy : ℕ) (lane : Lane) (entry : Entry) : T
 abbrev pub is_any_judged : Entry → Bool
 is_any_judged entry = list_any (λ (t : Transaction). has_points t.writes || has_points t.reads) entry.batch
 
--- the one commit proxy, as it is found
-pub lane-at : (k : Kernel) (proxy : ℕ) (lane : Lane) → Tied k → slice_get k.lanes.items proxy ≡ Some lane
-    → LaneOk k.book.items k.resolvers.items k.committed lane k.outcomes
-lane-at k proxy lane tied there = one_of proxy (ap (λ (lanes : List Lane). slice_get lanes proxy) (sym tied.lanes.one) ∙ there)
-  where
-    one_of : (i : ℕ) → slice_get (tied.lanes.lane ∷ []) i ≡ Some lane → LaneOk k.book.items k.resolvers.items k.committed lane k.outcomes
-    one_of zero at = subst (λ (l : Lane). LaneOk k.book.items k.resolvers.items k.committed l k.outcomes) (same_Some tied.lanes.lane lane at) tied.lanes.ok
-    one_of (suc i) at = cc
-
 -- who resolves isn't idle
 busy : (stage : Stage) → is_resolving stage ≡ true → is_idle stage ≡ false
 busy Idle resolving = cc
@@ -133,7 +124,7 @@ module _ (k : Kernel) (proxy : ℕ) (lane : Lane) (entry : Entry) (tied : Tied k
   below = all-at ReadsBelow k.book.items lane.entry entry tied.book.reads_below found.entry_there
 
   ok : LaneOk k.book.items k.resolvers.items k.committed lane k.outcomes
-  ok = lane-at k proxy lane tied found.lane_there
+  ok = lane-at k.book.items k.resolvers.items k.committed k.lanes.items k.outcomes proxy lane tied.lanes found.lane_there
 
   not_idle : is_idle lane.stage ≡ false
   not_idle = busy lane.stage found.resolving

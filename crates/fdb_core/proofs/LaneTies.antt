@@ -9,6 +9,14 @@ use Rattle.fdb_core.specs.declared.step.Outcome.{Outcome}
 use Rattle.fdb_core.specs.Kernel.{LaneOk, LanesOk, WaitsOk}
 use Rattle.fdb_core.specs.ProxySteps.{is_idle, is_resolving}
 use Rattle.fdb_core.proofs.AllLemmas.{all-push, all-weaken}
+use Rattle.fdb_core.proofs.RoleTies.{one-at}
+
+-- the commit proxy that was found is in order
+pub lane-at : (book : List Entry) (resolvers : List ℕ) (committed : ℕ) (lanes : List Lane) (outcomes : List Outcome) (i : ℕ) (lane : Lane)
+    → LanesOk book resolvers committed lanes outcomes → slice_get lanes i ≡ Some lane → LaneOk book resolvers committed lane outcomes
+lane-at book resolvers committed lanes outcomes i lane ok there =
+    let found = one-at ok.lane lane i (rw ok.one at there) in
+    subst (λ (l : Lane). LaneOk book resolvers committed l outcomes) found.1 ok.ok
 
 -- the one lane is found under number 0 alone, and put back there
 set_one : (book later : List Entry) (resolvers others : List ℕ) (committed raised : ℕ) (outcomes decision : List Outcome) (one : Lane) (i : ℕ) (lane next : Lane)

@@ -1,10 +1,13 @@
+pub mod AcceptedTurns
 pub mod AllLemmas
 pub mod AnswerLemmas
 pub mod BatchLaws
+pub mod CommittedLaws
 pub mod DecideLemmas
 pub mod LaneTies
 pub mod OneResolver
 pub mod ProgramLaws
+pub mod PromiseLaws
 pub mod RoleTies
 pub mod RunLaws
 pub mod RunsLemmas

@@ -24,7 +24,6 @@ use Rattle.fdb_core.specs.Roles.{along, marks_of, message_on}
 use Rattle.fdb_core.specs.Verdicts.{verdicts_on}
 use Rattle.fdb_core.proofs.AllLemmas.{all-push, all-drop}
 use Rattle.fdb_core.proofs.OneResolver.{no_moves-push}
-use Rattle.fdb_core.proofs.RoleTies.{one-at}
 use Rattle.fdb_core.proofs.RunLaws.{along-push, length-along, rising-push}
 
 -- the entry that a seal makes of what waits
@@ -179,10 +178,3 @@ module _ (book : List Entry) (entry : Entry) where
     delivered = λ taken busy set there. let none = none-set (length resolvers) 0 in cc;
     decision = λ other busy decided there. cc;
   }
-
--- the commit proxy that was found is in order
-pub lane-at : (book : List Entry) (resolvers : List ℕ) (committed : ℕ) (lanes : List Lane) (outcomes : List Outcome) (i : ℕ) (lane : Lane)
-    → LanesOk book resolvers committed lanes outcomes → slice_get lanes i ≡ Some lane → LaneOk book resolvers committed lane outcomes
-lane-at book resolvers committed lanes outcomes i lane ok there =
-    let found = one-at ok.lane lane i (rw ok.one at there) in
-    subst (λ (l : Lane). LaneOk book resolvers committed l outcomes) found.1 ok.ok

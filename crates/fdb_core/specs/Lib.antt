@@ -2,6 +2,7 @@ pub mod ClientSteps
 pub mod Kernel
 pub mod Machine
 pub mod Programs
+pub mod Promises
 pub mod ProxySteps
 pub mod RoleSteps
 pub mod Roles

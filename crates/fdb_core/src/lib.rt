@@ -11,6 +11,7 @@ mod flags;
 mod granting;
 mod judging;
 mod kernel;
+pub mod laws;
 mod messages;
 mod parts;
 mod pool;

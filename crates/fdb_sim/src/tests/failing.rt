@@ -5,7 +5,7 @@ use std::io;
 use std::io::{ErrorKind, Read, Write};
 use std::test::Fail;
 
-const SCRIPT: &[u8] = b"config proxies 1 logs 1 resolvers m shards - book 100\n\
+const SCRIPT: &[u8] = b"config proxies 1 logs 1 resolvers - shards - book 100\n\
     ask 0 0\ngrant 0\nget 0 a\n# read-only\nsubmit 0 0\nget 0 %ff\n";
 
 /// The error that a failing call answers, which no other call does.

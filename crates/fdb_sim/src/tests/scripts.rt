@@ -4,7 +4,7 @@ use std::alloc::{AllocError, Global};
 use std::process::Abort;
 use std::test::Fail;
 
-const CONFIG: &str = "config proxies 1 logs 1 resolvers m shards - book 100";
+const CONFIG: &str = "config proxies 1 logs 1 resolvers - shards - book 100";
 
 fn check_script(
     rt: &impl Abort,
@@ -241,17 +241,17 @@ fn a_second_configuration(rt: HostRuntime) -> Result<(), Fail> {
 fn configurations_that_are_none(rt: HostRuntime) -> Result<(), Fail> {
     let lines = [
         "config",
-        "config proxies 1 logs 1 resolvers m shards -",
-        "config proxies 1 logs 1 resolvers m shards - book",
-        "config proxies 1 logs 1 resolvers m shards - book 100 1",
-        "config logs 1 proxies 1 resolvers m shards - book 100",
-        "config proxies 4294967296 logs 1 resolvers m shards - book 100",
-        "config proxies 1 logs 1 resolvers m shards - book 4294967296",
+        "config proxies 1 logs 1 resolvers - shards -",
+        "config proxies 1 logs 1 resolvers - shards - book",
+        "config proxies 1 logs 1 resolvers - shards - book 100 1",
+        "config logs 1 proxies 1 resolvers - shards - book 100",
+        "config proxies 4294967296 logs 1 resolvers - shards - book 100",
+        "config proxies 1 logs 1 resolvers - shards - book 4294967296",
         "config proxies 1 logs 1 resolvers m, shards - book 100",
         "config proxies 1 logs 1 resolvers ,m shards - book 100",
         "config proxies 1 logs 1 resolvers m,,t shards - book 100",
         "config proxies 1 logs 1 resolvers -,m shards - book 100",
-        "config proxies 1 logs 1 resolvers m shards %f book 100",
+        "config proxies 1 logs 1 resolvers - shards %f book 100",
         "config proxies 1 logs 1 resolvers %ff shards - book x",
         "config proxies 1 logs 1 resolvers %ff shards %f book 1",
     ];

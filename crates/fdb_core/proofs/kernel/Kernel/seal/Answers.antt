@@ -13,7 +13,8 @@ use Rattle.fdb_core.specs.ProxySteps.{is_idle, next_version, version_limit}
 use Rattle.fdb_core.proofs.AllLemmas.{all-take}
 use Rattle.fdb_core.proofs.LaneTies.{lanes-set}
 use Rattle.fdb_core.proofs.RoleTies.{last-push}
-use Rattle.fdb_core.proofs.SealLemmas.{sealed_entry, sealed_lane, seals-turn, length-sealed, batch-fits, set-twice, sealed-below, book-push, resolver-push, log-push, lane-seal, lane-at}
+use Rattle.fdb_core.proofs.LaneTies.{lane-at}
+use Rattle.fdb_core.proofs.SealLemmas.{sealed_entry, sealed_lane, seals-turn, length-sealed, batch-fits, set-twice, sealed-below, book-push, resolver-push, log-push, lane-seal}
 use Rattle.fdb_core.proofs.kernel.Kernel.seal.Goals as goal
 use Rattle.fdb_core.proofs.kernel.Kernel.seal.Goals.{After-drop-index_mut-4}
 
