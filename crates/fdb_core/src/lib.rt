@@ -24,6 +24,8 @@ mod serving;
 mod sessions;
 mod step;
 mod stepping;
+#[cfg(test)]
+mod tests;
 mod versions;
 mod world;
 
