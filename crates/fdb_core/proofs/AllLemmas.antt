@@ -1,5 +1,5 @@
 -- What holds of each item of a list, when the list changes.
-use Rattle.std.proofs.Common.{◌≡◌, ◌<◌, refl, arith, ℕ, zero, suc, List, [], ◌∷◌, ◌++◌, take, drop, length, Option, Some, sym, subst, ap}
+use Rattle.std.proofs.Common.{◌≡◌, ◌<◌, refl, arith, ℕ, zero, suc, List, [], ◌∷◌, ◌++◌, take, drop, length, Some, subst}
 use Rattle.std.specs.List.{AllByRecursion, slice_get, slice_set, remove}
 
 module _ {A : Type 0} (P : A → Type 0) where

@@ -1,5 +1,5 @@
 -- What the machine does where a commit proxy decides its batch, and what stays tied then.
-use Rattle.std.proofs.Common.{◌≡◌, ◌∙◌, sym, ap, ap₂, subst, refl, ◌<◌, ◌≤◌, ⊎_elim, ℕ, zero, suc, Bool, true, false, ◌&&◌, ◌||◌, not, List, [], ◌∷◌, take, length, get_or, unwrap_or, Option, Some, None, Ok, Err, if◌then◌else◌, arith, length-take-le, length-append}
+use Rattle.std.proofs.Common.{◌≡◌, ◌∙◌, sym, ap, ap₂, refl, ◌<◌, ◌≤◌, ⊎_elim, ℕ, zero, suc, Bool, true, false, ◌&&◌, ◌||◌, not, List, [], ◌∷◌, take, length, get_or, unwrap_or, Option, Some, None, Ok, Err, if◌then◌else◌, arith, length-take-le, length-append}
 use Rattle.std.specs.List.{AllZip, list_any, slice_get, slice_set}
 use Rattle.std.specs.Vec.{with_item}
 use Rattle.std.proofs.lemmas.Bool.{cases_eq, true≢false}

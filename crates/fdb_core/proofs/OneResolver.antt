@@ -17,7 +17,6 @@ use Rattle.fdb_txn.specs.Admission.{has_points, is_fresh, overlaps_at, overlaps,
 use Rattle.fdb_core.specs.declared.pool.Mark.{Mark}
 use Rattle.fdb_core.specs.declared.step.Verdict.{Verdict}
 use Rattle.fdb_core.specs.declared.step.Verdict.TheVariants as verdict
-use Rattle.fdb_core.specs.declared.step.Outcome.{Outcome}
 use Rattle.fdb_core.specs.declared.step.Outcome.TheVariants as outcome
 use Rattle.fdb_core.specs.Machine.{seen_before}
 use Rattle.fdb_core.specs.Verdicts.{verdict_at, outcome_at, moves_through}

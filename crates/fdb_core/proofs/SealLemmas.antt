@@ -1,5 +1,5 @@
 -- One more entry in the book, and what stays tied.
-use Rattle.std.proofs.Common.{◌≡◌, ◌∙◌, refl, sym, ap, subst, ℕ, zero, suc, ◌+◌, ◌<◌, ◌≤◌, Bool, true, false, List, [], ◌∷◌, ◌++◌, length, map, take, drop, replicate, Option, Some, None, Ok, arith}
+use Rattle.std.proofs.Common.{◌≡◌, ◌∙◌, refl, sym, ap, ℕ, zero, suc, ◌<◌, ◌≤◌, Bool, true, false, List, [], ◌∷◌, ◌++◌, length, map, take, drop, replicate, Option, Some, None, Ok, arith}
 use Rattle.std.specs.List.{AllByRecursion, slice_get, slice_set}
 use Rattle.std.proofs.lemmas.Bool.{le-ltb, lt-leb}
 use Rattle.std.proofs.lemmas.List.{length-append, length-map, length-replicate, length-take, take-append-le}
@@ -17,7 +17,7 @@ use Rattle.fdb_core.specs.declared.program.Transcript.{Transcript}
 use Rattle.fdb_core.specs.declared.step.Answered.TheVariants as answered
 use Rattle.fdb_core.specs.declared.step.Outcome.{Outcome}
 use Rattle.fdb_core.specs.declared.step.Verdict.{Verdict}
-use Rattle.fdb_core.specs.Kernel.{ReadsBelow, BookOk, ResolverOk, LogOk, WaitsOk, LaneOk, LanesOk}
+use Rattle.fdb_core.specs.Kernel.{ReadsBelow, BookOk, ResolverOk, LogOk, WaitsOk, LaneOk}
 use Rattle.fdb_core.specs.Machine.{Machine, is_set, last_version}
 use Rattle.fdb_core.specs.ProxySteps.{seals, next_version, version_limit, is_idle}
 use Rattle.fdb_core.specs.Roles.{along, marks_of, message_on}

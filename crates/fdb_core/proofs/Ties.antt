@@ -1,5 +1,5 @@
 -- The ties between the machine and the roles' own lists, kept through the steps.
-use Rattle.std.proofs.Common.{◌≡◌, sym, ap, refl, ℕ, Bool, List, [], ◌∷◌, ◌++◌, fold, Option, Some, None, Result, Ok, Err, arith}
+use Rattle.std.proofs.Common.{◌≡◌, sym, ap, refl, ℕ, Bool, List, [], ◌∷◌, ◌++◌, fold, Option, Some, None, Ok, Err, arith}
 use Rattle.std.specs.List.{AllByRecursion, slice_get}
 use Rattle.std.specs.Prelude.{position}
 use Rattle.fdb_keys.specs.declared.refusal.Refusal.{Refusal}

@@ -1,10 +1,9 @@
 -- What the machine's longer steps come to, once what they look at is known.
-use Rattle.std.proofs.Common.{◌≡◌, ◌∙◌, refl, sym, ap, arith, ℕ, ◌+◌, Bool, true, false, List, fold, Option, Some, None, Result, Ok, Err}
+use Rattle.std.proofs.Common.{◌≡◌, ◌∙◌, refl, sym, ap, arith, ℕ, ◌+◌, Bool, true, false, List, fold, Option, Some, None, Ok}
 use Rattle.std.specs.Prelude.{position}
 use Rattle.std.specs.List.{slice_get, slice_set}
 use Rattle.std.proofs.lemmas.Bool.{le-ltb}
 use Rattle.std.specs.FinMap.{get}
-use Rattle.fdb_keys.specs.declared.refusal.Refusal.{Refusal}
 use Rattle.fdb_keys.specs.Answers.{AnswersExactly}
 use Rattle.fdb_mutations.specs.Maps.{Map}
 use Rattle.fdb_txn.specs.declared.entry.Entry.{Entry}
@@ -18,7 +17,7 @@ use Rattle.fdb_core.specs.declared.program.Reply.TheVariants as reply
 use Rattle.fdb_core.specs.declared.program.Transcript.{Transcript}
 use Rattle.fdb_core.specs.declared.step.Answered.TheVariants as answered
 use Rattle.fdb_core.specs.ClientSteps.{gets, note, read_fault, shard_fault}
-use Rattle.fdb_core.specs.Machine.{Machine, Turn, is_of, is_set, seen_before}
+use Rattle.fdb_core.specs.Machine.{Machine, is_of, is_set, seen_before}
 use Rattle.fdb_core.specs.RoleSteps.{resolves, pushes}
 use Rattle.fdb_core.specs.Verdicts.{verdicts_on}
 use Rattle.fdb_core.specs.Programs.{program, copy, decided}

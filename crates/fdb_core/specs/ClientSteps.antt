@@ -1,20 +1,15 @@
 -- The steps of clients, and of the read-version proxies that serve them.
-use Rattle.std.specs.Prelude.{ℕ, suc, ◌+◌, ◌^◌, ◌-◌, min, Bool, true, false, not, ◌&&◌, ◌||◌, ◌==◌, nat_lt, List, [], ◌∷◌, ◌++◌, fold, take, map, filter, length, Option, Some, None, Result, Ok, Err, slice_get, slice_set, position, if◌then◌else◌}
+use Rattle.std.specs.Prelude.{ℕ, ◌+◌, ◌^◌, ◌-◌, min, Bool, false, not, ◌&&◌, ◌==◌, nat_lt, List, [], ◌∷◌, ◌++◌, fold, take, map, length, Option, Some, None, Result, Ok, slice_get, slice_set, position, if◌then◌else◌}
 use Rattle.std.specs.List.{list_any, remove}
 use Rattle.fdb_keys.specs.declared.refusal.Refusal.{Refusal}
 use Rattle.fdb_keys.specs.declared.refusal.Refusal.TheVariants.{TransactionTooOld, FutureVersion, Exhausted, WrongState, Unknown}
 use Rattle.fdb_mutations.specs.declared.mutation.Mutation.{Mutation}
 use Rattle.fdb_mutations.specs.Mutations.{mutation_fault}
-use Rattle.fdb_txn.specs.declared.txn_id.TxnId.{TxnId}
 use Rattle.fdb_txn.specs.declared.spot.Spot.TheVariants as spot
 use Rattle.fdb_txn.specs.declared.entry.Entry.{Entry}
-use Rattle.fdb_txn.specs.Transactions.{Transaction}
 use Rattle.fdb_txn.specs.Book.{seen_of}
 use Rattle.fdb_txn.specs.Owners.{first_owner}
 use Rattle.fdb_txn.specs.Run.{map_at}
-use Rattle.fdb_core.specs.declared.parts.Submission.{Submission}
-use Rattle.fdb_core.specs.declared.parts.Placed.{Placed}
-use Rattle.fdb_core.specs.declared.parts.Lane.{Lane}
 use Rattle.fdb_core.specs.declared.parts.Reach.{Reach}
 use Rattle.fdb_core.specs.declared.parts.Begun.{Begun}
 use Rattle.fdb_core.specs.declared.program.Op.{Op}
@@ -24,7 +19,7 @@ use Rattle.fdb_core.specs.declared.program.Reply.TheVariants as reply
 use Rattle.fdb_core.specs.declared.program.Transcript.{Transcript}
 use Rattle.fdb_core.specs.declared.step.Answered.{Answered}
 use Rattle.fdb_core.specs.declared.step.Answered.TheVariants as answered
-use Rattle.fdb_core.specs.Machine.{Machine, Turn, found, refused_where, refused_by, last_version, seen_before, is_of, is_busy, with_opened}
+use Rattle.fdb_core.specs.Machine.{Machine, Turn, found, refused_where, refused_by, last_version, is_of, is_busy, with_opened}
 use Rattle.fdb_core.specs.Programs.{program, copy, reply_on, decided, sealed_of}
 
 -- the open transactions without the session's

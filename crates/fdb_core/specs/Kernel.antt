@@ -1,11 +1,9 @@
 -- The world's parts as the machine, and what ties the roles' own lists to it.
-use Rattle.std.specs.Prelude.{◌≡◌, ◌≢◌, ℕ, suc, ◌<◌, ◌≤◌, Bool, true, false, not, List, [], ◌∷◌, take, length, Option, Some, None, Result, Ok, Err, slice_get, if◌then◌else◌}
+use Rattle.std.specs.Prelude.{◌≡◌, ℕ, ◌<◌, ◌≤◌, Bool, true, false, List, [], ◌∷◌, take, length, Option, Some, None, slice_get, if◌then◌else◌}
 use Rattle.std.specs.List.{AllByRecursion}
-use Rattle.fdb_mutations.specs.declared.mutation.Mutation.{Mutation}
 use Rattle.fdb_mutations.specs.Mutations.{mutation_fault}
 use Rattle.fdb_txn.specs.declared.entry.Entry.{Entry}
 use Rattle.fdb_txn.specs.Transactions.{Transaction}
-use Rattle.fdb_txn.specs.Book.{seen_of}
 use Rattle.fdb_core.specs.declared.config.Config.{Config}
 use Rattle.fdb_core.specs.declared.kernel.Kernel.{Kernel}
 use Rattle.fdb_core.specs.declared.parts.Lane.{Lane}
@@ -13,8 +11,6 @@ use Rattle.fdb_core.specs.declared.parts.Submission.{Submission}
 use Rattle.fdb_core.specs.declared.parts.Reach.{Reach}
 use Rattle.fdb_core.specs.declared.pool.Mark.{Mark}
 use Rattle.fdb_core.specs.declared.pool.Message.{Message}
-use Rattle.fdb_core.specs.declared.program.Op.{Op}
-use Rattle.fdb_core.specs.declared.program.Reply.{Reply}
 use Rattle.fdb_core.specs.declared.program.Transcript.{Transcript}
 use Rattle.fdb_core.specs.declared.step.Verdict.{Verdict}
 use Rattle.fdb_core.specs.declared.step.Outcome.{Outcome}

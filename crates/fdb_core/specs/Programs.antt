@@ -1,5 +1,5 @@
 -- Programs, how they are executed on a map, and what they read and write.
-use Rattle.std.specs.Prelude.{ℕ, Bool, true, false, not, ◌&&◌, ◌||◌, List, [], ◌∷◌, ◌++◌, fold, if◌then◌else◌}
+use Rattle.std.specs.Prelude.{Bool, false, not, ◌&&◌, ◌||◌, List, [], ◌∷◌, ◌++◌, fold, if◌then◌else◌}
 use Rattle.std.specs.FinMap.{get}
 use Rattle.fdb_keys.specs.Points.{Point, point_eq}
 use Rattle.fdb_keys.specs.Insertion.{with_range}

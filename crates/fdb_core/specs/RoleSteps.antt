@@ -1,5 +1,5 @@
 -- The steps of resolvers, logs and shards.
-use Rattle.std.specs.Prelude.{ℕ, suc, ◌+◌, ◌%◌, min, max, Bool, not, take, length, Option, Some, None, Result, Ok, Err, slice_get, slice_set}
+use Rattle.std.specs.Prelude.{ℕ, ◌+◌, ◌%◌, min, max, not, take, length, Result, Ok, slice_get, slice_set}
 use Rattle.fdb_keys.specs.declared.refusal.Refusal.{Refusal}
 use Rattle.fdb_keys.specs.declared.refusal.Refusal.TheVariants.{Unknown}
 use Rattle.fdb_txn.specs.declared.entry.Entry.{Entry}

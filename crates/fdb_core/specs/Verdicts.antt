@@ -3,7 +3,7 @@ use Rattle.std.specs.Prelude.{ℕ, suc, Bool, ◌||◌, List, [], ◌∷◌, tak
 use Rattle.fdb_keys.specs.Points.{Point}
 use Rattle.fdb_txn.specs.declared.entry.Entry.{Entry}
 use Rattle.fdb_txn.specs.Transactions.{Transaction}
-use Rattle.fdb_txn.specs.Book.{Stamped, Place, Seen, seen_of, placed, add_moves}
+use Rattle.fdb_txn.specs.Book.{Stamped, Place, Seen, placed, add_moves}
 use Rattle.fdb_txn.specs.Owners.{is_asked}
 use Rattle.fdb_txn.specs.Admission.{is_fresh, admits, committed}
 use Rattle.fdb_core.specs.declared.step.Verdict.{Verdict}

@@ -1,5 +1,4 @@
-use Rattle.std.proofs.Common.{◌≡◌, add-one, rules}
-use Rattle.fdb_core.specs.Roles.{outcomes_by}
+use Rattle.std.proofs.Common.{add-one, rules}
 use Rattle.fdb_core.proofs.deciding.decide_batch.Goals as goal
 
 pub loop-place-preserved : goal.loop-place-preserved

@@ -1,5 +1,5 @@
 use Rattle.std.proofs.Common.{◌≡◌, take}
-use Rattle.fdb_core.specs.Roles.{Judged, judged}
+use Rattle.fdb_core.specs.Roles.{judged}
 use Rattle.fdb_core.proofs.judging.judge_batch.Given as goal
 
 abbrev pub invariant-loop-place : goal.invariant-loop-place

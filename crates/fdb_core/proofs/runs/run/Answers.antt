@@ -1,4 +1,4 @@
-use Rattle.std.proofs.Common.{◌≡◌, ◌∙◌, sym, ap, ◌+◌, ◌<◌, length, List, [], ◌∷◌, ◌++◌, take, get_or, Some, rules}
+use Rattle.std.proofs.Common.{◌≡◌, ◌∙◌, sym, ap, ◌+◌, ◌<◌, length, [], ◌∷◌, ◌++◌, take, Some, rules}
 use Rattle.std.proofs.lemmas.List.{take_more}
 use Rattle.fdb_core.specs.declared.step.Step.{Step}
 use Rattle.fdb_core.specs.Worlds.{start}

@@ -1,7 +1,6 @@
-use Rattle.std.proofs.Common.{◌≡◌, ◌∙◌, refl, sym, ap, ◌<◌, length, ℕ, List, Option, Some, None, Result, Ok, position, slice_get, rules}
+use Rattle.std.proofs.Common.{◌≡◌, ◌∙◌, refl, sym, ap, ◌<◌, length, ℕ, List, Option, Some, Ok, position, slice_get, rules}
 use Rattle.std.specs.FinMap.{get}
 use Rattle.std.proofs.lemmas.Option.{slice_get_read}
-use Rattle.fdb_keys.specs.Answers.{AnswersExactly}
 use Rattle.fdb_txn.specs.Book.{seen_of}
 use Rattle.fdb_txn.specs.Run.{map_at}
 use Rattle.fdb_core.specs.declared.program.Op.TheVariants as op
@@ -12,7 +11,7 @@ use Rattle.fdb_core.specs.ClientSteps.{gets, note, noted, read_fault}
 use Rattle.fdb_core.specs.Kernel.{machine_of}
 use Rattle.fdb_core.specs.Machine.{is_of}
 use Rattle.fdb_core.specs.Programs.{program, copy}
-use Rattle.fdb_core.specs.Steps.{answer_of, after}
+use Rattle.fdb_core.specs.Steps.{answer_of}
 use Rattle.fdb_core.proofs.Ties.{given-fault, opened-read}
 use Rattle.fdb_core.proofs.Turns.{gets-turn}
 use Rattle.fdb_core.proofs.kernel.Kernel.get.Goals as goal

@@ -1,6 +1,5 @@
-use Rattle.std.proofs.Common.{◌≡◌, ◌∙◌, refl, ap, ◌+◌, ◌-◌, ◌%◌, ◌<◌, ◌≤◌, min, max, length, ℕ, List, ◌++◌, take, drop, Option, Some, slice_get, arith, rules}
+use Rattle.std.proofs.Common.{◌≡◌, ◌∙◌, refl, ap, ◌-◌, ◌%◌, ◌<◌, ◌≤◌, min, max, length, List, ◌++◌, take, drop, arith, rules}
 use Rattle.std.proofs.lemmas.Option.{slice_get_read}
-use Rattle.fdb_core.specs.declared.parts.Reach.{Reach}
 use Rattle.fdb_core.specs.declared.pool.Message.{Message}
 use Rattle.fdb_core.proofs.RoleTies.{pulled-next, pulled-until}
 use Rattle.fdb_core.proofs.kernel.Kernel.pull.Goals as goal

@@ -1,13 +1,10 @@
-use Rattle.std.proofs.Common.{◌≡◌, ◌∙◌, refl, sym, ap, ◌+◌, ◌<◌, true, length, ℕ, List, [], Option, Some, Result, Ok, slice_get, slice_set, arith, rules}
+use Rattle.std.proofs.Common.{◌≡◌, ◌∙◌, refl, ap, ◌+◌, ◌<◌, true, length, ℕ, List, [], Option, Some, slice_get, slice_set, arith, rules}
 use Rattle.std.proofs.lemmas.Option.{slice_get_read}
 use Rattle.fdb_txn.specs.declared.entry.Entry.{Entry}
 use Rattle.fdb_core.specs.declared.pool.Message.{Message}
-use Rattle.fdb_core.specs.declared.step.Answered.TheVariants as answered
 use Rattle.fdb_core.specs.Kernel.{machine_of}
-use Rattle.fdb_core.specs.Machine.{Machine, is_set, seen_before}
-use Rattle.fdb_core.specs.Roles.{along, message_on}
-use Rattle.fdb_core.specs.RoleSteps.{pushes}
-use Rattle.fdb_core.specs.Steps.{answer_of, after}
+use Rattle.fdb_core.specs.Machine.{is_set, seen_before}
+use Rattle.fdb_core.specs.Roles.{message_on}
 use Rattle.fdb_core.proofs.AllLemmas.{within-item}
 use Rattle.fdb_core.proofs.RoleTies.{log-next}
 use Rattle.fdb_core.proofs.RunLaws.{slice_get-along}

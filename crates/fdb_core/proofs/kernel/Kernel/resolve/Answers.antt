@@ -1,14 +1,12 @@
-use Rattle.std.proofs.Common.{◌≡◌, ◌∙◌, refl, sym, ap, ◌+◌, ◌<◌, length, ℕ, List, Option, Some, Result, Ok, slice_get, slice_set, arith, rules}
+use Rattle.std.proofs.Common.{◌≡◌, ◌∙◌, refl, sym, ap, ◌+◌, ◌<◌, length, ℕ, List, Some, Ok, slice_get, slice_set, arith, rules}
 use Rattle.std.proofs.lemmas.Option.{slice_get_read}
 use Rattle.fdb_keys.specs.Points.{Point}
 use Rattle.fdb_txn.specs.Transactions.{Transaction}
 use Rattle.fdb_core.specs.declared.step.Answered.TheVariants as answered
 use Rattle.fdb_core.specs.declared.step.Verdict.{Verdict}
 use Rattle.fdb_core.specs.Kernel.{machine_of}
-use Rattle.fdb_core.specs.Machine.{Machine, seen_before}
+use Rattle.fdb_core.specs.Machine.{seen_before}
 use Rattle.fdb_core.specs.Roles.{judged}
-use Rattle.fdb_core.specs.RoleSteps.{resolves}
-use Rattle.fdb_core.specs.Steps.{answer_of, after}
 use Rattle.fdb_core.specs.Verdicts.{verdicts_on}
 use Rattle.fdb_core.proofs.RoleTies.{resolver-said, resolver-next, lanes-resolved}
 use Rattle.fdb_core.proofs.Turns.{resolves-turn}

@@ -1,4 +1,4 @@
-use Rattle.std.proofs.Common.{◌≡◌, ◌∙◌, refl, sym, ap, subst, ◌+◌, ◌<◌, ◌≤◌, true, false, length, map, replicate, ℕ, List, [], ◌∷◌, ◌++◌, take, drop, Some, Ok, slice_get, slice_set, arith, rules}
+use Rattle.std.proofs.Common.{◌≡◌, ◌∙◌, refl, sym, ap, subst, ◌<◌, ◌≤◌, true, false, length, map, replicate, ℕ, List, [], ◌∷◌, ◌++◌, take, drop, Some, Ok, slice_get, slice_set, arith, rules}
 use Rattle.std.proofs.lemmas.List.{length-append, length-map, take_all}
 use Rattle.std.proofs.lemmas.Option.{slice_get_read}
 use Rattle.fdb_txn.specs.declared.batch.TheConstants.{PLACE_LIMIT}

@@ -1,12 +1,8 @@
-use Rattle.std.proofs.Common.{◌≡◌, ◌∙◌, refl, sym, ap, subst, ◌<◌, ◌≤◌, length, ℕ, List, [], ◌∷◌, ◌++◌, Option, Some, slice_get, slice_set, arith, rules}
-use Rattle.std.specs.List.{AllByRecursion, remove}
+use Rattle.std.proofs.Common.{◌≡◌, refl, ap, ◌<◌, length, Some, slice_get, arith, rules}
 use Rattle.std.proofs.lemmas.Option.{slice_get_read}
-use Rattle.fdb_core.specs.declared.parts.Lane.{Lane}
 use Rattle.fdb_txn.specs.Transactions.{Transaction}
 use Rattle.fdb_core.specs.declared.parts.Submission.{Submission}
-use Rattle.fdb_core.specs.declared.program.Transcript.{Transcript}
-use Rattle.fdb_core.specs.Kernel.{OpenOk, LanesOk, WaitsOk}
-use Rattle.fdb_core.specs.Programs.{sealed_of}
+use Rattle.fdb_core.specs.Kernel.{OpenOk, WaitsOk}
 use Rattle.fdb_core.proofs.AllLemmas.{all-at, all-remove}
 use Rattle.fdb_core.proofs.LaneTies.{lanes-set, lane-submit}
 use Rattle.fdb_core.proofs.kernel.Kernel.submit.Goals as goal

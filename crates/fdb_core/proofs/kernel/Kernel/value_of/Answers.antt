@@ -1,4 +1,4 @@
-use Rattle.std.proofs.Common.{◌≡◌, ◌∙◌, refl, sym, ap, ◌≤◌, Bool, true, false, nat_lt, ℕ, List, [], ◌∷◌, take, fold, get_or, Option, Some, None, Result, Ok, slice_get, arith, rules}
+use Rattle.std.proofs.Common.{◌≡◌, ◌∙◌, refl, ap, ◌≤◌, true, false, List, [], take, fold, get_or, None, slice_get, arith, rules}
 use Rattle.std.specs.FinMap.{get}
 use Rattle.std.proofs.lemmas.Bool.{le-ltb}
 use Rattle.fdb_txn.specs.declared.entry.Entry.{Entry}
@@ -9,7 +9,7 @@ use Rattle.fdb_core.specs.declared.parts.Reach.{Reach}
 use Rattle.fdb_core.specs.ClientSteps.{shard_fault}
 use Rattle.fdb_core.specs.Kernel.{machine_of}
 use Rattle.fdb_core.specs.Machine.{last_version}
-use Rattle.fdb_core.specs.Programs.{program, copy, decided}
+use Rattle.fdb_core.specs.Programs.{program, decided}
 use Rattle.fdb_core.specs.Roles.{value_in, value_after_op}
 use Rattle.fdb_core.proofs.RunLaws.{value-of-run}
 use Rattle.fdb_core.proofs.Turns.{answers-decided, answers-undecided}

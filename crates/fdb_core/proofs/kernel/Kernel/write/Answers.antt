@@ -1,10 +1,7 @@
-use Rattle.std.proofs.Common.{◌≡◌, ◌∙◌, refl, sym, ap, ◌<◌, length, ℕ, List, Option, Some, None, Result, Ok, Err, slice_get, rules}
+use Rattle.std.proofs.Common.{◌≡◌, ◌<◌, length, None, rules}
 use Rattle.std.specs.Bool.{⊤}
-use Rattle.fdb_mutations.specs.declared.mutation.Mutation.{Mutation}
 use Rattle.fdb_mutations.specs.Mutations.{mutation_fault}
-use Rattle.fdb_core.specs.declared.program.Op.TheVariants as op
 use Rattle.fdb_core.specs.declared.program.Reply.TheVariants as reply
-use Rattle.fdb_core.specs.ClientSteps.{noted}
 use Rattle.fdb_core.proofs.AllLemmas.{within-item}
 use Rattle.fdb_core.proofs.Ties.{given-fault, opened-write}
 use Rattle.fdb_core.proofs.kernel.Kernel.write.Goals as goal
