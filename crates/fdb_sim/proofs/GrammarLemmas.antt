@@ -1,84 +1,49 @@
--- Words that give no step.
-use Rattle.std.proofs.Common.{◌≡◌, ◌≢◌, ◌+◌, ◌*◌, ◌==◌, ℕ, List, [], ◌∷◌, length, drop, get_or, refl, ap, sym, ◌∙◌, arith, if◌then◌else◌, codes}
+-- What the words of a line write, and what they don't.
+use Rattle.std.proofs.Common.{◌≡◌, ◌+◌, ◌*◌, ◌==◌, ℕ, false, List, [], ◌∷◌, Some, Err, drop, get_or, refl, ap, sym, ◌∙◌, if◌then◌else◌, codes}
+use Rattle.fdb_core.specs.declared.step.Step.{Step}
+use Rattle.fdb_core.specs.declared.step.Step.TheVariants as made
+use Rattle.fdb_keys.specs.Texts.{key_fault}
 use Rattle.fdb_mutations.specs.declared.mutation.Mutation.{Mutation}
 use Rattle.fdb_mutations.specs.declared.mutation.Mutation.TheVariants.{Set, Clear}
-use Rattle.fdb_sim.specs.Grammar.{IsNoRest, IsNoStep, WritesOne, WritesTwo, WritesSmall, WritesText, WritesMutation}
+use Rattle.fdb_sim.specs.Faults.{MatchFault, Reads}
+use Rattle.fdb_sim.specs.Grammar.{WritesSmall, WritesText, WritesMutation, WritesRest, WritesStep, mutation_fault, step_fault}
 use Rattle.fdb_sim.specs.Kinds.{name_of}
+use Rattle.fdb_sim.specs.Words.{words_of}
+use Rattle.fdb_sim.specs.declared.fault.Fault.{Fault}
 use Rattle.fdb_sim.specs.declared.step_line.Kind.{Kind}
 use Rattle.fdb_sim.specs.declared.step_line.Kind.TheVariants.{Ask, Grant, Get, Write, Submit, Seal, Resolve, Verdict, Decide, Push, Logged, Report, Answer, Pull}
+use Rattle.fdb_sim.proofs.FaultsLemmas.{Reads-refused, Reads-whole}
 
-pub no_ask : (words : List (List ℕ)) → ((a : ℕ) → (b : ℕ) → ¬ WritesTwo words a b) → IsNoRest Ask words
-unfolding IsNoRest
-no_ask words none step rest = none rest.0 rest.1 rest.2
+-- a set whose second word is no byte text
+pub no_set : (words : List (List ℕ)) → ((word : List ℕ) (rest : List (List ℕ)) (bytes : List ℕ) → words ≡ word ∷ rest → ¬ WritesText word bytes) → (mutation : Mutation) → ¬ WritesMutation (codes "set" ∷ words) mutation
+no_set words none (Set key value) set = none set.0 (set.1 ∷ []) key (cc) set.3
+no_set words none (Clear key) clear = cc
 
-pub no_submit : (words : List (List ℕ)) → ((a : ℕ) → (b : ℕ) → ¬ WritesTwo words a b) → IsNoRest Submit words
-unfolding IsNoRest
-no_submit words none step rest = none rest.0 rest.1 rest.2
+-- a get, a set and a clear whose key is refused
+pub get_refused : (words behind : List (List ℕ)) (session : ℕ) (text key : List ℕ) (fault : Fault) → ((x : List ℕ) × (words ≡ x ∷ behind) × WritesSmall x session) → ((y : List ℕ) × (behind ≡ y ∷ []) × WritesText y text) → key ≡ text → MatchFault fault ⊥ (λ why. key_fault key ≡ Some why) → Reads (Err fault) (WritesRest Get words) step_fault
+get_refused words behind session text key fault first second same refused =
+    Reads-refused fault (key_fault key) _ _ refused (made.Get session text false) (session, text, (first.0, second.0, (cc), first.2, second.2), refl) (ap key_fault (sym same))
 
-pub no_resolve : (words : List (List ℕ)) → ((a : ℕ) → (b : ℕ) → ¬ WritesTwo words a b) → IsNoRest Resolve words
-unfolding IsNoRest
-no_resolve words none step rest = none rest.0 rest.1 rest.2
+pub set_refused : (words behind : List (List ℕ)) (text key value : List ℕ) (fault : Fault) → ((x : List ℕ) × (words ≡ x ∷ behind) × WritesText x text) → ((y : List ℕ) × (behind ≡ y ∷ []) × WritesText y value) → key ≡ text → MatchFault fault ⊥ (λ why. key_fault key ≡ Some why) → Reads (Err fault) (WritesMutation (codes "set" ∷ words)) mutation_fault
+set_refused words behind text key value fault first second same refused =
+    Reads-refused fault (key_fault key) _ _ refused (Set text value) (first.0, second.0, (cc), first.2, second.2) (ap key_fault (sym same))
 
-pub no_verdict : (words : List (List ℕ)) → ((a : ℕ) → (b : ℕ) → ¬ WritesTwo words a b) → IsNoRest Verdict words
-unfolding IsNoRest
-no_verdict words none step rest = none rest.0 rest.1 rest.2
+pub clear_refused : (words : List (List ℕ)) (text key : List ℕ) (fault : Fault) → ((x : List ℕ) × (words ≡ x ∷ []) × WritesText x text) → key ≡ text → MatchFault fault ⊥ (λ why. key_fault key ≡ Some why) → Reads (Err fault) (WritesMutation (codes "clear" ∷ words)) mutation_fault
+clear_refused words text key fault first same refused =
+    Reads-refused fault (key_fault key) _ _ refused (Clear text) (first.0, (cc), first.2) (ap key_fault (sym same))
 
-pub no_push : (words : List (List ℕ)) → ((a : ℕ) → (b : ℕ) → ¬ WritesTwo words a b) → IsNoRest Push words
-unfolding IsNoRest
-no_push words none step rest = none rest.0 rest.1 rest.2
-
-pub no_logged : (words : List (List ℕ)) → ((a : ℕ) → (b : ℕ) → ¬ WritesTwo words a b) → IsNoRest Logged words
-unfolding IsNoRest
-no_logged words none step rest = none rest.0 rest.1 rest.2
-
-pub no_pull : (words : List (List ℕ)) → ((a : ℕ) → (b : ℕ) → ¬ WritesTwo words a b) → IsNoRest Pull words
-unfolding IsNoRest
-no_pull words none step rest = none rest.0 rest.1 rest.2
-
-pub no_grant : (words : List (List ℕ)) → ((a : ℕ) → ¬ WritesOne words a) → IsNoRest Grant words
-unfolding IsNoRest
-no_grant words none step rest = none rest.0 rest.1
-
-pub no_decide : (words : List (List ℕ)) → ((a : ℕ) → ¬ WritesOne words a) → IsNoRest Decide words
-unfolding IsNoRest
-no_decide words none step rest = none rest.0 rest.1
-
-pub no_report : (words : List (List ℕ)) → ((a : ℕ) → ¬ WritesOne words a) → IsNoRest Report words
-unfolding IsNoRest
-no_report words none step rest = none rest.0 rest.1
-
-pub no_answer : (words : List (List ℕ)) → ((a : ℕ) → ¬ WritesOne words a) → IsNoRest Answer words
-unfolding IsNoRest
-no_answer words none step rest = none rest.0 rest.1
-
--- a get without a session's number, and one without a byte text behind it
-pub no_get-number : (words : List (List ℕ)) → ((word : List ℕ) → (rest : List (List ℕ)) → (value : ℕ) → words ≡ word ∷ rest → ¬ WritesSmall word value) → IsNoRest Get words
-unfolding IsNoRest
-no_get-number words none step rest = none rest.2.0 (rest.2.1 ∷ []) rest.0 rest.2.2 rest.2.3
-
-pub no_get-text : (words : List (List ℕ)) (first : List ℕ) (behind : List (List ℕ)) → words ≡ first ∷ behind → ((word : List ℕ) → (bytes : List ℕ) → behind ≡ word ∷ [] → ¬ WritesText word bytes) → IsNoRest Get words
-unfolding IsNoRest
-no_get-text words first behind is none step rest =
-    none rest.2.1 rest.1 (ap (λ (ws : List (List ℕ)). drop 1 ws) (sym is ∙ rest.2.2)) rest.2.4
+-- a write without a mutation, and one whose key is refused
+pub write_fault : (words behind : List (List ℕ)) (session : ℕ) (fault : Fault) → ((x : List ℕ) × (words ≡ x ∷ behind) × WritesSmall x session) → Reads (Err fault) (WritesMutation behind) mutation_fault → Reads (Err fault) (WritesRest Write words) step_fault
+write_fault words behind session fault first found =
+    Reads-whole fault (WritesMutation behind) mutation_fault _ _ found
+    (λ none step write. let more = write.2 in let same : more.1 ≡ behind = cc in none write.1 (rw same at more.4))
+    (λ mutation written. (made.Write session mutation, (session, mutation, (first.0, behind, first.1, first.2, written), refl), refl))
 
 behind_first : {first second : List ℕ} {words rest : List (List ℕ)} → first ∷ words ≡ second ∷ rest → words ≡ rest
 behind_first is = ap (λ (ws : List (List ℕ)). drop 1 ws) is
 
 first_of : {first second : List ℕ} {words rest : List (List ℕ)} → first ∷ words ≡ second ∷ rest → first ≡ second
 first_of is = ap (λ (ws : List (List ℕ)). get_or ws 0 []) is
-
--- a set is no clear
-no_clear : {words rest : List (List ℕ)} → codes "set" ∷ words ≡ codes "clear" ∷ rest → ⊥
-no_clear is = let letters : ◌≡◌ {A = ℕ} 115 99 = ap (λ (word : List ℕ). get_or word 0 0) (first_of is) in absurd (omega (arith, letters))
-
--- a set without a byte text, and one without a second one behind it
-pub no_set-text : (words : List (List ℕ)) → ((word : List ℕ) → (rest : List (List ℕ)) → (bytes : List ℕ) → words ≡ word ∷ rest → ¬ WritesText word bytes) → (mutation : Mutation) → ¬ WritesMutation (codes "set" ∷ words) mutation
-no_set-text words none (Set key value) set = none set.0 (set.1 ∷ []) key (behind_first set.2) set.3
-no_set-text words none (Clear key) clear = no_clear clear.1
-
-pub no_set-value : (words : List (List ℕ)) (first : List ℕ) (behind : List (List ℕ)) → words ≡ first ∷ behind → ((word : List ℕ) → (bytes : List ℕ) → behind ≡ word ∷ [] → ¬ WritesText word bytes) → (mutation : Mutation) → ¬ WritesMutation (codes "set" ∷ words) mutation
-no_set-value words first behind is none (Set key value) set = none set.1 value (behind_first (sym is ∙ behind_first set.2)) set.4
-no_set-value words first behind is none (Clear key) clear = no_clear clear.1
 
 -- the kind that a word names, by the word's first three letters
 letters_of : List ℕ → ℕ
@@ -122,19 +87,15 @@ kind_of_name Pull = refl
 same_kind : (kind other : Kind) → name_of kind ≡ name_of other → kind ≡ other
 same_kind kind other is = sym (kind_of_name kind) ∙ ap (λ word. kind_of_letters (letters_of word)) is ∙ kind_of_name other
 
--- a line without a word, one with another first word, and one with other words behind the first
-pub no_step-empty : (words : List (List ℕ)) → words ≡ [] → IsNoStep words
-unfolding IsNoStep
-no_step-empty words empty kind rest is =
-    let lengths : 0 ≡ length (name_of kind ∷ rest) = ap (λ (ws : List (List ℕ)). length ws) (sym empty ∙ is) in absurd (omega arith)
+no_step : (line : List ℕ) (first : List ℕ) (behind : List (List ℕ)) (named : Kind) → words_of line ≡ first ∷ behind → first ≡ name_of named → ((step : Step) → ¬ WritesRest named behind step) → (kind : Kind) (step : Step) → ¬ WritesStep line kind step
+no_step line first behind named words_are first_is none kind step written =
+    let same : named ≡ kind = same_kind named kind (sym first_is ∙ first_of (sym words_are ∙ written.1)) in
+    let rests : behind ≡ written.0 = behind_first (sym words_are ∙ written.1) in
+    none step (rw (same, rests) written.2)
 
-pub no_step-name : (words : List (List ℕ)) (first : List ℕ) (behind : List (List ℕ)) → words ≡ first ∷ behind → ((kind : Kind) → first ≢ name_of kind) → IsNoStep words
-unfolding IsNoStep
-no_step-name words first behind words_is other kind rest is = absurd (other kind (first_of (sym words_is ∙ is)))
-
-pub no_step-rest : (words : List (List ℕ)) (first : List ℕ) (behind : List (List ℕ)) (named : Kind) → words ≡ first ∷ behind → first ≡ name_of named → IsNoRest named behind → IsNoStep words
-unfolding IsNoStep
-no_step-rest words first behind named words_is first_is none kind rest is =
-    let same : named ≡ kind = same_kind named kind (sym first_is ∙ first_of (sym words_is ∙ is)) in
-    let rests : behind ≡ rest = behind_first (sym words_is ∙ is) in
-    rw (← same, ← rests) none
+-- a line whose words behind the first one write no step, and one whose key is refused
+pub step_of_rest : (line : List ℕ) (first : List ℕ) (behind : List (List ℕ)) (named : Kind) (fault : Fault) → words_of line ≡ first ∷ behind → first ≡ name_of named → Reads (Err fault) (WritesRest named behind) step_fault → Reads {T = Kind × Step} (Err fault) (λ read. WritesStep line read.0 read.1) (λ read. step_fault read.1)
+step_of_rest line first behind named fault words_are first_is found =
+    Reads-whole {Whole = Kind × Step} fault (WritesRest named behind) step_fault _ _ found
+    (λ none read. no_step line first behind named words_are first_is none read.0 read.1)
+    (λ step written. ((named, step), (behind, words_are ∙ ap (λ (word : List ℕ). word ∷ behind) first_is, written), refl))

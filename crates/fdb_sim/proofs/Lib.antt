@@ -1,5 +1,10 @@
+mod CommandsLemmas
+mod ConfigsLemmas
+mod FaultsLemmas
 mod GrammarLemmas
+mod LinesLemmas
 mod NumbersLemmas
 mod ReadBack
+mod ScriptLemmas
 mod TextsLemmas
 mod WordsLemmas

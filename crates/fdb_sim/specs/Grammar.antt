@@ -1,6 +1,8 @@
 -- The lines that give a step, each as the words that write it.
-use Rattle.std.specs.Prelude.{◌≡◌, ℕ, ◌^◌, ◌<◌, false, List, [], ◌∷◌, Some, codes}
+use Rattle.std.specs.Prelude.{◌≡◌, ℕ, ◌^◌, ◌<◌, false, List, [], ◌∷◌, Option, Some, None, codes}
 use Rattle.std.specs.Str.Parse.{IsNumeral, digits_value}
+use Rattle.fdb_keys.specs.Texts.{key_fault}
+use Rattle.fdb_keys.specs.declared.refusal.Refusal.{Refusal}
 use Rattle.fdb_core.specs.declared.step.Step.{Step}
 use Rattle.fdb_core.specs.declared.step.Step.TheVariants as made
 use Rattle.fdb_mutations.specs.declared.mutation.Mutation.{Mutation}
@@ -9,6 +11,7 @@ use Rattle.fdb_sim.specs.declared.step_line.Kind.{Kind}
 use Rattle.fdb_sim.specs.declared.step_line.Kind.TheVariants.{Ask, Grant, Get, Write, Submit, Seal, Resolve, Verdict, Decide, Push, Logged, Report, Answer, Pull}
 use Rattle.fdb_sim.specs.Kinds.{name_of}
 use Rattle.fdb_sim.specs.Texts.{value_of}
+use Rattle.fdb_sim.specs.Words.{words_of}
 
 -- the word writes the number, which is below 2^64, by digits alone
 abbrev pub WritesNumber : List ℕ → ℕ → Type 0
@@ -68,10 +71,17 @@ WritesRest Report words step = (proxy : ℕ) × WritesOne words proxy × (step �
 WritesRest Answer words step = (proxy : ℕ) × WritesOne words proxy × (step ≡ made.Answer proxy)
 WritesRest Pull words step = (shard : ℕ) × (limit : ℕ) × WritesTwo words shard limit × (step ≡ made.Pull shard limit)
 
--- no step is what such words write
-unfoldable pub IsNoRest : Kind → List (List ℕ) → Type 0
-IsNoRest kind words = (step : Step) → ¬ WritesRest kind words step
+-- the words of the line are the kind's name and then words that write the step
+abbrev pub WritesStep : List ℕ → Kind → Step → Type 0
+WritesStep line kind step = (rest : List (List ℕ)) × (words_of line ≡ name_of kind ∷ rest) × WritesRest kind rest step
 
--- the words are no line that gives a step
-unfoldable pub IsNoStep : List (List ℕ) → Type 0
-IsNoStep words = (kind : Kind) → (rest : List (List ℕ)) → words ≡ name_of kind ∷ rest → IsNoRest kind rest
+-- why the mutation's key is no key
+abbrev pub mutation_fault : Mutation → Option Refusal
+mutation_fault (Set key value) = key_fault key
+mutation_fault (Clear key) = key_fault key
+
+-- why the step's key, if it has one, is no key
+abbrev pub step_fault : Step → Option Refusal
+step_fault (made.Get session key snapshot) = key_fault key
+step_fault (made.Write session mutation) = mutation_fault mutation
+step_fault other = None

@@ -1,4 +1,10 @@
+pub mod Lines
+pub mod Faults
 pub mod Texts
 pub mod Words
 pub mod Grammar
 pub mod Kinds
+pub mod Configs
+pub mod Answers
+pub mod Scripts
+pub mod Commands

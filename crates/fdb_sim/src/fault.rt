@@ -1,5 +1,6 @@
-ghost use Rattle.std.specs.Prelude.{◌≡◌, ◌≢◌};
-ghost use Rattle.fdb_sim.specs.declared.fault.Fault.TheVariants.{Bad, NoMemory};
+ghost use Rattle.std.specs.Prelude.{◌≡◌};
+ghost use Rattle.fdb_sim.specs.Faults.{fault_of};
+ghost use Rattle.fdb_sim.specs.declared.fault.Fault.TheVariants.{NoMemory};
 
 use fdb_keys::Refusal;
 use std::alloc::{AllocError, AllocFailed};
@@ -32,7 +33,7 @@ impl<T: Drop> From<AllocFailed<T>> for Fault {
 }
 
 impl From<Refusal> for Fault {
-    ghost from_gives = { λ _ fault. fault ≢ Bad };
+    ghost from_gives = { λ refusal fault. fault ≡ fault_of refusal };
 
     fn from(refusal: Refusal) -> Fault {
         match refusal {

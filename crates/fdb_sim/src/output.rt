@@ -1,3 +1,9 @@
+// What is printed of a step: what it answered, or why it was refused.
+ghost use Rattle.std.specs.Prelude.{◌≡◌, ◌++◌, Some, OnOk, string_bytes};
+ghost use Rattle.std.specs.Fmt.{decimal};
+ghost use Rattle.fdb_keys.specs.Refusals.{code_of};
+ghost use Rattle.fdb_sim.specs.Answers.{refusal_name, refusal_text, granted_text, value_text, verdict_name, verdicts_text, outcome_name, outcomes_text, version_text, told_text, clients_text, answer_text};
+
 use crate::step_line::Kind;
 use crate::texts::push_text;
 use bytes::Bytes;
@@ -11,6 +17,8 @@ use std::fmt;
 pub struct RefusalLine(pub Refusal);
 
 impl fmt::Display for RefusalLine {
+    ghost output = { λ line. Some (refusal_text line.0) };
+
     fn fmt<W: fmt::Write>(&self, f: &mut fmt::Formatter<W>) -> fmt::Result {
         let code = self.0.code();
         let name = refusal_name(self.0);
@@ -22,7 +30,9 @@ impl fmt::Display for RefusalLine {
     }
 }
 
-fn refusal_name(refusal: Refusal) -> &'static str {
+fn refusal_name(refusal: Refusal) -> &'static str
+    ensures { result.now ≡ refusal_name refusal }
+{
     match refusal {
         Refusal::TransactionTooOld => "TransactionTooOld",
         Refusal::FutureVersion => "FutureVersion",
@@ -52,8 +62,10 @@ fn refusal_name(refusal: Refusal) -> &'static str {
     }
 }
 
-/// Writes what a step of this kind answered, as a script prints it.
-pub fn push_answer(text: &mut String, kind: Kind, answered: &Answered) -> Result<(), AllocError> {
+/// Appends what a step of this kind answered, as a script prints it. Only want of memory is an error.
+pub fn push_answer(text: &mut String, kind: Kind, answered: &Answered) -> Result<(), AllocError>
+    ensures { OnOk result (string_bytes text.new ≡ string_bytes text.old ++ answer_text kind answered.now) }
+{
     match answered {
         Answered::Done => text.push_str("ok"),
         Answered::Granted(served) => push_granted(text, served.as_slice()),
@@ -75,7 +87,9 @@ pub fn push_answer(text: &mut String, kind: Kind, answered: &Answered) -> Result
     }
 }
 
-fn push_granted(text: &mut String, served: &[(u32, u64)]) -> Result<(), AllocError> {
+fn push_granted(text: &mut String, served: &[(u32, u64)]) -> Result<(), AllocError>
+    ensures { OnOk result (string_bytes text.new ≡ string_bytes text.old ++ granted_text served.now) }
+{
     text.push_str("grant")?;
     for (session, version) in served {
         write!(text, " {session}={version}")?;
@@ -83,7 +97,9 @@ fn push_granted(text: &mut String, served: &[(u32, u64)]) -> Result<(), AllocErr
     Ok(())
 }
 
-fn push_value(text: &mut String, value: &Option<Bytes>) -> Result<(), AllocError> {
+fn push_value(text: &mut String, value: &Option<Bytes>) -> Result<(), AllocError>
+    ensures { OnOk result (string_bytes text.new ≡ string_bytes text.old ++ value_text value.now) }
+{
     match value {
         None => text.push_str("none"),
         Some(bytes) => {
@@ -93,16 +109,20 @@ fn push_value(text: &mut String, value: &Option<Bytes>) -> Result<(), AllocError
     }
 }
 
-fn push_verdicts(text: &mut String, verdicts: &[(u32, Verdict)]) -> Result<(), AllocError> {
+fn push_verdicts(text: &mut String, verdicts: &[(u32, Verdict)]) -> Result<(), AllocError>
+    ensures { OnOk result (string_bytes text.new ≡ string_bytes text.old ++ verdicts_text verdicts.now) }
+{
     text.push_str("verdict")?;
     for (place, verdict) in verdicts {
-        let name = verdict_name(*verdict);
-        write!(text, " {place}={name}")?;
+        let verdict = verdict_name(*verdict);
+        write!(text, " {place}={verdict}")?;
     }
     Ok(())
 }
 
-fn verdict_name(verdict: Verdict) -> &'static str {
+fn verdict_name(verdict: Verdict) -> &'static str
+    ensures { result.now ≡ verdict_name verdict }
+{
     match verdict {
         Verdict::Yes => "yes",
         Verdict::Conflict => "conflict",
@@ -110,16 +130,20 @@ fn verdict_name(verdict: Verdict) -> &'static str {
     }
 }
 
-fn push_decided(text: &mut String, outcomes: &[Outcome]) -> Result<(), AllocError> {
+fn push_decided(text: &mut String, outcomes: &[Outcome]) -> Result<(), AllocError>
+    ensures { OnOk result (string_bytes text.new ≡ string_bytes text.old ++ outcomes_text outcomes.now) }
+{
     text.push_str("decided")?;
     for (place, outcome) in outcomes.iter().enumerate() {
-        let name = outcome_name(*outcome);
-        write!(text, " {place}={name}")?;
+        let outcome = outcome_name(*outcome);
+        write!(text, " {place}={outcome}")?;
     }
     Ok(())
 }
 
-fn outcome_name(outcome: Outcome) -> &'static str {
+fn outcome_name(outcome: Outcome) -> &'static str
+    ensures { result.now ≡ outcome_name outcome }
+{
     match outcome {
         Outcome::Commit { .. } => "commit",
         Outcome::Conflict => "conflict",
@@ -128,14 +152,18 @@ fn outcome_name(outcome: Outcome) -> &'static str {
 }
 
 // A report answers the committed version, and a pull the shard's.
-fn push_version(text: &mut String, kind: Kind, version: u64) -> Result<(), AllocError> {
+fn push_version(text: &mut String, kind: Kind, version: u64) -> Result<(), AllocError>
+    ensures { OnOk result (string_bytes text.new ≡ string_bytes text.old ++ version_text kind version) }
+{
     match kind {
         Kind::Pull => write!(text, "through {version}"),
         _ => write!(text, "committed {version}"),
     }
 }
 
-fn push_answers(text: &mut String, answers: &[(u32, Outcome)]) -> Result<(), AllocError> {
+fn push_answers(text: &mut String, answers: &[(u32, Outcome)]) -> Result<(), AllocError>
+    ensures { OnOk result (string_bytes text.new ≡ string_bytes text.old ++ clients_text answers.now) }
+{
     text.push_str("answer")?;
     for (session, outcome) in answers {
         write!(text, " {session}=")?;
@@ -145,7 +173,9 @@ fn push_answers(text: &mut String, answers: &[(u32, Outcome)]) -> Result<(), All
 }
 
 // What a client is told: where its transaction stands, or the refusal's number.
-fn push_outcome(text: &mut String, outcome: Outcome) -> Result<(), AllocError> {
+fn push_outcome(text: &mut String, outcome: Outcome) -> Result<(), AllocError>
+    ensures { OnOk result (string_bytes text.new ≡ string_bytes text.old ++ told_text outcome) }
+{
     match outcome {
         Outcome::Commit { version, place } => write!(text, "{version}/{place}"),
         Outcome::Conflict => push_code(text, Refusal::NotCommitted),
@@ -153,7 +183,9 @@ fn push_outcome(text: &mut String, outcome: Outcome) -> Result<(), AllocError> {
     }
 }
 
-fn push_code(text: &mut String, refusal: Refusal) -> Result<(), AllocError> {
+fn push_code(text: &mut String, refusal: Refusal) -> Result<(), AllocError>
+    ensures { OnOk result (string_bytes text.new ≡ string_bytes text.old ++ decimal (code_of refusal)) }
+{
     let code = refusal.code();
     write!(text, "{code}")
 }

@@ -1,4 +1,11 @@
-ghost use Rattle.std.specs.Prelude.{◌≡◌, ◌<◌, ◌≤◌, IfOk};
+ghost use Rattle.std.specs.Prelude.{◌≡◌, ◌<◌, ◌≤◌, ◌++◌, suc, ℕ, List, [], ◌∷◌, Some, None, true, false, IfOk, IfErr, OnOk, IfSome, string_bytes};
+ghost use Rattle.std.specs.Io.KnownBytes.{Appends};
+ghost use Rattle.fdb_keys.specs.declared.refusal.Refusal.TheVariants.{NoMemory};
+ghost use Rattle.fdb_core.specs.Worlds.{IsStep, config_fault, start};
+ghost use Rattle.fdb_sim.specs.Answers.{result_text};
+ghost use Rattle.fdb_sim.specs.Configs.{WritesConfig, line_fault};
+ghost use Rattle.fdb_sim.specs.Lines.{left, lines_of, line_text, line_number};
+ghost use Rattle.fdb_sim.specs.Scripts.{printed_line, refused_line, is_silent, IsChecked, AnswersLine, PlaysOn, PlaysFrom, Plays, Unconfigured, StopsAt, stop_text, Printed, Knows, Says, Reaches};
 
 use crate::config_line::read_config;
 use crate::fault::Fault;
@@ -23,7 +30,8 @@ const ENDED: u8 = 2;
 
 /// Runs the script that the reader gives, and writes what it prints to the writer, which isn't flushed.
 /// Answers the status: 0 where the check at the end held, 1 where it failed, and 2 where the script ended
-/// before, by a bad line, by a refused configuration or for want of memory.
+/// before, by a bad line, by a refused configuration or for want of memory. What is printed and the status
+/// are said of a reader whose bytes and a writer whose contents are known, as those over memory.
 ///
 /// A read or a write that fails is answered as that error, and what was written then is a prefix of what
 /// the script prints. A read that was interrupted did not fail, and is made again. A reader that does not
@@ -33,7 +41,9 @@ pub fn run_script<R: Read, W: Write>(
     reader: &mut R,
     writer: &mut W,
 ) -> Result<u8, io::Error>
-    ensures { IfOk result (λ status. status ≤ 2) }
+    ensures bound { IfOk result (λ status. status ≤ 2) }
+    ensures printed { IfOk result (λ status. Printed (W.contents writer.old) (W.contents writer.new) (λ printed.
+        Knows (R.remaining reader.old) (λ lines. Plays 0 lines printed status))) }
 {
     match run_to_end(alloc, reader, writer) {
         Ok(status) => Ok(status),
@@ -42,30 +52,41 @@ pub fn run_script<R: Read, W: Write>(
 }
 
 fn run_to_end<R: Read, W: Write>(alloc: Global, reader: &mut R, writer: &mut W) -> Result<u8, Stop>
-    ensures { IfOk result (λ status. status < 2) }
+    ensures bound { IfOk result (λ status. status < 2) }
+    ensures printed { IfOk result (λ status. Printed (W.contents writer.old) (W.contents writer.new) (λ printed.
+        Knows (R.remaining reader.old) (λ lines. Plays 0 lines printed status))) }
+    ensures stops { IfErr result (λ stop. Says stop (λ last. Printed (W.contents writer.old) (W.contents writer.new) (λ printed.
+        Knows (R.remaining reader.old) (λ lines. Plays 0 lines (printed ++ last) 2)))) }
 {
-    let mut lines = Lines::new(alloc)?;
-    let config = first_config(alloc, &mut lines, reader)?;
+    let mut lines = Lines::new(alloc, reader)?;
+    let config = first_config(alloc, &mut lines)?;
     let mut world = make_world(alloc, config)?;
     writer.write_all(b"ok\n")?;
-    take_steps(alloc, &mut lines, &mut world, reader, writer)?;
-    print_check(&world, writer)
+    take_steps(alloc, &mut lines, &mut world, writer)
 }
 
 // The configuration, which stands in the first line that says anything.
-fn first_config<R: Read>(alloc: Global, lines: &mut Lines, reader: &mut R) -> Result<Config, Stop> {
+fn first_config<R: Read + Drop>(alloc: Global, lines: &mut Lines<R>) -> Result<Config, Stop>
+    ensures ok { IfOk result (λ config. Reaches (left R.remaining lines.old) (left R.remaining lines.new) []
+        (Plays (line_number lines.old)) (PlaysFrom (line_number lines.new) config)) }
+    ensures stops { IfErr result (λ stop. Says stop (λ last.
+        Knows (left R.remaining lines.old) (λ all. Plays (line_number lines.old) all last 2))) }
+{
     for _ in 0..u64::MAX {
-        if !lines.advance(reader)? {
-            break;
+        if !lines.advance()? {
+            return Err(Stop::BadLine(0));
         }
         if !is_silent(lines.text()) {
             return config_of(alloc, lines);
         }
     }
-    Err(Stop::BadLine(0))
+    Err(Stop::Io(too_many_lines()))
 }
 
-fn config_of(alloc: Global, lines: &Lines) -> Result<Config, Stop> {
+fn config_of<R: Read + Drop>(alloc: Global, lines: &Lines<R>) -> Result<Config, Stop>
+    ensures ok { IfOk result (λ config. WritesConfig (line_text lines.now) config × (line_fault config ≡ None)) }
+    ensures stops { IfErr result (λ stop. Says stop (λ last. Unconfigured (line_number lines.now) (line_text lines.now) last 2)) }
+{
     match read_config(alloc, lines.text()) {
         Ok(config) => Ok(config),
         Err(Fault::Bad) => Err(Stop::BadLine(lines.number())),
@@ -74,24 +95,33 @@ fn config_of(alloc: Global, lines: &Lines) -> Result<Config, Stop> {
     }
 }
 
-fn make_world(alloc: Global, config: Config) -> Result<World, Stop> {
+fn make_world(alloc: Global, config: Config) -> Result<World, Stop>
+    ensures ok { IfOk result (λ world. (config_fault config ≡ None) × (world ≡ Some (start config))) }
+    ensures stops { IfErr result (λ stop. Says stop (λ last. (number : ℕ) (lines : List (List ℕ)) → PlaysFrom number config lines last 2)) }
+{
     match World::new(alloc, config) {
         Ok(world) => Ok(world),
         Err(refusal) => Err(Stop::Refused(refusal)),
     }
 }
 
-fn take_steps<R: Read, W: Write>(
+// Takes the steps of the lines that are left, and prints what each answers and what the check found.
+fn take_steps<R: Read + Drop, W: Write>(
     alloc: Global,
-    lines: &mut Lines,
+    lines: &mut Lines<R>,
     world: &mut World,
-    reader: &mut R,
     writer: &mut W,
-) -> Result<(), Stop> {
+) -> Result<u8, Stop>
+    ensures bound { IfOk result (λ status. status < 2) }
+    ensures printed { IfOk result (λ status. Printed (W.contents writer.old) (W.contents writer.new) (λ printed.
+        Knows (left R.remaining lines.old) (λ all. PlaysOn (line_number lines.old) world.old all printed status))) }
+    ensures stops { IfErr result (λ stop. Says stop (λ last. Printed (W.contents writer.old) (W.contents writer.new) (λ printed.
+        Knows (left R.remaining lines.old) (λ all. PlaysOn (line_number lines.old) world.old all (printed ++ last) 2)))) }
+{
     let mut text = String::new(alloc);
     for _ in 0..u64::MAX {
-        if !lines.advance(reader)? {
-            break;
+        if !lines.advance()? {
+            return print_check(world, writer);
         }
         if !is_silent(lines.text()) {
             text.clear();
@@ -99,52 +129,66 @@ fn take_steps<R: Read, W: Write>(
             writer.write_all(text.as_bytes())?;
         }
     }
-    Ok(())
+    Err(Stop::Io(too_many_lines()))
 }
 
 // A line that prints nothing.
-fn is_silent(line: &[u8]) -> bool {
+fn is_silent(line: &[u8]) -> bool
+    ensures { result ≡ is_silent line.now }
+{
     match line {
         [] | [b'#', ..] => true,
         _ => false,
     }
 }
 
-// Takes the step that the current line gives, and writes what the line prints.
-fn take_line(
+// Takes the step that the current line gives, and writes what the line prints to the empty text.
+fn take_line<R: Read + Drop>(
     alloc: Global,
-    lines: &Lines,
+    lines: &Lines<R>,
     world: &mut World,
     text: &mut String,
-) -> Result<(), Stop> {
+) -> Result<(), Stop>
+    ensures ok { OnOk result ((said : List ℕ) × (string_bytes text.new ≡ string_bytes text.old ++ said) × AnswersLine (line_text lines.now) world.old said world.new) }
+    ensures stops { IfErr result (λ stop. Says stop (λ last. StopsAt (line_number lines.now) (line_text lines.now) last 2)) }
+{
     match read_step(alloc, lines.text()) {
-        Ok((kind, step)) => push_outcome(text, kind, world.step(step))?,
-        Err(Fault::Refused(refusal)) => push_refusal(text, refusal)?,
-        Err(Fault::Bad) => return Err(Stop::BadLine(lines.number())),
-        Err(Fault::NoMemory) => return Err(Stop::NoMemory),
+        Ok((kind, step)) => Ok(push_result(text, kind, world.step(step))?),
+        Err(Fault::Refused(refusal)) => Ok(push_refusal(text, refusal)?),
+        Err(Fault::Bad) => Err(Stop::BadLine(lines.number())),
+        Err(Fault::NoMemory) => Err(Stop::NoMemory),
     }
-    text.push('\n')?;
-    Ok(())
 }
 
-fn push_outcome(
+// Writes what a step of this kind prints, as a line.
+fn push_result(
     text: &mut String,
     kind: Kind,
     outcome: Result<Answered, Refusal>,
-) -> Result<(), AllocError> {
+) -> Result<(), AllocError>
+    ensures { OnOk result (string_bytes text.new ≡ string_bytes text.old ++ printed_line (result_text kind outcome)) }
+{
     match outcome {
-        Ok(answered) => push_answer(text, kind, &answered),
+        Ok(answered) => {
+            push_answer(text, kind, &answered)?;
+            text.push('\n')
+        }
         Err(refusal) => push_refusal(text, refusal),
     }
 }
 
-fn push_refusal(text: &mut String, refusal: Refusal) -> Result<(), AllocError> {
+fn push_refusal(text: &mut String, refusal: Refusal) -> Result<(), AllocError>
+    ensures { OnOk result (string_bytes text.new ≡ string_bytes text.old ++ refused_line refusal) }
+{
     let line = RefusalLine(refusal);
-    write!(text, "{line}")
+    writeln!(text, "{line}")
 }
 
+// Prints what the check at the end found.
 fn print_check<W: Write>(world: &World, writer: &mut W) -> Result<u8, Stop>
-    ensures { IfOk result (λ status. status < 2) }
+    ensures bound { IfOk result (λ status. status < 2) }
+    ensures printed { IfOk result (λ status. Printed (W.contents writer.old) (W.contents writer.new) (λ printed. IsChecked world.now printed status)) }
+    ensures stops { IfErr result (λ stop. Says stop (λ last. Printed (W.contents writer.old) (W.contents writer.new) (λ printed. IsChecked world.now (printed ++ last) 2))) }
 {
     match world.check() {
         Ok(count) => {
@@ -167,7 +211,8 @@ fn print_check<W: Write>(world: &World, writer: &mut W) -> Result<u8, Stop>
 
 // Prints why the script ended early. It takes no memory.
 fn print_stop<W: Write>(stop: Stop, writer: &mut W) -> Result<u8, io::Error>
-    ensures { IfOk result (λ status. status ≡ ENDED) }
+    ensures status { IfOk result (λ status. status ≡ ENDED) }
+    ensures printed { OnOk result ((last : List ℕ) × (stop_text stop ≡ Some last) × Appends (W.contents writer.old) (W.contents writer.new) last) }
 {
     match stop {
         Stop::BadLine(number) => writeln!(writer, "bad line {number}")?,
@@ -178,7 +223,13 @@ fn print_stop<W: Write>(stop: Stop, writer: &mut W) -> Result<u8, io::Error>
     Ok(ENDED)
 }
 
-fn print_refusal<W: Write>(refusal: Refusal, writer: &mut W) -> Result<(), io::Error> {
+fn print_refusal<W: Write>(refusal: Refusal, writer: &mut W) -> Result<(), io::Error>
+    ensures { OnOk result (Appends (W.contents writer.old) (W.contents writer.new) (refused_line refusal)) }
+{
     let line = RefusalLine(refusal);
     writeln!(writer, "{line}")
+}
+
+fn too_many_lines() -> io::Error {
+    io::Error::other("the script did not end")
 }

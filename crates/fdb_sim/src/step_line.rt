@@ -1,8 +1,7 @@
-ghost use Rattle.std.specs.Prelude.{◌≡◌, ◌≢◌, ℕ, List, ◌∷◌, IfOk, IfErr, MatchResult, codes};
-ghost use Rattle.fdb_mutations.specs.declared.mutation.Mutation.{Mutation};
-ghost use Rattle.fdb_sim.specs.Grammar.{IsNoRest, IsNoStep, WritesMutation, WritesRest};
+ghost use Rattle.std.specs.Prelude.{◌≡◌, ◌≢◌, ◌∷◌, MatchResult, codes};
+ghost use Rattle.fdb_sim.specs.Faults.{Reads};
+ghost use Rattle.fdb_sim.specs.Grammar.{WritesMutation, WritesRest, WritesStep, mutation_fault, step_fault};
 ghost use Rattle.fdb_sim.specs.Kinds.{name_of};
-ghost use Rattle.fdb_sim.specs.Words.{words_of};
 
 use crate::fault::Fault;
 use crate::keys::make_key;
@@ -32,10 +31,9 @@ pub enum Kind {
 }
 
 /// The step that the line gives, with the kind of the line. A line of another form is bad, also where
-/// its key would be refused.
+/// its key would be refused. Refused as `make_key` refuses its key.
 pub fn read_step(alloc: Global, line: &[u8]) -> Result<(Kind, Step), Fault>
-    ensures bad { IfErr result (λ fault. fault ≡ Fault.Bad → IsNoStep (words_of line.now)) }
-    ensures ok { IfOk result (λ read. (rest : List (List ℕ)) × (words_of line.now ≡ name_of read.0 ∷ rest) × WritesRest read.0 rest read.1) }
+    ensures { Reads result (λ read. WritesStep line.now read.0 read.1) (λ read. step_fault read.1) }
 {
     let mut words = Words::new(line);
     let first = words.word()?;
@@ -68,8 +66,7 @@ fn kind_named(word: &[u8]) -> Result<Kind, Fault>
 
 // The step that the words behind the first one give.
 fn read_words(alloc: Global, kind: Kind, words: &mut Words<'_>) -> Result<Step, Fault>
-    ensures ok { IfOk result (λ step. WritesRest kind words.old step) }
-    ensures bad { IfErr result (λ fault. fault ≡ Fault.Bad → IsNoRest kind words.old) }
+    ensures { Reads result (WritesRest kind words.old) step_fault }
 {
     match kind {
         Kind::Ask => read_ask(words),
@@ -90,24 +87,21 @@ fn read_words(alloc: Global, kind: Kind, words: &mut Words<'_>) -> Result<Step, 
 }
 
 fn read_ask(words: &mut Words<'_>) -> Result<Step, Fault>
-    ensures ok { IfOk result (λ step. WritesRest Kind.Ask words.old step) }
-    ensures bad { IfErr result (λ fault. fault ≡ Fault.Bad → IsNoRest Kind.Ask words.old) }
+    ensures { Reads result (WritesRest Kind.Ask words.old) step_fault }
 {
     let (session, proxy) = words.last_pair()?;
     Ok(Step::Ask { session, proxy })
 }
 
 fn read_grant(words: &mut Words<'_>) -> Result<Step, Fault>
-    ensures ok { IfOk result (λ step. WritesRest Kind.Grant words.old step) }
-    ensures bad { IfErr result (λ fault. fault ≡ Fault.Bad → IsNoRest Kind.Grant words.old) }
+    ensures { Reads result (WritesRest Kind.Grant words.old) step_fault }
 {
     let proxy = words.last_number()?;
     Ok(Step::Grant { proxy })
 }
 
 fn read_get(alloc: Global, words: &mut Words<'_>) -> Result<Step, Fault>
-    ensures ok { IfOk result (λ step. WritesRest Kind.Get words.old step) }
-    ensures bad { IfErr result (λ fault. fault ≡ Fault.Bad → IsNoRest Kind.Get words.old) }
+    ensures { Reads result (WritesRest Kind.Get words.old) step_fault }
 {
     let session = words.small_number()?;
     let text = words.last_text(alloc)?;
@@ -119,10 +113,8 @@ fn read_get(alloc: Global, words: &mut Words<'_>) -> Result<Step, Fault>
     })
 }
 
-#[tactic(auto, unfolding(crate::specs::Grammar::IsNoRest))]
 fn read_write(alloc: Global, words: &mut Words<'_>) -> Result<Step, Fault>
-    ensures ok { IfOk result (λ step. WritesRest Kind.Write words.old step) }
-    ensures bad { IfErr result (λ fault. fault ≡ Fault.Bad → IsNoRest Kind.Write words.old) }
+    ensures { Reads result (WritesRest Kind.Write words.old) step_fault }
 {
     let session = words.small_number()?;
     let mutation = read_mutation(alloc, words)?;
@@ -130,8 +122,7 @@ fn read_write(alloc: Global, words: &mut Words<'_>) -> Result<Step, Fault>
 }
 
 fn read_mutation(alloc: Global, words: &mut Words<'_>) -> Result<Mutation, Fault>
-    ensures ok { IfOk result (λ mutation. WritesMutation words.old mutation) }
-    ensures bad { IfErr result (λ fault. fault ≡ Fault.Bad → (mutation : Mutation) → ¬ WritesMutation words.old mutation) }
+    ensures { Reads result (WritesMutation words.old) mutation_fault }
 {
     match words.word()? {
         b"set" => read_set(alloc, words),
@@ -141,8 +132,7 @@ fn read_mutation(alloc: Global, words: &mut Words<'_>) -> Result<Mutation, Fault
 }
 
 fn read_set(alloc: Global, words: &mut Words<'_>) -> Result<Mutation, Fault>
-    ensures ok { IfOk result (λ mutation. WritesMutation (codes "set" ∷ words.old) mutation) }
-    ensures bad { IfErr result (λ fault. fault ≡ Fault.Bad → (mutation : Mutation) → ¬ WritesMutation (codes "set" ∷ words.old) mutation) }
+    ensures { Reads result (WritesMutation (codes "set" ∷ words.old)) mutation_fault }
 {
     let text = words.text(alloc)?;
     let value = words.last_text(alloc)?;
@@ -152,8 +142,7 @@ fn read_set(alloc: Global, words: &mut Words<'_>) -> Result<Mutation, Fault>
 }
 
 fn read_clear(alloc: Global, words: &mut Words<'_>) -> Result<Mutation, Fault>
-    ensures ok { IfOk result (λ mutation. WritesMutation (codes "clear" ∷ words.old) mutation) }
-    ensures bad { IfErr result (λ fault. fault ≡ Fault.Bad → (mutation : Mutation) → ¬ WritesMutation (codes "clear" ∷ words.old) mutation) }
+    ensures { Reads result (WritesMutation (codes "clear" ∷ words.old)) mutation_fault }
 {
     let text = words.last_text(alloc)?;
     let key = make_key(alloc, text.as_slice())?;
@@ -161,17 +150,14 @@ fn read_clear(alloc: Global, words: &mut Words<'_>) -> Result<Mutation, Fault>
 }
 
 fn read_submit(words: &mut Words<'_>) -> Result<Step, Fault>
-    ensures ok { IfOk result (λ step. WritesRest Kind.Submit words.old step) }
-    ensures bad { IfErr result (λ fault. fault ≡ Fault.Bad → IsNoRest Kind.Submit words.old) }
+    ensures { Reads result (WritesRest Kind.Submit words.old) step_fault }
 {
     let (session, proxy) = words.last_pair()?;
     Ok(Step::Submit { session, proxy })
 }
 
-#[tactic(auto, unfolding(crate::specs::Grammar::IsNoRest))]
 fn read_seal(words: &mut Words<'_>) -> Result<Step, Fault>
-    ensures ok { IfOk result (λ step. WritesRest Kind.Seal words.old step) }
-    ensures bad { IfErr result (λ fault. fault ≡ Fault.Bad → IsNoRest Kind.Seal words.old) }
+    ensures { Reads result (WritesRest Kind.Seal words.old) step_fault }
 {
     let proxy = words.small_number()?;
     let advance = words.number()?;
@@ -180,64 +166,56 @@ fn read_seal(words: &mut Words<'_>) -> Result<Step, Fault>
 }
 
 fn read_resolve(words: &mut Words<'_>) -> Result<Step, Fault>
-    ensures ok { IfOk result (λ step. WritesRest Kind.Resolve words.old step) }
-    ensures bad { IfErr result (λ fault. fault ≡ Fault.Bad → IsNoRest Kind.Resolve words.old) }
+    ensures { Reads result (WritesRest Kind.Resolve words.old) step_fault }
 {
     let (entry, resolver) = words.last_pair()?;
     Ok(Step::Resolve { entry, resolver })
 }
 
 fn read_verdict(words: &mut Words<'_>) -> Result<Step, Fault>
-    ensures ok { IfOk result (λ step. WritesRest Kind.Verdict words.old step) }
-    ensures bad { IfErr result (λ fault. fault ≡ Fault.Bad → IsNoRest Kind.Verdict words.old) }
+    ensures { Reads result (WritesRest Kind.Verdict words.old) step_fault }
 {
     let (entry, resolver) = words.last_pair()?;
     Ok(Step::Verdict { entry, resolver })
 }
 
 fn read_decide(words: &mut Words<'_>) -> Result<Step, Fault>
-    ensures ok { IfOk result (λ step. WritesRest Kind.Decide words.old step) }
-    ensures bad { IfErr result (λ fault. fault ≡ Fault.Bad → IsNoRest Kind.Decide words.old) }
+    ensures { Reads result (WritesRest Kind.Decide words.old) step_fault }
 {
     let proxy = words.last_number()?;
     Ok(Step::Decide { proxy })
 }
 
 fn read_push(words: &mut Words<'_>) -> Result<Step, Fault>
-    ensures ok { IfOk result (λ step. WritesRest Kind.Push words.old step) }
-    ensures bad { IfErr result (λ fault. fault ≡ Fault.Bad → IsNoRest Kind.Push words.old) }
+    ensures { Reads result (WritesRest Kind.Push words.old) step_fault }
 {
     let (entry, log) = words.last_pair()?;
     Ok(Step::Push { entry, log })
 }
 
 fn read_logged(words: &mut Words<'_>) -> Result<Step, Fault>
-    ensures ok { IfOk result (λ step. WritesRest Kind.Logged words.old step) }
-    ensures bad { IfErr result (λ fault. fault ≡ Fault.Bad → IsNoRest Kind.Logged words.old) }
+    ensures { Reads result (WritesRest Kind.Logged words.old) step_fault }
 {
     let (entry, log) = words.last_pair()?;
     Ok(Step::Logged { entry, log })
 }
 
 fn read_report(words: &mut Words<'_>) -> Result<Step, Fault>
-    ensures ok { IfOk result (λ step. WritesRest Kind.Report words.old step) }
-    ensures bad { IfErr result (λ fault. fault ≡ Fault.Bad → IsNoRest Kind.Report words.old) }
+    ensures { Reads result (WritesRest Kind.Report words.old) step_fault }
 {
     let proxy = words.last_number()?;
     Ok(Step::Report { proxy })
 }
 
 fn read_answer(words: &mut Words<'_>) -> Result<Step, Fault>
-    ensures ok { IfOk result (λ step. WritesRest Kind.Answer words.old step) }
-    ensures bad { IfErr result (λ fault. fault ≡ Fault.Bad → IsNoRest Kind.Answer words.old) }
+    ensures { Reads result (WritesRest Kind.Answer words.old) step_fault }
 {
     let proxy = words.last_number()?;
     Ok(Step::Answer { proxy })
 }
 
 fn read_pull(words: &mut Words<'_>) -> Result<Step, Fault>
-    ensures ok { IfOk result (λ step. WritesRest Kind.Pull words.old step) }
-    ensures bad { IfErr result (λ fault. fault ≡ Fault.Bad → IsNoRest Kind.Pull words.old) }
+    ensures { Reads result (WritesRest Kind.Pull words.old) step_fault }
 {
     let (shard, limit) = words.last_pair()?;
     Ok(Step::Pull { shard, limit })

@@ -1,3 +1,6 @@
+ghost use Rattle.std.specs.Prelude.{◌≡◌};
+ghost use Rattle.fdb_sim.specs.declared.stop.Stop.TheVariants.{NoMemory, Io};
+
 use fdb_keys::Refusal;
 use std::alloc::{AllocError, AllocFailed};
 use std::io;
@@ -16,18 +19,24 @@ pub enum Stop {
 }
 
 impl From<AllocError> for Stop {
+    ghost from_gives = { λ _ stop. stop ≡ NoMemory };
+
     fn from(_error: AllocError) -> Stop {
         Stop::NoMemory
     }
 }
 
 impl<T: Drop> From<AllocFailed<T>> for Stop {
+    ghost from_gives = { λ _ stop. stop ≡ NoMemory };
+
     fn from(_error: AllocFailed<T>) -> Stop {
         Stop::NoMemory
     }
 }
 
 impl From<io::Error> for Stop {
+    ghost from_gives = { λ error stop. stop ≡ Io error };
+
     fn from(error: io::Error) -> Stop {
         Stop::Io(error)
     }

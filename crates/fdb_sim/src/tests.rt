@@ -1,5 +1,6 @@
 mod answers;
 mod failing;
+mod lines;
 mod rows;
 mod scripts;
 mod words;

@@ -24,7 +24,8 @@ impl<'a> Model for Words<'a> {
 }
 
 impl<'a> Words<'a> {
-    ghost use Rattle.std.specs.Prelude.{◌≡◌, ◌≢◌, List, ℕ, [], ◌∷◌, IfOk, IfErr, OnErr, MatchResult};
+    ghost use Rattle.std.specs.Prelude.{◌≡◌, ◌≢◌, List, ℕ, [], ◌∷◌, IfOk, IfErr, MatchResult};
+    ghost use Rattle.fdb_sim.specs.Faults.{MatchFault};
     ghost use Rattle.fdb_sim.specs.Words.{words_of};
     ghost use Rattle.fdb_sim.specs.Grammar.{WritesNumber, WritesSmall, WritesText, WritesOne, WritesTwo};
 
@@ -64,7 +65,7 @@ impl<'a> Words<'a> {
     /// The next word as a number below 2^64. Refused as bad where it is none.
     pub fn number(&mut self) -> Result<u64, Fault>
         ensures ok { IfOk result (λ value. (word : List ℕ) × (self.old ≡ word ∷ self.new) × WritesNumber word value) }
-        ensures bad { OnErr result ((word : List ℕ) (rest : List (List ℕ)) (value : ℕ) → self.old ≡ word ∷ rest → ¬ WritesNumber word value) }
+        ensures bad { IfErr result (λ fault. (fault ≡ Fault.Bad) × ((word : List ℕ) (rest : List (List ℕ)) (value : ℕ) → self.old ≡ word ∷ rest → ¬ WritesNumber word value)) }
     {
         let word = self.word()?;
         number(word).ok_or(Fault::Bad)
@@ -73,7 +74,7 @@ impl<'a> Words<'a> {
     /// The next word as a number below 2^32. Refused as bad where it is none.
     pub fn small_number(&mut self) -> Result<u32, Fault>
         ensures ok { IfOk result (λ value. (word : List ℕ) × (self.old ≡ word ∷ self.new) × WritesSmall word value) }
-        ensures bad { OnErr result ((word : List ℕ) (rest : List (List ℕ)) (value : ℕ) → self.old ≡ word ∷ rest → ¬ WritesSmall word value) }
+        ensures bad { IfErr result (λ fault. (fault ≡ Fault.Bad) × ((word : List ℕ) (rest : List (List ℕ)) (value : ℕ) → self.old ≡ word ∷ rest → ¬ WritesSmall word value)) }
     {
         let word = self.word()?;
         small_number(word).ok_or(Fault::Bad)
@@ -82,7 +83,7 @@ impl<'a> Words<'a> {
     /// The bytes of the next word, which is a byte text. Refused as bad where it is none.
     pub fn text(&mut self, alloc: Global) -> Result<Vec<u8>, Fault>
         ensures ok { IfOk result (λ bytes. (word : List ℕ) × (self.old ≡ word ∷ self.new) × WritesText word bytes.items) }
-        ensures bad { IfErr result (λ fault. fault ≡ Fault.Bad → (word : List ℕ) (rest : List (List ℕ)) (bytes : List ℕ) → self.old ≡ word ∷ rest → ¬ WritesText word bytes) }
+        ensures bad { IfErr result (λ fault. MatchFault fault ((word : List ℕ) (rest : List (List ℕ)) (bytes : List ℕ) → self.old ≡ word ∷ rest → ¬ WritesText word bytes) (λ _. ⊥)) }
     {
         let word = self.word()?;
         let text = read_text(alloc, word)?;
@@ -92,7 +93,7 @@ impl<'a> Words<'a> {
     /// The last word as a number below 2^32. Refused as bad where it is none, and where words are left.
     pub fn last_number(&mut self) -> Result<u32, Fault>
         ensures ok { IfOk result (λ value. WritesOne self.old value) }
-        ensures bad { OnErr result ((value : ℕ) → ¬ WritesOne self.old value) }
+        ensures bad { IfErr result (λ fault. (fault ≡ Fault.Bad) × ((value : ℕ) → ¬ WritesOne self.old value)) }
     {
         let number = self.small_number()?;
         self.end()?;
@@ -103,7 +104,7 @@ impl<'a> Words<'a> {
     /// left.
     pub fn last_pair(&mut self) -> Result<(u32, u32), Fault>
         ensures ok { IfOk result (λ pair. WritesTwo self.old pair.0 pair.1) }
-        ensures bad { OnErr result ((first : ℕ) (second : ℕ) → ¬ WritesTwo self.old first second) }
+        ensures bad { IfErr result (λ fault. (fault ≡ Fault.Bad) × ((first : ℕ) (second : ℕ) → ¬ WritesTwo self.old first second)) }
     {
         let first = self.small_number()?;
         let second = self.last_number()?;
@@ -114,7 +115,7 @@ impl<'a> Words<'a> {
     /// are left.
     pub fn last_text(&mut self, alloc: Global) -> Result<Vec<u8>, Fault>
         ensures ok { IfOk result (λ bytes. (word : List ℕ) × (self.old ≡ word ∷ []) × WritesText word bytes.items) }
-        ensures bad { IfErr result (λ fault. fault ≡ Fault.Bad → (word : List ℕ) (bytes : List ℕ) → self.old ≡ word ∷ [] → ¬ WritesText word bytes) }
+        ensures bad { IfErr result (λ fault. MatchFault fault ((word : List ℕ) (bytes : List ℕ) → self.old ≡ word ∷ [] → ¬ WritesText word bytes) (λ _. ⊥)) }
     {
         let text = self.text(alloc)?;
         self.end()?;

@@ -1,0 +1,10 @@
+use Rattle.fdb_sim.specs.Lines.{left, line_number}
+use Rattle.fdb_sim.specs.Scripts.{PlaysOn, Printed, Reaches}
+use Rattle.fdb_sim.proofs.script.take_steps.Given as goal
+
+-- the script prints what was printed, and then what the lines that are left print
+abbrev pub invariant-loop : goal.invariant-loop
+invariant-loop g l =
+    Printed (g.W.Write.contents l.initial.writer) (g.W.Write.contents l.writer) (λ said.
+    Reaches (left g.R.Read.remaining l.initial.lines) (left g.R.Read.remaining l.lines) said
+    (PlaysOn (line_number l.initial.lines) l.initial.world) (PlaysOn (line_number l.lines) l.world))
