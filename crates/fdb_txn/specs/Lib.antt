@@ -1,8 +1,16 @@
 pub mod Admission
+pub mod AdmissionLaws
 pub mod Book
 pub mod Equality
+pub mod Examples
+pub mod History
+pub mod Messages
 pub mod Owners
+pub mod Places
+pub mod ResolverLaws
+pub mod Resolvers
 pub mod Run
+pub mod RunLaws
 pub mod Transactions
 pub use Rattle.fdb_keys.specs.Answers
 pub use Rattle.fdb_keys.specs.Insertion

@@ -1,7 +1,13 @@
-//! What `==` says, for the proofs of the crates that use these types.
+//! What `==` says, and the laws of admission, of resolvers and of the run, for the proofs of the crates that
+//! use these types.
 ghost use Rattle.std.specs.Prelude.{◌≡◌};
 ghost use Rattle.std.specs.Bool.{Decides};
 ghost use Rattle.fdb_txn.specs.Equality.{txn_id_eq, spot_eq, move_eq, entry_eq, batch_eq, sealed_eq};
+ghost use Rattle.fdb_txn.specs.Examples.{OneBatch, WriteSkew, FalseConflict, FormerOwner, ThereAndBack, EqualIsNotNewer, Window, OldReading, TwoMoves, Spans, AtBounds, PreviousIsNamed};
+ghost use Rattle.fdb_txn.specs.AdmissionLaws.{OverlapsAtSomePoint, AskedAtSomePoint, OwnedAtSomeVersion, AdmitsWithoutConflict, CommittedByTheAsked, OldIsAsked, AskedVerdictsDecide};
+ghost use Rattle.fdb_txn.specs.ResolverLaws.{LastVersionsDecide, OnePlaceMore, StateDecides, StateTakesPlace, StateForgets, ForgottenAgree};
+ghost use Rattle.fdb_txn.specs.Messages.{MeetsAtSomePoint, ShardsHoldTheRun};
+ghost use Rattle.fdb_txn.specs.RunLaws.{PlacesAreHistory, ReadsStand, EarlierPlacesStay, EarlierMapsStay, EntriesGoOn};
 
 use crate::batch::Batch;
 use crate::entry::{Entry, Move};
@@ -37,4 +43,95 @@ pub fn equal_batches_are_the_same()
 /// Two sealed transactions are equal exactly where they are the same.
 pub fn equal_sealed_are_the_same()
     ensures { (a b : Sealed) → Decides (sealed_eq a b) (a ≡ b) }
+{}
+
+/// The corners suffice: two places overlap at a resolver exactly where they do so at some point; a resolver
+/// is asked about a place exactly where it is on account of some point; and it owned a point within a span
+/// exactly where it did so at some version of the span.
+pub fn corners_suffice()
+    ensures overlaps { OverlapsAtSomePoint }
+    ensures asked { AskedAtSomePoint }
+    ensures owned { OwnedAtSomeVersion }
+{}
+
+/// A resolver admits a place exactly where the place is not old and no earlier place that the resolver
+/// admitted, of a version above the place's read version, wrote a point that the place read and that the
+/// resolver owned at that version.
+pub fn places_are_admitted_exactly_where_fresh_and_without_conflict()
+    ensures { AdmitsWithoutConflict }
+{}
+
+/// Who isn't asked never matters: a place of a history is committed exactly where each resolver that is
+/// asked about it admits it, it is old exactly where some resolver that is asked about it finds it so, and
+/// some resolver is asked about each old place.
+pub fn resolvers_that_are_not_asked_never_matter()
+    ensures committed { CommittedByTheAsked }
+    ensures old { OldIsAsked }
+    ensures verdicts { AskedVerdictsDecide }
+{}
+
+/// A resolver admits a place exactly where the place is fresh and no point of the resolver's part of the
+/// read set has a last version above the read version: one number per point decides.
+pub fn one_number_per_point_decides()
+    ensures { LastVersionsDecide }
+{}
+
+/// One place more is one step: the last versions become the place's own at the resolver's part of its write
+/// set, where the resolver admits it.
+pub fn one_place_more_is_one_step()
+    ensures { OnePlaceMore }
+{}
+
+/// A resolver that has only its part of each place, and has forgotten what is below the window, decides as
+/// the rule does, takes each place in, and may go on forgetting.
+pub fn a_resolver_with_its_part_alone_answers_the_rule_and_keeps_its_state()
+    ensures decides { StateDecides }
+    ensures takes { StateTakesPlace }
+    ensures forgets { StateForgets }
+    ensures forgotten { ForgottenAgree }
+{}
+
+/// The places of a book are a history.
+pub fn places_of_a_book_are_a_history()
+    ensures { PlacesAreHistory }
+{}
+
+/// At every point of a committed transaction's read set, the map at its read version is the same as the map
+/// right before its place.
+pub fn reads_of_committed_transactions_stand()
+    ensures { ReadsStand }
+{}
+
+/// With one more entry the earlier places of a book stay as they were, behind new ones of the entry's
+/// version, and so does the map at each version below the entry's. A book stays one with an entry that
+/// may stand behind its last.
+pub fn one_more_entry_changes_nothing_earlier()
+    ensures places { EarlierPlacesStay }
+    ensures maps { EarlierMapsStay }
+    ensures entries { EntriesGoOn }
+{}
+
+/// A mutation meets a shard's range exactly where it names some point of it. At each point of the range and
+/// each version, the mutations of committed transactions that meet the range leave what stands there on the
+/// run's map at that version.
+pub fn messages_of_a_shard_leave_the_run_on_its_range()
+    ensures meets { MeetsAtSomePoint }
+    ensures holds { ShardsHoldTheRun }
+{}
+
+/// What the rules say of each transaction of some small books: which resolvers are asked about it, which
+/// admit it, whether it is old, and whether it is committed.
+pub fn worked_examples()
+    ensures one_batch { OneBatch }
+    ensures write_skew { WriteSkew }
+    ensures false_conflict { FalseConflict }
+    ensures former_owner { FormerOwner }
+    ensures there_and_back { ThereAndBack }
+    ensures equal_is_not_newer { EqualIsNotNewer }
+    ensures window { Window }
+    ensures old_reading { OldReading }
+    ensures two_moves { TwoMoves }
+    ensures spans { Spans }
+    ensures at_bounds { AtBounds }
+    ensures previous_is_named { PreviousIsNamed }
 {}

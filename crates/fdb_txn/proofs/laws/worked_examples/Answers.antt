@@ -1,0 +1,18 @@
+use Rattle.fdb_txn.proofs.ExamplesLemmas.{one_batch_computes, write_skew_computes, false_conflict_computes, former_owner_computes, there_and_back_computes, equal_is_not_newer_computes, window_computes, old_reading_computes, two_moves_computes, spans_computes, at_bounds_computes, previous_is_named}
+use Rattle.fdb_txn.proofs.laws.worked_examples.Goals as goal
+
+pub returns : goal.returns
+returns c = record {
+  one_batch = one_batch_computes;
+  write_skew = write_skew_computes;
+  false_conflict = false_conflict_computes;
+  former_owner = former_owner_computes;
+  there_and_back = there_and_back_computes;
+  equal_is_not_newer = equal_is_not_newer_computes;
+  window = window_computes;
+  old_reading = old_reading_computes;
+  two_moves = two_moves_computes;
+  spans = spans_computes;
+  at_bounds = at_bounds_computes;
+  previous_is_named = previous_is_named;
+}
