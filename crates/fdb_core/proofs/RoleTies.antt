@@ -20,7 +20,8 @@ use Rattle.fdb_core.specs.Verdicts.{verdicts_on}
 use Rattle.fdb_core.proofs.AllLemmas.{all-at, within-item}
 use Rattle.fdb_core.proofs.BatchLaws.{judged-verdicts, judged-marks}
 use Rattle.fdb_core.proofs.OneResolver.{no_moves-at, no_moves-before}
-use Rattle.fdb_core.proofs.RunLaws.{seen_of-push, slice_get-along, length-along}
+use Rattle.fdb_txn.proofs.HistoryLemmas.{seen_of-push}
+use Rattle.fdb_core.proofs.RunLaws.{slice_get-along, length-along}
 
 -- a front of a list with the next item
 pub take-next : {A : Type 0} (xs : List A) (i : ℕ) (x : A) → slice_get xs i ≡ Some x → take (suc i) xs ≡ take i xs ++ x ∷ []

@@ -1,29 +1,25 @@
 -- What logs and shards keep, and the run of the committed transactions.
-use Rattle.std.proofs.Common.{◌≡◌, ◌∙◌, sym, ap, refl, ℕ, zero, suc, ◌<◌, ◌≤◌, Bool, true, false, if◌then◌else◌, nat_le, append_assoc, append-nil, take-append-drop, le_trans, le_refl, le_of_lt, ⊎_elim, subst, List, [], ◌∷◌, ◌++◌, take, drop, fold, length, slice_get, Option, Some, arith}
+use Rattle.std.proofs.Common.{◌≡◌, ◌∙◌, sym, ap, refl, ℕ, zero, suc, ◌<◌, ◌≤◌, if◌then◌else◌, nat_le, append_assoc, append-nil, take-append-drop, le_refl, le_of_lt, ⊎_elim, subst, List, [], ◌∷◌, ◌++◌, take, drop, fold, length, slice_get, Option, Some, arith}
 use Rattle.std.specs.Ordering.{nat_cmp}
 use Rattle.std.specs.Cmp.Lexicographic.{slice_cmp}
 use Rattle.std.specs.FinMap.{get, get-empty}
-use Rattle.std.proofs.lemmas.Bool.{cases_Bool, cond-true, cond-false, leb-true, leb-false, le-leb, lt-leb}
+use Rattle.std.proofs.lemmas.Bool.{cases_Bool, cond-true, cond-false, leb-true, leb-false, lt-leb}
 use Rattle.std.proofs.lemmas.List.Sums.{fold-append}
 use Rattle.fdb_keys.specs.Points.{Point}
 use Rattle.fdb_mutations.specs.declared.mutation.Mutation.{Mutation}
 use Rattle.fdb_mutations.specs.Maps.{Map}
-use Rattle.fdb_mutations.specs.Mutations.{effect, effects}
-use Rattle.fdb_mutations.proofs.Effects.{at_every_point}
 use Rattle.fdb_txn.specs.declared.entry.Entry.{Entry}
 use Rattle.fdb_txn.specs.Transactions.{Transaction}
 use Rattle.fdb_txn.specs.Book.{Stamped, Place, Seen, nothing, placed, add_places, add_entry, seen_of}
-use Rattle.fdb_txn.specs.Admission.{committed}
 use Rattle.fdb_txn.specs.Run.{run, up_to, map_at}
+use Rattle.fdb_txn.proofs.HistoryLemmas.{AtMost, up_to-all}
+use Rattle.fdb_txn.proofs.MessagesLemmas.{at_most-more, get-effects, run-add_places}
 use Rattle.fdb_core.specs.declared.pool.Message.{Message}
 use Rattle.fdb_core.specs.Machine.{last_version, seen_before}
 use Rattle.fdb_core.specs.Verdicts.{moves_through}
 use Rattle.fdb_core.specs.Kernel.{IsRising}
-use Rattle.fdb_core.specs.Roles.{along, committed_from, message_on, value_after, value_in}
-
--- what was seen of a book with one more entry
-pub seen_of-push : (book : List Entry) (entry : Entry) → seen_of (book ++ entry ∷ []) ≡ add_entry (seen_of book) entry
-seen_of-push book entry = fold-append add_entry nothing book (entry ∷ [])
+use Rattle.fdb_core.specs.Roles.{along, message_on, value_in}
+use Rattle.fdb_txn.specs.Messages.{committed_from, value_after}
 
 -- `along` from what was seen before, by recursion from the front
 along_from : {A : Type 0} → (Seen → Entry → A) → Seen → List Entry → List A
@@ -93,32 +89,6 @@ take-from f seen (suc n) (entry ∷ book) = ap (λ made. f seen entry ∷ made) 
 pub take-along : {A : Type 0} (f : Seen → Entry → A) (n : ℕ) (book : List Entry) → take n (along f book) ≡ along f (take n book)
 take-along f n book = ap (take n) (along-is f book) ∙ take-from f nothing n book ∙ sym (along-is f (take n book))
 
--- the run goes on through a batch by the mutations of its committed transactions
-pub run-add_places : (splits : List Point) (version : ℕ) (moves : List Stamped) (batch : List Transaction) (earlier : List Place)
-    → run splits (add_places version moves batch earlier) ≡ effects (run splits earlier) (committed_from splits version moves batch earlier)
-run-add_places splits version moves [] earlier = refl
-run-add_places splits version moves (t ∷ ts) earlier =
-    run-add_places splits version moves ts (place ∷ earlier)
-    ∙ ap (λ (map : Map). effects map others) (effects_if (run splits earlier) (committed splits earlier place) t.mutations)
-    ∙ sym (fold-append effect (run splits earlier) (if committed splits earlier place then t.mutations else []) others)
-  where
-    place : Place
-    place = placed version moves t
-
-    others : List Mutation
-    others = committed_from splits version moves ts (place ∷ earlier)
-
-    effects_if : (map : Map) (is_committed : Bool) (mutations : List Mutation)
-        → (if is_committed then effects map mutations else map) ≡ effects map (if is_committed then mutations else [])
-    effects_if map true mutations = refl
-    effects_if map false mutations = refl
-
--- mutations change a map point by point
-pub get-effects : (map : Map) (mutations : List Mutation) (x : Point) → get (effects map mutations) x ≡ fold (value_after x) (get map x) mutations
-get-effects map [] x = refl
-get-effects map (mutation ∷ mutations) x =
-    get-effects (effect map mutation) mutations x ∙ ap (λ (value : Option (List ℕ)). fold (value_after x) value mutations) (at_every_point map mutation x)
-
 -- each entry's version is greater than that of the entry before it, and the first one's greater than the least
 abbrev RisesFrom : ℕ → List Entry → Type 0
 RisesFrom least [] = Unit
@@ -171,27 +141,11 @@ rising-push book entry rising above = rises-at 0 (book ++ entry ∷ []) (rises-p
 pub rising-take : (n : ℕ) (book : List Entry) → IsRising book → IsRising (take n book)
 rising-take n book rising = rises-at 0 (take n book) (rises-take 0 n book (rises 0 book rising))
 
--- no place has a greater version
-abbrev AtMost : ℕ → List Place → Type 0
-AtMost v [] = Unit
-AtMost v (place ∷ places) = (place.version ≤ v) × AtMost v places
-
--- at most v is at most a greater number
-at_most-more : (v w : ℕ) (places : List Place) → v ≤ w → AtMost v places → AtMost w places
-at_most-more v w [] more at_most = tt
-at_most-more v w (place ∷ places) more at_most = (le_trans at_most.0 more, at_most-more v w places more at_most.1)
-
 -- places of a version at most v come in
 at_most-places : (v version : ℕ) (moves : List Stamped) (batch : List Transaction) (earlier : List Place) → version ≤ v → AtMost v earlier
     → AtMost v (add_places version moves batch earlier)
 at_most-places v version moves [] earlier reached at_most = at_most
 at_most-places v version moves (t ∷ ts) earlier reached at_most = at_most-places v version moves ts (placed version moves t ∷ earlier) reached (reached, at_most)
-
--- places of versions at most v all stay
-up_to-all : (v : ℕ) (places : List Place) → AtMost v places → up_to v places ≡ places
-up_to-all v [] at_most = refl
-up_to-all v (place ∷ places) at_most =
-    cond-true _ (place ∷ up_to v places) (up_to v places) (le-leb place.version v at_most.0) ∙ ap (λ others. place ∷ others) (up_to-all v places at_most.1)
 
 -- the places of an entry of a greater version are left out
 up_to-above : (v version : ℕ) (moves : List Stamped) (batch : List Transaction) (earlier : List Place) → v < version

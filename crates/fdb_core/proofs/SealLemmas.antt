@@ -90,7 +90,7 @@ set-twice (z ∷ zs) zero x y = refl
 set-twice (z ∷ zs) (suc i) x y = ap (λ rest. z ∷ rest) (set-twice zs i x y)
 
 -- the one at the end is found under the old length
-last-at : {A : Type 0} (xs : List A) (x : A) → slice_get (xs ++ x ∷ []) (length xs) ≡ Some x
+pub last-at : {A : Type 0} (xs : List A) (x : A) → slice_get (xs ++ x ∷ []) (length xs) ≡ Some x
 last-at [] x = refl
 last-at (y ∷ ys) x = last-at ys x
 

@@ -1,11 +1,14 @@
 pub mod ClientSteps
+pub mod Headline
 pub mod Kernel
 pub mod Machine
+pub mod ProgramLaws
 pub mod Programs
 pub mod Promises
 pub mod ProxySteps
 pub mod RoleSteps
 pub mod Roles
+pub mod Soundness
 pub mod Steps
 pub mod Verdicts
 pub mod Worlds

@@ -4,12 +4,12 @@ use Rattle.std.specs.List.{list_any}
 use Rattle.fdb_keys.specs.Points.{Point}
 use Rattle.fdb_keys.specs.Ranges.{Range, ranges_meet}
 use Rattle.fdb_mutations.specs.declared.mutation.Mutation.{Mutation}
-use Rattle.fdb_mutations.specs.Mutations.{names, new_value}
 use Rattle.fdb_txn.specs.declared.entry.Entry.{Entry}
 use Rattle.fdb_txn.specs.Transactions.{Transaction}
-use Rattle.fdb_txn.specs.Book.{Stamped, Place, Seen, nothing, placed, add_entry}
+use Rattle.fdb_txn.specs.Book.{Place, Seen, nothing, add_entry}
+use Rattle.fdb_txn.specs.Messages.{committed_from, value_after}
 use Rattle.fdb_txn.specs.Owners.{window}
-use Rattle.fdb_txn.specs.Admission.{has_points, admits, committed}
+use Rattle.fdb_txn.specs.Admission.{has_points, admits}
 use Rattle.fdb_core.specs.declared.pool.Mark.{Mark}
 use Rattle.fdb_core.specs.declared.pool.Message.{Message}
 use Rattle.fdb_core.specs.declared.step.Verdict.{Verdict}
@@ -61,21 +61,10 @@ marks_of (place ∷ earlier) =
     if admits [] 0 earlier place then marks_of earlier ++ record { version = place.version; writes = place.transaction.writes } ∷ []
     else marks_of earlier
 
--- the mutations of those transactions of a batch that are committed, in order
-abbrev pub committed_from : List Point → ℕ → List Stamped → List Transaction → List Place → List Mutation
-committed_from splits version moves [] earlier = []
-committed_from splits version moves (t ∷ ts) earlier =
-    (if committed splits earlier (placed version moves t) then t.mutations else [])
-    ++ committed_from splits version moves ts (placed version moves t ∷ earlier)
-
 -- what logs get of an entry
 abbrev pub message_on : List Point → Seen → Entry → Message
 message_on splits before entry =
     record { version = entry.version; body = committed_from splits entry.version (moves_through before entry) entry.batch before.places }
-
--- what stands at a point after a mutation, by what stood there
-abbrev pub value_after : Point → Option (List ℕ) → Mutation → Option (List ℕ)
-value_after x value mutation = if names mutation x then new_value mutation value else value
 
 -- what stands at a point after the messages of version at most v, from nothing
 abbrev pub value_in : ℕ → Point → List Message → Option (List ℕ)

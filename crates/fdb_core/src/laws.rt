@@ -1,5 +1,7 @@
-//! What the machine promises, at every step and over every run.
+//! What the machine promises, at every step and over every run, and what holds of programs.
 ghost use Rattle.fdb_core.specs.Promises.{RefusalsChangeNothing, GrantsCommitted, CommittedIsGreatestReported, GetsFromTheRun, GetsRefused};
+ghost use Rattle.fdb_core.specs.ProgramLaws.{ProgramsAgree};
+ghost use Rattle.fdb_core.specs.Headline.{AcknowledgedStand};
 
 /// A refused step changes nothing.
 pub fn refusals_change_nothing()
@@ -23,4 +25,18 @@ pub fn gets_answer_as_the_program_run_on_the_map_at_its_read_version()
 /// decide the key and the shard that holds the key still serves the read version but hasn't reached it.
 pub fn gets_are_refused_exactly_where_the_shard_is_behind()
     ensures { GetsRefused }
+{}
+
+/// On maps that have the same at every point that a program reads on one of them, the program's ordinary
+/// replies are the same, and so is its read set.
+pub fn programs_agree_on_maps_that_agree_where_they_read()
+    ensures { ProgramsAgree }
+{}
+
+/// Over every run, each acknowledged transaction stands at its spot. At a spot in an entry it is committed
+/// there, at the spot's place and under its version; at a read-only spot it wrote nothing, and stands behind
+/// the entries up to its read version. Each of its ordinary reads was answered as when the committed
+/// transactions before the spot run one at a time from the empty map, by version and by place in the batch.
+pub fn acknowledged_transactions_stand_at_their_spots()
+    ensures { AcknowledgedStand }
 {}

@@ -3,7 +3,8 @@ ghost use Rattle.std.specs.Prelude.{◌≡◌, fold, IfOk};
 ghost use Rattle.std.specs.Option.{option_copied};
 ghost use Rattle.fdb_mutations.specs.Mutations.{names};
 ghost use Rattle.fdb_core.specs.Programs.{program, decided};
-ghost use Rattle.fdb_core.specs.Roles.{value_after, value_after_op, value_in};
+ghost use Rattle.fdb_core.specs.Roles.{value_after_op, value_in};
+ghost use Rattle.fdb_txn.specs.Messages.{value_after};
 
 use crate::pool::Message;
 use crate::program::{Op, Reply};

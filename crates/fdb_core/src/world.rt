@@ -30,17 +30,19 @@ impl Model for World {
     ghost use Rattle.std.specs.Prelude.{◌≡◌, false, Option, Some, None, if◌then◌else◌};
     ghost use Rattle.fdb_core.specs.Machine.{Machine};
     ghost use Rattle.fdb_core.specs.Kernel.{machine_of, Tied};
+    ghost use Rattle.fdb_core.specs.Soundness.{IsSound};
 
     ghost Value = { Option Machine };
 
     ghost view = { λ world. if world.failed then None else Some (machine_of world.kernel) };
 
-    ghost invariant = { λ world. world.failed ≡ false → Tied world.kernel };
+    ghost invariant = { λ world. world.failed ≡ false → Tied world.kernel × IsSound (machine_of world.kernel) };
 }
 
 impl World {
     ghost use Rattle.std.specs.Prelude.{◌≡◌, length, Some, IfSome, IfOk};
     ghost use Rattle.fdb_keys.specs.Answers.{Answers};
+    ghost use Rattle.fdb_core.specs.Headline.{AllStand};
     ghost use Rattle.fdb_core.specs.Worlds.{config_fault, start, IsStep};
 
     /// The world before its first step. Refused as `BadConfig` for a configuration that it does not
@@ -67,14 +69,20 @@ impl World {
 
     /// Takes one step, and answers what the machine answers. A refused step changes nothing. Where memory
     /// runs out in the step, the answer is `NoMemory`, and every later step is refused as `Failed`.
+    ///
+    /// Each acknowledged transaction stands at its spot: it is committed there, and each of its ordinary
+    /// reads was answered as when the committed transactions run one at a time from the empty map, by
+    /// commit version and place in the batch.
     pub fn step(&mut self, step: Step) -> Result<Answered, Refusal>
-        ensures { IsStep self.old step result self.new }
+        ensures step { IsStep self.old step result self.new }
+        ensures serial { IfSome self.new AllStand }
     {
         self.take(&step)
     }
 
     pub(crate) fn take(&mut self, step: &Step) -> Result<Answered, Refusal>
-        ensures { IsStep self.old step.now result self.new }
+        ensures step { IsStep self.old step.now result self.new }
+        ensures serial { IfSome self.new AllStand }
     {
         if self.failed {
             return Err(Refusal::Failed);

@@ -16,5 +16,6 @@ loop-step-preserved c =
       legal = c.loop-step.invariant.legal;
       ran = rw (front, c.in_ok-push.ensures.ok)
           (run-push (Some (start c.args.config)) c.loop-step.world c.take-answer.new.self (take c.loop-step.step-index steps) c.loop-step.answers step c.take-answer.result
-          c.loop-step.invariant.ran c.take-answer.ensures);
+          c.loop-step.invariant.ran c.take-answer.ensures.step);
+      serial = c.take-answer.ensures.serial;
     }

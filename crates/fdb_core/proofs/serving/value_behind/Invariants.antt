@@ -1,6 +1,6 @@
 use Rattle.std.proofs.Common.{◌≡◌, take, fold}
 use Rattle.std.specs.Option.{option_copied}
-use Rattle.fdb_core.specs.Roles.{value_after}
+use Rattle.fdb_txn.specs.Messages.{value_after}
 use Rattle.fdb_core.proofs.serving.value_behind.Given as goal
 
 abbrev pub invariant-loop-mutation : goal.invariant-loop-mutation
