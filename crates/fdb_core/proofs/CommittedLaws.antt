@@ -203,7 +203,7 @@ raises-next m (step.Answer proxy) = kept-after m (answers m proxy) (keeps-answer
 raises-next m (step.Pull shard limit) = kept-after m (pulls m shard limit) (keeps-pulls m shard limit) ∙ max-zero m.committed
 
 -- where memory ran out, no machine comes back
-run-none : (steps : List Step) (given : List (Result Answered Refusal)) (new : Option Machine) → IsRun None steps given new → new ≡ None
+pub run-none : (steps : List Step) (given : List (Result Answered Refusal)) (new : Option Machine) → IsRun None steps given new → new ≡ None
 run-none [] [] new ran = ran
 run-none [] (answer ∷ given) new ran = absurd ran
 run-none (taken ∷ steps) [] new ran = absurd ran

@@ -11,6 +11,7 @@ pub mod ProgramLaws
 pub mod ProgramsAgree
 pub mod PromiseLaws
 pub mod ReadSetLemmas
+pub mod RealTimeLaws
 pub mod RoleTies
 pub mod RunLaws
 pub mod RunsLemmas

@@ -5,6 +5,7 @@ pub mod Machine
 pub mod ProgramLaws
 pub mod Programs
 pub mod Promises
+pub mod RealTime
 pub mod ProxySteps
 pub mod RoleSteps
 pub mod Roles

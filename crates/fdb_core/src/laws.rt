@@ -1,5 +1,6 @@
 //! What the machine promises, at every step and over every run, and what holds of programs.
 ghost use Rattle.fdb_core.specs.Promises.{RefusalsChangeNothing, GrantsCommitted, CommittedIsGreatestReported, GetsFromTheRun, GetsRefused};
+ghost use Rattle.fdb_core.specs.RealTime.{RealTime};
 ghost use Rattle.fdb_core.specs.ProgramLaws.{ProgramsAgree};
 ghost use Rattle.fdb_core.specs.Headline.{AcknowledgedStand};
 
@@ -39,4 +40,10 @@ pub fn programs_agree_on_maps_that_agree_where_they_read()
 /// transactions before the spot run one at a time from the empty map, by version and by place in the batch.
 pub fn acknowledged_transactions_stand_at_their_spots()
     ensures { AcknowledgedStand }
+{}
+
+/// Real time: a transaction that begins after another was acknowledged reads at that one's version or a
+/// greater one, and never stands before it.
+pub fn who_begins_after_an_acknowledgement_stands_behind_it()
+    ensures { RealTime }
 {}

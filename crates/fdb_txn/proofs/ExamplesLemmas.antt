@@ -1,7 +1,8 @@
 -- The examples compute.
-use Rattle.std.proofs.Common.{◌≡◌, refl, arith}
+use Rattle.std.proofs.Common.{◌≡◌, ◌<◌, refl, arith, true, false}
+use Rattle.std.specs.Prelude.{codes}
 use Rattle.fdb_keys.specs.Points.{point_lt}
-use Rattle.fdb_txn.specs.Examples.{OneBatch, WriteSkew, FalseConflict, FormerOwner, ThereAndBack, EqualIsNotNewer, Window, OldReading, TwoMoves, Spans, AtBounds, PreviousIsNamed}
+use Rattle.fdb_txn.specs.Examples.{OneBatch, WriteSkew, FalseConflict, FormerOwner, ThereAndBack, EqualIsNotNewer, Window, OldReading, TwoMoves, Spans, AtBounds, Entries}
 
 pub one_batch_computes : OneBatch
 unfolding point_lt
@@ -47,8 +48,12 @@ pub at_bounds_computes : AtBounds
 unfolding point_lt
 at_bounds_computes = (refl, refl, refl)
 
-pub previous_is_named : PreviousIsNamed
-previous_is_named = (
-  (omega arith, refl, tt, tt, (omega arith, refl, tt, tt, tt)),
-  λ entries. let wrong : 0 ≡ 100 = entries.4.1 in absurd (omega arith),
+pub entries_are_judged : Entries
+entries_are_judged = (
+  (omega arith, refl, (omega arith, tt), ((omega arith, λ x named. cc), tt), (omega arith, refl, tt, tt, tt)),
+  λ entries. let wrong : 0 < 0 = entries.0 in absurd (omega arith),
+  λ entries. let wrong : 0 ≡ 1 = entries.4.1 in absurd (omega arith),
+  λ entries. let wrong : 2 < 2 = entries.2.0 in absurd (omega arith),
+  λ entries. let wrong : 1 < 1 = entries.3.0.0 in absurd (omega arith),
+  λ entries. let wrong : false ≡ true = entries.3.0.1 (codes "a") refl in cc,
 )

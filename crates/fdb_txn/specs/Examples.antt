@@ -259,8 +259,18 @@ AtBounds =
     × (ruling at_m at_bounds 0 1 ≡ Some (record { fresh = true; asked = 0 ∷ []; admitting = 0 ∷ 1 ∷ []; commits = true }))
     × (ruling at_m at_bounds 0 2 ≡ Some (record { fresh = true; asked = 1 ∷ []; admitting = 0 ∷ 1 ∷ []; commits = true }))
 
--- An entry names the version of the one before it, and no other.
-abbrev pub PreviousIsNamed : Type 0
-PreviousIsNamed =
-    AreEntries 2 0 (entry_of 100 0 [] [] ∷ entry_of 200 100 [] [] ∷ [])
-    × (AreEntries 2 0 (entry_of 100 0 [] [] ∷ entry_of 200 0 [] [] ∷ []) → ⊥)
+-- What entries of two resolvers behind version 0 are. The first two are, with a read version right below the entry's,
+-- versions that rise by one, and a move to the last resolver.
+abbrev pub Entries : Type 0
+Entries =
+    AreEntries 2 0 (entry_of 1 0 (move_of (codes "m") (codes "t") 1 ∷ []) (reads_and_sets 0 0 (codes "a" ∷ []) [] ∷ []) ∷ entry_of 2 1 [] [] ∷ [])
+    -- versions rise
+    × (AreEntries 2 0 (entry_of 0 0 [] [] ∷ []) → ⊥)
+    -- an entry names the version of the one before it
+    × (AreEntries 2 0 (entry_of 1 0 [] [] ∷ entry_of 2 0 [] [] ∷ []) → ⊥)
+    -- a move goes to a resolver that exists
+    × (AreEntries 2 0 (entry_of 1 0 (move_of (codes "m") (codes "t") 2 ∷ []) [] ∷ []) → ⊥)
+    -- a transaction reads below its entry's version
+    × (AreEntries 2 0 (entry_of 1 0 [] (reads_and_sets 0 1 (codes "a" ∷ []) [] ∷ []) ∷ []) → ⊥)
+    -- what it sets is in its write set
+    × (AreEntries 2 0 (entry_of 1 0 [] (record (reads_and_sets 0 0 [] (codes "a" ∷ [])) { writes = [] } ∷ []) ∷ []) → ⊥)

@@ -3,7 +3,7 @@
 ghost use Rattle.std.specs.Prelude.{◌≡◌};
 ghost use Rattle.std.specs.Bool.{Decides};
 ghost use Rattle.fdb_txn.specs.Equality.{txn_id_eq, spot_eq, move_eq, entry_eq, batch_eq, sealed_eq};
-ghost use Rattle.fdb_txn.specs.Examples.{OneBatch, WriteSkew, FalseConflict, FormerOwner, ThereAndBack, EqualIsNotNewer, Window, OldReading, TwoMoves, Spans, AtBounds, PreviousIsNamed};
+ghost use Rattle.fdb_txn.specs.Examples.{OneBatch, WriteSkew, FalseConflict, FormerOwner, ThereAndBack, EqualIsNotNewer, Window, OldReading, TwoMoves, Spans, AtBounds, Entries};
 ghost use Rattle.fdb_txn.specs.AdmissionLaws.{OverlapsAtSomePoint, AskedAtSomePoint, OwnedAtSomeVersion, AdmitsWithoutConflict, CommittedByTheAsked, OldIsAsked, AskedVerdictsDecide};
 ghost use Rattle.fdb_txn.specs.ResolverLaws.{LastVersionsDecide, OnePlaceMore, StateDecides, StateTakesPlace, StateForgets, ForgottenAgree};
 ghost use Rattle.fdb_txn.specs.Messages.{MeetsAtSomePoint, ShardsHoldTheRun};
@@ -120,7 +120,7 @@ pub fn messages_of_a_shard_leave_the_run_on_its_range()
 {}
 
 /// What the rules say of each transaction of some small books: which resolvers are asked about it, which
-/// admit it, whether it is old, and whether it is committed.
+/// admit it, whether it is old, and whether it is committed; and which entries may stand in a book.
 pub fn worked_examples()
     ensures one_batch { OneBatch }
     ensures write_skew { WriteSkew }
@@ -133,5 +133,5 @@ pub fn worked_examples()
     ensures two_moves { TwoMoves }
     ensures spans { Spans }
     ensures at_bounds { AtBounds }
-    ensures previous_is_named { PreviousIsNamed }
+    ensures entries { Entries }
 {}

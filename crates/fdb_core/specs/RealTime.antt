@@ -1,0 +1,38 @@
+-- Real time: who begins after another transaction was acknowledged never stands before it.
+use Rattle.std.specs.Prelude.{◌≡◌, ◌<◌, ◌≤◌, ℕ, List, Some, Result, slice_get}
+use Rattle.fdb_keys.specs.declared.refusal.Refusal.{Refusal}
+use Rattle.fdb_txn.specs.declared.spot.Spot.{Spot}
+use Rattle.fdb_txn.specs.declared.spot.Spot.TheVariants as spot
+use Rattle.fdb_txn.specs.declared.txn_id.TxnId.{TxnId}
+use Rattle.fdb_core.specs.declared.config.Config.{Config}
+use Rattle.fdb_core.specs.declared.parts.Placed.{Placed}
+use Rattle.fdb_core.specs.declared.step.Answered.{Answered}
+use Rattle.fdb_core.specs.declared.step.Step.{Step}
+use Rattle.fdb_core.specs.ClientSteps.{last_begun}
+use Rattle.fdb_core.specs.Machine.{Machine}
+use Rattle.fdb_core.specs.Worlds.{start, IsRun}
+
+-- the version of the spot: of one in an entry the entry's, of one behind all entries up to a version that version
+abbrev pub spot_version : Spot → ℕ
+spot_version (spot.Entry entry place version) = version
+spot_version (spot.ReadOnly version) = version
+
+-- the transaction of this name has begun: the session's last one has its number or a greater one
+abbrev pub HasBegun : Machine → TxnId → Type 0
+HasBegun m id = (last : ℕ) × (last_begun id.session m.begun ≡ Some last) × (id.number ≤ last)
+
+-- The spot stands behind the entries up to a version: one in an entry is of a greater version, one behind all entries
+-- up to a version is of that version or a greater one.
+abbrev pub StandsBehindVersion : ℕ → Spot → Type 0
+StandsBehindVersion v (spot.Entry entry place version) = v < version
+StandsBehindVersion v (spot.ReadOnly version) = v ≤ version
+
+-- Over every run, a transaction that hadn't begun when another was acknowledged reads at that one's version or a
+-- greater one, and stands behind it.
+abbrev pub RealTime : Type 0
+RealTime =
+    (config : Config) (before steps : List Step) (given answers : List (Result Answered Refusal)) (m later : Machine)
+    → IsRun (Some (start config)) before given (Some m) → IsRun (Some m) steps answers (Some later)
+    → (i j : ℕ) (placed other : Placed) → slice_get m.acknowledged i ≡ Some placed → slice_get later.acknowledged j ≡ Some other
+    → (HasBegun m other.transcript.id → ⊥)
+    → (spot_version placed.spot ≤ other.transcript.read_version) × StandsBehindVersion (spot_version placed.spot) other.spot
