@@ -30,7 +30,7 @@ equal_is_not_newer_computes = (refl, refl, refl, refl, refl)
 
 pub window_computes : Window
 unfolding point_lt
-window_computes = (refl, refl, refl, refl)
+window_computes = (refl, refl, refl, refl, refl)
 
 pub old_reading_computes : OldReading
 unfolding point_lt

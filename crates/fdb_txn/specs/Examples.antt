@@ -175,23 +175,26 @@ EqualIsNotNewer =
 
 -- At 100 nothing. Then three transactions of read version 100: at 5000100 transaction 0 reads a and sets b, at
 -- 5000101 transaction 1 reads a and sets c, and transaction 2 sets d. At 5000102 transaction 3 reads c at version
--- 5000100 and sets e.
+-- 5000100 and sets e, and transaction 4, of read version 100 again, has an empty read range and sets f.
 abbrev pub at_window : List Entry
 at_window =
     entry_of 100 0 [] []
     ∷ entry_of 5000100 100 [] (reads_and_sets 0 100 (codes "a" ∷ []) (codes "b" ∷ []) ∷ [])
     ∷ entry_of 5000101 5000100 [] (reads_and_sets 1 100 (codes "a" ∷ []) (codes "c" ∷ []) ∷ reads_and_sets 2 100 [] (codes "d" ∷ []) ∷ [])
-    ∷ entry_of 5000102 5000101 [] (reads_and_sets 3 5000100 (codes "c" ∷ []) (codes "e" ∷ []) ∷ [])
+    ∷ entry_of 5000102 5000101 []
+    (reads_and_sets 3 5000100 (codes "c" ∷ []) (codes "e" ∷ [])
+    ∷ record (reads_and_sets 4 100 [] (codes "f" ∷ [])) { reads = record { begin = codes "a"; end = codes "a" } ∷ [] } ∷ [])
     ∷ []
 
 -- Window: transaction 0 read 5000000 versions before its own, and commits. Transaction 1 read one more, and is old.
--- Transaction 2 reads nothing, and is never old. What an old one sets is no conflict for transaction 3.
+-- Transactions 2 and 4 read no key, and are never old. What an old one sets is no conflict for transaction 3.
 abbrev pub Window : Type 0
 Window =
     (ruling at_m at_window 1 0 ≡ Some (record { fresh = true; asked = 0 ∷ []; admitting = 0 ∷ 1 ∷ []; commits = true }))
     × (ruling at_m at_window 2 0 ≡ Some (record { fresh = false; asked = 0 ∷ []; admitting = []; commits = false }))
     × (ruling at_m at_window 2 1 ≡ Some (record { fresh = true; asked = 0 ∷ []; admitting = 0 ∷ 1 ∷ []; commits = true }))
     × (ruling at_m at_window 3 0 ≡ Some (record { fresh = true; asked = 0 ∷ []; admitting = 0 ∷ 1 ∷ []; commits = true }))
+    × (ruling at_m at_window 3 1 ≡ Some (record { fresh = true; asked = 0 ∷ []; admitting = 0 ∷ 1 ∷ []; commits = true }))
 
 -- At 100 nothing. At 301 the keys from m up to t go over to resolver 0. At 5000299 transaction 0, and at 5000300
 -- transaction 1, read p at version 100 and set z.
@@ -227,22 +230,22 @@ TwoMoves =
     × (ruling at_m_and_t two_moves 0 1 ≡ Some (record { fresh = true; asked = 1 ∷ []; admitting = 0 ∷ 1 ∷ 2 ∷ []; commits = true }))
     × (ruling at_m_and_t two_moves 1 0 ≡ Some (record { fresh = true; asked = 1 ∷ 2 ∷ []; admitting = 0 ∷ 1 ∷ []; commits = false }))
 
--- At 100 nothing. At 101 the keys from m up to t go over to resolver 0. At 200 transaction 0 reads p at version 100
--- and sets z. At 300 the keys go back to resolver 1, and transaction 1 reads p at version 200 and sets z.
+-- At 100 the keys from m up to t go over to resolver 2, and at 101 to resolver 0. At 200 transaction 0 reads p at
+-- version 100 and sets a. At 300 the keys go over to resolver 1, and transaction 1 reads p at version 200 and sets a.
 abbrev pub spans : List Entry
 spans =
-    entry_of 100 0 [] []
+    entry_of 100 0 (move_of (codes "m") (codes "t") 2 ∷ []) []
     ∷ entry_of 101 100 (move_of (codes "m") (codes "t") 0 ∷ []) []
-    ∷ entry_of 200 101 [] (reads_and_sets 0 100 (codes "p" ∷ []) (codes "z" ∷ []) ∷ [])
-    ∷ entry_of 300 200 (move_of (codes "m") (codes "t") 1 ∷ []) (reads_and_sets 1 200 (codes "p" ∷ []) (codes "z" ∷ []) ∷ [])
+    ∷ entry_of 200 101 [] (reads_and_sets 0 100 (codes "p" ∷ []) (codes "a" ∷ []) ∷ [])
+    ∷ entry_of 300 200 (move_of (codes "m") (codes "t") 1 ∷ []) (reads_and_sets 1 200 (codes "p" ∷ []) (codes "a" ∷ []) ∷ [])
     ∷ []
 
--- A span is without its begin and with its end: resolver 1, that owned p last at transaction 0's read version, isn't
--- asked about it, and is asked about transaction 1, at whose version it owns p.
+-- A span is without its begin and with its end: resolver 2, that owned p last at transaction 0's read version, isn't
+-- asked about it, and resolver 1, that owns p from transaction 1's version on, is asked about that one.
 abbrev pub Spans : Type 0
 Spans =
-    (ruling at_m_and_t spans 2 0 ≡ Some (record { fresh = true; asked = 0 ∷ 2 ∷ []; admitting = 0 ∷ 1 ∷ 2 ∷ []; commits = true }))
-    × (ruling at_m_and_t spans 3 0 ≡ Some (record { fresh = true; asked = 0 ∷ 1 ∷ 2 ∷ []; admitting = 0 ∷ 1 ∷ 2 ∷ []; commits = true }))
+    (ruling at_m_and_t spans 2 0 ≡ Some (record { fresh = true; asked = 0 ∷ []; admitting = 0 ∷ 1 ∷ 2 ∷ []; commits = true }))
+    × (ruling at_m_and_t spans 3 0 ≡ Some (record { fresh = true; asked = 0 ∷ 1 ∷ []; admitting = 0 ∷ 1 ∷ 2 ∷ []; commits = true }))
 
 -- At 100 the keys from n up to t go over to resolver 0; transaction 0 sets m, transaction 1 sets n, transaction 2
 -- sets t.
