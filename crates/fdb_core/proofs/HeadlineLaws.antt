@@ -1,15 +1,21 @@
--- Over every run the machine is sound, and so every acknowledged transaction stands at its spot.
-use Rattle.std.proofs.Common.{◌≡◌, refl, sym, subst, arith, ⊎_elim, List, [], ◌∷◌, Option, Some, None, Result, Ok, Err}
+-- After every trace the machine is sound, and so every acknowledged transaction stands at its spot.
+use Rattle.std.proofs.Common.{◌≡◌, refl, arith, List, [], ◌∷◌, ◌++◌, Option, Some, None, Result, Ok, Err}
+use Rattle.std.specs.Prelude.{IfSome}
 use Rattle.fdb_keys.specs.declared.refusal.Refusal.{Refusal}
 use Rattle.fdb_core.specs.declared.config.Config.{Config}
 use Rattle.fdb_core.specs.declared.step.Answered.{Answered}
 use Rattle.fdb_core.specs.declared.step.Step.{Step}
 use Rattle.fdb_core.specs.declared.step.Step.TheVariants as step
-use Rattle.fdb_core.specs.Headline.{AcknowledgedStand}
+use Rattle.fdb_core.specs.Headline.{AcknowledgedStand, IsStrictlySerializable}
 use Rattle.fdb_core.specs.Machine.{Machine, Turn}
 use Rattle.fdb_core.specs.Soundness.{IsSound, LaneIsSound}
 use Rattle.fdb_core.specs.Steps.{next, after}
-use Rattle.fdb_core.specs.Worlds.{start, idle_lane, IsStep, IsRun}
+use Rattle.fdb_core.specs.Serving.{System, AllServe, RolesKeep}
+use Rattle.fdb_core.specs.Traces.{machine_of_trace, StandsFor}
+use Rattle.fdb_core.specs.Worlds.{start, idle_lane, IsStep}
+use Rattle.fdb_core.proofs.RealTimeLaws.{real_time}
+use Rattle.fdb_core.proofs.RunsLemmas.{run-push}
+use Rattle.fdb_core.proofs.TraceLaws.{kept-moved_by, shows}
 use Rattle.fdb_core.proofs.SoundLemmas.{all-replicate}
 use Rattle.fdb_core.proofs.SoundSteps.{sound-asks, sound-grants, sound-gets, sound-writes, sound-submits, sound-seals, sound-resolves, sound-hears, sound-decides, sound-pushes, sound-notes_log, sound-reports, sound-answers, sound-pulls}
 
@@ -49,27 +55,31 @@ sound-after m taken sound = by_turn (next m taken) (λ turn. sound-next m taken 
     by_turn (Ok turn) left = left turn refl
     by_turn (Err refusal) left = sound
 
--- the machine is sound, or memory ran out
-abbrev IsSoundWorld : Option Machine → Type 0
-IsSoundWorld None = Unit
-IsSoundWorld (Some m) = IsSound m
-
-sound-step : (old new : Option Machine) (taken : Step) (answer : Result Answered Refusal) → IsStep old taken answer new → IsSoundWorld old → IsSoundWorld new
-sound-step None new taken answer stepped sound = subst IsSoundWorld (sym stepped.1) tt
-sound-step (Some m) new taken answer stepped sound = ⊎_elim
-    (λ went. subst IsSoundWorld (sym went.1) (sound-after m taken sound))
-    (λ failed. subst IsSoundWorld (sym failed.1) tt)
-    stepped
-
--- every run keeps it so
-sound-run : (old new : Option Machine) (steps : List Step) (given : List (Result Answered Refusal)) → IsRun old steps given new
-    → IsSoundWorld old → IsSoundWorld new
-sound-run old new [] [] ran sound = subst IsSoundWorld (sym ran) sound
-sound-run old new [] (answer ∷ given) ran sound = absurd ran
-sound-run old new (taken ∷ steps) [] ran sound = absurd ran
-sound-run old new (taken ∷ steps) (answer ∷ given) ran sound = sound-run ran.0 new steps given ran.2 (sound-step old ran.0 taken answer ran.1 sound)
-
--- over every run from the start each acknowledged transaction stands at its spot
+-- after any trace each acknowledged transaction stands at its spot
 pub acknowledged_stand : AcknowledgedStand
-acknowledged_stand config steps given m ran =
-    let sound : IsSound m = sound-run (Some (start config)) (Some m) steps given ran (sound-start config) in sound.acknowledged
+acknowledged_stand config steps given =
+    let sound : IsSound (machine_of_trace config steps given) = kept-moved_by IsSound sound-after (start config) steps given (sound-start config) in
+    sound.acknowledged
+
+-- a world that stands for a trace, and whose shards answer from the run's map, is strictly serializable
+pub strictly_serializable : (config : Config) (steps : List Step) (given : List (Result Answered Refusal)) (system : System)
+    → StandsFor config steps given system.machine → RolesKeep system → IsStrictlySerializable config steps given system
+strictly_serializable config steps given system stands keep = record {
+  stands_for = stands;
+  shown = shows config steps given system.machine stands;
+  serial = acknowledged_stand config steps given;
+  real_time = real_time config steps given;
+  served = served system.machine keep;
+}
+  where
+    served : (machine : Option Machine) → RolesKeep (record system { machine = machine }) → IfSome machine (λ (m : Machine). AllServe m system.shards)
+    served None keep = tt
+    served (Some m) keep = keep.2
+
+-- where a world stands for a trace, it then stands for that trace with the next step and its answer
+pub serializable-step : (config : Config) (steps : List Step) (given : List (Result Answered Refusal)) (old new : System) (taken : Step) (answer : Result Answered Refusal)
+    → IsStep old.machine taken answer new.machine → RolesKeep new → StandsFor config steps given old.machine
+    → IsStrictlySerializable config (steps ++ taken ∷ []) (given ++ answer ∷ []) new
+serializable-step config steps given old new taken answer stepped keep stands =
+    strictly_serializable config (steps ++ taken ∷ []) (given ++ answer ∷ []) new
+    (run-push (Some (start config)) old.machine new.machine steps given taken answer stands stepped) keep

@@ -19,5 +19,7 @@ pub mod SealLemmas
 pub mod SoundLemmas
 pub mod SoundSteps
 pub mod StandsLemmas
+pub mod ServingLaws
 pub mod Ties
+pub mod TraceLaws
 pub mod Turns

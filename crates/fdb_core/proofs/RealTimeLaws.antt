@@ -37,14 +37,15 @@ use Rattle.fdb_core.specs.ClientSteps.{last_begun, begin_next, next_number, grea
 use Rattle.fdb_core.specs.Machine.{Machine, Turn, is_of, is_busy, is_set, first_missing, last_version, seen_before}
 use Rattle.fdb_core.specs.Programs.{program, sealed_of}
 use Rattle.fdb_core.specs.ProxySteps.{seals, hears, decides, notes_log, reports, answers, is_idle, is_resolving, is_logging, is_reported, next_version, version_limit, placed_from}
-use Rattle.fdb_core.specs.RealTime.{RealTime, HasBegun, StandsBehindVersion, spot_version}
+use Rattle.fdb_core.specs.RealTime.{RealTime, HasBegun, StandsBehindEarlier, StandsBehindVersion, spot_version}
 use Rattle.fdb_core.specs.RoleSteps.{resolves, pushes, pulls}
 use Rattle.fdb_core.specs.Steps.{next, after}
 use Rattle.fdb_core.specs.Verdicts.{is_needed, outcomes_from, outcomes_on, moves_through}
-use Rattle.fdb_core.specs.Worlds.{start, IsRun, idle_lane}
+use Rattle.fdb_core.specs.Traces.{moved_by, machine_of_trace}
+use Rattle.fdb_core.specs.Worlds.{start, idle_lane}
 use Rattle.fdb_core.proofs.AcceptedTurns.{found-accepted, refused_where-accepted, refused_by-accepted, lacks-accepted, in_turn-accepted, with_opened-accepted, if-accepted, accepts, to-of}
 use Rattle.fdb_txn.proofs.HistoryLemmas.{all-append}
-use Rattle.fdb_core.proofs.CommittedLaws.{run-none}
+use Rattle.fdb_core.proofs.TraceLaws.{kept-moved_by, moved_by-parts}
 use Rattle.fdb_core.proofs.SealLemmas.{last-at}
 use Rattle.fdb_core.proofs.SoundLemmas.{refused_where-failed, resolving-busy, logging-busy, found-front, last_version-push}
 use Rattle.fdb_core.proofs.AllLemmas.{all-push, all-remove, all-set, all-at, all-drop, all-take, all-weaken}
@@ -692,19 +693,9 @@ module _ (P : List Begun → TxnId → ℕ → Type 0) (low : ℕ) where
       kept-after m (Ok turn) keeps kept = keeps kept turn refl
       kept-after m (Err refusal) keeps kept = kept
 
-      -- and so does every run
-      kept-run : (old new : Machine) (steps : List Step) (given : List (Result Answered Refusal)) → IsRun (Some old) steps given (Some new)
-          → Kept P low old → Kept P low new
-      kept-run old new [] [] ran kept = let same : old ≡ new = cc in subst (Kept P low) same kept
-      kept-run old new [] (answer ∷ given) ran kept = absurd ran
-      kept-run old new (taken ∷ steps) [] ran kept = absurd ran
-      kept-run old new (taken ∷ steps) (answer ∷ given) ran kept = ⊎_elim
-          (λ went. let others : IsRun (Some (after old (next old taken))) steps given (Some new)
-          = subst (λ (mid : Option Machine). IsRun mid steps given (Some new)) went.1 ran.2 in
-          kept-run (after old (next old taken)) new steps given others (kept-after old (next old taken) (keeps-next old taken) kept))
-          (λ failed. let none : Some new ≡ None
-          = run-none steps given (Some new) (subst (λ (mid : Option Machine). IsRun mid steps given (Some new)) failed.1 ran.2) in cc)
-          ran.1
+      -- and so does every trace
+      kept-trace : (old : Machine) (steps : List Step) (given : List (Result Answered Refusal)) → Kept P low old → Kept P low (moved_by old steps given)
+      kept-trace old steps given kept = kept-moved_by (Kept P low) (λ m taken holds. kept-after m (next m taken) (keeps-next m taken) holds) old steps given kept
 
 -- up to the machine: whatever there is has begun
 abbrev HasBegunThere : List Begun → TxnId → ℕ → Type 0
@@ -748,16 +739,23 @@ stands-behind : (P : TxnId → ℕ → Type 0) (c v : ℕ) (t : Transcript) (at 
 stands-behind P c v t (spot.Entry entry place version) is below = omega (arith, is.1, below)
 stands-behind P c v t (spot.ReadOnly version) is below = omega (arith, is.1, below)
 
-pub real_time : RealTime
-real_time config before steps given answers m later first second i j one other at_one at_other fresh =
-    let up_to : Kept HasBegunThere 0 m
-    = kept-run HasBegunThere 0 (λ begun session id read begins. begins-more begun session id begins)
-    (λ begun session version _. begins-new begun session version) (start config) m before given first (kept-start config) in
+-- behind a machine and those after it
+behind-earlier : (m : Machine) (steps : List Step) (given : List (Result Answered Refusal)) → Kept HasBegunThere 0 m → StandsBehindEarlier m (moved_by m steps given)
+behind-earlier m steps given up_to i j one other at_one at_other fresh =
+    let later = moved_by m steps given in
     let from : Kept (HadBegun m) m.committed later
-    = kept-run (HadBegun m) m.committed (λ begun session id read had. had) (λ begun session version above. inr above) m later steps answers second (kept-from m up_to) in
+    = kept-trace (HadBegun m) m.committed (λ begun session id read had. had) (λ begun session version above. inr above) m steps given (kept-from m up_to) in
     let told = all-at (IsPlaced (HasBegunThere m.begun) m.committed) m.acknowledged i one up_to.acknowledged at_one in
     let tells = all-at (IsPlaced (HadBegun m later.begun) later.committed) later.acknowledged j other from.acknowledged at_other in
     let reported : spot_version one.spot ≤ m.committed = spot-reported (HasBegunThere m.begun) m.committed one.transcript one.spot told.1 in
     let reads : m.committed ≤ other.transcript.read_version = ⊎_elim (λ has. absurd (fresh has)) (λ above. above) tells.0.0 in
     let behind : spot_version one.spot ≤ other.transcript.read_version = omega (arith, reported, reads) in
     (behind, stands-behind (HadBegun m later.begun) later.committed (spot_version one.spot) other.transcript other.spot tells.1 behind)
+
+pub real_time : RealTime
+real_time config steps given n =
+    let m = machine_of_trace config (take n steps) (take n given) in
+    let up_to : Kept HasBegunThere 0 m
+    = kept-trace HasBegunThere 0 (λ begun session id read begins. begins-more begun session id begins)
+    (λ begun session version _. begins-new begun session version) (start config) (take n steps) (take n given) (kept-start config) in
+    subst (StandsBehindEarlier m) (moved_by-parts n (start config) steps given) (behind-earlier m (drop n steps) (drop n given) up_to)

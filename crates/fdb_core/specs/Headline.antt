@@ -1,5 +1,5 @@
 -- What an acknowledgement means: where the transaction stands, and what its reads were answered.
-use Rattle.std.specs.Prelude.{◌≡◌, ◌≤◌, ℕ, true, List, [], ◌∷◌, fold, Some, Result}
+use Rattle.std.specs.Prelude.{◌≡◌, ◌≤◌, ℕ, true, List, [], ◌∷◌, fold, Some, IfSome, Result}
 use Rattle.std.specs.List.{AllByRecursion}
 use Rattle.fdb_keys.specs.declared.refusal.Refusal.{Refusal}
 use Rattle.fdb_mutations.specs.Maps.{Map}
@@ -19,7 +19,9 @@ use Rattle.fdb_core.specs.declared.step.Step.{Step}
 use Rattle.fdb_core.specs.Machine.{Machine, last_version}
 use Rattle.fdb_core.specs.ProgramLaws.{AgreeWhereOrdinary}
 use Rattle.fdb_core.specs.Programs.{program, exec, mutations_of, sealed_of}
-use Rattle.fdb_core.specs.Worlds.{start, IsRun}
+use Rattle.fdb_core.specs.RealTime.{KeepsRealTime}
+use Rattle.fdb_core.specs.Serving.{System, AllServe}
+use Rattle.fdb_core.specs.Traces.{machine_of_trace, StandsFor}
 
 -- a transcript's replies in the order of its program, which has the newest operation first
 abbrev pub replies_of : List (Op × Reply) → List Reply
@@ -58,10 +60,19 @@ Stands m placed = StandsAtSpot m placed.transcript placed.spot
 abbrev pub AllStand : Machine → Type 0
 AllStand m = AllByRecursion (Stands m) m.acknowledged
 
--- Over every list of steps, each acknowledged transaction stands at its spot: it is committed there, and each of
--- its ordinary reads was answered as when the committed transactions run one at a time from the empty map, by
--- commit version and place in the batch.
+-- Over every trace, each acknowledged transaction stands at its spot: it is committed there, and each of its
+-- ordinary reads was answered as when the committed transactions run one at a time from the empty map, by commit
+-- version and place in the batch.
 abbrev pub AcknowledgedStand : Type 0
 AcknowledgedStand =
-    (config : Config) (steps : List Step) (answers : List (Result Answered Refusal)) (m : Machine)
-    → IsRun (Some (start config)) steps answers (Some m) → AllStand m
+    (config : Config) (steps : List Step) (answers : List (Result Answered Refusal)) → AllStand (machine_of_trace config steps answers)
+
+-- What holds of a trace and of the world that stands for it: the world shows the trace's machine; each transaction that
+-- the trace acknowledged stands at its spot, and behind those that were acknowledged before it began; and every shard
+-- answers, at each version that it serves, from the run of the committed transactions one at a time.
+pub record IsStrictlySerializable (config : Config) (steps : List Step) (answers : List (Result Answered Refusal)) (system : System) : Type 0 where
+  pub stands_for : StandsFor config steps answers system.machine
+  pub shown : IfSome system.machine (λ (m : Machine). m ≡ machine_of_trace config steps answers)
+  pub serial : AllStand (machine_of_trace config steps answers)
+  pub real_time : KeepsRealTime config steps answers
+  pub served : IfSome system.machine (λ (m : Machine). AllServe m system.shards)

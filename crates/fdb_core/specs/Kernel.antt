@@ -18,6 +18,7 @@ use Rattle.fdb_core.specs.Machine.{Machine, is_set, last_version, seen_before}
 use Rattle.fdb_core.specs.Programs.{program, mutations_of}
 use Rattle.fdb_core.specs.ProxySteps.{is_idle, is_resolving}
 use Rattle.fdb_core.specs.Roles.{along, marks_of, message_on, outcomes_by, body_by}
+use Rattle.fdb_core.specs.Serving.{System}
 use Rattle.fdb_core.specs.Verdicts.{verdicts_on, outcomes_on}
 
 -- the machine that the world's parts stand for
@@ -38,6 +39,16 @@ machine_of k =
       begun = k.begun.items;
       committed = k.committed;
       acknowledged = k.acknowledged.items;
+    }
+
+-- what the world shows: the machine unless memory ran out, and what its one resolver, log and shard keep
+abbrev pub system_of : Bool → Kernel → System
+system_of failed k =
+    record {
+      machine = if failed then None else Some (machine_of k);
+      resolvers = k.marks.items ∷ [];
+      logs = k.log.items ∷ [];
+      shards = k.shard.items ∷ [];
     }
 
 -- each entry's version is above that of the entry before it

@@ -9,8 +9,10 @@ pub mod RealTime
 pub mod ProxySteps
 pub mod RoleSteps
 pub mod Roles
+pub mod Serving
 pub mod Soundness
 pub mod Steps
+pub mod Traces
 pub mod Verdicts
 pub mod Worlds
 pub use Rattle.fdb_keys.specs.Answers

@@ -17,7 +17,7 @@ use Rattle.fdb_core.specs.ClientSteps.{version_of_shard}
 use Rattle.fdb_core.specs.Machine.{Machine, Turn, is_of}
 use Rattle.fdb_core.specs.Programs.{program, copy, decided}
 use Rattle.fdb_core.specs.Steps.{next, after}
-use Rattle.fdb_core.specs.Worlds.{start, IsRun}
+use Rattle.fdb_core.specs.Traces.{StandsFor}
 
 -- a refused step changes nothing
 abbrev pub RefusalsChangeNothing : Type 0
@@ -41,11 +41,11 @@ greatest_reported [] answers = 0
 greatest_reported (step ∷ steps) [] = 0
 greatest_reported (step ∷ steps) (answer ∷ answers) = max (reported step answer) (greatest_reported steps answers)
 
--- over every run the committed version is the greatest one that was reported
+-- over every trace the committed version is the greatest one that was reported
 abbrev pub CommittedIsGreatestReported : Type 0
 CommittedIsGreatestReported =
     (config : Config) (steps : List Step) (answers : List (Result Answered Refusal)) (m : Machine)
-    → IsRun (Some (start config)) steps answers (Some m) → m.committed ≡ greatest_reported steps answers
+    → StandsFor config steps answers (Some m) → m.committed ≡ greatest_reported steps answers
 
 -- a read answers as the transaction's own operations, executed on the map at its read version, leave the key
 abbrev pub GetsFromTheRun : Type 0

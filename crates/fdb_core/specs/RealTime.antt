@@ -1,5 +1,5 @@
 -- Real time: who begins after another transaction was acknowledged never stands before it.
-use Rattle.std.specs.Prelude.{◌≡◌, ◌<◌, ◌≤◌, ℕ, List, Some, Result, slice_get}
+use Rattle.std.specs.Prelude.{◌≡◌, ◌<◌, ◌≤◌, ℕ, List, take, Some, Result, slice_get}
 use Rattle.fdb_keys.specs.declared.refusal.Refusal.{Refusal}
 use Rattle.fdb_txn.specs.declared.spot.Spot.{Spot}
 use Rattle.fdb_txn.specs.declared.spot.Spot.TheVariants as spot
@@ -10,7 +10,7 @@ use Rattle.fdb_core.specs.declared.step.Answered.{Answered}
 use Rattle.fdb_core.specs.declared.step.Step.{Step}
 use Rattle.fdb_core.specs.ClientSteps.{last_begun}
 use Rattle.fdb_core.specs.Machine.{Machine}
-use Rattle.fdb_core.specs.Worlds.{start, IsRun}
+use Rattle.fdb_core.specs.Traces.{machine_of_trace}
 
 -- the version of the spot: of one in an entry the entry's, of one behind all entries up to a version that version
 abbrev pub spot_version : Spot → ℕ
@@ -27,12 +27,19 @@ abbrev pub StandsBehindVersion : ℕ → Spot → Type 0
 StandsBehindVersion v (spot.Entry entry place version) = v < version
 StandsBehindVersion v (spot.ReadOnly version) = v ≤ version
 
--- Over every run, a transaction that hadn't begun when another was acknowledged reads at that one's version or a
--- greater one, and stands behind it.
-abbrev pub RealTime : Type 0
-RealTime =
-    (config : Config) (before steps : List Step) (given answers : List (Result Answered Refusal)) (m later : Machine)
-    → IsRun (Some (start config)) before given (Some m) → IsRun (Some m) steps answers (Some later)
-    → (i j : ℕ) (placed other : Placed) → slice_get m.acknowledged i ≡ Some placed → slice_get later.acknowledged j ≡ Some other
+-- A transaction that is acknowledged in the later machine, and hadn't begun where another was acknowledged, reads
+-- at that one's version or a greater one, and stands behind it.
+abbrev pub StandsBehindEarlier : Machine → Machine → Type 0
+StandsBehindEarlier m later =
+    (i j : ℕ) (placed other : Placed) → slice_get m.acknowledged i ≡ Some placed → slice_get later.acknowledged j ≡ Some other
     → (HasBegun m other.transcript.id → ⊥)
     → (spot_version placed.spot ≤ other.transcript.read_version) × StandsBehindVersion (spot_version placed.spot) other.spot
+
+-- Real time over a trace: it holds of what was acknowledged in any number of its first steps.
+abbrev pub KeepsRealTime : Config → List Step → List (Result Answered Refusal) → Type 0
+KeepsRealTime config steps answers =
+    (n : ℕ) → StandsBehindEarlier (machine_of_trace config (take n steps) (take n answers)) (machine_of_trace config steps answers)
+
+-- every trace keeps real time
+abbrev pub RealTime : Type 0
+RealTime = (config : Config) (steps : List Step) (answers : List (Result Answered Refusal)) → KeepsRealTime config steps answers

@@ -3,13 +3,14 @@ ghost use Rattle.fdb_core.specs.Promises.{RefusalsChangeNothing, GrantsCommitted
 ghost use Rattle.fdb_core.specs.RealTime.{RealTime};
 ghost use Rattle.fdb_core.specs.ProgramLaws.{ProgramsAgree};
 ghost use Rattle.fdb_core.specs.Headline.{AcknowledgedStand};
+ghost use Rattle.fdb_core.specs.Traces.{TracesTell};
 
 /// A refused step changes nothing.
 pub fn refusals_change_nothing()
     ensures { RefusalsChangeNothing }
 {}
 
-/// A grant tells each session that asks there the committed version, and over every run that is the
+/// A grant tells each session that asks there the committed version, and over every trace that is the
 /// greatest version that was reported, 0 where there is none.
 pub fn grants_are_the_greatest_reported_version()
     ensures granted { GrantsCommitted }
@@ -34,7 +35,13 @@ pub fn programs_agree_on_maps_that_agree_where_they_read()
     ensures { ProgramsAgree }
 {}
 
-/// Over every run, each acknowledged transaction stands at its spot. At a spot in an entry it is committed
+/// A trace determines the machine: a world that stands for a list of steps with their answers shows the machine
+/// that the list takes the first one to, an accepted step after another.
+pub fn traces_tell_the_machine()
+    ensures { TracesTell }
+{}
+
+/// Over every trace, each acknowledged transaction stands at its spot. At a spot in an entry it is committed
 /// there, at the spot's place and under its version; at a read-only spot it wrote nothing, and stands behind
 /// the entries up to its read version. Each of its ordinary reads was answered as when the committed
 /// transactions before the spot run one at a time from the empty map, by version and by place in the batch.
@@ -42,7 +49,7 @@ pub fn acknowledged_transactions_stand_at_their_spots()
     ensures { AcknowledgedStand }
 {}
 
-/// Real time: a transaction that begins after another was acknowledged reads at that one's version or a
+/// Real time, over every trace: a transaction that begins after another was acknowledged reads at that one's version or a
 /// greater one, and never stands before it.
 pub fn who_begins_after_an_acknowledgement_stands_behind_it()
     ensures { RealTime }

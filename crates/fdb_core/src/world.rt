@@ -27,29 +27,36 @@ pub struct World {
 }
 
 impl Model for World {
-    ghost use Rattle.std.specs.Prelude.{◌≡◌, false, Option, Some, None, if◌then◌else◌};
-    ghost use Rattle.fdb_core.specs.Machine.{Machine};
-    ghost use Rattle.fdb_core.specs.Kernel.{machine_of, Tied};
+    ghost use Rattle.std.specs.Prelude.{◌≡◌, false};
+    ghost use Rattle.fdb_core.specs.Kernel.{machine_of, system_of, Tied};
+    ghost use Rattle.fdb_core.specs.Serving.{System};
     ghost use Rattle.fdb_core.specs.Soundness.{IsSound};
 
-    ghost Value = { Option Machine };
+    ghost Value = { System };
 
-    ghost view = { λ world. if world.failed then None else Some (machine_of world.kernel) };
+    ghost view = { λ world. system_of world.failed world.kernel };
 
     ghost invariant = { λ world. world.failed ≡ false → Tied world.kernel × IsSound (machine_of world.kernel) };
 }
 
 impl World {
-    ghost use Rattle.std.specs.Prelude.{◌≡◌, length, Some, IfSome, IfOk};
+    ghost use Rattle.std.specs.Prelude.{◌≡◌, List, [], ◌∷◌, ◌++◌, length, Some, IfSome, Result, IfOk};
     ghost use Rattle.fdb_keys.specs.Answers.{Answers};
-    ghost use Rattle.fdb_core.specs.Headline.{AllStand};
+    ghost use Rattle.fdb_keys.specs.declared.refusal.Refusal.{Refusal};
+    ghost use Rattle.fdb_core.specs.declared.config.Config.{Config};
+    ghost use Rattle.fdb_core.specs.declared.step.Answered.{Answered};
+    ghost use Rattle.fdb_core.specs.declared.step.Step.{Step};
+    ghost use Rattle.fdb_core.specs.Headline.{AllStand, IsStrictlySerializable};
+    ghost use Rattle.fdb_core.specs.Serving.{RolesKeep};
+    ghost use Rattle.fdb_core.specs.Traces.{StandsFor};
     ghost use Rattle.fdb_core.specs.Worlds.{config_fault, start, IsStep};
 
     /// The world before its first step. Refused as `BadConfig` for a configuration that it does not
     /// serve: for now it serves one proxy of each kind, one log, no splits and a book of 1 to 1,048,576
     /// entries.
     pub fn new(alloc: Global, config: Config) -> Result<Self, Refusal>
-        ensures { Answers result (config_fault config) (λ world. world ≡ Some (start config)) }
+        ensures started { Answers result (config_fault config) (λ world. world.machine ≡ Some (start config)) }
+        ensures roles { IfOk result RolesKeep }
     {
         if config.proxies != 1 || config.logs != 1 {
             return Err(Refusal::BadConfig);
@@ -70,19 +77,25 @@ impl World {
     /// Takes one step, and answers what the machine answers. A refused step changes nothing. Where memory
     /// runs out in the step, the answer is `NoMemory`, and every later step is refused as `Failed`.
     ///
-    /// Each acknowledged transaction stands at its spot: it is committed there, and each of its ordinary
-    /// reads was answered as when the committed transactions run one at a time from the empty map, by
-    /// commit version and place in the batch.
+    /// Where the world stands for a trace, it then stands for that trace with this step and its answer. Each
+    /// transaction that the trace acknowledged stands at its spot: it is committed there, and each of its
+    /// ordinary reads was answered as when the committed transactions run one at a time from the empty map, by
+    /// commit version and place in the batch. It stands behind all that were acknowledged before it began. And
+    /// every shard answers, at each version that it serves, from that run's map.
     pub fn step(&mut self, step: Step) -> Result<Answered, Refusal>
-        ensures step { IsStep self.old step result self.new }
-        ensures serial { IfSome self.new AllStand }
+        ensures step { IsStep self.old.machine step result self.new.machine }
+        ensures serial { IfSome self.new.machine AllStand }
+        ensures roles { RolesKeep self.new }
+        ensures headline { (config : Config) (steps : List Step) (answers : List (Result Answered Refusal)) → StandsFor config steps answers self.old.machine
+            → IsStrictlySerializable config (steps ++ step ∷ []) (answers ++ result ∷ []) self.new }
     {
         self.take(&step)
     }
 
     pub(crate) fn take(&mut self, step: &Step) -> Result<Answered, Refusal>
-        ensures step { IsStep self.old step.now result self.new }
-        ensures serial { IfSome self.new AllStand }
+        ensures step { IsStep self.old.machine step.now result self.new.machine }
+        ensures serial { IfSome self.new.machine AllStand }
+        ensures roles { RolesKeep self.new }
     {
         if self.failed {
             return Err(Refusal::Failed);
@@ -97,7 +110,7 @@ impl World {
     /// the run of one transaction at a time. Answers the number of acknowledged transactions, or the first
     /// that differs. Once memory ran out in a step, transactions alone are compared.
     pub fn check(&self) -> Result<u64, CheckFault>
-        ensures { IfSome self.now (λ machine. IfOk result (λ count. count ≡ length machine.acknowledged)) }
+        ensures { IfSome self.now.machine (λ machine. IfOk result (λ count. count ≡ length machine.acknowledged)) }
     {
         check_all(&self.kernel, !self.failed)
     }

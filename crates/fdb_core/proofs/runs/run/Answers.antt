@@ -1,7 +1,9 @@
-use Rattle.std.proofs.Common.{◌≡◌, ◌∙◌, sym, ap, ◌+◌, ◌<◌, length, [], ◌∷◌, ◌++◌, take, Some, rules}
-use Rattle.std.proofs.lemmas.List.{take_more}
+use Rattle.std.proofs.Common.{◌≡◌, ◌∙◌, sym, ap, ◌+◌, ◌<◌, ◌≤◌, length, [], ◌∷◌, ◌++◌, take, Some, List, subst, rules}
+use Rattle.std.proofs.lemmas.List.{take_all, take_more}
 use Rattle.fdb_core.specs.declared.step.Step.{Step}
+use Rattle.fdb_core.specs.Traces.{StandsFor}
 use Rattle.fdb_core.specs.Worlds.{start}
+use Rattle.fdb_core.proofs.HeadlineLaws.{strictly_serializable}
 use Rattle.fdb_core.proofs.RunsLemmas.{run-push}
 use Rattle.fdb_core.proofs.runs.run.Goals as goal
 
@@ -14,8 +16,18 @@ loop-step-preserved c =
     take_more steps c.loop-step.step-index step within ∙ ap (λ (s : Step). take c.loop-step.step-index steps ++ s ∷ []) (sym c.step-item.is) in
     record {
       legal = c.loop-step.invariant.legal;
-      ran = rw (front, c.in_ok-push.ensures.ok)
-          (run-push (Some (start c.args.config)) c.loop-step.world c.take-answer.new.self (take c.loop-step.step-index steps) c.loop-step.answers step c.take-answer.result
-          c.loop-step.invariant.ran c.take-answer.ensures.step);
-      serial = c.take-answer.ensures.serial;
+      stands = rw (front, c.in_ok-push.ensures.ok)
+          (run-push (Some (start c.args.config)) c.loop-step.world.machine c.take-answer.new.self.machine (take c.loop-step.step-index steps) c.loop-step.answers step c.take-answer.result
+          c.loop-step.invariant.stands c.take-answer.ensures.step);
+      keep = c.take-answer.ensures.roles;
     }
+
+pub returns : goal.returns
+returns c =
+    let steps = c.args.steps.now in
+    let behind : length steps ≤ c.loop-step.step-index = search rules in
+    let whole : take c.loop-step.step-index steps ≡ steps = take_all c.loop-step.step-index steps behind in
+    rw c.loop-step.invariant.legal
+    (strictly_serializable c.args.config steps c.loop-step.answers c.loop-step.world
+    (subst (λ (taken : List Step). StandsFor c.args.config taken c.loop-step.answers c.loop-step.world.machine) whole c.loop-step.invariant.stands)
+    c.loop-step.invariant.keep)
