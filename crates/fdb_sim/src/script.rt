@@ -96,7 +96,7 @@ fn config_of<R: Read + Drop>(alloc: Global, lines: &Lines<R>) -> Result<Config, 
 }
 
 fn make_world(alloc: Global, config: Config) -> Result<World, Stop>
-    ensures ok { IfOk result (λ world. (config_fault config ≡ None) × (world ≡ Some (start config))) }
+    ensures ok { IfOk result (λ world. (config_fault config ≡ None) × (world.machine ≡ Some (start config))) }
     ensures stops { IfErr result (λ stop. Says stop (λ last. (number : ℕ) (lines : List (List ℕ)) → PlaysFrom number config lines last 2)) }
 {
     match World::new(alloc, config) {
@@ -114,9 +114,9 @@ fn take_steps<R: Read + Drop, W: Write>(
 ) -> Result<u8, Stop>
     ensures bound { IfOk result (λ status. status < 2) }
     ensures printed { IfOk result (λ status. Printed (W.contents writer.old) (W.contents writer.new) (λ printed.
-        Knows (left R.remaining lines.old) (λ all. PlaysOn (line_number lines.old) world.old all printed status))) }
+        Knows (left R.remaining lines.old) (λ all. PlaysOn (line_number lines.old) world.old.machine all printed status))) }
     ensures stops { IfErr result (λ stop. Says stop (λ last. Printed (W.contents writer.old) (W.contents writer.new) (λ printed.
-        Knows (left R.remaining lines.old) (λ all. PlaysOn (line_number lines.old) world.old all (printed ++ last) 2)))) }
+        Knows (left R.remaining lines.old) (λ all. PlaysOn (line_number lines.old) world.old.machine all (printed ++ last) 2)))) }
 {
     let mut text = String::new(alloc);
     for _ in 0..u64::MAX {
@@ -149,7 +149,7 @@ fn take_line<R: Read + Drop>(
     world: &mut World,
     text: &mut String,
 ) -> Result<(), Stop>
-    ensures ok { OnOk result ((said : List ℕ) × (string_bytes text.new ≡ string_bytes text.old ++ said) × AnswersLine (line_text lines.now) world.old said world.new) }
+    ensures ok { OnOk result ((said : List ℕ) × (string_bytes text.new ≡ string_bytes text.old ++ said) × AnswersLine (line_text lines.now) world.old.machine said world.new.machine) }
     ensures stops { IfErr result (λ stop. Says stop (λ last. StopsAt (line_number lines.now) (line_text lines.now) last 2)) }
 {
     match read_step(alloc, lines.text()) {
@@ -187,8 +187,8 @@ fn push_refusal(text: &mut String, refusal: Refusal) -> Result<(), AllocError>
 // Prints what the check at the end found.
 fn print_check<W: Write>(world: &World, writer: &mut W) -> Result<u8, Stop>
     ensures bound { IfOk result (λ status. status < 2) }
-    ensures printed { IfOk result (λ status. Printed (W.contents writer.old) (W.contents writer.new) (λ printed. IsChecked world.now printed status)) }
-    ensures stops { IfErr result (λ stop. Says stop (λ last. Printed (W.contents writer.old) (W.contents writer.new) (λ printed. IsChecked world.now (printed ++ last) 2))) }
+    ensures printed { IfOk result (λ status. Printed (W.contents writer.old) (W.contents writer.new) (λ printed. IsChecked world.now.machine printed status)) }
+    ensures stops { IfErr result (λ stop. Says stop (λ last. Printed (W.contents writer.old) (W.contents writer.new) (λ printed. IsChecked world.now.machine (printed ++ last) 2))) }
 {
     match world.check() {
         Ok(count) => {

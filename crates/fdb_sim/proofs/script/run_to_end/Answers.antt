@@ -23,12 +23,12 @@ pub returns-clause-printed : goal.returns-clause-printed
 returns-clause-printed g c =
     let made = c.in_ok-lines.ensures in
     if_ok_map c.take_steps.result _ _
-    (λ status played. run_played _ _ _ _ _ _ _ _ status c.in_ok-config.config c.in_ok-world.world made.left made.number c.in_ok-config.ensures.ok c.in_ok-world.ensures.ok c.in_ok-write_all.ensures.bytes played)
+    (λ status played. run_played _ _ _ _ _ _ _ _ status c.in_ok-config.config c.in_ok-world.world.machine made.left made.number c.in_ok-config.ensures.ok c.in_ok-world.ensures.ok c.in_ok-write_all.ensures.bytes played)
     c.take_steps.ensures.printed
 
 pub returns-clause-stops : goal.returns-clause-stops
 returns-clause-stops g c =
     let made = c.in_ok-lines.ensures in
     if_err_map c.take_steps.result _ _
-    (λ stopped played. run_stopped _ _ _ _ _ _ _ _ c.in_ok-config.config c.in_ok-world.world stopped made.left made.number c.in_ok-config.ensures.ok c.in_ok-world.ensures.ok c.in_ok-write_all.ensures.bytes played)
+    (λ stopped played. run_stopped _ _ _ _ _ _ _ _ c.in_ok-config.config c.in_ok-world.world.machine stopped made.left made.number c.in_ok-config.ensures.ok c.in_ok-world.ensures.ok c.in_ok-write_all.ensures.bytes played)
     c.take_steps.ensures.stops

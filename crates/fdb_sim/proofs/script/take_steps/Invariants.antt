@@ -7,4 +7,4 @@ abbrev pub invariant-loop : goal.invariant-loop
 invariant-loop g l =
     Printed (g.W.Write.contents l.initial.writer) (g.W.Write.contents l.writer) (λ said.
     Reaches (left g.R.Read.remaining l.initial.lines) (left g.R.Read.remaining l.lines) said
-    (PlaysOn (line_number l.initial.lines) l.initial.world) (PlaysOn (line_number l.lines) l.world))
+    (PlaysOn (line_number l.initial.lines) l.initial.world.machine) (PlaysOn (line_number l.lines) l.world.machine))
