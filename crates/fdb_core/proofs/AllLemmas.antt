@@ -1,5 +1,5 @@
 -- What holds of each item of a list, when the list changes.
-use Rattle.std.proofs.Common.{◌≡◌, ◌<◌, refl, arith, ℕ, zero, suc, List, [], ◌∷◌, ◌++◌, take, drop, length, Some, subst}
+use Rattle.std.proofs.Common.{◌≡◌, ◌<◌, refl, arith, ℕ, zero, suc, List, [], ◌∷◌, ◌++◌, take, drop, map, replicate, length, Some, subst}
 use Rattle.std.specs.List.{AllByRecursion, slice_get, slice_set, remove}
 
 module _ {A : Type 0} (P : A → Type 0) where
@@ -36,9 +36,16 @@ module _ {A : Type 0} (P : A → Type 0) where
   all-take zero (y ∷ ys) all = tt
   all-take (suc n) (y ∷ ys) all = (all.0, all-take n ys all.1)
 
-pub all-weaken : {A : Type 0} (P Q : A → Type 0) → ((x : A) → P x → Q x) → (xs : List A) → AllByRecursion P xs → AllByRecursion Q xs
-all-weaken P Q weaker [] all = tt
-all-weaken P Q weaker (x ∷ xs) all = (weaker x all.0, all-weaken P Q weaker xs all.1)
+-- what holds of each item holds of each that is made of one
+pub all-map : {A B : Type 0} (P : A → Type 0) (Q : B → Type 0) (f : A → B) → ((x : A) → P x → Q (f x)) → (xs : List A)
+    → AllByRecursion P xs → AllByRecursion Q (map f xs)
+all-map P Q f made [] all = tt
+all-map P Q f made (x ∷ xs) all = (made x all.0, all-map P Q f made xs all.1)
+
+-- what holds of an item holds of as many of it
+pub all-replicate : {A : Type 0} (P : A → Type 0) (x : A) (n : ℕ) → P x → AllByRecursion P (replicate n x)
+all-replicate P x zero here = tt
+all-replicate P x (suc n) here = (here, all-replicate P x n here)
 
 -- there is an item at each place within a list
 pub within-item : {A : Type 0} (xs : List A) (i : ℕ) → i < length xs → (x : A) × (slice_get xs i ≡ Some x)

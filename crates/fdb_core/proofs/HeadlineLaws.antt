@@ -16,7 +16,7 @@ use Rattle.fdb_core.specs.Worlds.{start, idle_lane, IsStep}
 use Rattle.fdb_core.proofs.RealTimeLaws.{real_time}
 use Rattle.fdb_core.proofs.RunsLemmas.{run-push}
 use Rattle.fdb_core.proofs.TraceLaws.{kept-moved_by, shows}
-use Rattle.fdb_core.proofs.SoundLemmas.{all-replicate}
+use Rattle.fdb_core.proofs.AllLemmas.{all-replicate}
 use Rattle.fdb_core.proofs.SoundSteps.{sound-asks, sound-grants, sound-gets, sound-writes, sound-submits, sound-seals, sound-resolves, sound-hears, sound-decides, sound-pushes, sound-notes_log, sound-reports, sound-answers, sound-pulls}
 
 -- the machine before its first step is sound

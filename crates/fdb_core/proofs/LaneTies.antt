@@ -8,7 +8,8 @@ use Rattle.fdb_core.specs.declared.parts.Submission.{Submission}
 use Rattle.fdb_core.specs.declared.step.Outcome.{Outcome}
 use Rattle.fdb_core.specs.Kernel.{LaneOk, LanesOk, WaitsOk}
 use Rattle.fdb_core.specs.ProxySteps.{is_idle, is_resolving}
-use Rattle.fdb_core.proofs.AllLemmas.{all-push, all-weaken}
+use Rattle.fdb_core.proofs.AllLemmas.{all-push}
+use Rattle.fdb_txn.proofs.HistoryLemmas.{all-weaken}
 use Rattle.fdb_core.proofs.RoleTies.{one-at}
 
 -- the commit proxy that was found is in order

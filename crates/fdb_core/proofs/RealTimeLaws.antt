@@ -44,11 +44,11 @@ use Rattle.fdb_core.specs.Verdicts.{is_needed, outcomes_from, outcomes_on, moves
 use Rattle.fdb_core.specs.Traces.{moved_by, machine_of_trace}
 use Rattle.fdb_core.specs.Worlds.{start, idle_lane}
 use Rattle.fdb_core.proofs.AcceptedTurns.{found-accepted, refused_where-accepted, refused_by-accepted, lacks-accepted, in_turn-accepted, with_opened-accepted, if-accepted, accepts, to-of}
-use Rattle.fdb_txn.proofs.HistoryLemmas.{all-append}
+use Rattle.fdb_txn.proofs.HistoryLemmas.{all-append, all-weaken}
 use Rattle.fdb_core.proofs.TraceLaws.{kept-moved_by, moved_by-parts}
 use Rattle.fdb_core.proofs.SealLemmas.{last-at}
 use Rattle.fdb_core.proofs.SoundLemmas.{refused_where-failed, resolving-busy, logging-busy, found-front, last_version-push}
-use Rattle.fdb_core.proofs.AllLemmas.{all-push, all-remove, all-set, all-at, all-drop, all-take, all-weaken}
+use Rattle.fdb_core.proofs.AllLemmas.{all-push, all-remove, all-set, all-at, all-drop, all-take, all-map, all-replicate}
 
 -- the test of `<`, failed and passed
 past : (i n : ℕ) → nat_lt i n ≡ false → n ≤ i
@@ -242,14 +242,6 @@ record Kept (P : List Begun → TxnId → ℕ → Type 0) (low : ℕ) (m : Machi
   above : low ≤ m.committed
   within : m.committed ≤ last_version m.book
   versions : AllByRecursion (λ (entry : Entry). entry.version ≤ last_version m.book) m.book
-
-all-map : {A B : Type 0} (P : B → Type 0) (f : A → B) (xs : List A) → AllByRecursion (λ x. P (f x)) xs → AllByRecursion P (map f xs)
-all-map P f [] all = tt
-all-map P f (x ∷ xs) all = (all.0, all-map P f xs all.1)
-
-all-replicate : {A : Type 0} (P : A → Type 0) (n : ℕ) (x : A) → P x → AllByRecursion P (replicate n x)
-all-replicate P zero x here = tt
-all-replicate P (suc n) x here = (here, all-replicate P n x here)
 
 reported-of : (stage : Stage) → not (is_reported stage) ≡ false → (is_idle stage ≡ false) × (is_reported stage ≡ true)
 reported-of Idle fails = cc
@@ -609,11 +601,11 @@ module _ (P : List Begun → TxnId → ℕ → Type 0) (low : ℕ) where
             lanes = all-set (LaneReads (P m.begun) m.committed (m.book ++ entry ∷ [])) m.lanes proxy _
                 (all-weaken _ _ (lane-weaken (P m.begun) (P m.begun) m.committed m.committed weaker up m.book (m.book ++ entry ∷ []) grows) m.lanes kept.lanes) (
                   all-drop _ PLACE_LIMIT lane.waiting before.0,
-                  all-map (Reads (P m.begun) m.committed) (λ (s : Submission). s.transcript) (take PLACE_LIMIT lane.waiting) taken,
+                  all-map _ (Reads (P m.begun) m.committed) (λ (s : Submission). s.transcript) (λ s reads. reads) (take PLACE_LIMIT lane.waiting) taken,
                   λ _. (
                     entry,
                     last-at m.book entry,
-                    all-map (λ (t : Transcript). t.read_version < entry.version) (λ (s : Submission). s.transcript) (take PLACE_LIMIT lane.waiting)
+                    all-map _ (λ (t : Transcript). t.read_version < entry.version) (λ (s : Submission). s.transcript) (λ s below. below) (take PLACE_LIMIT lane.waiting)
                         (all-weaken _ _ (λ (s : Submission) reads. below s.transcript reads) (take PLACE_LIMIT lane.waiting) taken),
                     λ reported. cc,
                   ),
@@ -705,7 +697,7 @@ kept-start : (config : Config) → Kept HasBegunThere 0 (start config)
 kept-start config =
     record {
       opened = tt;
-      lanes = all-replicate _ config.proxies idle_lane (tt, tt, λ idle. cc);
+      lanes = all-replicate _ idle_lane config.proxies (tt, tt, λ idle. cc);
       acknowledged = tt;
       above = omega arith;
       within = omega arith;

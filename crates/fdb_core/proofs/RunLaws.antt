@@ -12,7 +12,7 @@ use Rattle.fdb_txn.specs.declared.entry.Entry.{Entry}
 use Rattle.fdb_txn.specs.Transactions.{Transaction}
 use Rattle.fdb_txn.specs.Book.{Stamped, Place, Seen, nothing, placed, add_places, add_entry, seen_of}
 use Rattle.fdb_txn.specs.Run.{run, up_to, map_at}
-use Rattle.fdb_txn.proofs.HistoryLemmas.{AtMost, up_to-all}
+use Rattle.fdb_txn.proofs.HistoryLemmas.{AtMost, add_places-newer, up_to-above, up_to-all}
 use Rattle.fdb_txn.proofs.MessagesLemmas.{at_most-more, get-effects, run-add_places}
 use Rattle.fdb_core.specs.declared.pool.Message.{Message}
 use Rattle.fdb_core.specs.Machine.{last_version, seen_before}
@@ -148,12 +148,11 @@ at_most-places v version moves [] earlier reached at_most = at_most
 at_most-places v version moves (t ∷ ts) earlier reached at_most = at_most-places v version moves ts (placed version moves t ∷ earlier) reached (reached, at_most)
 
 -- the places of an entry of a greater version are left out
-up_to-above : (v version : ℕ) (moves : List Stamped) (batch : List Transaction) (earlier : List Place) → v < version
+up_to-entry : (v version : ℕ) (moves : List Stamped) (batch : List Transaction) (earlier : List Place) → v < version
     → up_to v (add_places version moves batch earlier) ≡ up_to v earlier
-up_to-above v version moves [] earlier above = refl
-up_to-above v version moves (t ∷ ts) earlier above =
-    up_to-above v version moves ts (placed version moves t ∷ earlier) above
-    ∙ cond-false _ (placed version moves t ∷ up_to v earlier) (up_to v earlier) (lt-leb version v above)
+up_to-entry v version moves batch earlier above =
+    let added = add_places-newer version moves batch earlier in
+    ap (up_to v) added.1 ∙ up_to-above v version added.0 earlier above added.2
 
 -- and so are all behind a version that v doesn't pass
 up_to-behind : (v least : ℕ) (seen : Seen) (book : List Entry) → v ≤ least → RisesFrom least book
@@ -161,7 +160,7 @@ up_to-behind : (v least : ℕ) (seen : Seen) (book : List Entry) → v ≤ least
 up_to-behind v least seen [] reached rising = refl
 up_to-behind v least seen (entry ∷ book) reached rising =
     up_to-behind v entry.version (add_entry seen entry) book (omega (arith, rising.0)) rising.1
-    ∙ up_to-above v entry.version (moves_through seen entry) entry.batch seen.places (omega (arith, rising.0))
+    ∙ up_to-entry v entry.version (moves_through seen entry) entry.batch seen.places (omega (arith, rising.0))
 
 -- what stands at a point after a message
 abbrev value_with : ℕ → Point → Option (List ℕ) → Message → Option (List ℕ)
@@ -181,7 +180,7 @@ value-message splits v x seen entry at_most = ⊎_elim
     ∙ ap (λ (map : Map). get map x) (sym (run-add_places splits entry.version moves entry.batch seen.places))
     ∙ ap (λ (now : List Place). get (run splits now) x) (sym all))
     (λ above. cond-false _ _ _ above
-    ∙ ap (λ (now : List Place). get (run splits now) x) (sym (up_to-above v entry.version moves entry.batch seen.places (leb-false entry.version v above))))
+    ∙ ap (λ (now : List Place). get (run splits now) x) (sym (up_to-entry v entry.version moves entry.batch seen.places (leb-false entry.version v above))))
     (cases_Bool (nat_le entry.version v))
   where
     moves : List Stamped

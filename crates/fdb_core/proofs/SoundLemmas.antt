@@ -33,7 +33,9 @@ use Rattle.fdb_core.specs.Machine.{Machine, Turn, refused_where, last_version, i
 use Rattle.fdb_core.specs.Programs.{program, copy, reply_on, exec, sealed_of, mutations_of}
 use Rattle.fdb_core.specs.ProxySteps.{is_idle, is_resolving, is_logging}
 use Rattle.fdb_core.specs.Soundness.{Told, Waits, LaneIsSound}
-use Rattle.fdb_core.proofs.AllLemmas.{all-push, all-remove, all-weaken}
+use Rattle.fdb_core.proofs.AllLemmas.{all-push, all-remove, all-map}
+use Rattle.fdb_txn.proofs.HistoryLemmas.{all-weaken}
+use Rattle.fdb_core.proofs.ReadSetLemmas.{in_with_range}
 use Rattle.fdb_core.proofs.ProgramLaws.{program-push}
 
 -- what is accepted behind a test failed it
@@ -60,17 +62,6 @@ logging-busy Idle logging = cc
 logging-busy Resolving logging = refl
 logging-busy Logging logging = refl
 logging-busy Reported logging = refl
-
--- what holds of each item holds of each that is made of one
-pub all-map : {A B : Type 0} (P : A → Type 0) (Q : B → Type 0) (f : A → B) → ((x : A) → P x → Q (f x)) → (xs : List A)
-    → AllByRecursion P xs → AllByRecursion Q (map f xs)
-all-map P Q f made [] all = tt
-all-map P Q f made (x ∷ xs) all = (made x all.0, all-map P Q f made xs all.1)
-
--- what holds of an item holds of as many of it
-pub all-replicate : {A : Type 0} (P : A → Type 0) (x : A) (n : ℕ) → P x → AllByRecursion P (replicate n x)
-all-replicate P x zero here = tt
-all-replicate P x (suc n) here = (here, all-replicate P x n here)
 
 module _ (P : Transcript → Type 0) where
   -- what holds of the open transactions holds of those but the session's
@@ -103,15 +94,6 @@ told-push m transcript op reply is told = (
   where
     there : Map
     there = map_at m.config.resolver_splits transcript.read_version (seen_of m.book).places
-
--- the set with a range has the range's points
-in_with_range : (range : Range) (ranges : List Range) (x : Point) → in_set (with_range range ranges) x ≡ (in_range range x || in_set ranges x)
-in_with_range range ranges x = by_empty (is_empty_range range) refl
-  where
-    by_empty : (is_empty : Bool) → is_empty_range range ≡ is_empty
-        → in_set (if is_empty then ranges else inserted range ranges) x ≡ (in_range range x || in_set ranges x)
-    by_empty true is = sym (ap (λ (here : Bool). here || in_set ranges x) (in_range-empty range x is))
-    by_empty false is = in_inserted range ranges x
 
 -- the range of a mutation has the points that it names
 in_named_range : (mutation : Mutation) (x : Point) → in_range (named_range mutation) x ≡ names mutation x

@@ -26,10 +26,11 @@ use Rattle.fdb_core.specs.RoleSteps.{resolves, pushes, pulls}
 use Rattle.fdb_core.specs.Soundness.{Told, Waits, LaneIsSound, IsSound}
 use Rattle.fdb_core.specs.Verdicts.{is_needed}
 use Rattle.fdb_core.proofs.AcceptedTurns.{found-accepted, refused_where-accepted, refused_by-accepted, lacks-accepted, in_turn-accepted, with_opened-accepted, accepts, to-of}
-use Rattle.fdb_core.proofs.AllLemmas.{all-at, all-set, all-remove, all-push, all-drop, all-take, all-weaken}
+use Rattle.fdb_core.proofs.AllLemmas.{all-at, all-set, all-remove, all-push, all-drop, all-take, all-map}
+use Rattle.fdb_txn.proofs.HistoryLemmas.{all-weaken}
 use Rattle.fdb_core.proofs.SealLemmas.{sealed_entry, sealed_lane, sealed_machine}
 use Rattle.fdb_core.proofs.SealLemmas.{last-at}
-use Rattle.fdb_core.proofs.SoundLemmas.{refused_where-failed, if-picked, resolving-busy, logging-busy, all-map, all-without, all-served, told-push, sealed-batch, sealed-in_flight, last_version-push, version-within, found-front, told-entry, lane-kept}
+use Rattle.fdb_core.proofs.SoundLemmas.{refused_where-failed, if-picked, resolving-busy, logging-busy, all-without, all-served, told-push, sealed-batch, sealed-in_flight, last_version-push, version-within, found-front, told-entry, lane-kept}
 use Rattle.fdb_core.proofs.StandsLemmas.{stands_with_entry, batch_stands, read_only_stands}
 
 -- a turn that leaves a sound machine

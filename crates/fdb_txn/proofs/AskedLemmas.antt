@@ -10,7 +10,7 @@ use Rattle.fdb_keys.proofs.RangesLemmas.{in_range_parts, in_range_from}
 use Rattle.fdb_txn.specs.Book.{Stamped, Place}
 use Rattle.fdb_txn.specs.Owners.{window, first_owner, owner, span_begin, is_asked}
 use Rattle.fdb_txn.specs.Admission.{has_points, is_fresh, admits, all_below, committed}
-use Rattle.fdb_txn.specs.AdmissionLaws.{Conflict, IsAmongAsked, CommittedByTheAsked, OldIsAsked, AskedVerdictsDecide}
+use Rattle.fdb_txn.specs.AdmissionLaws.{Conflict, IsAmongAsked, CommittedByTheAsked, OldIsAsked}
 use Rattle.fdb_txn.specs.History.{Follows, IsHistory}
 use Rattle.fdb_txn.proofs.CornersLemmas.{all-parts, asked_at_some_point, owned_at_some_version}
 use Rattle.fdb_txn.proofs.AdmissionLemmas.{admits_without_conflict}
@@ -150,39 +150,9 @@ all_below-decides test n =
     Decides-below_and test (λ i. test i ≡ true) (λ m. all_below m test) (λ i. (λ holds. holds, λ holds. holds)) refl (λ m. refl) n
 
 -- a place of a history is committed exactly where each resolver that is asked about it admits it
-pub committed-decides : (splits : List Point) (earlier : List Place) (place : Place) → IsHistory (suc (length splits)) (place ∷ earlier)
-    → Decides (committed splits earlier place) ((i : ℕ) → IsAmongAsked splits place i → admits splits i earlier place ≡ true)
-committed-decides splits earlier place history =
+pub committed_by_the_asked : CommittedByTheAsked
+committed_by_the_asked splits earlier place history =
     Decides-like (committed splits earlier place)
     (λ all i asked. all i asked.0)
     (admitted_by_others splits earlier place history)
     (all_below-decides (λ i. admits splits i earlier place) (suc (length splits)))
-
--- `committed` over the resolvers that are asked alone holds exactly where each of them admits the place
-asked_test-decides : (splits : List Point) (earlier : List Place) (place : Place)
-    → Decides (all_below (suc (length splits)) (λ i. not (is_asked splits i place) || admits splits i earlier place))
-    ((i : ℕ) → IsAmongAsked splits place i → admits splits i earlier place ≡ true)
-asked_test-decides splits earlier place =
-    Decides-like _
-    (λ all i asked. ⊎_elim
-    (λ unasked. absurd (both_ways _ (not-true _ unasked) asked.1))
-    (λ admitted. admitted)
-    (or_cases _ _ (all i asked.0)))
-    (λ all i exists. ⊎_elim
-    (λ asked. or_right _ _ (all i (exists, asked)))
-    (λ unasked. or_left _ _ (not_from_false _ unasked))
-    (cases_Bool (is_asked splits i place)))
-    (all_below-decides (λ i. not (is_asked splits i place) || admits splits i earlier place) (suc (length splits)))
-
-pub committed_by_the_asked : CommittedByTheAsked
-committed_by_the_asked splits earlier place history =
-    same_from_decides _ _ (committed-decides splits earlier place history) (asked_test-decides splits earlier place)
-
-pub asked_verdicts_decide : AskedVerdictsDecide
-asked_verdicts_decide splits earlier place history = (
-  (
-    λ old. let asked = old_is_asked splits earlier place history old in (asked.0, asked.1, old),
-    λ found. found.2,
-  ),
-  committed-decides splits earlier place history,
-)

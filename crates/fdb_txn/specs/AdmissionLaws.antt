@@ -46,23 +46,14 @@ AdmitsWithoutConflict =
 abbrev pub IsAmongAsked : List Point → Place → ℕ → Type 0
 IsAmongAsked splits place i = (i < suc (length splits)) × (is_asked splits i place ≡ true)
 
--- whether a place of a history is committed is told by the resolvers that are asked about it
+-- a place of a history is committed exactly where each resolver that is asked about it admits it
 abbrev pub CommittedByTheAsked : Type 0
 CommittedByTheAsked =
     (splits : List Point) (earlier : List Place) (place : Place) → IsHistory (suc (length splits)) (place ∷ earlier)
-    → committed splits earlier place
-    ≡ all_below (suc (length splits)) (λ i. not (is_asked splits i place) || admits splits i earlier place)
+    → (committed splits earlier place ≡ true) ↔ ((i : ℕ) → IsAmongAsked splits place i → admits splits i earlier place ≡ true)
 
 -- some resolver is asked about an old place
 abbrev pub OldIsAsked : Type 0
 OldIsAsked =
     (splits : List Point) (earlier : List Place) (place : Place) → IsHistory (suc (length splits)) (place ∷ earlier)
     → is_fresh place ≡ false → (i : ℕ) × IsAmongAsked splits place i
-
--- A place is old exactly where some resolver that is asked about it finds it so, and committed exactly where each
--- resolver that is asked about it admits it.
-abbrev pub AskedVerdictsDecide : Type 0
-AskedVerdictsDecide =
-    (splits : List Point) (earlier : List Place) (place : Place) → IsHistory (suc (length splits)) (place ∷ earlier)
-    → ((is_fresh place ≡ false) ↔ ((i : ℕ) × IsAmongAsked splits place i × (is_fresh place ≡ false)))
-    × ((committed splits earlier place ≡ true) ↔ ((i : ℕ) → IsAmongAsked splits place i → admits splits i earlier place ≡ true))

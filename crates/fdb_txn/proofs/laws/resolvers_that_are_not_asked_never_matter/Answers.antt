@@ -1,5 +1,5 @@
-use Rattle.fdb_txn.proofs.AskedLemmas.{committed_by_the_asked, old_is_asked, asked_verdicts_decide}
+use Rattle.fdb_txn.proofs.AskedLemmas.{committed_by_the_asked, old_is_asked}
 use Rattle.fdb_txn.proofs.laws.resolvers_that_are_not_asked_never_matter.Goals as goal
 
 pub returns : goal.returns
-returns c = record { committed = committed_by_the_asked; old = old_is_asked; verdicts = asked_verdicts_decide }
+returns c = record { committed = committed_by_the_asked; old = old_is_asked }

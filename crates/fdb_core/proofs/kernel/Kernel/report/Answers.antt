@@ -4,7 +4,7 @@ use Rattle.fdb_core.specs.declared.parts.Lane.{Lane}
 use Rattle.fdb_core.specs.declared.parts.Stage.TheVariants.{Logging}
 use Rattle.fdb_core.specs.Kernel.{OpenOk}
 use Rattle.fdb_core.specs.Machine.{last_version}
-use Rattle.fdb_core.proofs.AllLemmas.{all-weaken}
+use Rattle.fdb_txn.proofs.HistoryLemmas.{all-weaken}
 use Rattle.fdb_core.proofs.LaneTies.{lanes-set, lane-reported}
 use Rattle.fdb_core.proofs.RoleTies.{below-last}
 use Rattle.fdb_core.proofs.kernel.Kernel.report.Goals as goal
