@@ -65,8 +65,7 @@ keeps-submits : (m : Machine) (session proxy : ℕ) → Keeps m (submits m sessi
 unfolding submits
 keeps-submits m session proxy turn accepted =
     found-accepted (slice_get m.lanes proxy) _ turn accepted (λ lane _ on_lane.
-    let empty = refused_where-accepted (not (is_nil lane.waiting)) _ _ turn on_lane in
-    with_opened-accepted session m.opened _ turn empty (λ i transcript _ _ on_transcript.
+    with_opened-accepted session m.opened _ turn on_lane (λ i transcript _ _ on_transcript.
     ⊎_elim (committed-of _ _ turn) (committed-of _ _ turn) (if-accepted (is_nil (sealed_of transcript).mutations && is_nil (sealed_of transcript).writes) _ _ turn on_transcript)))
 
 -- Seal keeps it

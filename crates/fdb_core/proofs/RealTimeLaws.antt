@@ -380,8 +380,7 @@ module _ (P : List Begun → TxnId → ℕ → Type 0) (low : ℕ) where
   unfolding submits
   keeps-submits m session proxy kept turn accepted =
       found-accepted (slice_get m.lanes proxy) _ turn accepted (λ lane at_lane on_lane.
-      let empty = refused_where-accepted (not (is_nil lane.waiting)) _ _ turn on_lane in
-      with_opened-accepted session m.opened _ turn empty (λ i t _ there on_transcript.
+      with_opened-accepted session m.opened _ turn on_lane (λ i t _ there on_transcript.
       let reads = opened-at m i t kept there in
       let before = lane-at m proxy lane kept at_lane in
       let others = all-remove (Reads (P m.begun) m.committed) m.opened i kept.opened in

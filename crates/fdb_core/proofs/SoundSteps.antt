@@ -150,8 +150,7 @@ pub sound-submits : (m : Machine) (session proxy : ℕ) (turn : Turn) → IsSoun
 unfolding submits
 sound-submits m session proxy turn sound accepted =
     found-accepted (slice_get m.lanes proxy) _ turn accepted (λ lane lane_at on_lane.
-    let empty = refused_where-accepted (not (is_nil lane.waiting)) _ _ turn on_lane in
-    with_opened-accepted session m.opened _ turn empty (λ i transcript _ at on_transcript.
+    with_opened-accepted session m.opened _ turn on_lane (λ i transcript _ at on_transcript.
     let told = all-at (Told m) m.opened i transcript sound.opened at in
     let was = all-at (LaneIsSound m) m.lanes proxy lane sound.lanes lane_at in
     let others : IsSound (record m { opened = remove m.opened i })

@@ -156,11 +156,9 @@ abbrev pub is_nil : {A : Type 0} → List A → Bool
 is_nil xs = length xs == 0
 
 -- Submit: a transaction that writes nothing is acknowledged at its read version, any other waits at the proxy.
--- For now a proxy at which a request waits takes no other.
 unfoldable pub submits : Machine → ℕ → ℕ → Result Turn Refusal
 submits m session proxy = found (slice_get m.lanes proxy) (λ lane.
-    refused_where (not (is_nil lane.waiting)) WrongState
-    (with_opened session m.opened (λ i transcript.
+    with_opened session m.opened (λ i transcript.
     let sealed = sealed_of transcript in
     let others = remove m.opened i in
     if is_nil sealed.mutations && is_nil sealed.writes
@@ -177,4 +175,4 @@ submits m session proxy = found (slice_get m.lanes proxy) (λ lane.
         opened = others;
         lanes = slice_set m.lanes proxy (record lane { waiting = lane.waiting ++ record { sealed = sealed; transcript = transcript } ∷ [] });
       };
-    }))))
+    })))

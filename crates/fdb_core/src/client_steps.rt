@@ -169,9 +169,6 @@ impl Kernel {
         if at >= self.lanes.len() {
             return Ok(Err(Refusal::Unknown));
         }
-        if !self.lanes[at].waiting.is_empty() {
-            return Ok(Err(Refusal::WrongState));
-        }
         let Some(place) = position_of(&self.opened, session) else {
             return Ok(Err(Refusal::NoTransaction));
         };

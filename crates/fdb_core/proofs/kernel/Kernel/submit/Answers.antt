@@ -12,11 +12,11 @@ returns-clause-tied c =
     let before = c.requires in
     let k = c.args.self.now in
     let place = c.in-Some.place in
-    let transcript = c.index-2.result.now in
+    let transcript = c.index.result.now in
     let lane = c.index_mut-lane.result.now in
     let submission : Submission = record { sealed = c.in_ok-sealed.sealed; transcript = c.remove-transcript.result } in
     let within : place < length k.opened.items = search rules in
-    let there : slice_get k.opened.items place ≡ Some transcript = slice_get_read k.opened.items (length k.opened.items) place transcript refl within c.index-2.ensures in
+    let there : slice_get k.opened.items place ≡ Some transcript = slice_get_read k.opened.items (length k.opened.items) place transcript refl within c.index.ensures in
     let ok = all-at (OpenOk k.committed) k.opened.items place transcript before.opened there in
     let read : c.in_ok-sealed.sealed.read ≡ transcript.read_version = ap (λ (t : Transaction). t.read) c.in_ok-sealed.ensures in
     let waits : WaitsOk k.committed submission = omega (arith, ok.below, read) in
