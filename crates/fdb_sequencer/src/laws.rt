@@ -1,0 +1,29 @@
+//! What `==` says of tickets, which tickets are accepted, and that they make a book.
+ghost use Rattle.std.specs.Prelude.{◌≡◌};
+ghost use Rattle.std.specs.Bool.{Decides};
+ghost use Rattle.fdb_sequencer.specs.Equality.{ticket_eq};
+ghost use Rattle.fdb_sequencer.specs.TicketLaws.{PlannedAreAccepted, AcceptedArePlanned, PassedAreStale, TicketsMakeEntries};
+
+use crate::ticket::Ticket;
+
+/// Two tickets are equal exactly where they are the same.
+pub fn equal_tickets_are_the_same()
+    ensures { (a b : Ticket) → Decides (ticket_eq a b) (a ≡ b) }
+{}
+
+/// A ticket is accepted exactly where `plan` gives it, in the same state, to its proxy for some advance.
+pub fn tickets_are_accepted_exactly_where_they_are_planned()
+    ensures planned { PlannedAreAccepted }
+    ensures accepted { AcceptedArePlanned }
+{}
+
+/// Once a ticket was accepted, no ticket of its index or a lower one ever is.
+pub fn tickets_of_indices_that_were_given_are_stale()
+    ensures { PassedAreStale }
+{}
+
+/// Transactions that read at versions up to the last one make, at an accepted ticket, an entry that may stand
+/// in a book behind an entry of the last version.
+pub fn accepted_tickets_make_entries_of_a_book()
+    ensures { TicketsMakeEntries }
+{}

@@ -1,0 +1,14 @@
+//! The sequencer: it gives each batch its version and its place in the book, and keeps the greatest version
+//! that was reported as committed.
+#![tactic(auto)]
+
+pub mod laws;
+mod limits;
+mod sequencer_core;
+#[cfg(test)]
+mod tests;
+mod ticket;
+
+pub use limits::{GREATEST_ADVANCE, PROXY_LIMIT, RESOLVER_LIMIT, TICKET_LIMIT, VERSION_LIMIT};
+pub use sequencer_core::SequencerCore;
+pub use ticket::Ticket;

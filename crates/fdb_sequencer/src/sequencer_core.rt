@@ -1,0 +1,140 @@
+use crate::limits::{GREATEST_ADVANCE, PROXY_LIMIT, RESOLVER_LIMIT, TICKET_LIMIT, VERSION_LIMIT};
+use crate::ticket::Ticket;
+use fdb_keys::{Items, Refusal};
+use std::alloc::Global;
+use std::marker::Model;
+
+/// Gives each batch its version and its place in the book, and keeps the greatest version that was reported.
+///
+/// A ticket is planned first, which changes nothing, and then accepted. Of the tickets that were planned in
+/// between two that are accepted, one is accepted, and the others are stale from then on.
+#[derive(Debug, Drop)]
+pub struct SequencerCore {
+    alloc: Global,
+    proxies: u32,
+    resolvers: u32,
+    accepted: u64,
+    last: u64,
+    committed: u64,
+}
+
+impl Model for SequencerCore {
+    ghost use Rattle.fdb_sequencer.specs.Sequencer.{Sequencer, IsSequencer};
+
+    ghost Value = { Sequencer };
+
+    ghost use Rattle.fdb_sequencer.specs.Cores.{sequencer_of};
+
+    ghost view = { sequencer_of };
+
+    ghost invariant = { λ core. IsSequencer (sequencer_of core) };
+}
+
+impl SequencerCore {
+    ghost use Rattle.std.specs.Prelude.{◌≡◌, OnErr};
+    ghost use Rattle.fdb_keys.specs.Answers.{AnswersExactly};
+    ghost use Rattle.fdb_sequencer.specs.Sequencer.{IsSequencer, new_fault, fresh, plan_fault, planned, is_planned, accept_fault, accepting, report_fault, reporting};
+
+    /// The sequencer of a database whose last version is `last`, which is 0 at first. No ticket was accepted
+    /// and no version reported yet. It takes no memory.
+    ///
+    /// Refused as `BadConfig` unless there are 1 to 16 commit proxies and 1 to 64 resolvers, and the last
+    /// version is at most 2^62.
+    pub fn new(alloc: Global, proxies: u32, resolvers: u32, last: u64) -> Result<Self, Refusal>
+        ensures { AnswersExactly result (new_fault proxies resolvers last) (λ core. core ≡ fresh proxies resolvers last) }
+    {
+        let is_legal = (1..=PROXY_LIMIT).contains(&proxies)
+            && (1..=RESOLVER_LIMIT).contains(&resolvers)
+            && last <= VERSION_LIMIT;
+        if !is_legal {
+            return Err(Refusal::BadConfig);
+        }
+        Ok(SequencerCore {
+            alloc,
+            proxies,
+            resolvers,
+            accepted: 0,
+            last,
+            committed: 0,
+        })
+    }
+
+    /// The ticket that the proxy's next batch would get now. Its index is the number of tickets that were
+    /// accepted, its previous version is the last one, and its version is `advance` above that, but at least 1
+    /// and at most 5,000,000. It changes nothing, and takes no memory.
+    ///
+    /// Refused as `BadConfig` where no proxy has the number, and then as `Exhausted` where the version would
+    /// exceed 2^62 or 2^32 tickets were accepted.
+    pub fn plan(&self, proxy: u32, advance: u64) -> Result<Ticket, Refusal>
+        ensures { AnswersExactly result (plan_fault self.now proxy advance) (λ ticket. ticket ≡ planned self.now proxy advance) }
+    {
+        if proxy >= self.proxies {
+            return Err(Refusal::BadConfig);
+        }
+        let version = self.last + advance.clamp(1, GREATEST_ADVANCE);
+        if version > VERSION_LIMIT || self.accepted >= TICKET_LIMIT {
+            return Err(Refusal::Exhausted);
+        }
+        Ok(Ticket {
+            proxy,
+            index: self.accepted as u32,
+            version,
+            prev: self.last,
+            moves: Items::new(self.alloc),
+            pending: Items::new(self.alloc),
+        })
+    }
+
+    /// Accepts a ticket: its version is the last one from then on. It takes no memory.
+    ///
+    /// Refused as `Stale` unless the ticket is what `plan` answers now for some proxy and advance, and then
+    /// nothing changes.
+    pub fn accept(&mut self, ticket: &Ticket) -> Result<(), Refusal>
+        ensures answers { AnswersExactly result (accept_fault self.old ticket.now) (λ _. self.new ≡ accepting self.old ticket.now) }
+        ensures err { OnErr result (self.new ≡ self.old) }
+    {
+        if !self.is_planned(ticket) {
+            return Err(Refusal::Stale);
+        }
+        self.accepted += 1;
+        self.last = ticket.version;
+        Ok(())
+    }
+
+    // Whether `plan` answers the ticket for some proxy and advance.
+    fn is_planned(&self, ticket: &Ticket) -> bool
+        ensures { result ≡ is_planned self.now ticket.now }
+    {
+        ticket.proxy < self.proxies
+            && u64::from(ticket.index) == self.accepted
+            && ticket.prev == self.last
+            && ticket.version > self.last
+            && ticket.version <= self.last + GREATEST_ADVANCE
+            && ticket.version <= VERSION_LIMIT
+            && ticket.moves.is_empty()
+            && ticket.pending.is_empty()
+    }
+
+    /// Takes the report that the entries up to the version are committed. A report of a version that isn't
+    /// above an earlier one is taken and changes nothing. It takes no memory.
+    ///
+    /// Refused as `BadConfig` where the version is above the last one that was issued, and then nothing changes.
+    pub fn report(&mut self, version: u64) -> Result<(), Refusal>
+        ensures answers { AnswersExactly result (report_fault self.old version) (λ _. self.new ≡ reporting self.old version) }
+        ensures err { OnErr result (self.new ≡ self.old) }
+    {
+        if version > self.last {
+            return Err(Refusal::BadConfig);
+        }
+        self.committed = self.committed.max(version);
+        Ok(())
+    }
+
+    /// The greatest version that was reported, 0 at first.
+    pub fn committed(&self) -> u64
+        ensures value { result ≡ self.now.committed }
+        ensures legal { IsSequencer self.now }
+    {
+        self.committed
+    }
+}

@@ -1,0 +1,19 @@
+use fdb_keys::Items;
+use fdb_txn::Move;
+
+/// Where the batch of a commit proxy stands in the book, and which keys go over to other resolvers.
+#[derive(Clone, Debug, Drop, PartialEq, Eq)]
+pub struct Ticket {
+    /// The number of the proxy.
+    pub proxy: u32,
+    /// The number of the batch's entry, counted from 0.
+    pub index: u32,
+    /// The version of the entry.
+    pub version: u64,
+    /// The version of the entry before it.
+    pub prev: u64,
+    /// Moves of earlier entries, each list with its entry's version. For now there are none.
+    pub moves: Items<(u64, Items<Move>)>,
+    /// The moves that take effect at the ticket's version, the earliest one first. For now there are none.
+    pub pending: Items<Move>,
+}
