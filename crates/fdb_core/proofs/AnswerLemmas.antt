@@ -30,8 +30,8 @@ only_reported Reported reported = (refl, refl)
 
 -- the batch whose clients are answered
 module _ (k : Kernel) (proxy : ℕ) (lane : Lane) (entry : Entry) (tied : Tied k) (found : Answering k proxy lane entry) where
-  ok : LaneOk k.book.items k.resolvers.items k.committed lane k.outcomes
-  ok = lane-at k.book.items k.resolvers.items k.committed k.lanes.items k.outcomes proxy lane tied.lanes found.lane_there
+  ok : LaneOk k.book.items k.resolvers.items k.sequencer.committed lane k.outcomes
+  ok = lane-at k.book.items k.resolvers.items k.sequencer.committed k.lanes.items k.outcomes proxy lane tied.lanes found.lane_there
 
   -- the outcomes that are kept are what became of the places
   kept : k.outcomes ≡ outcomes_on [] (seen_before k.book.items lane.entry) entry

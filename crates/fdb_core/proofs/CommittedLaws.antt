@@ -5,6 +5,8 @@ use Rattle.std.specs.List.{slice_get, list_any}
 use Rattle.fdb_keys.specs.declared.refusal.Refusal.{Refusal}
 use Rattle.fdb_mutations.specs.declared.mutation.Mutation.{Mutation}
 use Rattle.fdb_mutations.specs.Mutations.{mutation_fault}
+use Rattle.fdb_sequencer.specs.Limits.{version_limit}
+use Rattle.fdb_sequencer.specs.Sequencer.{next_version}
 use Rattle.fdb_core.specs.declared.step.Answered.{Answered}
 use Rattle.fdb_core.specs.declared.step.Answered.TheVariants as answered
 use Rattle.fdb_core.specs.declared.step.Step.{Step}
@@ -13,7 +15,7 @@ use Rattle.fdb_core.specs.ClientSteps.{asks, grants, gets, writes, submits, has_
 use Rattle.fdb_core.specs.Machine.{Machine, Turn, is_busy, is_set, first_missing, last_version, seen_before}
 use Rattle.fdb_core.specs.Programs.{program, sealed_of}
 use Rattle.fdb_core.specs.Promises.{CommittedIsGreatestReported, reported, greatest_reported}
-use Rattle.fdb_core.specs.ProxySteps.{seals, hears, decides, notes_log, reports, answers, is_idle, is_resolving, is_logging, is_reported, next_version, version_limit}
+use Rattle.fdb_core.specs.ProxySteps.{seals, hears, decides, notes_log, reports, answers, is_idle, is_resolving, is_logging, is_reported}
 use Rattle.fdb_core.specs.RoleSteps.{resolves, pushes, pulls}
 use Rattle.fdb_core.specs.Steps.{next, answer_of, after}
 use Rattle.fdb_core.specs.Verdicts.{is_needed}

@@ -123,8 +123,8 @@ module _ (k : Kernel) (proxy : ℕ) (lane : Lane) (entry : Entry) (tied : Tied k
   below : ReadsBelow entry
   below = all-at ReadsBelow k.book.items lane.entry entry tied.book.reads_below found.entry_there
 
-  ok : LaneOk k.book.items k.resolvers.items k.committed lane k.outcomes
-  ok = lane-at k.book.items k.resolvers.items k.committed k.lanes.items k.outcomes proxy lane tied.lanes found.lane_there
+  ok : LaneOk k.book.items k.resolvers.items k.sequencer.committed lane k.outcomes
+  ok = lane-at k.book.items k.resolvers.items k.sequencer.committed k.lanes.items k.outcomes proxy lane tied.lanes found.lane_there
 
   not_idle : is_idle lane.stage ≡ false
   not_idle = busy lane.stage found.resolving
@@ -208,8 +208,8 @@ module _ (k : Kernel) (proxy : ℕ) (lane : Lane) (entry : Entry) (tied : Tied k
 
   -- the lane goes on with its outcomes
   lane-decided : (outcomes : List Outcome) → outcomes ≡ outcomes_on [] (seen_before k.book.items lane.entry) entry
-      → LaneOk k.book.items k.resolvers.items k.committed lane k.outcomes
-      → LaneOk k.book.items k.resolvers.items k.committed (record lane { stage = Logging }) outcomes
+      → LaneOk k.book.items k.resolvers.items k.sequencer.committed lane k.outcomes
+      → LaneOk k.book.items k.resolvers.items k.sequencer.committed (record lane { stage = Logging }) outcomes
   lane-decided outcomes are held = record {
     waiting = held.waiting;
     in_book = λ busy_now. held.in_book not_idle;
@@ -237,8 +237,7 @@ module _ (k : Kernel) (proxy : ℕ) (lane : Lane) (entry : Entry) (tied : Tied k
       record {
         plain = tied.plain;
         room = tied.room;
-        pending = tied.pending;
-        committed = tied.committed;
+        sequencer = tied.sequencer;
         book = record {
           no_moves = book.no_moves;
           rising = book.rising;
@@ -250,7 +249,7 @@ module _ (k : Kernel) (proxy : ℕ) (lane : Lane) (entry : Entry) (tied : Tied k
         };
         resolver = tied.resolver;
         log = tied.log;
-        lanes = lanes-set k.book.items k.book.items k.resolvers.items k.resolvers.items k.committed k.committed k.outcomes outcomes k.lanes.items proxy lane
+        lanes = lanes-set k.book.items k.book.items k.resolvers.items k.resolvers.items k.sequencer.committed k.sequencer.committed k.outcomes outcomes k.lanes.items proxy lane
             (record lane { stage = Logging }) tied.lanes found.lane_there (lane-decided outcomes are);
         opened = tied.opened;
       }

@@ -20,6 +20,7 @@ pub mod SoundLemmas
 pub mod SoundSteps
 pub mod StandsLemmas
 pub mod ServingLaws
+pub mod TicketTies
 pub mod Ties
 pub mod TraceLaws
 pub mod Turns

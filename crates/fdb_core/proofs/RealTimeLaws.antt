@@ -20,6 +20,8 @@ use Rattle.fdb_txn.specs.declared.txn_id.TxnId.{TxnId}
 use Rattle.fdb_txn.specs.Transactions.{Transaction}
 use Rattle.fdb_txn.specs.Book.{Stamped, Place, placed}
 use Rattle.fdb_txn.specs.Admission.{is_fresh, committed}
+use Rattle.fdb_sequencer.specs.Limits.{version_limit}
+use Rattle.fdb_sequencer.specs.Sequencer.{next_version}
 use Rattle.fdb_core.specs.declared.config.Config.{Config}
 use Rattle.fdb_core.specs.declared.parts.Begun.{Begun}
 use Rattle.fdb_core.specs.declared.parts.Lane.{Lane}
@@ -36,7 +38,7 @@ use Rattle.fdb_core.specs.declared.step.Step.TheVariants as step
 use Rattle.fdb_core.specs.ClientSteps.{last_begun, begin_next, next_number, greatest_number, first_of, serve, without, without_at, asks, grants, gets, writes, submits, has_no_number, read_fault, is_nil}
 use Rattle.fdb_core.specs.Machine.{Machine, Turn, is_of, is_busy, is_set, first_missing, last_version, seen_before}
 use Rattle.fdb_core.specs.Programs.{program, sealed_of}
-use Rattle.fdb_core.specs.ProxySteps.{seals, hears, decides, notes_log, reports, answers, is_idle, is_resolving, is_logging, is_reported, next_version, version_limit, placed_from}
+use Rattle.fdb_core.specs.ProxySteps.{seals, hears, decides, notes_log, reports, answers, is_idle, is_resolving, is_logging, is_reported, placed_from}
 use Rattle.fdb_core.specs.RealTime.{RealTime, HasBegun, StandsBehindEarlier, StandsBehindVersion, spot_version}
 use Rattle.fdb_core.specs.RoleSteps.{resolves, pushes, pulls}
 use Rattle.fdb_core.specs.Steps.{next, after}

@@ -7,6 +7,8 @@ use Rattle.fdb_txn.specs.declared.batch.TheConstants.{PLACE_LIMIT}
 use Rattle.fdb_txn.specs.declared.entry.Entry.{Entry}
 use Rattle.fdb_txn.specs.Book.{Seen, seen_of}
 use Rattle.fdb_txn.specs.Transactions.{Transaction}
+use Rattle.fdb_sequencer.specs.Limits.{version_limit}
+use Rattle.fdb_sequencer.specs.Sequencer.{next_version}
 use Rattle.fdb_core.specs.declared.parts.Lane.{Lane}
 use Rattle.fdb_core.specs.declared.parts.Reach.{Reach}
 use Rattle.fdb_core.specs.declared.parts.Stage.TheVariants.{Resolving}
@@ -19,7 +21,7 @@ use Rattle.fdb_core.specs.declared.step.Outcome.{Outcome}
 use Rattle.fdb_core.specs.declared.step.Verdict.{Verdict}
 use Rattle.fdb_core.specs.Kernel.{ReadsBelow, BookOk, ResolverOk, LogOk, WaitsOk, LaneOk}
 use Rattle.fdb_core.specs.Machine.{Machine, is_set, last_version}
-use Rattle.fdb_core.specs.ProxySteps.{seals, next_version, version_limit, is_idle}
+use Rattle.fdb_core.specs.ProxySteps.{seals, is_idle}
 use Rattle.fdb_core.specs.Roles.{along, marks_of, message_on}
 use Rattle.fdb_core.specs.Verdicts.{verdicts_on}
 use Rattle.fdb_core.proofs.AllLemmas.{all-push, all-drop}

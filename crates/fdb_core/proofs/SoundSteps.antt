@@ -7,6 +7,8 @@ use Rattle.fdb_mutations.specs.Mutations.{mutation_fault}
 use Rattle.fdb_txn.specs.declared.batch.TheConstants.{PLACE_LIMIT}
 use Rattle.fdb_txn.specs.declared.entry.Entry.{Entry}
 use Rattle.fdb_txn.proofs.HistoryLemmas.{all-append, entries_go_on}
+use Rattle.fdb_sequencer.specs.Limits.{version_limit}
+use Rattle.fdb_sequencer.specs.Sequencer.{next_version}
 use Rattle.fdb_core.specs.declared.parts.Begun.{Begun}
 use Rattle.fdb_core.specs.declared.parts.Lane.{Lane}
 use Rattle.fdb_core.specs.declared.parts.Placed.{Placed}
@@ -21,7 +23,7 @@ use Rattle.fdb_core.specs.ClientSteps.{asks, grants, gets, writes, submits, has_
 use Rattle.fdb_core.specs.Headline.{Stands}
 use Rattle.fdb_core.specs.Machine.{Machine, Turn, is_busy, is_set, first_missing, last_version, seen_before}
 use Rattle.fdb_core.specs.Programs.{program, sealed_of}
-use Rattle.fdb_core.specs.ProxySteps.{seals, hears, decides, notes_log, reports, answers, is_idle, is_resolving, is_logging, is_reported, next_version, version_limit}
+use Rattle.fdb_core.specs.ProxySteps.{seals, hears, decides, notes_log, reports, answers, is_idle, is_resolving, is_logging, is_reported}
 use Rattle.fdb_core.specs.RoleSteps.{resolves, pushes, pulls}
 use Rattle.fdb_core.specs.Soundness.{Told, Waits, LaneIsSound, IsSound}
 use Rattle.fdb_core.specs.Verdicts.{is_needed}

@@ -4,6 +4,7 @@ use Rattle.std.specs.List.{AllByRecursion}
 use Rattle.fdb_mutations.specs.Mutations.{mutation_fault}
 use Rattle.fdb_txn.specs.declared.entry.Entry.{Entry}
 use Rattle.fdb_txn.specs.Transactions.{Transaction}
+use Rattle.fdb_sequencer.specs.Sequencer.{Sequencer}
 use Rattle.fdb_core.specs.declared.config.Config.{Config}
 use Rattle.fdb_core.specs.declared.kernel.Kernel.{Kernel}
 use Rattle.fdb_core.specs.declared.parts.Lane.{Lane}
@@ -29,7 +30,7 @@ machine_of k =
       book = k.book.items;
       filed = k.filed.items;
       decided = k.decided.items;
-      pending = k.pending;
+      pending = [];
       lanes = k.lanes.items;
       resolvers = k.resolvers.items;
       logs = k.logs.items;
@@ -37,7 +38,7 @@ machine_of k =
       asking = k.asking.items;
       opened = k.opened.items;
       begun = k.begun.items;
-      committed = k.committed;
+      committed = k.sequencer.committed;
       acknowledged = k.acknowledged.items;
     }
 
@@ -81,6 +82,13 @@ pub record BookOk (book : List Entry) (filed : List ℕ) (decided : List Bool) (
   -- a decided entry has its message in the pool
   pub made : (i : ℕ) (message : Message) → is_set decided i ≡ true → slice_get (along (message_on []) book) i ≡ Some message
       → slice_get messages i ≡ Some (Some message)
+
+-- the sequencer gave each entry its ticket
+pub record SequencerOk (book : List Entry) (sequencer : Sequencer) : Type 0 where
+  pub proxies : sequencer.proxies ≡ 1
+  pub accepted : sequencer.accepted ≡ length book
+  pub last : sequencer.last ≡ last_version book
+  pub committed : sequencer.committed ≤ last_version book
 
 -- the resolver took this many entries, and holds what it makes of them
 pub record ResolverOk (book : List Entry) (resolvers : List ℕ) (marks : List Mark) (verdicts : List (List (ℕ × Verdict))) : Type 0 where
@@ -137,10 +145,9 @@ IsDecision book verdicts i is_heard decision =
 pub record Tied (k : Kernel) : Type 0 where
   pub plain : IsPlain k.config
   pub room : length k.book.items ≤ k.config.book
-  pub pending : k.pending ≡ []
-  pub committed : k.committed ≤ last_version k.book.items
+  pub sequencer : SequencerOk k.book.items k.sequencer
   pub book : BookOk k.book.items k.filed.items k.decided.items k.messages.items
   pub resolver : ResolverOk k.book.items k.resolvers.items k.marks.items k.verdicts.items
   pub log : LogOk k.book.items k.logs.items k.shards.items k.log.items k.shard.items
-  pub lanes : LanesOk k.book.items k.resolvers.items k.committed k.lanes.items k.outcomes
-  pub opened : AllByRecursion (OpenOk k.committed) k.opened.items
+  pub lanes : LanesOk k.book.items k.resolvers.items k.sequencer.committed k.lanes.items k.outcomes
+  pub opened : AllByRecursion (OpenOk k.sequencer.committed) k.opened.items

@@ -4,6 +4,8 @@ use Rattle.fdb_keys.specs.declared.refusal.Refusal.{Refusal}
 use Rattle.fdb_keys.specs.declared.refusal.Refusal.TheVariants.{Unknown, Stale, NotYet, Exhausted, BookFull, WrongState}
 use Rattle.fdb_txn.specs.declared.batch.TheConstants.{PLACE_LIMIT}
 use Rattle.fdb_txn.specs.declared.spot.Spot.TheVariants as spot
+use Rattle.fdb_sequencer.specs.Limits.{version_limit}
+use Rattle.fdb_sequencer.specs.Sequencer.{next_version}
 use Rattle.fdb_core.specs.declared.parts.Submission.{Submission}
 use Rattle.fdb_core.specs.declared.parts.Placed.{Placed}
 use Rattle.fdb_core.specs.declared.parts.Stage.{Stage}
@@ -38,13 +40,6 @@ is_reported Idle = false
 is_reported Resolving = false
 is_reported Logging = false
 is_reported Reported = true
-
--- an entry's version is at least 1 and at most 5,000,000 above the one before, and no version exceeds 2^62
-abbrev pub next_version : ℕ → ℕ → ℕ
-next_version prev advance = prev + max 1 (min advance 5000000)
-
-abbrev pub version_limit : ℕ
-version_limit = 2 ^ 62
 
 -- Seal: the first of those who wait, in order, become the batch of the next entry.
 unfoldable pub seals : Machine → ℕ → ℕ → Result Turn Refusal

@@ -69,7 +69,7 @@ impl Kernel {
             self.alloc,
             &mut self.begun,
             &mut self.opened,
-            self.committed,
+            self.sequencer.committed(),
             there.as_slice(),
         )?;
         Ok(Ok(Answered::Granted(granted)))

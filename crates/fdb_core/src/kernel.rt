@@ -5,7 +5,8 @@ use crate::pool::{Mark, Message};
 use crate::program::Transcript;
 use crate::step::{Outcome, Verdict};
 use fdb_keys::Items;
-use fdb_txn::{Entry, Move};
+use fdb_sequencer::SequencerCore;
+use fdb_txn::Entry;
 use std::alloc::Global;
 
 #[derive(Debug, Drop)]
@@ -16,7 +17,6 @@ pub(crate) struct Kernel {
     // For each entry the number of its proxy, and whether it is decided.
     pub(crate) filed: Vec<u32>,
     pub(crate) decided: Vec<bool>,
-    pub(crate) pending: Items<Move>,
     pub(crate) lanes: Vec<Lane>,
     // How many entries each resolver and each log took.
     pub(crate) resolvers: Vec<u32>,
@@ -25,8 +25,9 @@ pub(crate) struct Kernel {
     pub(crate) asking: Vec<Items<u32>>,
     pub(crate) opened: Vec<Transcript>,
     pub(crate) begun: Vec<Begun>,
-    pub(crate) committed: u64,
     pub(crate) acknowledged: Vec<Placed>,
+    // It gives the versions, and keeps the greatest one that was reported.
+    pub(crate) sequencer: SequencerCore,
     // The one resolver, and what it sent for each entry that it took.
     pub(crate) marks: Vec<Mark>,
     pub(crate) verdicts: Vec<Items<(u32, Verdict)>>,

@@ -20,6 +20,7 @@ mod proxy_steps;
 mod role_steps;
 mod runs;
 mod sealing;
+mod sequencing;
 mod serving;
 mod sessions;
 mod step;

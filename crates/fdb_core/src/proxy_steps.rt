@@ -13,17 +13,12 @@ use crate::kernel::Kernel;
 use crate::parts::{Lane, Stage};
 use crate::pool::Message;
 use crate::step::{Answered, Outcome};
-use crate::versions::last_version;
+use crate::sequencing::{issue, take_report};
 use fdb_keys::{Items, Refusal};
+use fdb_sequencer::Ticket;
 use fdb_txn::{Batch, Entry};
 use std::alloc::AllocError;
 use std::mem;
-
-// An entry's version is at least 1 and at most this many above the one before.
-const GREATEST_ADVANCE: u64 = 5_000_000;
-
-// No version exceeds this one.
-const VERSION_LIMIT: u64 = 1 << 62;
 
 impl Kernel {
     #[tactic(auto, unfolding(crate::specs::ProxySteps::seals))]
@@ -44,13 +39,11 @@ impl Kernel {
         if self.lanes[at].stage != Stage::Idle {
             return Ok(Err(Refusal::WrongState));
         }
-        let index = self.book.len();
-        let prev = last_version(&self.book, index);
-        let version = prev.saturating_add(advance.clamp(1, GREATEST_ADVANCE));
-        if version > VERSION_LIMIT {
-            return Ok(Err(Refusal::Exhausted));
-        }
-        if self.config.book as usize <= index {
+        let ticket = match self.sequencer.plan(proxy, advance) {
+            Ok(ticket) => ticket,
+            Err(why) => return Ok(Err(why)),
+        };
+        if self.config.book as usize <= self.book.len() {
             return Ok(Err(Refusal::BookFull));
         }
         let heard = unset(self.alloc, self.resolvers.len())?;
@@ -58,10 +51,18 @@ impl Kernel {
         let waiting = mem::replace(&mut self.lanes[at].waiting, Items::new(self.alloc));
         let taken = take_batch(self.alloc, waiting)?;
         let places = taken.batch.len() as u32;
+        issue(&mut self.sequencer, &ticket);
+        let Ticket {
+            index,
+            version,
+            prev,
+            pending: moves,
+            ..
+        } = ticket;
         let entry = Entry {
             version,
             prev,
-            moves: mem::replace(&mut self.pending, Items::new(self.alloc)),
+            moves,
             batch: Batch::new(taken.batch),
         };
         self.book.push(entry)?;
@@ -72,12 +73,12 @@ impl Kernel {
             waiting: taken.rest,
             in_flight: taken.transcripts,
             stage: Stage::Resolving,
-            entry: index as u32,
+            entry: index,
             heard,
             acknowledged,
         };
         Ok(Ok(Answered::Issued {
-            index: index as u32,
+            index,
             version,
             prev,
             places,
@@ -233,10 +234,10 @@ impl Kernel {
         if let Some(missing) = first_unset(self.lanes[at].acknowledged.as_slice()) {
             return Ok(Err(Refusal::NotYet(missing as u64)));
         }
-        self.committed = self.committed.max(self.book[i].version);
+        take_report(&mut self.sequencer, self.book[i].version);
         let lane = &mut self.lanes[at];
         lane.stage = Stage::Reported;
-        Ok(Ok(Answered::Version(self.committed)))
+        Ok(Ok(Answered::Version(self.sequencer.committed())))
     }
 
     #[tactic(auto, unfolding(crate::specs::ProxySteps::answers))]

@@ -3,12 +3,14 @@ ghost use Rattle.std.specs.Prelude.{◌≡◌, ◌≤◌, [], ◌∷◌, IfOk, O
 ghost use Rattle.fdb_core.specs.Kernel.{machine_of, Tied};
 ghost use Rattle.fdb_core.specs.Steps.{next, answer_of, after};
 ghost use Rattle.fdb_core.specs.Worlds.{start};
+ghost use Rattle.fdb_sequencer.specs.Sequencer.{fresh};
 
 use crate::config::Config;
 use crate::kernel::Kernel;
 use crate::parts::{Lane, Reach, Stage};
 use crate::step::{Answered, Step};
 use fdb_keys::{Items, Refusal};
+use fdb_sequencer::SequencerCore;
 use std::alloc::{AllocError, Global};
 
 impl Kernel {
@@ -74,7 +76,6 @@ impl Kernel {
             book: Vec::new(alloc),
             filed: Vec::new(alloc),
             decided: Vec::new(alloc),
-            pending: Items::new(alloc),
             lanes,
             resolvers,
             logs,
@@ -82,7 +83,7 @@ impl Kernel {
             asking,
             opened: Vec::new(alloc),
             begun: Vec::new(alloc),
-            committed: 0,
+            sequencer: first_sequencer(alloc),
             acknowledged: Vec::new(alloc),
             marks: Vec::new(alloc),
             verdicts: Vec::new(alloc),
@@ -91,6 +92,16 @@ impl Kernel {
             log: Vec::new(alloc),
             shard: Vec::new(alloc),
         })
+    }
+}
+
+// The sequencer of one proxy and one resolver, before its first ticket.
+fn first_sequencer(alloc: Global) -> SequencerCore
+    ensures { result ≡ fresh 1 1 0 }
+{
+    match SequencerCore::new(alloc, 1, 1, 0) {
+        Ok(sequencer) => sequencer,
+        Err(_) => unreachable!(),
     }
 }
 

@@ -54,12 +54,11 @@ returns-clause-after c = rw (turn_of c) (ap (λ (opened : List Transcript). reco
 pub returns-clause-tied : goal.returns-clause-tied
 returns-clause-tied c =
     let before = c.requires in
-    let read = opened-read c.args.self.now.committed c.args.self.now.opened.items c.in-Some.place c.index.result.now c.args.key.now c.args.snapshot (reply.Value c.in-Ok.value) before.opened (there c) in
+    let read = opened-read c.args.self.now.sequencer.committed c.args.self.now.opened.items c.in-Some.place c.index.result.now c.args.key.now c.args.snapshot (reply.Value c.in-Ok.value) before.opened (there c) in
     record {
       plain = before.plain;
       room = before.room;
-      pending = before.pending;
-      committed = before.committed;
+      sequencer = before.sequencer;
       book = before.book;
       resolver = before.resolver;
       log = before.log;

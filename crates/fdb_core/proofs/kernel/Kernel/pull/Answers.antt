@@ -32,8 +32,7 @@ returns-clause-tied c =
     record {
       plain = before.plain;
       room = before.room;
-      pending = before.pending;
-      committed = before.committed;
+      sequencer = before.sequencer;
       book = before.book;
       resolver = before.resolver;
       log = rw applied (pulled-next k.book.items k.logs.items k.shards.items k.log.items k.shard.items before.log c.args.shard c.max-pulled.result c.index-reach.result.now there from until);

@@ -60,8 +60,7 @@ returns-clause-tied c =
     record {
       plain = before.plain;
       room = before.room;
-      pending = before.pending;
-      committed = before.committed;
+      sequencer = before.sequencer;
       book = before.book;
       resolver = before.resolver;
       log = rw (c.in_ok-push.ensures.items, same c) (log-next k.book.items k.logs.items k.shards.items k.log.items k.shard.items c.args.log c.args.entry (there c).0 before.log (there c).1 (at c) c.in_ok-message.message is);

@@ -58,12 +58,11 @@ returns-clause-tied c =
     let resolver = resolver-next k.book.items k.resolvers.items k.marks.items k.verdicts.items c.args.resolver c.args.entry c.index-part.result.now before.resolver before.book.no_moves before.book.reads_below (there c) (at c)
     c.judge_batch.new.marks.items c.in_ok-verdicts.verdicts marked sent in
     let lanes = lanes-resolved k.book.items k.resolvers.items k.marks.items k.verdicts.items c.args.resolver c.args.entry c.index-part.result.now before.resolver before.book.no_moves before.book.reads_below (there c) (at c)
-    k.committed k.lanes.items k.outcomes before.lanes in
+    k.sequencer.committed k.lanes.items k.outcomes before.lanes in
     record {
       plain = before.plain;
       room = before.room;
-      pending = before.pending;
-      committed = before.committed;
+      sequencer = before.sequencer;
       book = before.book;
       resolver = rw (c.in_ok-push.ensures.items, same c) resolver;
       log = before.log;

@@ -17,21 +17,20 @@ returns-clause-tied c =
     let submission : Submission = record { sealed = c.in_ok-sealed.sealed; transcript = c.remove-transcript.result } in
     let within : place < length k.opened.items = search rules in
     let there : slice_get k.opened.items place ≡ Some transcript = slice_get_read k.opened.items (length k.opened.items) place transcript refl within c.index.ensures in
-    let ok = all-at (OpenOk k.committed) k.opened.items place transcript before.opened there in
+    let ok = all-at (OpenOk k.sequencer.committed) k.opened.items place transcript before.opened there in
     let read : c.in_ok-sealed.sealed.read ≡ transcript.read_version = ap (λ (t : Transaction). t.read) c.in_ok-sealed.ensures in
-    let waits : WaitsOk k.committed submission = omega (arith, ok.below, read) in
+    let waits : WaitsOk k.sequencer.committed submission = omega (arith, ok.below, read) in
     let inside : c.args.proxy < length k.lanes.items = search rules in
     let lane_there : slice_get k.lanes.items c.args.proxy ≡ Some lane = slice_get_read k.lanes.items (length k.lanes.items) c.args.proxy lane refl inside c.index_mut-lane.ensures.value in
     record {
       plain = before.plain;
       room = before.room;
-      pending = before.pending;
-      committed = before.committed;
+      sequencer = before.sequencer;
       book = before.book;
       resolver = before.resolver;
       log = before.log;
       lanes = rw c.in_ok-push-2.ensures.ok
-          (lanes-set k.book.items k.book.items k.resolvers.items k.resolvers.items k.committed k.committed k.outcomes k.outcomes k.lanes.items c.args.proxy lane _
-          before.lanes lane_there (lane-submit k.book.items k.resolvers.items k.committed k.outcomes lane submission waits));
-      opened = rw c.remove-transcript.ensures.items (all-remove (OpenOk k.committed) k.opened.items place before.opened);
+          (lanes-set k.book.items k.book.items k.resolvers.items k.resolvers.items k.sequencer.committed k.sequencer.committed k.outcomes k.outcomes k.lanes.items c.args.proxy lane _
+          before.lanes lane_there (lane-submit k.book.items k.resolvers.items k.sequencer.committed k.outcomes lane submission waits));
+      opened = rw c.remove-transcript.ensures.items (all-remove (OpenOk k.sequencer.committed) k.opened.items place before.opened);
     }

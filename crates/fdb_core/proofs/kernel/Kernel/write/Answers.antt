@@ -13,12 +13,11 @@ returns-clause-tied c =
     let there = within-item c.args.self.now.opened.items c.in-Some.place within in
     let faultless : mutation_fault c.args.mutation.now ≡ None = (given-fault (mutation_fault c.args.mutation.now) c.in_default-check.field-0 (λ _. ⊤) c.in_default-check.ensures).0 in
     let same : c.in_ok-mutation.mutation ≡ c.args.mutation.now = search rules in
-    let written = opened-write c.args.self.now.committed c.args.self.now.opened.items c.in-Some.place there.0 c.args.mutation.now reply.Done faultless before.opened there.1 in
+    let written = opened-write c.args.self.now.sequencer.committed c.args.self.now.opened.items c.in-Some.place there.0 c.args.mutation.now reply.Done faultless before.opened there.1 in
     record {
       plain = before.plain;
       room = before.room;
-      pending = before.pending;
-      committed = before.committed;
+      sequencer = before.sequencer;
       book = before.book;
       resolver = before.resolver;
       log = before.log;
