@@ -1,0 +1,54 @@
+-- What a resolver keeps, why it refuses a part, and what it makes of one.
+use Rattle.std.specs.Prelude.{◌≡◌, ◌-◌, ℕ, Bool, true, false, not, ◌==◌, nat_lt, Option, Some, None, if◌then◌else◌}
+use Rattle.fdb_keys.specs.Points.{Point}
+use Rattle.fdb_keys.specs.declared.refusal.Refusal.{Refusal}
+use Rattle.fdb_keys.specs.declared.refusal.Refusal.TheVariants.{NotYet, Stale, Failed, Unknown}
+use Rattle.fdb_interval.specs.declared.last_commit.LastCommit.{LastCommit}
+use Rattle.fdb_interval.specs.Versions.{version_at}
+use Rattle.fdb_txn.specs.Owners.{window}
+use Rattle.fdb_txn.specs.Resolvers.{AgreeFrom}
+use Rattle.fdb_resolver.specs.declared.part.Part.{Part}
+use Rattle.fdb_resolver.specs.declared.verdict.Verdicts.{Verdicts}
+use Rattle.fdb_resolver.specs.Rule.{AreVerdicts, versions_behind}
+
+-- its number, the version of the last entry that it took, whether memory ran out, and the versions at which
+-- it admitted writes
+pub record Resolver : Type 0 where
+  pub index : ℕ
+  pub last : ℕ
+  pub is_failed : Bool
+  pub versions : LastCommit
+
+-- why it refuses a part
+abbrev pub part_fault : Resolver → Part → Option Refusal
+part_fault core part =
+    if not (part.resolver == core.index) then Some Unknown
+    else (if core.is_failed then Some Failed
+    else (if nat_lt part.prev core.last then Some Stale
+    else (if nat_lt core.last part.prev then Some (NotYet part.prev)
+    else None)))
+
+-- it has taken nothing, and no point was written
+pub record IsNew (number : ℕ) (core : Resolver) : Type 0 where
+  pub index : core.index ≡ number
+  pub last : core.last ≡ 0
+  pub works : core.is_failed ≡ false
+  pub versions : (x : Point) → version_at core.versions x ≡ 0
+
+-- its verdicts on a part, by the versions that it kept
+pub record IsAnswer (core : Resolver) (part : Part) (verdicts : Verdicts) : Type 0 where
+  pub resolver : verdicts.resolver ≡ core.index
+  pub index : verdicts.index ≡ part.index
+  pub answers : AreVerdicts part.version (version_at core.versions) part.items verdicts.answers
+
+-- What it keeps behind a part. From the window's begin on, the versions answer as those behind all places.
+pub record HasTaken (old : Resolver) (part : Part) (verdicts : Verdicts) (new : Resolver) : Type 0 where
+  pub index : new.index ≡ old.index
+  pub last : new.last ≡ part.version
+  pub works : new.is_failed ≡ false
+  pub versions : AgreeFrom (part.version - window) (version_at new.versions) (versions_behind part.version (version_at old.versions) part.items verdicts.answers)
+
+-- it is the same resolver, and refuses every further part
+pub record HasFailed (old new : Resolver) : Type 0 where
+  pub index : new.index ≡ old.index
+  pub fails : new.is_failed ≡ true

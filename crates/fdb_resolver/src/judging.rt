@@ -1,0 +1,83 @@
+// The rule, place by place, over the versions of the points.
+ghost use Rattle.std.specs.Prelude.{◌≡◌, ◌≤◌, ◌↔◌, IsTrue, None, IfOk, OnOk, if◌then◌else◌};
+ghost use Rattle.std.specs.Slice.Iter.{iter_rest};
+ghost use Rattle.fdb_keys.specs.Answers.{Answers};
+ghost use Rattle.fdb_keys.specs.Points.{Point};
+ghost use Rattle.fdb_keys.specs.Ranges.{in_set};
+ghost use Rattle.fdb_interval.specs.Versions.{version_at};
+ghost use Rattle.fdb_resolver.specs.Rule.{HasNewer, IsVerdict, AreVerdicts, versions_with, versions_behind};
+
+use crate::part::Item;
+use crate::verdict::Verdict;
+use fdb_interval::LastCommit;
+use fdb_keys::{Items, RangeSet, Refusal};
+use std::alloc::Global;
+
+/// Reads older than this many versions are no longer judged.
+pub(crate) const WINDOW: u64 = 5_000_000;
+
+fn are_any_newer(versions: &LastCommit, reads: &RangeSet, version: u64) -> bool
+    ensures { IsTrue result ↔ HasNewer (version_at versions.now) reads.now version }
+{
+    for range in reads.iter() {
+        if versions.newer_than(range, version) {
+            return true;
+        }
+    }
+    false
+}
+
+fn judge(versions: &LastCommit, version: u64, item: &Item) -> Verdict
+    ensures { IsVerdict version (version_at versions.now) item.now result }
+{
+    if item.has_reads && item.read_version < version.saturating_sub(WINDOW) {
+        Verdict::Old
+    } else if are_any_newer(versions, &item.reads, item.read_version) {
+        Verdict::Conflict
+    } else {
+        Verdict::Yes
+    }
+}
+
+fn mark_all(versions: &mut LastCommit, writes: &RangeSet, version: u64) -> Result<(), Refusal>
+    requires { (x : Point) → version_at versions.old x ≤ version }
+    ensures { Answers result None (λ _. (x : Point) → version_at versions.new x ≡ (if in_set writes.now x then version else version_at versions.old x)) }
+{
+    for range in writes.iter() {
+        versions.mark(range, version)?;
+    }
+    Ok(())
+}
+
+// Judges one place, and marks what it writes if it may commit.
+fn judge_item(versions: &mut LastCommit, version: u64, item: &Item) -> Result<Verdict, Refusal>
+    requires { (x : Point) → version_at versions.old x ≤ version }
+    ensures verdict { Answers result None (λ verdict. IsVerdict version (version_at versions.old) item.now verdict) }
+    ensures versions { IfOk result (λ verdict. (x : Point) → version_at versions.new x ≡ versions_with version item.now verdict (version_at versions.old) x) }
+{
+    let verdict = judge(versions, version, item);
+    if verdict == Verdict::Yes {
+        mark_all(versions, &item.writes, version)?;
+    }
+    Ok(verdict)
+}
+
+/// Judges the places one after another.
+pub(crate) fn judge_items(
+    alloc: Global,
+    versions: &mut LastCommit,
+    version: u64,
+    items: &[Item],
+) -> Result<Items<(u32, Verdict)>, Refusal>
+    requires { (x : Point) → version_at versions.old x ≤ version }
+    ensures verdicts { Answers result None (λ answers. AreVerdicts version (version_at versions.old) items.now answers) }
+    ensures versions { IfOk result (λ answers. (x : Point) → version_at versions.new x ≡ versions_behind version (version_at versions.old) items.now answers x) }
+    ensures below { OnOk result ((x : Point) → version_at versions.new x ≤ version) }
+{
+    let mut answers = Items::new(alloc);
+    for item in items {
+        let verdict = judge_item(versions, version, item)?;
+        answers.push((item.place, verdict))?;
+    }
+    Ok(answers)
+}

@@ -1,0 +1,13 @@
+//! A resolver: what it says of the transactions of an entry, by the versions at which it admitted writes.
+#![tactic(auto)]
+
+mod judging;
+mod part;
+mod resolver_core;
+#[cfg(test)]
+mod tests;
+mod verdict;
+
+pub use part::{Item, Part};
+pub use resolver_core::ResolverCore;
+pub use verdict::{Verdict, Verdicts};

@@ -1,0 +1,23 @@
+use fdb_keys::Items;
+
+/// What a resolver says of a transaction.
+#[derive(Clone, Copy, Debug, PartialEq, Eq)]
+pub enum Verdict {
+    /// It may commit.
+    Yes,
+    /// Something that it read was written since its read version.
+    Conflict,
+    /// Its reads lie too far back to be judged.
+    Old,
+}
+
+/// What a resolver says of a part.
+#[derive(Clone, Debug, Drop, PartialEq, Eq)]
+pub struct Verdicts {
+    /// The number of the resolver.
+    pub resolver: u32,
+    /// The number of the entry.
+    pub index: u32,
+    /// For each place that it was asked about, in order, the place's number and the verdict.
+    pub answers: Items<(u32, Verdict)>,
+}
