@@ -1,3 +1,4 @@
 pub mod Parts
 pub mod Resolvers
 pub mod Rule
+pub mod RuleLaws

@@ -2,6 +2,7 @@
 #![tactic(auto)]
 
 mod judging;
+pub mod laws;
 mod part;
 mod resolver_core;
 #[cfg(test)]
