@@ -1,13 +1,13 @@
--- What is accepted was planned.
-use Rattle.std.proofs.Common.{◌≡◌, arith, ⊎_elim, ℕ, ◌+◌, ◌-◌, ◌<◌, ◌≤◌, true, [], Some, None}
+-- What is accepted was planned, is accepted once, and makes a book.
+use Rattle.std.proofs.Common.{◌≡◌, ap, arith, ⊎_elim, ℕ, zero, suc, ◌+◌, ◌-◌, ◌<◌, ◌≤◌, true, List, [], ◌∷◌, fold, Some, None}
 use Rattle.std.proofs.lemmas.Bool.{and_parts, cases_Bool, ltb-true, leb-true, eqb-true}
 use Rattle.std.proofs.lemmas.Grind.{common_steps}
 use Rattle.std.proofs.lemmas.List.{nil_from_length}
 use Rattle.fdb_keys.specs.declared.refusal.Refusal.TheVariants.{Stale}
 use Rattle.fdb_sequencer.specs.declared.ticket.Ticket.{Ticket}
 use Rattle.fdb_sequencer.specs.Limits.{ticket_limit, version_limit, greatest_advance}
-use Rattle.fdb_sequencer.specs.Sequencer.{Sequencer, next_version, is_planned, accept_fault}
-use Rattle.fdb_sequencer.specs.TicketLaws.{AcceptedArePlanned}
+use Rattle.fdb_sequencer.specs.Sequencer.{Sequencer, next_version, is_planned, accept_fault, accepting}
+use Rattle.fdb_sequencer.specs.TicketLaws.{AcceptedArePlanned, AcceptedOnce, IndicesCountUp, TicketsMakeABook}
 
 -- what the test of a ticket says
 record IsNow (s : Sequencer) (ticket : Ticket) : Type 0 where
@@ -68,4 +68,42 @@ accepted_are_planned s ticket accepted =
           pending = now.pending i;
         },
       ),
+    )
+
+accepted-grows : (s : Sequencer) (tickets : List Ticket) → s.accepted ≤ (fold accepting s tickets).accepted
+accepted-grows s [] = omega arith
+accepted-grows s (ticket ∷ tickets) = omega (arith, accepted-grows (accepting s ticket) tickets)
+
+-- a ticket whose index was given is stale
+passed_is_stale : (s : Sequencer) (ticket : Ticket) → ticket.index < s.accepted → accept_fault s ticket ≡ Some Stale
+passed_is_stale s ticket passed = grind (arith, common_steps)
+
+pub accepted_once : AcceptedOnce
+accepted_once s ticket other between accepted lower =
+    let now = is_now s ticket (accepted_by_test s ticket accepted) in
+    let index : ticket.index ≡ s.accepted = now.index in
+    let grown = accepted-grows (accepting s ticket) between in
+    passed_is_stale (fold accepting (accepting s ticket) between) other (omega arith)
+
+pub indices_count_up : IndicesCountUp
+indices_count_up s [] accepted k found is = cc
+indices_count_up s (ticket ∷ tickets) accepted zero found is =
+    let now = is_now s ticket (accepted_by_test s ticket accepted.0) in
+    let index : ticket.index ≡ s.accepted = now.index in
+    let same : ticket ≡ found = cc in
+    let indices : ticket.index ≡ found.index = ap (λ (one : Ticket). one.index) same in
+    omega arith
+indices_count_up s (ticket ∷ tickets) accepted (suc k) found is =
+    let rest = indices_count_up (accepting s ticket) tickets accepted.1 k found is in
+    omega arith
+
+pub tickets_make_a_book : TicketsMakeABook
+tickets_make_a_book s [] accepted reads = tt
+tickets_make_a_book s (issued ∷ later) accepted reads =
+    let now = is_now s issued.0 (accepted_by_test s issued.0 accepted.0) in (
+      now.above,
+      now.prev,
+      rw now.pending tt,
+      reads.0,
+      tickets_make_a_book (accepting s issued.0) later accepted.1 reads.1,
     )

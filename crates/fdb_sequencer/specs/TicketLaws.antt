@@ -1,5 +1,5 @@
 -- Which tickets are accepted, and that they make a book.
-use Rattle.std.specs.Prelude.{◌≡◌, ◌<◌, ◌≤◌, ℕ, List, [], ◌∷◌, Some, None}
+use Rattle.std.specs.Prelude.{◌≡◌, ◌+◌, ◌<◌, ◌≤◌, ⊤, ℕ, List, [], ◌∷◌, map, fold, slice_get, Some, None}
 use Rattle.std.specs.List.{AllByRecursion}
 use Rattle.fdb_keys.specs.declared.refusal.Refusal.TheVariants.{Stale}
 use Rattle.fdb_txn.specs.declared.entry.Entry.{Entry}
@@ -7,7 +7,7 @@ use Rattle.fdb_txn.specs.Transactions.{Transaction, NamesWrites}
 use Rattle.fdb_txn.specs.History.{AreEntries}
 use Rattle.fdb_sequencer.specs.declared.ticket.Ticket.{Ticket}
 use Rattle.fdb_sequencer.specs.Limits.{greatest_advance}
-use Rattle.fdb_sequencer.specs.Sequencer.{Sequencer, planned, plan_fault, accept_fault}
+use Rattle.fdb_sequencer.specs.Sequencer.{Sequencer, planned, plan_fault, accept_fault, accepting}
 
 -- what a proxy gets for an advance is accepted
 abbrev pub PlannedAreAccepted : Type 0
@@ -20,18 +20,36 @@ AcceptedArePlanned =
     (s : Sequencer) (ticket : Ticket) → accept_fault s ticket ≡ None
     → (advance : ℕ) × ((advance ≤ greatest_advance) × (plan_fault s ticket.proxy advance ≡ None) × (ticket ≡ planned s ticket.proxy advance))
 
--- a ticket whose index was given away is stale
-abbrev pub PassedAreStale : Type 0
-PassedAreStale = (s : Sequencer) (ticket : Ticket) → ticket.index < s.accepted → accept_fault s ticket ≡ Some Stale
+-- once a ticket was accepted, one of its index or a lower one is stale, whatever was accepted in between
+abbrev pub AcceptedOnce : Type 0
+AcceptedOnce =
+    (s : Sequencer) (ticket other : Ticket) (between : List Ticket) → accept_fault s ticket ≡ None → other.index ≤ ticket.index
+    → accept_fault (fold accepting (accepting s ticket) between) other ≡ Some Stale
 
--- the entry of a batch at its ticket
-abbrev pub entry_at : Ticket → List Transaction → Entry
-entry_at ticket batch = record { version = ticket.version; prev = ticket.prev; moves = ticket.pending; batch = batch }
+-- tickets that are accepted one after another
+abbrev pub AreAccepted : Sequencer → List Ticket → Type 0
+AreAccepted s [] = ⊤
+AreAccepted s (ticket ∷ tickets) = (accept_fault s ticket ≡ None) × AreAccepted (accepting s ticket) tickets
 
--- Transactions that read at versions up to the last one make, at an accepted ticket, an entry that may stand in a book
--- behind an entry of the last version.
-abbrev pub TicketsMakeEntries : Type 0
-TicketsMakeEntries =
-    (s : Sequencer) (ticket : Ticket) (batch : List Transaction) → accept_fault s ticket ≡ None
-    → AllByRecursion (λ (t : Transaction). (t.read ≤ s.last) × NamesWrites t) batch
-    → AreEntries s.resolvers s.last (entry_at ticket batch ∷ [])
+-- their indices count up
+abbrev pub IndicesCountUp : Type 0
+IndicesCountUp =
+    (s : Sequencer) (tickets : List Ticket) → AreAccepted s tickets
+    → (k : ℕ) (ticket : Ticket) → slice_get tickets k ≡ Some ticket → ticket.index ≡ s.accepted + k
+
+-- a ticket with the batch that it is for
+abbrev pub Issued : Type 0
+Issued = Ticket × List Transaction
+
+-- each transaction read below the ticket's version, and all that its mutations name is in its write set
+abbrev pub ReadsBelow : Issued → Type 0
+ReadsBelow issued = AllByRecursion (λ (t : Transaction). (t.read < issued.0.version) × NamesWrites t) issued.1
+
+abbrev pub entry_of : Issued → Entry
+entry_of issued = record { version = issued.0.version; prev = issued.0.prev; moves = issued.0.pending; batch = issued.1 }
+
+-- batches at tickets that are accepted one after another are entries of a book, behind the last version
+abbrev pub TicketsMakeABook : Type 0
+TicketsMakeABook =
+    (s : Sequencer) (issued : List Issued) → AreAccepted s (map (λ (one : Issued). one.0) issued) → AllByRecursion ReadsBelow issued
+    → AreEntries s.resolvers s.last (map entry_of issued)

@@ -2,7 +2,7 @@
 ghost use Rattle.std.specs.Prelude.{◌≡◌};
 ghost use Rattle.std.specs.Bool.{Decides};
 ghost use Rattle.fdb_sequencer.specs.Equality.{ticket_eq};
-ghost use Rattle.fdb_sequencer.specs.TicketLaws.{PlannedAreAccepted, AcceptedArePlanned, PassedAreStale, TicketsMakeEntries};
+ghost use Rattle.fdb_sequencer.specs.TicketLaws.{PlannedAreAccepted, AcceptedArePlanned, AcceptedOnce, IndicesCountUp, TicketsMakeABook};
 
 use crate::ticket::Ticket;
 
@@ -18,12 +18,13 @@ pub fn tickets_are_accepted_exactly_where_they_are_planned()
 {}
 
 /// Once a ticket was accepted, no ticket of its index or a lower one ever is.
-pub fn tickets_of_indices_that_were_given_are_stale()
-    ensures { PassedAreStale }
+pub fn tickets_are_accepted_once()
+    ensures { AcceptedOnce }
 {}
 
-/// Transactions that read at versions up to the last one make, at an accepted ticket, an entry that may stand
-/// in a book behind an entry of the last version.
-pub fn accepted_tickets_make_entries_of_a_book()
-    ensures { TicketsMakeEntries }
+/// Tickets that are accepted one after another make a book. Their indices count up, and batches at them are
+/// entries that follow on one another, if each transaction read below its ticket's version.
+pub fn accepted_tickets_make_a_book()
+    ensures indices { IndicesCountUp }
+    ensures entries { TicketsMakeABook }
 {}
