@@ -180,7 +180,7 @@ outcomes-decided before entry still none below = subst
     said = verdicts_from [] entry.version [] 0 entry.batch before.places 0
 
 -- a place's outcome is a commit just where the place is committed
-commit-at : (splits : List Point) (earlier : List Place) (place : Place) (p : ℕ) → is_commit (outcome_at splits earlier place p) ≡ committed splits earlier place
+pub commit-at : (splits : List Point) (earlier : List Place) (place : Place) (p : ℕ) → is_commit (outcome_at splits earlier place p) ≡ committed splits earlier place
 commit-at splits earlier place p =
     by_cases (is_fresh place) (no_conflict splits (length splits) earlier place) (all_below (length splits) (λ i. admits splits i earlier place))
   where

@@ -1,10 +1,13 @@
 pub mod AcceptedTurns
+pub mod AgreeLemmas
 pub mod AllLemmas
 pub mod AnswerLemmas
 pub mod BatchLaws
+pub mod CheckingLemmas
 pub mod CommittedLaws
 pub mod DecideLemmas
 pub mod HeadlineLaws
+pub mod HoldingLemmas
 pub mod LaneTies
 pub mod OneResolver
 pub mod ProgramLaws
@@ -12,10 +15,12 @@ pub mod ProgramsAgree
 pub mod PromiseLaws
 pub mod ReadSetLemmas
 pub mod RealTimeLaws
+pub mod ReplayLemmas
 pub mod RoleTies
 pub mod RunLaws
 pub mod RunsLemmas
 pub mod SealLemmas
+pub mod SoundChecks
 pub mod SoundLemmas
 pub mod SoundSteps
 pub mod StandsLemmas

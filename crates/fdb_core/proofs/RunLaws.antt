@@ -219,3 +219,42 @@ value-of-run splits book rising pulled v reached x =
     ∙ ap (λ (now : List Place). get (run splits now) x)
     (sym (ap (λ (seen : Seen). up_to v seen.places) parts
     ∙ up_to-behind v (last_version (take pulled book)) (seen_of (take pulled book)) (drop pulled book) reached (rises-drop 0 pulled book whole)))
+
+-- with the places of a rising book none is above its last version
+at_most-book : (least : ℕ) (seen : Seen) (book : List Entry) → AtMost least seen.places → RisesFrom least book
+    → AtMost (last_from least book) (fold add_entry seen book).places
+at_most-book least seen [] at_most rising = at_most
+at_most-book least seen (entry ∷ book) at_most rising =
+    at_most-book entry.version (add_entry seen entry) book
+    (at_most-places entry.version entry.version (moves_through seen entry) entry.batch seen.places (le_refl entry.version)
+    (at_most-more least entry.version seen.places (le_of_lt rising.0) at_most)) rising.1
+
+-- the entries of a rising book of which the first is above v are left out
+up_to-later : (v least : ℕ) (seen : Seen) (book : List Entry) → ((entry : Entry) → slice_get book 0 ≡ Some entry → v < entry.version) → RisesFrom least book
+    → up_to v (fold add_entry seen book).places ≡ up_to v seen.places
+up_to-later v least seen [] later rising = refl
+up_to-later v least seen (entry ∷ book) later rising =
+    let above : v < entry.version = later entry refl in
+    up_to-behind v entry.version (add_entry seen entry) book (le_of_lt above) rising.1
+    ∙ up_to-above v entry.version (moves_through seen entry) entry.batch seen.places above
+
+-- the first one behind a front
+first-drop : (n : ℕ) (book : List Entry) → slice_get (drop n book) 0 ≡ slice_get book n
+first-drop zero book = refl
+first-drop (suc n) [] = refl
+first-drop (suc n) (entry ∷ book) = first-drop n book
+
+-- from the version of the last of the first n entries on, and below that of the next one, the map is that behind those entries
+pub map-between : (splits : List Point) (book : List Entry) → IsRising book → (n v : ℕ) → last_version (take n book) ≤ v
+    → ((entry : Entry) → slice_get book n ≡ Some entry → v < entry.version)
+    → map_at splits v (seen_of book).places ≡ run splits (seen_before book n).places
+map-between splits book rising n v reached next =
+    let whole : RisesFrom 0 book = rises 0 book rising in
+    let parts : seen_of book ≡ fold add_entry (seen_of (take n book)) (drop n book) =
+    ap seen_of (sym (take-append-drop n book)) ∙ fold-append add_entry nothing (take n book) (drop n book) in
+    ap (λ (now : List Place). run splits now)
+    (ap (λ (seen : Seen). up_to v seen.places) parts
+    ∙ up_to-later v (last_version (take n book)) (seen_of (take n book)) (drop n book)
+    (λ entry there. next entry (sym (first-drop n book) ∙ there)) (rises-drop 0 n book whole)
+    ∙ up_to-all v (seen_before book n).places
+    (at_most-more (last_version (take n book)) v (seen_before book n).places reached (at_most-book 0 nothing (take n book) tt (rises-take 0 n book whole))))

@@ -78,7 +78,7 @@ module _ (P : Transcript → Type 0) where
       all-served version first sessions (begin_next begun session) (opened ++ first_of begun version session ∷ []) (all-push P opened _ all (first begun session))
 
 -- the reply to one more operation is the newest
-replies_of-push : (ops : List (Op × Reply)) (done : Op × Reply) → replies_of (ops ++ done ∷ []) ≡ done.1 ∷ replies_of ops
+pub replies_of-push : (ops : List (Op × Reply)) (done : Op × Reply) → replies_of (ops ++ done ∷ []) ≡ done.1 ∷ replies_of ops
 replies_of-push ops done = fold-append (λ (earlier : List Reply) (one : Op × Reply). one.1 ∷ earlier) [] ops (done ∷ [])
 
 -- a transcript stays told with one more operation that is replied from the copy after the earlier ones

@@ -1,3 +1,4 @@
+pub mod Checking
 pub mod ClientSteps
 pub mod Headline
 pub mod Kernel

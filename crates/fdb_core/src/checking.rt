@@ -1,19 +1,24 @@
 // The comparison of what was answered with the run of one transaction at a time.
-ghost use Rattle.std.specs.Prelude.{◌≡◌, length, IfOk};
+ghost use Rattle.std.specs.Prelude.{◌≡◌, ◌↔◌, ◌≤◌, ◌<◌, ◌+◌, [], length, take, IsTrue, IfOk, IfErr, OnOk, MatchResult, if◌then◌else◌};
+ghost use Rattle.std.specs.List.{AllByRecursion};
+ghost use Rattle.fdb_mutations.specs.Mutations.{effects};
+ghost use Rattle.fdb_core.specs.Checking.{AnsweredAt, AnsweredIn, StopsBy, map_behind, IsPlainBook, HasCome, ComesTo, AreAlike, messages_name, entries_name, Finds};
+ghost use Rattle.fdb_core.specs.Machine.{last_version};
+ghost use Rattle.fdb_core.specs.Roles.{judged, outcomes_by, is_commit};
 
+use crate::comparing::{compare, Moment};
 use crate::deciding::decide_batch;
+use crate::holding::{are_alike_in_entries, are_alike_in_messages};
 use crate::judging::judge_batch;
 use crate::kernel::Kernel;
 use crate::parts::Placed;
 use crate::pool::{Mark, Message};
-use crate::program::{Op, Reply, Transcript};
-use crate::serving::{value_after_ops, value_in};
 use crate::step::Outcome;
 use crate::versions::last_version;
 use crate::world::CheckFault;
-use fdb_keys::Key;
+use fdb_keys::Items;
 use fdb_mutations::{Mutation, PlainMap};
-use fdb_txn::{Entry, Sealed, Spot};
+use fdb_txn::{Entry, Sealed};
 use std::alloc::Global;
 
 // The run so far: what its one resolver admitted, and the map.
@@ -23,192 +28,184 @@ struct Replay {
     map: PlainMap,
 }
 
-// Whether the map has at the key what the reply says.
-fn is_reply(map: &PlainMap, key: &Key, earlier: &[(Op, Reply)], reply: &Reply) -> bool {
-    let value = value_after_ops(key, map.get(key), earlier);
-    match reply {
-        Reply::Value(told) => told.as_ref() == value,
-        Reply::Done => false,
-    }
-}
-
-// Whether the transcript's ordinary replies are those of its program on the map.
-fn is_answered_on(map: &PlainMap, transcript: &Transcript) -> bool {
-    let ops = transcript.ops.as_slice();
-    for (place, (op, reply)) in ops.iter().enumerate() {
-        if let Op::Get {
-            key,
-            snapshot: false,
-        } = op
-        {
-            if !is_reply(map, key, &ops[..place], reply) {
-                return false;
-            }
-        }
-    }
-    true
-}
-
-// Compares the transcripts that stand at a place of an entry with the map before it.
-fn compare_at(
-    map: &PlainMap,
-    acknowledged: &[Placed],
-    entry: usize,
-    at: usize,
-) -> Result<(), CheckFault> {
-    for placed in acknowledged {
-        if let Spot::Entry { index, place, .. } = placed.spot {
-            let is_there = index as usize == entry && place as usize == at;
-            if is_there && !is_answered_on(map, &placed.transcript) {
-                return Err(CheckFault::Txn(placed.transcript.id));
-            }
-        }
-    }
-    Ok(())
-}
-
-// Compares the transcripts that wrote nothing and read at a version from one up to another.
-fn compare_between(
-    map: &PlainMap,
-    acknowledged: &[Placed],
-    from: u64,
-    until: u64,
-) -> Result<(), CheckFault> {
-    for placed in acknowledged {
-        if let Spot::ReadOnly { version } = placed.spot {
-            if from <= version && version < until && !is_answered_on(map, &placed.transcript) {
-                return Err(CheckFault::Txn(placed.transcript.id));
-            }
-        }
-    }
-    Ok(())
-}
-
-fn apply(map: &mut PlainMap, mutations: &[Mutation]) -> Result<(), CheckFault> {
+fn apply(map: &mut PlainMap, mutations: &[Mutation]) -> Result<(), CheckFault>
+    ensures ok { OnOk result (map.new ≡ effects map.old mutations.now) }
+    ensures err { IfErr result (λ fault. fault ≡ CheckFault.NoMemory) }
+{
     for mutation in mutations {
-        if map.apply(mutation).is_err() {
+        let Ok(()) = map.apply(mutation) else {
             return Err(CheckFault::NoMemory);
-        }
+        };
     }
     Ok(())
 }
 
+// What becomes of the places of an entry, by the one resolver's rule.
 fn outcomes_of(
     alloc: Global,
     marks: &mut Vec<Mark>,
     entry: &Entry,
-) -> Result<Vec<Outcome>, CheckFault> {
+) -> Result<Items<Outcome>, CheckFault>
+    ensures outcomes { IfOk result (λ outcomes. outcomes
+        ≡ outcomes_by entry.now.version (judged marks.old.items entry.now.version entry.now.batch).verdicts (length entry.now.batch)) }
+    ensures marks { OnOk result (marks.new.items ≡ (judged marks.old.items entry.now.version entry.now.batch).marks) }
+    ensures err { IfErr result (λ fault. fault ≡ CheckFault.NoMemory) }
+{
     let batch = entry.batch.as_slice();
     let Ok(verdicts) = judge_batch(alloc, marks, entry.version, batch) else {
         return Err(CheckFault::NoMemory);
     };
     match decide_batch(alloc, entry.version, verdicts.as_slice(), batch.len()) {
-        Ok(outcomes) => Ok(outcomes.into_vec()),
+        Ok(outcomes) => Ok(outcomes),
         Err(_) => Err(CheckFault::NoMemory),
     }
 }
 
+// Compares those who stand at the moment, and runs the transaction there.
 fn run_place(
     map: &mut PlainMap,
     acknowledged: &[Placed],
-    index: usize,
-    place: usize,
+    moment: Moment,
     txn: &Sealed,
     outcome: &Outcome,
-) -> Result<(), CheckFault> {
-    compare_at(map, acknowledged, index, place)?;
+) -> Result<(), CheckFault>
+    ensures map { OnOk result (map.new ≡ effects map.old (if is_commit outcome.now then txn.now.mutations else [])) }
+    ensures compared { MatchResult result (λ _. AllByRecursion (AnsweredAt moment map.old) acknowledged.now) (StopsBy (AnsweredAt moment map.old) acknowledged.now) }
+{
+    compare(map, acknowledged, moment)?;
     if let Outcome::Commit { .. } = outcome {
         apply(map, txn.mutations())?;
     }
     Ok(())
 }
 
+// Compares those who stand at the places of an entry, and runs its transactions.
+fn run_batch(
+    map: &mut PlainMap,
+    acknowledged: &[Placed],
+    entry: usize,
+    batch: &[Sealed],
+    outcomes: &[Outcome],
+) -> Result<(), CheckFault>
+    requires { length batch.now ≡ length outcomes.now }
+    ensures map { OnOk result (map.new ≡ map_behind map.old batch.now outcomes.now (length batch.now)) }
+    ensures compared { MatchResult result
+        (λ _. AllByRecursion (AnsweredIn map.old batch.now outcomes.now entry (length batch.now)) acknowledged.now)
+        (StopsBy (AnsweredIn map.old batch.now outcomes.now entry (length batch.now)) acknowledged.now) }
+{
+    for (place, txn) in batch.iter().enumerate() {
+        let outcome = &outcomes[place];
+        run_place(
+            map,
+            acknowledged,
+            Moment::Before { entry, place },
+            txn,
+            outcome,
+        )?;
+    }
+    Ok(())
+}
+
+// Compares those who read from the version before an entry up to the entry's, and those who stand in it, and runs it.
 fn run_entry(
     alloc: Global,
     replay: &mut Replay,
     acknowledged: &[Placed],
+    book: &[Entry],
     index: usize,
-    entry: &Entry,
-) -> Result<(), CheckFault> {
+) -> Result<(), CheckFault>
+    requires { index < length book.now }
+    ensures { IsPlainBook book.now → HasCome book.now acknowledged.now index replay.old
+        → ComesTo result book.now acknowledged.now (index + 1) replay.new }
+{
+    let entry = &book[index];
+    let before = Moment::Between {
+        from: last_version(book, index),
+        until: Some(entry.version),
+    };
+    compare(&replay.map, acknowledged, before)?;
     let outcomes = outcomes_of(alloc, &mut replay.marks, entry)?;
-    let places = entry.batch.as_slice().iter().zip(outcomes.as_slice());
-    for (place, (txn, outcome)) in places.enumerate() {
-        run_place(&mut replay.map, acknowledged, index, place, txn, outcome)?;
+    run_batch(
+        &mut replay.map,
+        acknowledged,
+        index,
+        entry.batch.as_slice(),
+        outcomes.as_slice(),
+    )
+}
+
+// Goes on through the entries from one on up to another.
+fn run_entries(
+    alloc: Global,
+    replay: &mut Replay,
+    acknowledged: &[Placed],
+    book: &[Entry],
+    from: usize,
+    until: usize,
+) -> Result<(), CheckFault>
+    requires order { from ≤ until }
+    requires within { until ≤ length book.now }
+    ensures { IsPlainBook book.now → HasCome book.now acknowledged.now from replay.old
+        → ComesTo result book.now acknowledged.now until replay.new }
+{
+    for index in from..until {
+        run_entry(alloc, replay, acknowledged, book, index)?;
     }
     Ok(())
 }
 
-fn key_of(mutation: &Mutation) -> &Key {
-    match mutation {
-        Mutation::Set { key, .. } => key,
-        Mutation::Clear { key } => key,
-    }
+// Whether the shard has the map at the version of the last of the entries that it applied.
+fn is_held(map: &PlainMap, shard: &[Message], book: &[Entry], applied: usize) -> bool
+    requires { applied ≤ length book.now }
+    ensures { let version = last_version (take applied book.now) in
+        IsTrue result ↔ (AreAlike map.now shard.now version (messages_name shard.now) × AreAlike map.now shard.now version (entries_name (take applied book.now))) }
+{
+    let version = last_version(book, applied);
+    are_alike_in_messages(map, shard, version)
+        && are_alike_in_entries(map, shard, version, &book[..applied])
 }
 
-// Whether the shard's messages have at each key that they name what the map has.
-fn are_alike(map: &PlainMap, named: &[Mutation], shard: &[Message], version: u64) -> bool {
-    for mutation in named {
-        let key = key_of(mutation);
-        if map.get(key) != value_in(shard, version, key) {
-            return false;
-        }
-    }
-    true
-}
-
-fn compare_batch(
-    map: &PlainMap,
+// Runs the book anew from its beginning, and compares on the way.
+fn check_book(
+    alloc: Global,
+    book: &[Entry],
+    acknowledged: &[Placed],
     shard: &[Message],
-    version: u64,
-    batch: &[Sealed],
-) -> Result<(), CheckFault> {
-    for txn in batch {
-        if !are_alike(map, txn.mutations(), shard, version) {
-            return Err(CheckFault::Shard(0));
-        }
+    with_shard: bool,
+) -> Result<u64, CheckFault>
+    ensures count { IfOk result (λ count. count ≡ length acknowledged.now) }
+    ensures finds { IsPlainBook book.now → Finds result book.now acknowledged.now with_shard shard.now }
+{
+    let mut replay = Replay {
+        marks: Vec::new(alloc),
+        map: PlainMap::new(alloc),
+    };
+    let applied = shard.len().min(book.len());
+    run_entries(alloc, &mut replay, acknowledged, book, 0, applied)?;
+    if with_shard && !is_held(&replay.map, shard, book, applied) {
+        return Err(CheckFault::Shard(0));
     }
-    Ok(())
-}
-
-// Compares a shard at its version, at the keys that its messages name and at those that the entries name.
-fn compare_shard(
-    map: &PlainMap,
-    shard: &[Message],
-    version: u64,
-    entries: &[Entry],
-) -> Result<(), CheckFault> {
-    for message in shard {
-        if !are_alike(map, message.body.as_slice(), shard, version) {
-            return Err(CheckFault::Shard(0));
-        }
-    }
-    for entry in entries {
-        compare_batch(map, shard, version, entry.batch.as_slice())?;
-    }
-    Ok(())
+    run_entries(alloc, &mut replay, acknowledged, book, applied, book.len())?;
+    let last = Moment::Between {
+        from: last_version(book, book.len()),
+        until: None,
+    };
+    compare(&replay.map, acknowledged, last)?;
+    Ok(acknowledged.len() as u64)
 }
 
 /// Compares every acknowledged transcript with the run of one transaction at a time, and the shard at its
 /// version where `with_shard` says so. Answers the number of acknowledged transactions.
 pub(crate) fn check_all(kernel: &Kernel, with_shard: bool) -> Result<u64, CheckFault>
-    ensures { IfOk result (λ count. count ≡ length kernel.now.acknowledged.items) }
+    ensures count { IfOk result (λ count. count ≡ length kernel.now.acknowledged.items) }
+    ensures finds { IsPlainBook kernel.now.book.items
+        → Finds result kernel.now.book.items kernel.now.acknowledged.items with_shard kernel.now.shard.items }
 {
-    let alloc = kernel.alloc;
-    let acknowledged = kernel.acknowledged.as_slice();
-    let reached = last_version(&kernel.book, kernel.shard.len());
-    let mut replay = Replay {
-        marks: Vec::new(alloc),
-        map: PlainMap::new(alloc),
-    };
-    let mut from = 0;
-    for (index, entry) in kernel.book.iter().enumerate() {
-        compare_between(&replay.map, acknowledged, from, entry.version)?;
-        run_entry(alloc, &mut replay, acknowledged, index, entry)?;
-        from = entry.version;
-        if with_shard && entry.version == reached {
-            compare_shard(&replay.map, &kernel.shard, reached, &kernel.book[..=index])?;
-        }
-    }
-    compare_between(&replay.map, acknowledged, from, u64::MAX)?;
-    Ok(acknowledged.len() as u64)
+    check_book(
+        kernel.alloc,
+        &kernel.book,
+        &kernel.acknowledged,
+        &kernel.shard,
+        with_shard,
+    )
 }

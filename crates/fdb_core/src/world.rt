@@ -40,7 +40,7 @@ impl Model for World {
 }
 
 impl World {
-    ghost use Rattle.std.specs.Prelude.{◌≡◌, List, [], ◌∷◌, ◌++◌, length, Some, IfSome, Result, IfOk};
+    ghost use Rattle.std.specs.Prelude.{◌≡◌, List, [], ◌∷◌, ◌++◌, length, Some, IfSome, Result, IfOk, MatchResult};
     ghost use Rattle.fdb_keys.specs.Answers.{Answers};
     ghost use Rattle.fdb_keys.specs.declared.refusal.Refusal.{Refusal};
     ghost use Rattle.fdb_core.specs.declared.config.Config.{Config};
@@ -108,9 +108,10 @@ impl World {
 
     /// Compares the ordinary replies of every acknowledged transaction, and the shard at its version, with
     /// the run of one transaction at a time. Answers the number of acknowledged transactions, or the first
-    /// that differs. Once memory ran out in a step, transactions alone are compared.
+    /// that differs. Nothing differs unless memory ran out in a step: the check then answers that number, or
+    /// it may itself lack memory. Once memory ran out in a step, transactions alone are compared.
     pub fn check(&self) -> Result<u64, CheckFault>
-        ensures { IfSome self.now.machine (λ machine. IfOk result (λ count. count ≡ length machine.acknowledged)) }
+        ensures { IfSome self.now.machine (λ machine. MatchResult result (λ count. count ≡ length machine.acknowledged) (λ fault. fault ≡ CheckFault.NoMemory)) }
     {
         check_all(&self.kernel, !self.failed)
     }
