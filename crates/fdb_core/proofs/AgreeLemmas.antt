@@ -29,7 +29,8 @@ use Rattle.fdb_core.specs.Kernel.{ReadsBelow}
 use Rattle.fdb_core.specs.Machine.{last_version, seen_before}
 use Rattle.fdb_core.specs.Roles.{marks_of, judged, outcomes_by, body_by}
 use Rattle.fdb_core.specs.Verdicts.{moves_through, outcomes_on}
-use Rattle.fdb_core.proofs.AllLemmas.{all-at, all-both, all-weaken}
+use Rattle.fdb_txn.proofs.HistoryLemmas.{all-weaken}
+use Rattle.fdb_core.proofs.AllLemmas.{all-at, all-both}
 use Rattle.fdb_core.proofs.BatchLaws.{judged-verdicts, judged-marks, outcomes-decided, body-committed, length-outcomes_on}
 use Rattle.fdb_core.proofs.OneResolver.{IsStill, no_moves-before, no_moves-at}
 use Rattle.fdb_core.proofs.ReplayLemmas.{place-map, place-there, place-within}

@@ -236,7 +236,7 @@ up_to-later v least seen [] later rising = refl
 up_to-later v least seen (entry ∷ book) later rising =
     let above : v < entry.version = later entry refl in
     up_to-behind v entry.version (add_entry seen entry) book (le_of_lt above) rising.1
-    ∙ up_to-above v entry.version (moves_through seen entry) entry.batch seen.places above
+    ∙ up_to-entry v entry.version (moves_through seen entry) entry.batch seen.places above
 
 -- the first one behind a front
 first-drop : (n : ℕ) (book : List Entry) → slice_get (drop n book) 0 ≡ slice_get book n

@@ -20,7 +20,7 @@ use Rattle.fdb_core.specs.Kernel.{machine_of, Tied}
 use Rattle.fdb_core.specs.Machine.{Machine, last_version}
 use Rattle.fdb_core.specs.Roles.{along, message_on, value_in}
 use Rattle.fdb_core.specs.Soundness.{IsSound}
-use Rattle.fdb_core.proofs.AllLemmas.{all-at, all-weaken}
+use Rattle.fdb_core.proofs.AllLemmas.{all-at}
 use Rattle.fdb_core.proofs.RunLaws.{length-along, value-of-run}
 
 module _ (k : Kernel) (tied : Tied k) where
