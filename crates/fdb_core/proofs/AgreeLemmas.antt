@@ -1,18 +1,18 @@
 -- Who stands between two entries or in one agrees with the book just where he was answered as on the maps of the run there.
-use Rattle.std.proofs.Common.{◌≡◌, ◌∙◌, sym, ap, ap₂, subst, refl, ℕ, zero, suc, ◌+◌, ◌<◌, ◌≤◌, le_refl, add-one, arith, Bool, true, false, ◌&&◌, nat_lt, nat_le, List, [], ◌∷◌, take, length, Option, Some, None, Result, Ok, Err, MatchResult, ◌⊎◌, inl, inr, ⊎_elim}
+use Rattle.std.proofs.Common.{◌≡◌, ◌∙◌, sym, ap, ap₂, subst, refl, ℕ, zero, suc, ◌+◌, ◌<◌, ◌≤◌, le_refl, add-one, arith, true, false, ◌&&◌, nat_lt, nat_le, List, [], ◌∷◌, take, length, Option, Some, None, Result, Ok, Err, MatchResult, inl, inr, ⊎_elim}
 use Rattle.std.specs.List.{AllByRecursion, slice_get}
 use Rattle.std.specs.Prelude.{OnOk}
 use Rattle.std.specs.FinMap.{empty}
 use Rattle.std.proofs.lemmas.Bool.{cases_Bool, both_ways, and_parts, and_from, ltb-true, ltb-false, lt-ltb, leb-true, le-leb, eqb-true, eq-eqb}
 use Rattle.std.proofs.lemmas.List.{take_all}
-use Rattle.std.proofs.lemmas.Option.{same_Some, slice_get_within}
+use Rattle.std.proofs.lemmas.Option.{same_Some}
 use Rattle.fdb_mutations.specs.Maps.{Map}
 use Rattle.fdb_mutations.specs.Mutations.{effects}
 use Rattle.fdb_txn.specs.declared.entry.Entry.{Entry}
 use Rattle.fdb_txn.specs.declared.spot.Spot.{Spot}
 use Rattle.fdb_txn.specs.declared.spot.Spot.TheVariants as spot
 use Rattle.fdb_txn.specs.Transactions.{Transaction}
-use Rattle.fdb_txn.specs.Book.{Stamped, Place, Seen, add_entry, seen_of}
+use Rattle.fdb_txn.specs.Book.{Seen, add_entry, seen_of}
 use Rattle.fdb_txn.specs.Places.{place_of, place_at}
 use Rattle.fdb_txn.specs.Run.{run, map_at}
 use Rattle.fdb_txn.proofs.MessagesLemmas.{run-add_places}
@@ -23,13 +23,13 @@ use Rattle.fdb_core.specs.declared.pool.Mark.{Mark}
 use Rattle.fdb_core.specs.declared.program.Transcript.{Transcript}
 use Rattle.fdb_core.specs.declared.step.Outcome.{Outcome}
 use Rattle.fdb_core.specs.declared.world.CheckFault.{CheckFault}
-use Rattle.fdb_core.specs.Checking.{is_below, is_at, AnsweredAt, AnsweredIn, Differs, StopsBy, map_behind, IsPlainBook, AgreesAt, Agrees, is_before, HasCome, ComesTo}
+use Rattle.fdb_core.specs.Checking.{AnsweredIn, map_behind, IsPlainBook, AgreesAt, Agrees, is_before, HasCome}
+use Rattle.fdb_core.specs.Comparing.{is_below, is_at, AnsweredAt, Differs, StopsBy}
 use Rattle.fdb_core.specs.Headline.{AnsweredOn}
 use Rattle.fdb_core.specs.Kernel.{ReadsBelow}
 use Rattle.fdb_core.specs.Machine.{last_version, seen_before}
 use Rattle.fdb_core.specs.Roles.{marks_of, judged, outcomes_by, body_by}
 use Rattle.fdb_core.specs.Verdicts.{moves_through, outcomes_on}
-use Rattle.fdb_txn.proofs.HistoryLemmas.{all-weaken}
 use Rattle.fdb_core.proofs.AllLemmas.{all-at, all-both}
 use Rattle.fdb_core.proofs.BatchLaws.{judged-verdicts, judged-marks, outcomes-decided, body-committed, length-outcomes_on}
 use Rattle.fdb_core.proofs.OneResolver.{IsStill, no_moves-before, no_moves-at}

@@ -1,5 +1,5 @@
 -- Where a shard's messages answer as a map, mutation by mutation.
-use Rattle.std.proofs.Common.{◌≡◌, ◌∙◌, sym, ap, ap₂, subst, refl, ◌↔◌, ℕ, zero, suc, ◌+◌, min, add-one, le_refl, Bool, true, false, ◌||◌, nat_le, List, [], ◌∷◌, ◌++◌, take, length, fold, if◌then◌else◌, Option, Some, None, ⊎_elim}
+use Rattle.std.proofs.Common.{◌≡◌, ◌∙◌, sym, ap, ap₂, subst, refl, ◌↔◌, ℕ, zero, suc, ◌+◌, min, add-one, le_refl, Bool, true, false, ◌||◌, nat_le, List, [], ◌∷◌, take, length, fold, if◌then◌else◌, Option, Some, None, ⊎_elim}
 use Rattle.std.specs.Cmp.Lexicographic.{slice_cmp, bytes_decides}
 use Rattle.std.specs.FinMap.{get, get-empty}
 use Rattle.std.specs.List.{list_any, slice_get}
@@ -19,7 +19,8 @@ use Rattle.fdb_txn.specs.Messages.{committed_from, value_after}
 use Rattle.fdb_txn.specs.Run.{run, map_at}
 use Rattle.fdb_txn.proofs.MessagesLemmas.{get-effects, run-add_places}
 use Rattle.fdb_core.specs.declared.pool.Message.{Message}
-use Rattle.fdb_core.specs.Checking.{AreAlike, messages_name, batch_names, entries_name, IsPlainBook, HoldsTheRun}
+use Rattle.fdb_core.specs.Checking.{IsPlainBook}
+use Rattle.fdb_core.specs.Holding.{AreAlike, messages_name, batch_names, entries_name, HoldsTheRun}
 use Rattle.fdb_core.specs.Machine.{last_version, seen_before}
 use Rattle.fdb_core.specs.Roles.{value_in}
 use Rattle.fdb_core.specs.Verdicts.{moves_through}

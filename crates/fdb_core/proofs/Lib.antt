@@ -3,8 +3,8 @@ pub mod AgreeLemmas
 pub mod AllLemmas
 pub mod AnswerLemmas
 pub mod BatchLaws
-pub mod CheckingLemmas
 pub mod CommittedLaws
+pub mod ComparingLemmas
 pub mod DecideLemmas
 pub mod HeadlineLaws
 pub mod HoldingLemmas

@@ -1,14 +1,13 @@
 -- A batch that is run anew by its outcomes, beside the run of the book.
-use Rattle.std.proofs.Common.{◌≡◌, ◌∙◌, sym, ap, ap₂, subst, refl, ℕ, zero, suc, ◌+◌, ◌<◌, add-one, arith, Bool, true, false, List, [], ◌∷◌, ◌++◌, take, length, get_or, if◌then◌else◌, append_assoc, append-nil, Some, None, ⊎_elim}
-use Rattle.std.specs.List.{AllByRecursion, slice_get}
+use Rattle.std.proofs.Common.{◌≡◌, ◌∙◌, sym, ap, ap₂, refl, ℕ, zero, suc, ◌+◌, ◌<◌, add-one, arith, Bool, true, false, List, [], ◌∷◌, ◌++◌, take, length, get_or, if◌then◌else◌, append_assoc, append-nil, Some}
+use Rattle.std.specs.List.{slice_get}
 use Rattle.std.proofs.lemmas.List.Sums.{fold-append}
 use Rattle.std.proofs.lemmas.Option.{slice_get-get_or}
 use Rattle.fdb_mutations.specs.declared.mutation.Mutation.{Mutation}
 use Rattle.fdb_mutations.specs.Maps.{Map}
 use Rattle.fdb_mutations.specs.Mutations.{effect, effects}
-use Rattle.fdb_txn.specs.declared.entry.Entry.{Entry}
 use Rattle.fdb_txn.specs.Transactions.{Transaction}
-use Rattle.fdb_txn.specs.Book.{Stamped, Place, Seen, placed}
+use Rattle.fdb_txn.specs.Book.{Stamped, Place, placed}
 use Rattle.fdb_txn.specs.Places.{place_in}
 use Rattle.fdb_txn.specs.Admission.{committed}
 use Rattle.fdb_txn.specs.Run.{run}
@@ -17,10 +16,18 @@ use Rattle.fdb_core.specs.Checking.{map_behind}
 use Rattle.fdb_core.specs.Roles.{body_by, is_commit}
 use Rattle.fdb_core.specs.Verdicts.{outcome_at, outcomes_from}
 use Rattle.fdb_core.proofs.BatchLaws.{commit-at}
+use Rattle.fdb_core.proofs.RoleTies.{take-next}
 
 -- mutations one after another
 effects-append : (map : Map) (first later : List Mutation) → effects map (first ++ later) ≡ effects (effects map first) later
 effects-append map first later = fold-append effect map first later
+
+-- one mutation more
+pub effects-next : (map : Map) (mutations : List Mutation) (i : ℕ) (mutation : Mutation) → slice_get mutations i ≡ Some mutation
+    → effects map (take (i + 1) mutations) ≡ effect (effects map (take i mutations)) mutation
+effects-next map mutations i mutation there =
+    ap (effects map) (ap (λ (n : ℕ). take n mutations) (add-one i) ∙ take-next mutations i mutation there)
+    ∙ fold-append effect map (take i mutations) (mutation ∷ [])
 
 -- the mutations of one place more of a batch
 body-next : (batch : List Transaction) (outcomes : List Outcome) (p : ℕ) (t : Transaction) (outcome : Outcome)

@@ -3,18 +3,18 @@ use Rattle.std.proofs.Common.{◌≡◌, ◌∙◌, sym, ap, subst, refl, length
 use Rattle.std.specs.Prelude.{IfSome}
 use Rattle.std.proofs.lemmas.Option.{same_Some, slice_get_read}
 use Rattle.fdb_keys.specs.Points.{Point}
-use Rattle.fdb_mutations.specs.Maps.{Map}
 use Rattle.fdb_txn.specs.declared.spot.Spot.{Spot}
 use Rattle.fdb_txn.specs.declared.spot.Spot.TheVariants as spot
 use Rattle.fdb_txn.specs.Book.{Place, seen_of}
 use Rattle.fdb_txn.specs.Run.{run, map_at}
 use Rattle.fdb_core.specs.declared.kernel.Kernel.{Kernel}
-use Rattle.fdb_core.specs.declared.parts.Placed.{Placed}
 use Rattle.fdb_core.specs.declared.pool.Message.{Message}
 use Rattle.fdb_core.specs.declared.program.Transcript.{Transcript}
 use Rattle.fdb_core.specs.declared.world.CheckFault.{CheckFault}
 use Rattle.fdb_core.specs.declared.world.CheckFault.TheVariants.{NoMemory}
-use Rattle.fdb_core.specs.Checking.{Differs, IsPlainBook, AgreesAt, Agrees, HoldsTheRun, Finds}
+use Rattle.fdb_core.specs.Checking.{IsPlainBook, AgreesAt, Agrees, Finds}
+use Rattle.fdb_core.specs.Comparing.{Differs}
+use Rattle.fdb_core.specs.Holding.{HoldsTheRun}
 use Rattle.fdb_core.specs.Headline.{AnsweredOn, StandsAtSpot, Stands}
 use Rattle.fdb_core.specs.Kernel.{machine_of, Tied}
 use Rattle.fdb_core.specs.Machine.{Machine, last_version}

@@ -1,66 +1,29 @@
 -- What a check of the acknowledged transactions and of the shard finds.
-use Rattle.std.specs.Prelude.{◌≡◌, ◌<◌, ℕ, Bool, true, false, ◌&&◌, ◌||◌, ◌==◌, nat_lt, nat_le, List, [], take, length, Any, Option, Some, None, Result, MatchResult, ◌⊎◌, if◌then◌else◌}
-use Rattle.std.specs.FinMap.{get}
-use Rattle.std.specs.List.{AllByRecursion, list_any}
-use Rattle.fdb_keys.specs.Points.{Point}
+use Rattle.std.specs.Prelude.{◌≡◌, ◌<◌, ℕ, Bool, true, nat_lt, List, [], take, length, Some, Result, MatchResult, ◌⊎◌}
+use Rattle.std.specs.List.{AllByRecursion}
 use Rattle.fdb_mutations.specs.Maps.{Map}
 use Rattle.fdb_mutations.specs.Mutations.{effects}
 use Rattle.fdb_txn.specs.declared.entry.Entry.{Entry}
 use Rattle.fdb_txn.specs.declared.spot.Spot.{Spot}
 use Rattle.fdb_txn.specs.declared.spot.Spot.TheVariants as spot
-use Rattle.fdb_txn.specs.Transactions.{Transaction, some_names}
+use Rattle.fdb_txn.specs.Transactions.{Transaction}
 use Rattle.fdb_txn.specs.Book.{Place, seen_of}
 use Rattle.fdb_txn.specs.Places.{place_at}
 use Rattle.fdb_txn.specs.Run.{run, map_at}
 use Rattle.fdb_core.specs.declared.checking.Replay.{Replay}
-use Rattle.fdb_core.specs.declared.comparing.Moment.{Moment}
-use Rattle.fdb_core.specs.declared.comparing.Moment.TheVariants.{Before, Between}
+use Rattle.fdb_core.specs.declared.comparing.Moment.TheVariants.{Before}
 use Rattle.fdb_core.specs.declared.parts.Placed.{Placed}
 use Rattle.fdb_core.specs.declared.pool.Message.{Message}
-use Rattle.fdb_core.specs.declared.program.Op.{Op}
-use Rattle.fdb_core.specs.declared.program.Reply.{Reply}
 use Rattle.fdb_core.specs.declared.program.Transcript.{Transcript}
 use Rattle.fdb_core.specs.declared.step.Outcome.{Outcome}
 use Rattle.fdb_core.specs.declared.world.CheckFault.{CheckFault}
-use Rattle.fdb_core.specs.declared.world.CheckFault.TheVariants.{Txn, Shard, NoMemory}
+use Rattle.fdb_core.specs.declared.world.CheckFault.TheVariants.{Shard}
+use Rattle.fdb_core.specs.Comparing.{AnsweredAt, StopsBy}
 use Rattle.fdb_core.specs.Headline.{AnsweredOn}
+use Rattle.fdb_core.specs.Holding.{HoldsTheRun}
 use Rattle.fdb_core.specs.Kernel.{NoMovesIn, IsRising, ReadsBelow}
 use Rattle.fdb_core.specs.Machine.{last_version, seen_before}
-use Rattle.fdb_core.specs.ProgramLaws.{is_ordinary}
-use Rattle.fdb_core.specs.Programs.{program, copy, reply_on}
-use Rattle.fdb_core.specs.Roles.{marks_of, body_by, is_commit, value_in}
-
--- the operation, if it is an ordinary one, was answered as on the copy of the map after the earlier ones
-abbrev pub IsAnswered : Map → List (Op × Reply) → Op × Reply → Type 0
-IsAnswered map earlier done = is_ordinary done.0 ≡ true → done.1 ≡ reply_on (copy map (program earlier)) done.0
-
--- the version is below the end, where there is one
-abbrev pub is_below : ℕ → Option ℕ → Bool
-is_below version None = true
-is_below version (Some end) = nat_lt version end
-
--- who stands at the spot is to be answered as on the map of the moment
-abbrev pub is_at : Moment → Spot → Bool
-is_at (Before entry place) (spot.Entry index p version) = index == entry && p == place
-is_at (Before entry place) (spot.ReadOnly version) = false
-is_at (Between from until) (spot.Entry index p version) = false
-is_at (Between from until) (spot.ReadOnly version) = nat_le from version && is_below version until
-
--- who stands at the moment was answered as on the map
-abbrev pub AnsweredAt : Moment → Map → Placed → Type 0
-AnsweredAt moment map placed = is_at moment placed.spot ≡ true → AnsweredOn map placed.transcript
-
--- the fault names one of the acknowledged transactions, of which the claim isn't true
-abbrev pub Differs : (Placed → Type 0) → List Placed → CheckFault → Type 0
-Differs Claim acknowledged fault = Any (λ placed. (fault ≡ Txn placed.transcript.id) × ¬ Claim placed) acknowledged
-
--- a fault is found just where the claim isn't true of each acknowledged transaction
-abbrev pub Compares : {T : Type 0} → Result T CheckFault → (Placed → Type 0) → List Placed → Type 0
-Compares result Claim acknowledged = MatchResult result (λ _. AllByRecursion Claim acknowledged) (Differs Claim acknowledged)
-
--- memory ran out, or the fault names an acknowledged transaction of which the claim isn't true
-abbrev pub StopsBy : (Placed → Type 0) → List Placed → CheckFault → Type 0
-StopsBy Claim acknowledged fault = (fault ≡ NoMemory) ⊎ Differs Claim acknowledged fault
+use Rattle.fdb_core.specs.Roles.{marks_of, body_by}
 
 -- the map behind the first places of a batch
 abbrev pub map_behind : Map → List Transaction → List Outcome → ℕ → Map
@@ -102,28 +65,6 @@ pub record HasCome (book : List Entry) (acknowledged : List Placed) (n : ℕ) (r
 abbrev pub ComesTo : {T : Type 0} → Result T CheckFault → List Entry → List Placed → ℕ → Replay → Type 0
 ComesTo result book acknowledged n replay =
     MatchResult result (λ _. HasCome book acknowledged n replay) (StopsBy (Agrees book) acknowledged)
-
--- the messages of version at most v answer as the map at the points with the test
-abbrev pub AreAlike : Map → List Message → ℕ → (Point → Bool) → Type 0
-AreAlike map shard v test = (x : Point) → test x ≡ true → value_in v x shard ≡ get map x
-
--- a mutation of the messages names the point
-abbrev pub messages_name : List Message → Point → Bool
-messages_name messages x = list_any (λ (message : Message). some_names message.body x) messages
-
--- a mutation of the transactions names the point
-abbrev pub batch_names : List Transaction → Point → Bool
-batch_names batch x = list_any (λ (t : Transaction). some_names t.mutations x) batch
-
--- a mutation of the entries names the point
-abbrev pub entries_name : List Entry → Point → Bool
-entries_name entries x = list_any (λ (entry : Entry). batch_names entry.batch x) entries
-
--- at its version the shard has the run's map
-abbrev pub HoldsTheRun : List Entry → List Message → Type 0
-HoldsTheRun book shard =
-    let version = last_version (take (length shard) book) in
-    (x : Point) → value_in version x shard ≡ get (map_at [] version (seen_of book).places) x
 
 -- the shard is compared, and doesn't have the run's map
 abbrev pub ShardDiffers : List Entry → Bool → List Message → CheckFault → Type 0

@@ -1,6 +1,8 @@
 pub mod Checking
 pub mod ClientSteps
+pub mod Comparing
 pub mod Headline
+pub mod Holding
 pub mod Kernel
 pub mod Machine
 pub mod ProgramLaws

@@ -1,12 +1,13 @@
 // The comparison of what was answered with the run of one transaction at a time.
-ghost use Rattle.std.specs.Prelude.{◌≡◌, ◌↔◌, ◌≤◌, ◌<◌, ◌+◌, [], length, take, IsTrue, IfOk, IfErr, OnOk, MatchResult, if◌then◌else◌};
-ghost use Rattle.std.specs.List.{AllByRecursion};
+ghost use Rattle.std.specs.Prelude.{◌≡◌, ◌↔◌, ◌≤◌, ◌<◌, ◌+◌, [], length, take, IsTrue, IfOk, IfErr, OnOk, if◌then◌else◌};
 ghost use Rattle.fdb_mutations.specs.Mutations.{effects};
-ghost use Rattle.fdb_core.specs.Checking.{AnsweredAt, AnsweredIn, StopsBy, map_behind, IsPlainBook, HasCome, ComesTo, AreAlike, messages_name, entries_name, Finds};
+ghost use Rattle.fdb_core.specs.Checking.{AnsweredIn, map_behind, IsPlainBook, HasCome, ComesTo, Finds};
+ghost use Rattle.fdb_core.specs.Comparing.{AnsweredAt, Checks};
+ghost use Rattle.fdb_core.specs.Holding.{AreAlike, messages_name, entries_name};
 ghost use Rattle.fdb_core.specs.Machine.{last_version};
 ghost use Rattle.fdb_core.specs.Roles.{judged, outcomes_by, is_commit};
 
-use crate::comparing::{compare, Moment};
+use crate::comparing::{Moment, compare};
 use crate::deciding::decide_batch;
 use crate::holding::{are_alike_in_entries, are_alike_in_messages};
 use crate::judging::judge_batch;
@@ -70,7 +71,7 @@ fn run_place(
     outcome: &Outcome,
 ) -> Result<(), CheckFault>
     ensures map { OnOk result (map.new ≡ effects map.old (if is_commit outcome.now then txn.now.mutations else [])) }
-    ensures compared { MatchResult result (λ _. AllByRecursion (AnsweredAt moment map.old) acknowledged.now) (StopsBy (AnsweredAt moment map.old) acknowledged.now) }
+    ensures compared { Checks result (AnsweredAt moment map.old) acknowledged.now }
 {
     compare(map, acknowledged, moment)?;
     if let Outcome::Commit { .. } = outcome {
@@ -89,24 +90,16 @@ fn run_batch(
 ) -> Result<(), CheckFault>
     requires { length batch.now ≡ length outcomes.now }
     ensures map { OnOk result (map.new ≡ map_behind map.old batch.now outcomes.now (length batch.now)) }
-    ensures compared { MatchResult result
-        (λ _. AllByRecursion (AnsweredIn map.old batch.now outcomes.now entry (length batch.now)) acknowledged.now)
-        (StopsBy (AnsweredIn map.old batch.now outcomes.now entry (length batch.now)) acknowledged.now) }
+    ensures compared { Checks result (AnsweredIn map.old batch.now outcomes.now entry (length batch.now)) acknowledged.now }
 {
     for (place, txn) in batch.iter().enumerate() {
-        let outcome = &outcomes[place];
-        run_place(
-            map,
-            acknowledged,
-            Moment::Before { entry, place },
-            txn,
-            outcome,
-        )?;
+        let before = Moment::Before { entry, place };
+        run_place(map, acknowledged, before, txn, &outcomes[place])?;
     }
     Ok(())
 }
 
-// Compares those who read from the version before an entry up to the entry's, and those who stand in it, and runs it.
+// Compares those who read below an entry's version and behind the entry before, and those who stand in it, and runs it.
 fn run_entry(
     alloc: Global,
     replay: &mut Replay,
@@ -158,7 +151,8 @@ fn run_entries(
 fn is_held(map: &PlainMap, shard: &[Message], book: &[Entry], applied: usize) -> bool
     requires { applied ≤ length book.now }
     ensures { let version = last_version (take applied book.now) in
-        IsTrue result ↔ (AreAlike map.now shard.now version (messages_name shard.now) × AreAlike map.now shard.now version (entries_name (take applied book.now))) }
+        IsTrue result ↔ (AreAlike map.now shard.now version (messages_name shard.now)
+        × AreAlike map.now shard.now version (entries_name (take applied book.now))) }
 {
     let version = last_version(book, applied);
     are_alike_in_messages(map, shard, version)
@@ -195,7 +189,9 @@ fn check_book(
 }
 
 /// Compares every acknowledged transcript with the run of one transaction at a time, and the shard at its
-/// version where `with_shard` says so. Answers the number of acknowledged transactions.
+/// version where `with_shard` says so. Answers the number of acknowledged transactions. For each book without
+/// moves whose versions rise, and whose transactions read below the versions of their entries, a fault is
+/// found just where something differs.
 pub(crate) fn check_all(kernel: &Kernel, with_shard: bool) -> Result<u64, CheckFault>
     ensures count { IfOk result (λ count. count ≡ length kernel.now.acknowledged.items) }
     ensures finds { IsPlainBook kernel.now.book.items

@@ -1,7 +1,7 @@
 // What acknowledged transactions were answered, beside a map of the run.
 ghost use Rattle.std.specs.Prelude.{◌≡◌, ◌↔◌, IsTrue};
 ghost use Rattle.std.specs.Option.{option_copied};
-ghost use Rattle.fdb_core.specs.Checking.{is_below, is_at, IsAnswered, AnsweredAt, Compares};
+ghost use Rattle.fdb_core.specs.Comparing.{is_below, is_at, IsAnswered, AnsweredAt, Compares};
 ghost use Rattle.fdb_core.specs.Headline.{AnsweredOn};
 
 use crate::parts::Placed;
@@ -17,7 +17,7 @@ use fdb_txn::Spot;
 pub(crate) enum Moment {
     /// Right before a place of an entry.
     Before { entry: usize, place: usize },
-    /// Behind all entries up to a version, and so up to each later one below the next entry's.
+    /// Behind the entries up to a version, and so at each later one below that of the next entry, if there is one.
     Between { from: u64, until: Option<u64> },
 }
 
@@ -37,7 +37,9 @@ fn is_at(moment: Moment, spot: Spot) -> bool
         (
             Moment::Before { entry, place },
             Spot::Entry {
-                index, place: at, ..
+                index,
+                place: at,
+                ..
             },
         ) => index as usize == entry && at as usize == place,
         (Moment::Between { from, until }, Spot::ReadOnly { version }) => {

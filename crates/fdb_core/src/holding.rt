@@ -4,7 +4,7 @@ ghost use Rattle.std.specs.FinMap.{get};
 ghost use Rattle.fdb_keys.specs.Points.{Point, point_eq};
 ghost use Rattle.fdb_mutations.specs.Mutations.{names};
 ghost use Rattle.fdb_txn.specs.Transactions.{some_names};
-ghost use Rattle.fdb_core.specs.Checking.{AreAlike, messages_name, batch_names, entries_name};
+ghost use Rattle.fdb_core.specs.Holding.{AreAlike, messages_name, batch_names, entries_name};
 ghost use Rattle.fdb_core.specs.Roles.{value_in};
 
 use crate::pool::Message;

@@ -107,9 +107,9 @@ impl World {
     }
 
     /// Compares the ordinary replies of every acknowledged transaction, and the shard at its version, with
-    /// the run of one transaction at a time. Answers the number of acknowledged transactions, or the first
-    /// that differs. Nothing differs unless memory ran out in a step: the check then answers that number, or
-    /// it may itself lack memory. Once memory ran out in a step, transactions alone are compared.
+    /// the run of one transaction at a time. Answers the number of acknowledged transactions, or a fault
+    /// that names what differs. As long as memory didn't run out in a step nothing differs, and the check
+    /// fails only where it lacks memory itself. After that, transactions alone are compared.
     pub fn check(&self) -> Result<u64, CheckFault>
         ensures { IfSome self.now.machine (λ machine. MatchResult result (λ count. count ≡ length machine.acknowledged) (λ fault. fault ≡ CheckFault.NoMemory)) }
     {

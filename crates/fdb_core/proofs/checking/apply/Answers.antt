@@ -2,7 +2,7 @@ use Rattle.std.proofs.Common.{◌≡◌, ◌∙◌, ◌<◌, ap, sym, refl, leng
 use Rattle.std.proofs.lemmas.Option.{slice_get_read}
 use Rattle.fdb_mutations.specs.Maps.{Map}
 use Rattle.fdb_mutations.specs.Mutations.{effect}
-use Rattle.fdb_core.proofs.CheckingLemmas.{effects-next}
+use Rattle.fdb_core.proofs.ReplayLemmas.{effects-next}
 use Rattle.fdb_core.proofs.checking.apply.Goals as goal
 
 pub loop-mutation-preserved : goal.loop-mutation-preserved

@@ -1,9 +1,8 @@
-use Rattle.std.proofs.Common.{◌≡◌, ◌≤◌, length, min, refl, sym, rules, true, inl, inr, le_refl, None}
+use Rattle.std.proofs.Common.{◌≡◌, length, refl, true, inl, inr, le_refl}
 use Rattle.std.proofs.lemmas.Bool.{both_ways}
-use Rattle.std.proofs.lemmas.Option.{slice_get_within}
 use Rattle.std.proofs.lemmas.Result.{err_from_is_err_and}
-use Rattle.fdb_core.specs.declared.checking.Replay.{Replay}
-use Rattle.fdb_core.specs.Checking.{HasCome, HoldsTheRun, IsPlainBook}
+use Rattle.fdb_core.specs.Checking.{HasCome, IsPlainBook}
+use Rattle.fdb_core.specs.Holding.{HoldsTheRun}
 use Rattle.fdb_core.proofs.AgreeLemmas.{begins, comes-last, stops-last}
 use Rattle.fdb_core.proofs.HoldingLemmas.{held-where-named}
 use Rattle.fdb_core.proofs.checking.check_book.Goals as goal
@@ -42,7 +41,7 @@ held : (c : goal.After-drop-replay-3) → HasCome c.args.book.now c.args.acknowl
 held c come plain =
     let held = held-where-named c.args.book.now plain c.args.shard.now c.run_entries.new.replay.map c.min-applied.result c.min-applied.ensures come.map in
     elim c.else-with_shard.branch [
-      else-with_shard-via-then-with_shard+else-not-is_held w ↦ λ wanted. held.0 (w.is_held.ensures.0 w.if-not-is_held.false)
+      | else-with_shard-via-then-with_shard+else-not-is_held w ↦ λ wanted. held.0 (w.is_held.ensures.0 w.if-not-is_held.false)
       | else-with_shard-via-else-with_shard w ↦ λ wanted. absurd (both_ways _ w.if-with_shard.false wanted)
     ]
 
@@ -50,8 +49,7 @@ pub returns-clause-finds : goal.returns-clause-finds
 returns-clause-finds c = λ plain.
     let start = begins c.args.book.now c.args.acknowledged.now (record { marks = c.new.result; map = c.new-2.result }) c.new.ensures.items c.new-2.ensures in
     let applied = c.in_ok-run_entries.ensures plain start in
-    let come = c.in_ok-run_entries-2.ensures plain applied in
-    (
+    let come = c.in_ok-run_entries-2.ensures plain applied in (
       refl,
       comes-last c.args.book.now plain (length c.args.book.now) (le_refl (length c.args.book.now)) c.args.acknowledged.now
           c.run_entries-2.new.replay c.last_version.result come c.last_version.ensures c.in_ok-compare.ensures,

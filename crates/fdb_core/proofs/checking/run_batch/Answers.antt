@@ -3,7 +3,8 @@ use Rattle.std.proofs.lemmas.Option.{slice_get_read}
 use Rattle.fdb_mutations.specs.Maps.{Map}
 use Rattle.fdb_core.specs.declared.parts.Placed.{Placed}
 use Rattle.fdb_core.specs.declared.comparing.Moment.TheVariants.{Before}
-use Rattle.fdb_core.specs.Checking.{AnsweredAt, AnsweredIn, map_behind}
+use Rattle.fdb_core.specs.Checking.{AnsweredIn, map_behind}
+use Rattle.fdb_core.specs.Comparing.{AnsweredAt}
 use Rattle.fdb_core.proofs.AllLemmas.{all-both}
 use Rattle.fdb_core.proofs.ReplayLemmas.{behind-next}
 use Rattle.fdb_core.proofs.checking.run_batch.Goals as goal

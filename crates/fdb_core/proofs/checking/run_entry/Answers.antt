@@ -1,14 +1,10 @@
-use Rattle.std.proofs.Common.{◌≡◌, ◌∙◌, ◌+◌, ◌<◌, sym, refl, ap, subst, length, List, Some, slice_get, inl, rules, Option}
-use Rattle.std.specs.List.{AllByRecursion}
-use Rattle.std.specs.Prelude.{MatchResult}
+use Rattle.std.proofs.Common.{◌≡◌, ◌∙◌, ◌+◌, ◌<◌, sym, refl, ap, length, Some, slice_get, rules}
 use Rattle.std.proofs.lemmas.Option.{slice_get_read, same_Some}
 use Rattle.std.proofs.lemmas.Result.{err_from_is_err_and}
 use Rattle.fdb_txn.specs.declared.entry.Entry.{Entry}
-use Rattle.fdb_txn.specs.Transactions.{Transaction}
 use Rattle.fdb_core.specs.declared.checking.Replay.{Replay}
-use Rattle.fdb_core.specs.declared.step.Outcome.{Outcome}
-use Rattle.fdb_core.specs.Checking.{StopsBy, Agrees, AnsweredIn, HasCome}
-use Rattle.fdb_core.specs.Roles.{outcomes_by, judged}
+use Rattle.fdb_core.specs.Checking.{Agrees, HasCome}
+use Rattle.fdb_core.specs.Comparing.{StopsBy}
 use Rattle.fdb_core.proofs.AgreeLemmas.{IsNext, stops-between, stops-in, comes-next, ends-weaken}
 use Rattle.fdb_core.proofs.DecideLemmas.{length-outcomes_by}
 use Rattle.fdb_core.proofs.checking.run_entry.Goals as goal

@@ -1,6 +1,6 @@
 use Rattle.std.proofs.Common.{take}
 use Rattle.std.specs.List.{AllByRecursion}
-use Rattle.fdb_core.specs.Checking.{AnsweredAt}
+use Rattle.fdb_core.specs.Comparing.{AnsweredAt}
 use Rattle.fdb_core.proofs.comparing.compare.Given as goal
 
 abbrev pub invariant-loop-placed : goal.invariant-loop-placed

@@ -3,7 +3,7 @@ use Rattle.std.specs.FinMap.{get}
 use Rattle.std.specs.Option.{option_copied}
 use Rattle.fdb_core.specs.declared.program.Op.TheVariants.{Get}
 use Rattle.fdb_core.specs.Roles.{value_after_op}
-use Rattle.fdb_core.proofs.CheckingLemmas.{answered-read}
+use Rattle.fdb_core.proofs.ComparingLemmas.{answered-read}
 use Rattle.fdb_core.proofs.comparing.is_answered.Goals as goal
 
 pub returns-else-snapshot : goal.returns-else-snapshot

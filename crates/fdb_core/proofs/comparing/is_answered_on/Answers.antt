@@ -1,9 +1,7 @@
 use Rattle.std.proofs.Common.{◌≡◌, ◌<◌, refl, sym, subst, length, Some, slice_get, rules}
 use Rattle.std.proofs.lemmas.Bool.{both_ways}
 use Rattle.std.proofs.lemmas.Option.{slice_get_read}
-use Rattle.fdb_core.specs.declared.program.Op.{Op}
-use Rattle.fdb_core.specs.declared.program.Reply.{Reply}
-use Rattle.fdb_core.proofs.CheckingLemmas.{AnsweredSoFar, answered-next, answered-at}
+use Rattle.fdb_core.proofs.ComparingLemmas.{AnsweredSoFar, answered-next, answered-at}
 use Rattle.fdb_core.proofs.comparing.is_answered_on.Goals as goal
 
 pub returns-then-not-is_answered : goal.returns-then-not-is_answered
@@ -11,8 +9,7 @@ returns-then-not-is_answered c =
     let ops = c.as_slice-ops.result.now in
     let done = c.index-ops-place.result in
     let within : c.loop-place.place < length ops = search rules in
-    let there : slice_get ops c.loop-place.place ≡ Some done = slice_get_read ops (length ops) c.loop-place.place done refl within c.index-ops-place.is in
-    (
+    let there : slice_get ops c.loop-place.place ≡ Some done = slice_get_read ops (length ops) c.loop-place.place done refl within c.index-ops-place.is in (
       λ never. absurd (both_ways _ refl never),
       λ answered.
           let all = subst (AnsweredSoFar c.args.map.now) (sym c.as_slice-ops.ensures) answered in

@@ -1,7 +1,6 @@
-use Rattle.std.proofs.Common.{◌≡◌, ◌<◌, refl, sym, subst, ◌↔◌, List, length, true, Some, slice_get, rules}
+use Rattle.std.proofs.Common.{◌≡◌, ◌<◌, refl, length, Some, slice_get, rules}
 use Rattle.std.proofs.lemmas.Option.{slice_get_read}
 use Rattle.fdb_mutations.specs.Mutations.{names}
-use Rattle.fdb_core.specs.Checking.{AreAlike}
 use Rattle.fdb_core.proofs.HoldingLemmas.{alike-next, unlike-at, alike-key}
 use Rattle.fdb_core.proofs.holding.are_alike.Goals as goal
 

@@ -1,6 +1,6 @@
 use Rattle.std.proofs.Common.{take}
 use Rattle.fdb_txn.specs.Transactions.{some_names}
-use Rattle.fdb_core.specs.Checking.{AreAlike}
+use Rattle.fdb_core.specs.Holding.{AreAlike}
 use Rattle.fdb_core.proofs.holding.are_alike.Given as goal
 
 abbrev pub invariant-loop-mutation : goal.invariant-loop-mutation

@@ -1,9 +1,9 @@
-use Rattle.std.proofs.Common.{◌≡◌, ◌<◌, refl, sym, subst, ◌↔◌, List, length, true, Some, slice_get, rules}
+use Rattle.std.proofs.Common.{◌≡◌, ◌<◌, refl, subst, ◌↔◌, List, length, true, Some, slice_get, rules}
 use Rattle.std.proofs.lemmas.Option.{slice_get_read}
 use Rattle.fdb_mutations.specs.declared.mutation.Mutation.{Mutation}
 use Rattle.fdb_txn.specs.Transactions.{Transaction, some_names}
-use Rattle.fdb_core.specs.Checking.{AreAlike}
-use Rattle.fdb_core.proofs.HoldingLemmas.{alike-next, unlike-at, alike-key}
+use Rattle.fdb_core.specs.Holding.{AreAlike}
+use Rattle.fdb_core.proofs.HoldingLemmas.{alike-next, unlike-at}
 use Rattle.fdb_core.proofs.holding.are_alike_in_batch.Goals as goal
 
 pub returns-then-not-are_alike : goal.returns-then-not-are_alike

@@ -1,5 +1,5 @@
 use Rattle.std.proofs.Common.{take}
-use Rattle.fdb_core.specs.Checking.{AreAlike, batch_names}
+use Rattle.fdb_core.specs.Holding.{AreAlike, batch_names}
 use Rattle.fdb_core.proofs.holding.are_alike_in_batch.Given as goal
 
 abbrev pub invariant-loop-txn : goal.invariant-loop-txn

@@ -1,10 +1,10 @@
-use Rattle.std.proofs.Common.{◌≡◌, ◌<◌, refl, sym, subst, ◌↔◌, List, length, true, Some, slice_get, rules}
+use Rattle.std.proofs.Common.{◌≡◌, ◌<◌, refl, subst, ◌↔◌, List, length, true, Some, slice_get, rules}
 use Rattle.std.proofs.lemmas.Option.{slice_get_read}
 use Rattle.fdb_txn.specs.declared.entry.Entry.{Entry}
 use Rattle.fdb_txn.specs.Transactions.{Transaction}
-use Rattle.fdb_core.specs.Checking.{batch_names}
-use Rattle.fdb_core.specs.Checking.{AreAlike}
-use Rattle.fdb_core.proofs.HoldingLemmas.{alike-next, unlike-at, alike-key}
+use Rattle.fdb_core.specs.Holding.{batch_names}
+use Rattle.fdb_core.specs.Holding.{AreAlike}
+use Rattle.fdb_core.proofs.HoldingLemmas.{alike-next, unlike-at}
 use Rattle.fdb_core.proofs.holding.are_alike_in_entries.Goals as goal
 
 pub returns-then-not-are_alike_in_batch : goal.returns-then-not-are_alike_in_batch

@@ -1,5 +1,5 @@
 use Rattle.std.proofs.Common.{take}
-use Rattle.fdb_core.specs.Checking.{AreAlike, entries_name}
+use Rattle.fdb_core.specs.Holding.{AreAlike, entries_name}
 use Rattle.fdb_core.proofs.holding.are_alike_in_entries.Given as goal
 
 abbrev pub invariant-loop-entry : goal.invariant-loop-entry

@@ -1,5 +1,5 @@
 use Rattle.std.proofs.Common.{take}
-use Rattle.fdb_core.specs.Checking.{AreAlike, messages_name}
+use Rattle.fdb_core.specs.Holding.{AreAlike, messages_name}
 use Rattle.fdb_core.proofs.holding.are_alike_in_messages.Given as goal
 
 abbrev pub invariant-loop-message : goal.invariant-loop-message

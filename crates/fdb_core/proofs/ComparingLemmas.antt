@@ -1,16 +1,13 @@
--- What a check compares, operation by operation.
+-- What a transcript was answered, operation by operation.
 use Rattle.std.proofs.Common.{◌≡◌, ◌∙◌, sym, ap, subst, refl, ℕ, suc, ◌+◌, add-one, Bool, true, false, ◌↔◌, List, [], ◌∷◌, ◌++◌, take, drop, fold, append_assoc, append-nil, take-append-drop, Option, Some}
 use Rattle.std.specs.FinMap.{get}
 use Rattle.std.specs.List.{slice_get}
-use Rattle.std.proofs.lemmas.List.Sums.{fold-append}
-use Rattle.fdb_mutations.specs.declared.mutation.Mutation.{Mutation}
 use Rattle.fdb_mutations.specs.Maps.{Map}
-use Rattle.fdb_mutations.specs.Mutations.{effect, effects}
 use Rattle.fdb_core.specs.declared.program.Op.{Op}
 use Rattle.fdb_core.specs.declared.program.Op.TheVariants.{Get}
 use Rattle.fdb_core.specs.declared.program.Reply.{Reply}
 use Rattle.fdb_core.specs.declared.program.Reply.TheVariants.{Value}
-use Rattle.fdb_core.specs.Checking.{IsAnswered}
+use Rattle.fdb_core.specs.Comparing.{IsAnswered}
 use Rattle.fdb_core.specs.Headline.{replies_of}
 use Rattle.fdb_core.specs.ProgramLaws.{AgreeWhereOrdinary}
 use Rattle.fdb_core.specs.Programs.{program, exec}
@@ -18,13 +15,6 @@ use Rattle.fdb_core.specs.Roles.{value_after_op}
 use Rattle.fdb_core.proofs.ProgramLaws.{get-copy, program-push}
 use Rattle.fdb_core.proofs.RoleTies.{take-next}
 use Rattle.fdb_core.proofs.SoundLemmas.{replies_of-push}
-
--- one mutation more
-pub effects-next : (map : Map) (mutations : List Mutation) (i : ℕ) (mutation : Mutation) → slice_get mutations i ≡ Some mutation
-    → effects map (take (i + 1) mutations) ≡ effect (effects map (take i mutations)) mutation
-effects-next map mutations i mutation there =
-    ap (effects map) (ap (λ (n : ℕ). take n mutations) (add-one i) ∙ take-next mutations i mutation there)
-    ∙ fold-append effect map (take i mutations) (mutation ∷ [])
 
 -- a read that isn't a snapshot read was answered as on the copy just where it was told what the operations leave at its key
 pub answered-read : (map : Map) (earlier : List (Op × Reply)) (op : Op) (reply : Reply) (key : List ℕ) (value : Option (List ℕ)) (same : Bool)
