@@ -79,7 +79,7 @@ plays-out number [] = inr (refl, refl)
 plays-out number (line ∷ lines) = inr (inr (refl, refl))
 
 plays_on-out : (number : ℕ) (world : Option Machine) (lines : List (List ℕ)) → PlaysOn number world lines (refused_line NoMemory) 2
-plays_on-out number world [] = inr (inr (inr (refl, refl)))
+plays_on-out number world [] = inr (inr (refl, refl))
 plays_on-out number world (line ∷ lines) = inr (inr (inr (refl, refl)))
 
 -- where reading stops, what is printed is that memory ran out

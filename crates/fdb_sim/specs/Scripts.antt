@@ -57,10 +57,14 @@ TxnDiffers printed status =
 abbrev pub ShardDiffers : List ℕ → ℕ → Type 0
 ShardDiffers printed status = (shard : ℕ) × (printed ≡ printed_line (codes "failed shard " ++ decimal shard)) × (status ≡ 1)
 
+-- the check found a difference, which it does at most where memory ran out in a step
+abbrev pub Differs : Option Machine → List ℕ → ℕ → Type 0
+Differs None printed status = TxnDiffers printed status ⊎ ShardDiffers printed status
+Differs (Some machine) printed status = ⊥
+
 -- the end of a script whose lines are all taken
 abbrev pub IsChecked : Option Machine → List ℕ → ℕ → Type 0
-IsChecked world printed status =
-    Holds world printed status ⊎ (TxnDiffers printed status ⊎ (ShardDiffers printed status ⊎ RunsOut printed status))
+IsChecked world printed status = Holds world printed status ⊎ (Differs world printed status ⊎ RunsOut printed status)
 
 -- the line gives a step, which the world takes
 abbrev pub TakesStep : List ℕ → Option Machine → List ℕ → Option Machine → Type 0
