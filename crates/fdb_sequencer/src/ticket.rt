@@ -12,7 +12,8 @@ pub struct Ticket {
     pub version: u64,
     /// The version of the entry before it.
     pub prev: u64,
-    /// Moves of earlier entries, each list with its entry's version. For now there are none.
+    /// All moves that the proxy hasn't had, each list with its entry's version, the pending ones among them
+    /// under the ticket's version. For now there are none.
     pub moves: Items<(u64, Items<Move>)>,
     /// The moves that take effect at the ticket's version, the earliest one first. For now there are none.
     pub pending: Items<Move>,
