@@ -6,6 +6,7 @@ pub mod BatchLaws
 pub mod CommittedLaws
 pub mod ComparingLemmas
 pub mod DecideLemmas
+pub mod ExamplesLemmas
 pub mod HeadlineLaws
 pub mod HoldingLemmas
 pub mod LaneTies

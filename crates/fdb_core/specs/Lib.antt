@@ -1,6 +1,7 @@
 pub mod Checking
 pub mod ClientSteps
 pub mod Comparing
+pub mod Examples
 pub mod Headline
 pub mod Holding
 pub mod Kernel

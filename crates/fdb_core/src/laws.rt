@@ -2,6 +2,7 @@
 ghost use Rattle.fdb_core.specs.Promises.{RefusalsChangeNothing, GrantsCommitted, CommittedIsGreatestReported, GetsFromTheRun, GetsRefused};
 ghost use Rattle.fdb_core.specs.RealTime.{RealTime};
 ghost use Rattle.fdb_core.specs.ProgramLaws.{ProgramsAgree};
+ghost use Rattle.fdb_core.specs.Examples.{OnlyTheFirstStands, ReadOnlyAtItsVersion, BehindAVersion, AnEmptyShardDoesNotServe, Traced};
 ghost use Rattle.fdb_core.specs.Headline.{AcknowledgedStand};
 ghost use Rattle.fdb_core.specs.Traces.{TracesTell};
 
@@ -53,4 +54,14 @@ pub fn acknowledged_transactions_stand_at_their_spots()
 /// greater one, and never stands before it.
 pub fn who_begins_after_an_acknowledgement_stands_behind_it()
     ensures { RealTime }
+{}
+
+/// What the headline says of small worlds: which transactions stand at which spots and which don't, who stands
+/// behind a version, what an empty shard would have to answer, and which answers a trace has.
+pub fn worked_examples()
+    ensures spots { OnlyTheFirstStands }
+    ensures read_only { ReadOnlyAtItsVersion }
+    ensures behind { BehindAVersion }
+    ensures shard { AnEmptyShardDoesNotServe }
+    ensures traces { Traced }
 {}
