@@ -2,6 +2,7 @@ pub mod Checking
 pub mod ClientSteps
 pub mod Comparing
 pub mod Examples
+pub mod Flights
 pub mod Headline
 pub mod Holding
 pub mod Kernel

@@ -9,6 +9,7 @@ mod comparing;
 mod config;
 mod deciding;
 mod flags;
+mod flights;
 mod granting;
 mod holding;
 mod judging;
@@ -33,6 +34,7 @@ mod versions;
 mod world;
 
 pub use config::Config;
+pub use flights::InFlight;
 pub use parts::{Begun, Lane, Placed, Reach, Stage, Submission};
 pub use program::{Op, Reply, Transcript};
 pub use runs::run;

@@ -1,5 +1,6 @@
 use crate::checking::check_all;
 use crate::config::Config;
+use crate::flights::InFlight;
 use crate::kernel::Kernel;
 use crate::step::{Answered, Step};
 use fdb_keys::Refusal;
@@ -46,6 +47,7 @@ impl World {
     ghost use Rattle.fdb_core.specs.declared.config.Config.{Config};
     ghost use Rattle.fdb_core.specs.declared.step.Answered.{Answered};
     ghost use Rattle.fdb_core.specs.declared.step.Step.{Step};
+    ghost use Rattle.fdb_core.specs.Flights.{in_flight};
     ghost use Rattle.fdb_core.specs.Headline.{AllStand, IsStrictlySerializable};
     ghost use Rattle.fdb_core.specs.Serving.{RolesKeep};
     ghost use Rattle.fdb_core.specs.Traces.{StandsFor};
@@ -104,6 +106,18 @@ impl World {
         let answer = self.kernel.step(step)?;
         self.failed = false;
         answer
+    }
+
+    /// The batch that the commit proxy of this number has in flight, with the number of resolvers and of logs.
+    /// It takes no memory. Refused as `Failed` once memory ran out in a step, else as `Unknown` where no proxy
+    /// has the number, and else as `WrongState` where it has no batch in flight.
+    pub fn in_flight(&self, proxy: u32) -> Result<InFlight, Refusal>
+        ensures { result ≡ in_flight self.now.machine proxy }
+    {
+        if !self.failed {
+            return self.kernel.in_flight(proxy);
+        }
+        Err(Refusal::Failed)
     }
 
     /// Compares the ordinary replies of every acknowledged transaction, and the shard at its version, with

@@ -1,5 +1,6 @@
 // Worlds with known answers.
 use crate::config::Config;
+use crate::flights::InFlight;
 use crate::runs::run;
 use crate::step::{Answered, Step};
 use crate::world::World;
@@ -89,5 +90,71 @@ fn new_world_knows_one_proxy_and_no_transaction(rt: HostRuntime) -> Result<(), F
     assert!(rt; world.check() == Ok(0));
     let answer = world.step(Step::Grant { proxy: 7 });
     assert!(rt; answer == Err(Refusal::Unknown));
+    Ok(())
+}
+
+#[test]
+fn new_world_has_no_batch_in_flight(rt: HostRuntime) -> Result<(), Fail> {
+    let world = World::new(rt.alloc(), one_of_each(rt.alloc()))?;
+    assert!(rt; world.in_flight(0) == Err(Refusal::WrongState));
+    assert!(rt; world.in_flight(7) == Err(Refusal::Unknown));
+    Ok(())
+}
+
+// The steps of a first batch, in which nobody waited, and the first step of a second one.
+const BATCHES: [Step; 9] = [
+    Step::Seal {
+        proxy: 0,
+        advance: 100,
+    },
+    Step::Resolve {
+        entry: 0,
+        resolver: 0,
+    },
+    Step::Verdict {
+        entry: 0,
+        resolver: 0,
+    },
+    Step::Decide { proxy: 0 },
+    Step::Push { entry: 0, log: 0 },
+    Step::Logged { entry: 0, log: 0 },
+    Step::Report { proxy: 0 },
+    Step::Answer { proxy: 0 },
+    Step::Seal {
+        proxy: 0,
+        advance: 100,
+    },
+];
+
+fn in_flight_behind(alloc: Global, steps: &[Step]) -> Result<InFlight, Refusal> {
+    let (world, _) = run(alloc, one_of_each(alloc), steps)?;
+    world.in_flight(0)
+}
+
+// The batch that is in flight after the first so many of those steps.
+fn in_flight_after(alloc: Global, count: usize) -> Result<InFlight, Refusal> {
+    let steps = BATCHES;
+    match steps.get(..count) {
+        Some(first) => in_flight_behind(alloc, first),
+        None => Err(Refusal::Failed),
+    }
+}
+
+fn is_entry(flight: Result<InFlight, Refusal>, entry: u32) -> bool {
+    flight
+        == Ok(InFlight {
+            entry,
+            resolvers: 1,
+            logs: 1,
+        })
+}
+
+#[test]
+fn batch_is_in_flight_from_its_seal_to_its_answer(rt: HostRuntime) -> Result<(), Fail> {
+    for count in 1..8 {
+        assert!(rt; is_entry(in_flight_after(rt.alloc(), count), 0));
+    }
+    assert!(rt; in_flight_after(rt.alloc(), 8) == Err(Refusal::WrongState));
+    assert!(rt; is_entry(in_flight_after(rt.alloc(), 9), 1));
     Ok(())
 }
