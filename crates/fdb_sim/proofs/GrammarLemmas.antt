@@ -1,15 +1,17 @@
 -- What the words of a line write, and what they don't.
-use Rattle.std.proofs.Common.{◌≡◌, ◌+◌, ◌*◌, ◌==◌, ℕ, false, List, [], ◌∷◌, Some, Err, drop, get_or, refl, ap, sym, ◌∙◌, if◌then◌else◌, codes}
+use Rattle.std.proofs.Common.{◌≡◌, ◌≢◌, ◌+◌, ◌*◌, ◌==◌, ℕ, true, false, List, [], ◌∷◌, Some, Err, drop, get_or, refl, ap, sym, ◌∙◌, if◌then◌else◌, codes}
 use Rattle.fdb_core.specs.declared.step.Step.{Step}
 use Rattle.fdb_core.specs.declared.step.Step.TheVariants as made
 use Rattle.fdb_keys.specs.Texts.{key_fault}
 use Rattle.fdb_mutations.specs.declared.mutation.Mutation.{Mutation}
 use Rattle.fdb_mutations.specs.declared.mutation.Mutation.TheVariants.{Set, Clear}
 use Rattle.fdb_sim.specs.Faults.{MatchFault, Reads}
-use Rattle.fdb_sim.specs.Grammar.{WritesSmall, WritesText, WritesMutation, WritesRest, WritesStep, mutation_fault, step_fault}
+use Rattle.fdb_sim.specs.Grammar.{WritesSmall, WritesText, WritesOne, WritesMutation, WritesRest, WritesStep, WritesLine, mutation_fault, step_fault, read_fault}
 use Rattle.fdb_sim.specs.Kinds.{name_of}
 use Rattle.fdb_sim.specs.Words.{words_of}
 use Rattle.fdb_sim.specs.declared.fault.Fault.{Fault}
+use Rattle.fdb_sim.specs.declared.line.Line.{Line}
+use Rattle.fdb_sim.specs.declared.line.Line.TheVariants as given
 use Rattle.fdb_sim.specs.declared.step_line.Kind.{Kind}
 use Rattle.fdb_sim.specs.declared.step_line.Kind.TheVariants.{Ask, Grant, Get, Write, Submit, Seal, Resolve, Verdict, Decide, Push, Logged, Report, Answer, Pull}
 use Rattle.fdb_sim.proofs.FaultsLemmas.{Reads-refused, Reads-whole}
@@ -87,15 +89,44 @@ kind_of_name Pull = refl
 same_kind : (kind other : Kind) → name_of kind ≡ name_of other → kind ≡ other
 same_kind kind other is = sym (kind_of_name kind) ∙ ap (λ word. kind_of_letters (letters_of word)) is ∙ kind_of_name other
 
-no_step : (line : List ℕ) (first : List ℕ) (behind : List (List ℕ)) (named : Kind) → words_of line ≡ first ∷ behind → first ≡ name_of named → ((step : Step) → ¬ WritesRest named behind step) → (kind : Kind) (step : Step) → ¬ WritesStep line kind step
-no_step line first behind named words_are first_is none kind step written =
-    let same : named ≡ kind = same_kind named kind (sym first_is ∙ first_of (sym words_are ∙ written.1)) in
-    let rests : behind ≡ written.0 = behind_first (sym words_are ∙ written.1) in
+no_step : (first : List ℕ) (behind : List (List ℕ)) (named : Kind) → first ≡ name_of named → ((step : Step) → ¬ WritesRest named behind step) → (kind : Kind) (step : Step) → ¬ WritesStep (first ∷ behind) kind step
+no_step first behind named first_is none kind step written =
+    let same : named ≡ kind = same_kind named kind (sym first_is ∙ first_of written.1) in
+    let rests : behind ≡ written.0 = behind_first written.1 in
     none step (rw (same, rests) written.2)
 
--- a line whose words behind the first one write no step, and one whose key is refused
-pub step_of_rest : (line : List ℕ) (first : List ℕ) (behind : List (List ℕ)) (named : Kind) (fault : Fault) → words_of line ≡ first ∷ behind → first ≡ name_of named → Reads (Err fault) (WritesRest named behind) step_fault → Reads {T = Kind × Step} (Err fault) (λ read. WritesStep line read.0 read.1) (λ read. step_fault read.1)
-step_of_rest line first behind named fault words_are first_is found =
+-- words of which those behind the first one write no step, and such of which the key is refused
+pub step_of_rest : (first : List ℕ) (behind : List (List ℕ)) (named : Kind) (fault : Fault) → first ≡ name_of named → Reads (Err fault) (WritesRest named behind) step_fault → Reads {T = Kind × Step} (Err fault) (λ read. WritesStep (first ∷ behind) read.0 read.1) (λ read. step_fault read.1)
+step_of_rest first behind named fault first_is found =
     Reads-whole {Whole = Kind × Step} fault (WritesRest named behind) step_fault _ _ found
-    (λ none read. no_step line first behind named words_are first_is none read.0 read.1)
-    (λ step written. ((named, step), (behind, words_are ∙ ap (λ (word : List ℕ). word ∷ behind) first_is, written), refl))
+    (λ none read. no_step first behind named first_is none read.0 read.1)
+    (λ step written. ((named, step), (behind, ap (λ (word : List ℕ). word ∷ behind) first_is, written), refl))
+
+-- no kind of steps is named "drive"
+not_drive : (kind : Kind) → name_of kind ≢ codes "drive"
+unfolding letters_of
+not_drive kind is =
+    let same : kind ≡ Pull = sym (kind_of_name kind) ∙ ap (λ (word : List ℕ). kind_of_letters (letters_of word)) is in
+    let first : false ≡ true = ap (λ (word : List ℕ). get_or word 0 0 == 100) (ap name_of (sym same) ∙ is) in
+    cc
+
+-- a line without words gives nothing
+pub no_words : (line : List ℕ) → words_of line ≡ [] → (read : Line) → ¬ WritesLine line read
+no_words line none (given.Step kind step) written = cc
+no_words line none (given.Drive proxy) written = cc
+
+-- a line whose first word is "drive", and whose other words are no number
+pub no_proxy : (line : List ℕ) (behind : List (List ℕ)) → words_of line ≡ codes "drive" ∷ behind → ((proxy : ℕ) → ¬ WritesOne behind proxy) → (read : Line) → ¬ WritesLine line read
+no_proxy line behind words_are none (given.Step kind step) written = not_drive kind (sym (first_of (sym words_are ∙ written.1)))
+no_proxy line behind words_are none (given.Drive proxy) written =
+    none proxy (rw (behind_first (sym words_are ∙ written.1)) written.2)
+
+-- a line whose first word is another one
+pub line_of_step : (line first : List ℕ) (behind : List (List ℕ)) (fault : Fault) → words_of line ≡ first ∷ behind → first ≢ codes "drive" → Reads {T = Kind × Step} (Err fault) (λ read. WritesStep (first ∷ behind) read.0 read.1) (λ read. step_fault read.1) → Reads (Err fault) (WritesLine line) read_fault
+line_of_step line first behind fault words_are other found =
+    Reads-whole {Part = Kind × Step} fault _ _ (WritesLine line) read_fault found (no_line line first behind words_are other)
+    (λ read written. (given.Step read.0 read.1, rw words_are written, refl))
+  where
+    no_line : (line first : List ℕ) (behind : List (List ℕ)) → words_of line ≡ first ∷ behind → first ≢ codes "drive" → ((read : Kind × Step) → ¬ WritesStep (first ∷ behind) read.0 read.1) → (read : Line) → ¬ WritesLine line read
+    no_line line first behind words_are other none (given.Step kind step) written = none (kind, step) (rw (sym words_are) written)
+    no_line line first behind words_are other none (given.Drive proxy) written = other (first_of (sym words_are ∙ written.1))

@@ -1,5 +1,6 @@
 mod CommandsLemmas
 mod ConfigsLemmas
+mod DrivingLemmas
 mod FaultsLemmas
 mod GrammarLemmas
 mod LinesLemmas

@@ -1,4 +1,4 @@
--- The lines that give a step, each as the words that write it.
+-- The lines behind the configuration, each as the words that write it.
 use Rattle.std.specs.Prelude.{◌≡◌, ℕ, ◌^◌, ◌<◌, false, List, [], ◌∷◌, Option, Some, None, codes}
 use Rattle.std.specs.Str.Parse.{IsNumeral, digits_value}
 use Rattle.fdb_keys.specs.Texts.{key_fault}
@@ -7,6 +7,8 @@ use Rattle.fdb_core.specs.declared.step.Step.{Step}
 use Rattle.fdb_core.specs.declared.step.Step.TheVariants as made
 use Rattle.fdb_mutations.specs.declared.mutation.Mutation.{Mutation}
 use Rattle.fdb_mutations.specs.declared.mutation.Mutation.TheVariants.{Set, Clear}
+use Rattle.fdb_sim.specs.declared.line.Line.{Line}
+use Rattle.fdb_sim.specs.declared.line.Line.TheVariants as given
 use Rattle.fdb_sim.specs.declared.step_line.Kind.{Kind}
 use Rattle.fdb_sim.specs.declared.step_line.Kind.TheVariants.{Ask, Grant, Get, Write, Submit, Seal, Resolve, Verdict, Decide, Push, Logged, Report, Answer, Pull}
 use Rattle.fdb_sim.specs.Kinds.{name_of}
@@ -71,9 +73,18 @@ WritesRest Report words step = (proxy : ℕ) × WritesOne words proxy × (step �
 WritesRest Answer words step = (proxy : ℕ) × WritesOne words proxy × (step ≡ made.Answer proxy)
 WritesRest Pull words step = (shard : ℕ) × (limit : ℕ) × WritesTwo words shard limit × (step ≡ made.Pull shard limit)
 
--- the words of the line are the kind's name and then words that write the step
-abbrev pub WritesStep : List ℕ → Kind → Step → Type 0
-WritesStep line kind step = (rest : List (List ℕ)) × (words_of line ≡ name_of kind ∷ rest) × WritesRest kind rest step
+-- the words are the kind's name and then words that write the step
+abbrev pub WritesStep : List (List ℕ) → Kind → Step → Type 0
+WritesStep words kind step = (rest : List (List ℕ)) × (words ≡ name_of kind ∷ rest) × WritesRest kind rest step
+
+-- the words are 'drive' and the number of a commit proxy
+abbrev pub WritesDrive : List (List ℕ) → ℕ → Type 0
+WritesDrive words proxy = (rest : List (List ℕ)) × (words ≡ codes "drive" ∷ rest) × WritesOne rest proxy
+
+-- the line writes what it gives
+abbrev pub WritesLine : List ℕ → Line → Type 0
+WritesLine line (given.Step kind step) = WritesStep (words_of line) kind step
+WritesLine line (given.Drive proxy) = WritesDrive (words_of line) proxy
 
 -- why the mutation's key is no key
 abbrev pub mutation_fault : Mutation → Option Refusal
@@ -85,3 +96,8 @@ abbrev pub step_fault : Step → Option Refusal
 step_fault (made.Get session key snapshot) = key_fault key
 step_fault (made.Write session mutation) = mutation_fault mutation
 step_fault other = None
+
+-- why the key of the line's step, if it has one, is no key
+abbrev pub read_fault : Line → Option Refusal
+read_fault (given.Step kind step) = step_fault step
+read_fault (given.Drive proxy) = None

@@ -6,5 +6,6 @@ pub mod Grammar
 pub mod Kinds
 pub mod Configs
 pub mod Answers
+pub mod Driving
 pub mod Scripts
 pub mod Commands

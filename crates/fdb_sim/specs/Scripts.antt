@@ -10,12 +10,16 @@ use Rattle.fdb_core.specs.declared.step.Answered.{Answered}
 use Rattle.fdb_core.specs.declared.step.Step.{Step}
 use Rattle.fdb_core.specs.Machine.{Machine}
 use Rattle.fdb_core.specs.Worlds.{IsStep, config_fault, start}
+use Rattle.fdb_sim.specs.declared.line.Line.{Line}
+use Rattle.fdb_sim.specs.declared.line.Line.TheVariants as given
 use Rattle.fdb_sim.specs.declared.step_line.Kind.{Kind}
+use Rattle.fdb_sim.specs.declared.step_line.Kind.TheVariants.{Answer}
 use Rattle.fdb_sim.specs.declared.stop.Stop.{Stop}
 use Rattle.fdb_sim.specs.declared.stop.Stop.TheVariants as stop
 use Rattle.fdb_sim.specs.Answers.{refusal_text, result_text}
 use Rattle.fdb_sim.specs.Configs.{WritesConfig, line_fault}
-use Rattle.fdb_sim.specs.Grammar.{WritesStep, step_fault}
+use Rattle.fdb_sim.specs.Driving.{Drives}
+use Rattle.fdb_sim.specs.Grammar.{WritesLine, read_fault, step_fault}
 use Rattle.fdb_sim.specs.Lines.{lines_of}
 
 -- a text as a line that is printed
@@ -69,23 +73,29 @@ IsChecked world printed status = Holds world printed status ⊎ (Differs world p
 -- the line gives a step, which the world takes
 abbrev pub TakesStep : List ℕ → Option Machine → List ℕ → Option Machine → Type 0
 TakesStep line old printed new =
-    (kind : Kind) × (step : Step) × (result : Result Answered Refusal) × WritesStep line kind step × (step_fault step ≡ None)
+    (kind : Kind) × (step : Step) × (result : Result Answered Refusal) × WritesLine line (given.Step kind step) × (step_fault step ≡ None)
     × IsStep old step result new × (printed ≡ printed_line (result_text kind result))
+
+-- the line drives the batch that a commit proxy has in flight: what the last step taken answers is printed
+abbrev pub DrivesBatch : List ℕ → Option Machine → List ℕ → Option Machine → Type 0
+DrivesBatch line old printed new =
+    (proxy : ℕ) × (result : Result Answered Refusal) × WritesLine line (given.Drive proxy)
+    × Drives proxy old result new × (printed ≡ printed_line (result_text Answer result))
 
 -- the line gives a step whose key is refused, and no step is taken
 abbrev pub RefusesKey : List ℕ → Option Machine → List ℕ → Option Machine → Type 0
 RefusesKey line old printed new =
-    (kind : Kind) × (step : Step) × (refusal : Refusal) × WritesStep line kind step × (step_fault step ≡ Some refusal)
+    (read : Line) × (refusal : Refusal) × WritesLine line read × (read_fault read ≡ Some refusal)
     × (new ≡ old) × (printed ≡ refused_line refusal)
 
 -- what a line behind the configuration prints, and the world that it leaves
 abbrev pub AnswersLine : List ℕ → Option Machine → List ℕ → Option Machine → Type 0
-AnswersLine line old printed new = TakesStep line old printed new ⊎ RefusesKey line old printed new
+AnswersLine line old printed new = TakesStep line old printed new ⊎ (DrivesBatch line old printed new ⊎ RefusesKey line old printed new)
 
 -- what a line behind the configuration prints that ends the script
 abbrev pub StopsAt : ℕ → List ℕ → List ℕ → ℕ → Type 0
 StopsAt number line printed status =
-    (((read : Kind × Step) → ¬ WritesStep line read.0 read.1) × Ends (bad_line number) printed status) ⊎ RunsOut printed status
+    (((read : Line) → ¬ WritesLine line read) × Ends (bad_line number) printed status) ⊎ RunsOut printed status
 
 -- what the lines behind the configuration print, and the status: `number` lines came before them
 abbrev pub PlaysOn : ℕ → Option Machine → List (List ℕ) → List ℕ → ℕ → Type 0

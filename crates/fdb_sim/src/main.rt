@@ -4,9 +4,11 @@
 
 mod command;
 mod config_line;
+mod driving;
 mod fault;
 mod keys;
 mod laws;
+mod line;
 mod lines;
 mod numbers;
 mod output;

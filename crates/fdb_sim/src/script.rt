@@ -8,10 +8,12 @@ ghost use Rattle.fdb_sim.specs.Lines.{left, lines_of, line_text, line_number};
 ghost use Rattle.fdb_sim.specs.Scripts.{printed_line, refused_line, is_silent, IsChecked, AnswersLine, PlaysOn, PlaysFrom, Plays, Unconfigured, StopsAt, stop_text, Printed, Knows, Says, Reaches};
 
 use crate::config_line::read_config;
+use crate::driving::drive;
 use crate::fault::Fault;
+use crate::line::{Line, read_line};
 use crate::lines::Lines;
 use crate::output::{RefusalLine, push_answer};
-use crate::step_line::{Kind, read_step};
+use crate::step_line::Kind;
 use crate::stop::Stop;
 use fdb_core::{Answered, CheckFault, Config, World};
 use fdb_keys::Refusal;
@@ -142,7 +144,7 @@ fn is_silent(line: &[u8]) -> bool
     }
 }
 
-// Takes the step that the current line gives, and writes what the line prints to the empty text.
+// Takes the step or the steps that the current line gives, and writes what the line prints to the empty text.
 fn take_line<R: Read + Drop>(
     alloc: Global,
     lines: &Lines<R>,
@@ -152,8 +154,9 @@ fn take_line<R: Read + Drop>(
     ensures ok { OnOk result ((said : List ℕ) × (string_bytes text.new ≡ string_bytes text.old ++ said) × AnswersLine (line_text lines.now) world.old.machine said world.new.machine) }
     ensures stops { IfErr result (λ stop. Says stop (λ last. StopsAt (line_number lines.now) (line_text lines.now) last 2)) }
 {
-    match read_step(alloc, lines.text()) {
-        Ok((kind, step)) => Ok(push_result(text, kind, world.step(step))?),
+    match read_line(alloc, lines.text()) {
+        Ok(Line::Step { kind, step }) => Ok(push_result(text, kind, world.step(step))?),
+        Ok(Line::Drive { proxy }) => Ok(push_result(text, Kind::Answer, drive(world, proxy))?),
         Err(Fault::Refused(refusal)) => Ok(push_refusal(text, refusal)?),
         Err(Fault::Bad) => Err(Stop::BadLine(lines.number())),
         Err(Fault::NoMemory) => Err(Stop::NoMemory),

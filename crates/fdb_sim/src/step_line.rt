@@ -30,15 +30,13 @@ pub enum Kind {
     Pull,
 }
 
-/// The step that the line gives, with the kind of the line. A line of another form is bad, also where
-/// its key would be refused. Refused as `make_key` refuses its key.
-pub fn read_step(alloc: Global, line: &[u8]) -> Result<(Kind, Step), Fault>
-    ensures { Reads result (λ read. WritesStep line.now read.0 read.1) (λ read. step_fault read.1) }
+/// The step that a line of this first word and the words behind it gives, with the kind of the line. A line of
+/// another form is bad, also where its key would be refused. Refused as `make_key` refuses its key.
+pub fn read_step(alloc: Global, first: &[u8], words: &mut Words<'_>) -> Result<(Kind, Step), Fault>
+    ensures { Reads result (λ read. WritesStep (first.now ∷ words.old) read.0 read.1) (λ read. step_fault read.1) }
 {
-    let mut words = Words::new(line);
-    let first = words.word()?;
     let kind = kind_named(first)?;
-    let step = read_words(alloc, kind, &mut words)?;
+    let step = read_words(alloc, kind, words)?;
     Ok((kind, step))
 }
 

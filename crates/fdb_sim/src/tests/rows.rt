@@ -135,3 +135,176 @@ fn refused_configurations(rt: HostRuntime) -> Result<(), Fail> {
     let falling = b"config proxies 1 logs 1 resolvers t,m shards - book 100\n";
     check_script(&rt, rt.alloc(), falling, 2, b"refused 9009 BadConfig\n")
 }
+
+const ONE_BATCH: &[u8] = b"config proxies 1 logs 1 resolvers - shards - book 100\n\
+    ask 0 0\n\
+    ask 1 0\n\
+    grant 0\n\
+    get 0 a\n\
+    get 1 a\n\
+    write 0 set a x\n\
+    write 1 set a y\n\
+    submit 0 0\n\
+    submit 1 0\n\
+    seal 0 100\n\
+    resolve 0 0\n\
+    decide 0\n\
+    verdict 0 0\n\
+    decide 0\n\
+    push 0 0\n\
+    logged 0 0\n\
+    answer 0\n\
+    report 0\n\
+    answer 0\n";
+
+const ONE_BATCH_OUTPUT: &[u8] = b"ok\n\
+    ok\n\
+    ok\n\
+    grant 0=0 1=0\n\
+    none\n\
+    none\n\
+    ok\n\
+    ok\n\
+    ok\n\
+    ok\n\
+    entry 0 version 100 prev 0 places 2\n\
+    verdict 0=yes 1=conflict\n\
+    refused 9002 NotYet 0\n\
+    ok\n\
+    decided 0=commit 1=conflict\n\
+    ok\n\
+    ok\n\
+    refused 9002 NotYet 100\n\
+    committed 100\n\
+    answer 0=100/0 1=1020\n\
+    checked 1\n";
+
+#[test]
+fn one_batch(rt: HostRuntime) -> Result<(), Fail> {
+    check_script(&rt, rt.alloc(), ONE_BATCH, 0, ONE_BATCH_OUTPUT)
+}
+
+const EQUAL_IS_NOT_NEWER: &[u8] = b"config proxies 1 logs 1 resolvers - shards - book 100\n\
+    ask 0 0\n\
+    grant 0\n\
+    write 0 set a 1\n\
+    submit 0 0\n\
+    seal 0 100\n\
+    drive 0\n\
+    ask 1 0\n\
+    grant 0\n\
+    pull 0 9\n\
+    get 1 a\n\
+    write 1 set b 1\n\
+    submit 1 0\n\
+    seal 0 100\n\
+    drive 0\n";
+
+const EQUAL_IS_NOT_NEWER_OUTPUT: &[u8] = b"ok\n\
+    ok\n\
+    grant 0=0\n\
+    ok\n\
+    ok\n\
+    entry 0 version 100 prev 0 places 1\n\
+    answer 0=100/0\n\
+    ok\n\
+    grant 1=100\n\
+    through 100\n\
+    value 1\n\
+    ok\n\
+    ok\n\
+    entry 1 version 200 prev 100 places 1\n\
+    answer 1=200/0\n\
+    checked 2\n";
+
+#[test]
+fn equal_is_not_newer(rt: HostRuntime) -> Result<(), Fail> {
+    check_script(
+        &rt,
+        rt.alloc(),
+        EQUAL_IS_NOT_NEWER,
+        0,
+        EQUAL_IS_NOT_NEWER_OUTPUT,
+    )
+}
+
+const WINDOW: &[u8] = b"config proxies 1 logs 1 resolvers - shards - book 100\n\
+    seal 0 100\n\
+    drive 0\n\
+    ask 0 0\n\
+    ask 1 0\n\
+    ask 2 0\n\
+    grant 0\n\
+    pull 0 9\n\
+    get 0 a\n\
+    get 1 a\n\
+    write 0 set b 1\n\
+    write 1 set c 1\n\
+    write 2 set d 1\n\
+    submit 0 0\n\
+    seal 0 5000000\n\
+    drive 0\n\
+    submit 1 0\n\
+    submit 2 0\n\
+    seal 0 1\n\
+    drive 0\n";
+
+const WINDOW_OUTPUT: &[u8] = b"ok\n\
+    entry 0 version 100 prev 0 places 0\n\
+    answer\n\
+    ok\n\
+    ok\n\
+    ok\n\
+    grant 0=100 1=100 2=100\n\
+    through 100\n\
+    none\n\
+    none\n\
+    ok\n\
+    ok\n\
+    ok\n\
+    ok\n\
+    entry 1 version 5000100 prev 100 places 1\n\
+    answer 0=5000100/0\n\
+    ok\n\
+    ok\n\
+    entry 2 version 5000101 prev 5000100 places 2\n\
+    answer 1=1007 2=5000101/1\n\
+    checked 2\n";
+
+#[test]
+fn window(rt: HostRuntime) -> Result<(), Fail> {
+    check_script(&rt, rt.alloc(), WINDOW, 0, WINDOW_OUTPUT)
+}
+
+const DRIVES_REFUSED: &[u8] = b"config proxies 1 logs 1 resolvers - shards - book 100\n\
+    drive 0\n\
+    drive 7\n\
+    seal 0 100\n\
+    drive 4294967295\n\
+    drive 0\n\
+    drive 0\n\
+    seal 0 100\n\
+    resolve 1 0\n\
+    drive 0\n\
+    verdict 1 0\n\
+    decide 0\n";
+
+// The drive that comes behind a step of its own ends at that step's refusal, and takes none of those behind.
+const DRIVES_REFUSED_OUTPUT: &[u8] = b"ok\n\
+    refused 9014 WrongState\n\
+    refused 9016 Unknown\n\
+    entry 0 version 100 prev 0 places 0\n\
+    refused 9016 Unknown\n\
+    answer\n\
+    refused 9014 WrongState\n\
+    entry 1 version 200 prev 100 places 0\n\
+    verdict\n\
+    refused 9003 Stale\n\
+    ok\n\
+    decided\n\
+    checked 0\n";
+
+#[test]
+fn drives_that_are_refused(rt: HostRuntime) -> Result<(), Fail> {
+    check_script(&rt, rt.alloc(), DRIVES_REFUSED, 0, DRIVES_REFUSED_OUTPUT)
+}

@@ -61,6 +61,7 @@ fn words_too_many(rt: HostRuntime) -> Result<(), Fail> {
         "report 0 0",
         "answer 0 0",
         "pull 0 9 9",
+        "drive 0 0",
     ];
     for line in lines {
         check_lines(&rt, rt.alloc(), line.as_bytes(), 2, "ok\nbad line 2\n")?;
@@ -89,6 +90,7 @@ fn words_too_few(rt: HostRuntime) -> Result<(), Fail> {
         "report",
         "answer",
         "pull 0",
+        "drive",
         "   ",
     ];
     for line in lines {
@@ -115,7 +117,8 @@ fn words_that_are_none(rt: HostRuntime) -> Result<(), Fail> {
         "forget 0 1",
         "pop 0",
         "show 0",
-        "drive 0",
+        "Drive 0",
+        "drives 0",
         "get 0 a\u{e9}",
         "g\u{e9}t 0 a",
     ];
@@ -140,6 +143,8 @@ fn numbers_that_are_none(rt: HostRuntime) -> Result<(), Fail> {
         "seal 0 18446744073709551616",
         "pull 0 4294967296",
         "pull 4294967296 0",
+        "drive 4294967296",
+        "drive a",
         "get 99999999999999999999999999999999999999 a",
     ];
     for line in lines {

@@ -1,4 +1,3 @@
-use Rattle.std.proofs.Common.{sym, ◌∙◌}
 use Rattle.std.proofs.lemmas.Result.{err_from_is_err_and}
 use Rattle.fdb_sim.proofs.GrammarLemmas.{step_of_rest}
 use Rattle.fdb_sim.proofs.step_line.read_step.Goals as goal
@@ -6,4 +5,4 @@ use Rattle.fdb_sim.proofs.step_line.read_step.Goals as goal
 pub returns-in_err-step : goal.returns-in_err-step
 returns-in_err-step c =
     let p = err_from_is_err_and c.from_residual-in_err-step.result c.from_residual-in_err-step.ensures.1 in
-    rw (p.1, p.2) (step_of_rest c.args.line.now c.in_ok-first.first.now _ c.in_ok-kind.kind _ (sym c.new-words.ensures ∙ c.in_ok-first.ensures) c.in_ok-kind.ensures c.in_err-step.ensures)
+    rw (p.1, p.2) (step_of_rest c.args.first.now _ c.in_ok-kind.kind _ c.in_ok-kind.ensures c.in_err-step.ensures)
