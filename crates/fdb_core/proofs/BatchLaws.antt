@@ -10,14 +10,15 @@ use Rattle.fdb_txn.specs.Book.{Stamped, Place, Seen, placed, add_places, add_ent
 use Rattle.fdb_txn.specs.Owners.{is_asked}
 use Rattle.fdb_txn.specs.Admission.{has_points, is_fresh, no_conflict, admits, all_below, committed}
 use Rattle.fdb_core.specs.declared.pool.Mark.{Mark}
-use Rattle.fdb_core.specs.declared.step.Verdict.{Verdict}
-use Rattle.fdb_core.specs.declared.step.Verdict.TheVariants as verdict
+use Rattle.fdb_resolver.specs.declared.verdict.Verdict.{Verdict}
+use Rattle.fdb_resolver.specs.declared.verdict.Verdict.TheVariants as verdict
 use Rattle.fdb_core.specs.declared.step.Outcome.TheVariants as outcome
 use Rattle.fdb_core.specs.Verdicts.{verdict_at, outcome_at, verdicts_from, asks_about, outcomes_from, moves_through, verdicts_on, is_needed, outcomes_on}
 use Rattle.fdb_core.specs.Kernel.{ReadsBelow}
 use Rattle.fdb_core.specs.Roles.{judgement, marked_after, marks_of, Judged, judge_next, judged, outcome_by, verdict_for, outcomes_by, is_commit, body_by}
 use Rattle.fdb_txn.specs.Messages.{committed_from}
-use Rattle.fdb_core.proofs.OneResolver.{NoMoves, IsStill, asked-points, verdict-judgement, marks_of-next, unasked-commits, outcome-by, committed-admits, no_moves-through}
+use Rattle.fdb_core.proofs.OneOwner.{asked-points}
+use Rattle.fdb_core.proofs.OneResolver.{NoMoves, IsStill, verdict-judgement, marks_of-next, unasked-commits, outcome-by, committed-admits, no_moves-through}
 
 -- each transaction has a read version below the version
 abbrev AllBelow : ℕ → List Transaction → Type 0

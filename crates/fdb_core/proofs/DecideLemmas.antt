@@ -16,7 +16,7 @@ use Rattle.fdb_core.specs.declared.parts.Lane.{Lane}
 use Rattle.fdb_core.specs.declared.parts.Stage.{Stage}
 use Rattle.fdb_core.specs.declared.parts.Stage.TheVariants.{Idle, Resolving, Logging, Reported}
 use Rattle.fdb_core.specs.declared.pool.Message.{Message}
-use Rattle.fdb_core.specs.declared.step.Verdict.{Verdict}
+use Rattle.fdb_resolver.specs.declared.verdict.Verdict.{Verdict}
 use Rattle.fdb_core.specs.declared.step.Outcome.{Outcome}
 use Rattle.fdb_core.specs.declared.step.Answered.TheVariants as answered
 use Rattle.fdb_core.specs.Kernel.{machine_of, Tied, LaneOk, IsDecision, ReadsBelow}
@@ -28,7 +28,7 @@ use Rattle.fdb_core.proofs.AllLemmas.{all-at}
 use Rattle.fdb_core.proofs.BatchLaws.{needed-points, not_needed-verdicts, outcomes-decided, body-committed}
 use Rattle.fdb_core.proofs.LaneTies.{lane-at, lanes-set}
 use Rattle.fdb_core.proofs.OneResolver.{IsStill, no_moves-before, no_moves-at}
-use Rattle.fdb_core.proofs.RunLaws.{slice_get-along, length-along}
+use Rattle.fdb_core.proofs.RunLaws.{entries-below, slice_get-along, length-along}
 
 -- a list's item that was set, and any other one
 set-here : {A : Type 0} (xs : List A) (i : ℕ) (x : A) → i < length xs → slice_get (slice_set xs i x) i ≡ Some x
@@ -121,7 +121,7 @@ module _ (k : Kernel) (proxy : ℕ) (lane : Lane) (entry : Entry) (tied : Tied k
   moveless = no_moves-at k.book.items tied.book.no_moves lane.entry entry found.entry_there
 
   below : ReadsBelow entry
-  below = all-at ReadsBelow k.book.items lane.entry entry tied.book.reads_below found.entry_there
+  below = all-at ReadsBelow k.book.items lane.entry entry (entries-below 1 0 k.book.items tied.book.entries) found.entry_there
 
   ok : LaneOk k.book.items k.resolvers.items k.sequencer.committed lane k.outcomes
   ok = lane-at k.book.items k.resolvers.items k.sequencer.committed k.lanes.items k.outcomes proxy lane tied.lanes found.lane_there
@@ -240,8 +240,7 @@ module _ (k : Kernel) (proxy : ℕ) (lane : Lane) (entry : Entry) (tied : Tied k
         sequencer = tied.sequencer;
         book = record {
           no_moves = book.no_moves;
-          rising = book.rising;
-          reads_below = book.reads_below;
+          entries = book.entries;
           each_filed = book.each_filed;
           each_flagged = length-set k.decided.items lane.entry true ∙ book.each_flagged;
           each_pooled = length-set k.messages.items lane.entry (Some message) ∙ book.each_pooled;

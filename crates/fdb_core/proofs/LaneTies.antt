@@ -52,7 +52,7 @@ lane-submit book resolvers committed outcomes lane submission waits ok = record 
 
 -- submissions that wait go on waiting when the committed version rises
 pub waiting-raised : (committed raised : ℕ) → committed ≤ raised → (waiting : List Submission) → AllByRecursion (WaitsOk committed) waiting → AllByRecursion (WaitsOk raised) waiting
-waiting-raised committed raised above waiting all = all-weaken (WaitsOk committed) (WaitsOk raised) (λ submission waits. omega (arith, waits, above)) waiting all
+waiting-raised committed raised above waiting all = all-weaken (WaitsOk committed) (WaitsOk raised) (λ submission waits. (omega (arith, waits.0, above), waits.1)) waiting all
 
 -- the batch's version is reported
 pub lane-reported : (book : List Entry) (resolvers : List ℕ) (committed raised : ℕ) (outcomes : List Outcome) (lane : Lane)

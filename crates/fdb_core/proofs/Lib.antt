@@ -10,6 +10,7 @@ pub mod ExamplesLemmas
 pub mod HeadlineLaws
 pub mod HoldingLemmas
 pub mod LaneTies
+pub mod OneOwner
 pub mod OneResolver
 pub mod ProgramLaws
 pub mod ProgramsAgree
@@ -17,6 +18,7 @@ pub mod PromiseLaws
 pub mod ReadSetLemmas
 pub mod RealTimeLaws
 pub mod ReplayLemmas
+pub mod ResolvingLemmas
 pub mod RoleTies
 pub mod RunLaws
 pub mod RunsLemmas

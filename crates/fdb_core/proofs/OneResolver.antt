@@ -1,8 +1,7 @@
 -- One resolver that owns every key, and a book without moves: its marks say what the book says.
-use Rattle.std.proofs.Common.{◌≡◌, ◌∙◌, sym, ap, refl, ℕ, zero, suc, ◌+◌, ◌<◌, Bool, true, false, not, ◌&&◌, ◌||◌, nat_lt, List, [], ◌∷◌, if◌then◌else◌, ◌++◌, take, fold, slice_get, Some, ◌⊎◌, inl, inr, ⊎_elim, subst, ap₂, arith}
+use Rattle.std.proofs.Common.{◌≡◌, ◌∙◌, sym, ap, refl, ℕ, zero, suc, ◌+◌, ◌<◌, Bool, true, false, not, ◌&&◌, ◌||◌, nat_lt, List, [], ◌∷◌, if◌then◌else◌, ◌++◌, take, fold, slice_get, Some, ◌⊎◌, inl, inr, ⊎_elim, subst, ap₂}
 use Rattle.std.specs.List.{list_any}
-use Rattle.std.proofs.lemmas.Bool.{cases_Bool, and_parts, and_from, or_cases, or_left, or_right, or_parts, and_left, and_right, both_ways, not_from_false, lt-ltb, le-leb, false_from_ne_true}
-use Rattle.std.proofs.lemmas.Bool.Decides.{same_from_decides}
+use Rattle.std.proofs.lemmas.Bool.{cases_Bool, and_parts, and_from, or_cases, or_left, or_right, or_parts, and_left, and_right, both_ways, not_from_false, false_from_ne_true}
 use Rattle.std.proofs.lemmas.List.Folds.{list_any-append}
 use Rattle.fdb_keys.specs.Points.{Point, point_lt}
 use Rattle.fdb_keys.specs.Ranges.{Range, in_range, in_set, ranges_meet}
@@ -12,20 +11,17 @@ use Rattle.fdb_txn.specs.declared.entry.Move.{Move}
 use Rattle.fdb_txn.specs.declared.entry.Entry.{Entry}
 use Rattle.fdb_txn.specs.Transactions.{Transaction}
 use Rattle.fdb_txn.specs.Book.{Stamped, Place, Seen, nothing, placed, add_moves, add_places, add_entry, seen_of}
-use Rattle.fdb_txn.specs.Owners.{window, bounds, corners, owned, span_begin, is_asked, asked_at}
+use Rattle.fdb_txn.specs.Owners.{window, bounds, corners, is_asked}
 use Rattle.fdb_txn.specs.Admission.{has_points, is_fresh, overlaps_at, overlaps, no_conflict, admits, committed}
 use Rattle.fdb_core.specs.declared.pool.Mark.{Mark}
-use Rattle.fdb_core.specs.declared.step.Verdict.{Verdict}
-use Rattle.fdb_core.specs.declared.step.Verdict.TheVariants as verdict
+use Rattle.fdb_resolver.specs.declared.verdict.Verdict.{Verdict}
+use Rattle.fdb_resolver.specs.declared.verdict.Verdict.TheVariants as verdict
 use Rattle.fdb_core.specs.declared.step.Outcome.TheVariants as outcome
 use Rattle.fdb_core.specs.Machine.{seen_before}
+use Rattle.fdb_core.proofs.OneOwner.{same_tests, and-true, asked-points}
 use Rattle.fdb_core.specs.Verdicts.{verdict_at, outcome_at, moves_through}
 use Rattle.fdb_core.specs.Roles.{sets_meet, is_marked, judgement, marked_after, marks_of, outcome_by}
-use Rattle.fdb_core.specs.Kernel.{NoMovesIn}
-
--- two tests that follow from each other are the same
-same_tests : (a b : Bool) → (a ≡ true → b ≡ true) → (b ≡ true → a ≡ true) → a ≡ b
-same_tests a b to back = same_from_decides {P = b ≡ true} a b (to, back) (λ holds. holds, λ holds. holds)
+use Rattle.fdb_core.specs.Resolving.{NoMovesIn}
 
 -- a test that holds of the element holds of some element of the list
 abbrev IsIn : {X : Type 0} → List X → X → Type 0
@@ -119,11 +115,6 @@ abbrev pub NoMoves : List Place → Type 0
 NoMoves [] = Unit
 NoMoves (place ∷ places) = (place.moves ≡ []) × NoMoves places
 
--- two rules of `Bool`
-and-true : (test : Bool) → test && true ≡ test
-and-true true = refl
-and-true false = refl
-
 not-or : (a b : Bool) → not a && not b ≡ not (b || (a || false))
 not-or true true = refl
 not-or true false = refl
@@ -193,50 +184,6 @@ has_points_from ranges x inside =
     let found : Witness (λ (range : Range). in_range range x) ranges = any_witness _ ranges inside in
     let parts = in_range_parts found.0 x found.1 in
     found.2 (λ (range : Range). point_lt range.begin range.end) (le_lt_chain found.0.begin x found.0.end parts.0 parts.1)
-
--- a range with points has its begin
-begin_within : (range : Range) → point_lt range.begin range.end ≡ true → in_range range range.begin ≡ true
-begin_within range before = in_range_from range range.begin (lt-itself range.begin) before
-
--- who owns every key owned it in every span that isn't empty
-always_owned : (low high : ℕ) (x : Point) → low < high → owned [] 0 [] x low high ≡ true
-always_owned low high x before =
-    or_left _ false (and_from _ true (and_from _ _ (lt-ltb low (suc low) (omega arith)) (le-leb (suc low) high (omega arith))) refl)
-
--- the span of a place that reads before its version isn't empty
-span_before : (t : Place) → t.transaction.read < t.version → span_begin t < t.version
-span_before t before = omega (arith, before)
-
--- the same as `asked-points`, at a place that has no moves
-still_asked : (version : ℕ) (t : Transaction) → t.read < version → is_asked [] 0 (placed version [] t) ≡ (has_points t.writes || has_points t.reads)
-still_asked version t before = same_tests _ _
-    (λ asked. let found : Witness test (corners [] [] (t.writes ++ t.reads)) = any_witness test (corners [] [] (t.writes ++ t.reads)) asked in
-    ⊎_elim
-    (λ written. or_left _ _ (has_points_from t.writes found.0 (and_parts _ true written).0))
-    (λ is_read. or_right _ _ (has_points_from t.reads found.0 (and_parts (in_set t.reads found.0) _ is_read).0))
-    (or_cases _ _ found.1))
-    (λ some. ⊎_elim
-    (λ of_writes. let a : Witness has_begin t.writes = any_witness has_begin t.writes of_writes in
-    at_begin test (t.writes ++ t.reads) a.0 (in_left t.writes t.reads a.0 a.2)
-    (or_left _ _ (and_from _ true (a.2 (λ (range : Range). in_range range a.0.begin) (begin_within a.0 a.1)) refl)))
-    (λ of_reads. let b : Witness has_begin t.reads = any_witness has_begin t.reads of_reads in
-    at_begin test (t.writes ++ t.reads) b.0 (in_right t.writes t.reads b.0 b.2)
-    (or_right _ _ (and_from _ _ (b.2 (λ (range : Range). in_range range b.0.begin) (begin_within b.0 b.1))
-    (always_owned (span_begin (placed version [] t)) version b.0.begin (span_before (placed version [] t) before)))))
-    (or_cases _ _ some))
-  where
-    test : Point → Bool
-    test = asked_at [] 0 (placed version [] t)
-
-    has_begin : Range → Bool
-    has_begin range = point_lt range.begin range.end
-
--- the one resolver is asked about every place with a point in a set
-pub asked-points : (t : Place) → t.moves ≡ [] → t.transaction.read < t.version
-    → is_asked [] 0 t ≡ (has_points t.transaction.writes || has_points t.transaction.reads)
-asked-points t still before = subst
-    (λ (moves : List Stamped). is_asked [] 0 (placed t.version moves t.transaction) ≡ (has_points t.transaction.writes || has_points t.transaction.reads))
-    (sym still) (still_asked t.version t.transaction before)
 
 -- no mark meets a set without points
 unmarked : (marks : List Mark) (read : ℕ) (reads : List Range) → has_points reads ≡ false → is_marked marks read reads ≡ false

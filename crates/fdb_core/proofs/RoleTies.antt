@@ -1,25 +1,26 @@
 -- The resolver, the log and the shard, kept tied through the steps.
-use Rattle.std.proofs.Common.{◌≡◌, ◌∙◌, refl, sym, ap, ℕ, zero, suc, ◌+◌, ◌-◌, ◌≤◌, min, max, List, [], ◌∷◌, ◌++◌, length, take, drop, Some, arith, add-one}
-use Rattle.std.specs.List.{AllByRecursion, slice_get, slice_set}
+use Rattle.std.proofs.Common.{◌≡◌, ◌∙◌, refl, sym, ap, subst, ℕ, zero, suc, ◌+◌, ◌-◌, ◌≤◌, min, max, List, [], ◌∷◌, ◌++◌, length, take, drop, Some, arith, add-one}
+use Rattle.std.specs.List.{slice_get, slice_set}
 use Rattle.std.proofs.lemmas.Grind.{fold-append}
 use Rattle.std.proofs.lemmas.List.{length-take, take_all}
 use Rattle.std.proofs.lemmas.Option.{slice_get_within}
 use Rattle.std.proofs.Math.Seq.{take-add}
 use Rattle.fdb_txn.specs.declared.entry.Entry.{Entry}
 use Rattle.fdb_txn.specs.Book.{add_entry, seen_of}
+use Rattle.fdb_txn.specs.History.{AreEntries}
+use Rattle.fdb_resolver.specs.Resolvers.{Resolver}
 use Rattle.fdb_core.specs.declared.parts.Lane.{Lane}
 use Rattle.fdb_core.specs.declared.parts.Reach.{Reach}
-use Rattle.fdb_core.specs.declared.pool.Mark.{Mark}
 use Rattle.fdb_core.specs.declared.pool.Message.{Message}
 use Rattle.fdb_core.specs.declared.step.Outcome.{Outcome}
-use Rattle.fdb_core.specs.declared.step.Verdict.{Verdict}
-use Rattle.fdb_core.specs.Kernel.{NoMovesIn, IsRising, ReadsBelow, ResolverOk, LogOk, LaneOk, LanesOk}
+use Rattle.fdb_resolver.specs.declared.verdict.Verdict.{Verdict}
+use Rattle.fdb_core.specs.Kernel.{IsRising, ResolverOk, LogOk, LaneOk, LanesOk}
 use Rattle.fdb_core.specs.Machine.{last_version, seen_before}
-use Rattle.fdb_core.specs.Roles.{along, judged, marks_of, message_on}
+use Rattle.fdb_core.specs.Resolving.{NoMovesIn, ResolverAt, IsNext}
+use Rattle.fdb_core.specs.Roles.{along, message_on}
 use Rattle.fdb_core.specs.Verdicts.{verdicts_on}
-use Rattle.fdb_core.proofs.AllLemmas.{all-at, within-item}
-use Rattle.fdb_core.proofs.BatchLaws.{judged-verdicts, judged-marks}
-use Rattle.fdb_core.proofs.OneResolver.{no_moves-at, no_moves-before}
+use Rattle.fdb_core.proofs.AllLemmas.{within-item}
+use Rattle.fdb_core.proofs.OneResolver.{no_moves-take}
 use Rattle.fdb_txn.proofs.HistoryLemmas.{seen_of-push}
 use Rattle.fdb_core.proofs.RunLaws.{slice_get-along, length-along}
 
@@ -38,33 +39,37 @@ pub one-at : {A : Type 0} (one x : A) (r : ℕ) → slice_get (one ∷ []) r ≡
 one-at one x zero there = (refl, cc)
 one-at one x (suc r) there = cc
 
+-- a front of entries
+entries-take : (resolvers last n : ℕ) (book : List Entry) → AreEntries resolvers last book → AreEntries resolvers last (take n book)
+entries-take resolvers last zero book entries = tt
+entries-take resolvers last (suc n) [] entries = tt
+entries-take resolvers last (suc n) (entry ∷ book) entries = (entries.0, entries.1, entries.2, entries.3, entries-take resolvers entry.version n book entries.4)
+
 -- the resolver takes the next entry
-module _ (book : List Entry) (resolvers : List ℕ) (marks : List Mark) (verdicts : List (List (ℕ × Verdict))) (r i : ℕ) (entry : Entry)
-    (ok : ResolverOk book resolvers marks verdicts) (still : NoMovesIn book) (below : AllByRecursion ReadsBelow book)
+module _ (book : List Entry) (resolvers : List ℕ) (resolver : Resolver) (verdicts : List (List (ℕ × Verdict))) (r i : ℕ) (entry : Entry)
+    (ok : ResolverOk book resolvers resolver verdicts) (still : NoMovesIn book) (entries : AreEntries 1 0 book)
     (there : slice_get book i ≡ Some entry) (at : slice_get resolvers r ≡ Some i) where
-  resolver-is : (r ≡ 0) × (ok.taken ≡ i)
+  pub resolver-is : (r ≡ 0) × (ok.taken ≡ i)
   resolver-is = one-at ok.taken i r (rw ok.one at at)
 
-  marks-before : marks ≡ marks_of (seen_before book i).places
-  marks-before = ok.marked ∙ ap (λ (n : ℕ). marks_of (seen_before book n).places) resolver-is.1
+  pub resolver-awaits : IsNext (take i book) resolver entry
+  resolver-awaits =
+      let front = take-next book i entry there in
+      record {
+        taken = subst (λ (n : ℕ). ResolverAt (take n book) resolver) resolver-is.1 ok.state;
+        still = subst NoMovesIn front (no_moves-take (suc i) book still);
+        entries = subst (AreEntries 1 0) front (entries-take 1 0 (suc i) book entries);
+      }
 
-  pub resolver-said : (judged marks entry.version entry.batch).verdicts ≡ verdicts_on [] r (seen_before book i) entry
-  resolver-said =
-      ap (λ (ms : List Mark). (judged ms entry.version entry.batch).verdicts) marks-before
-      ∙ judged-verdicts (seen_before book i) entry (no_moves-before book still i) (no_moves-at book still i entry there) (all-at ReadsBelow book i entry below there)
-      ∙ ap (λ (n : ℕ). verdicts_on [] n (seen_before book i) entry) (sym resolver-is.0)
-
-  pub resolver-next : (later : List Mark) (sent : List (ℕ × Verdict)) → later ≡ (judged marks entry.version entry.batch).marks
-      → sent ≡ (judged marks entry.version entry.batch).verdicts → ResolverOk book (slice_set resolvers r (i + 1)) later (verdicts ++ sent ∷ [])
-  resolver-next later sent marked said = record {
+  pub resolver-next : (later : Resolver) (sent : List (ℕ × Verdict)) → ResolverAt (take i book ++ entry ∷ []) later
+      → sent ≡ verdicts_on [] 0 (seen_before book i) entry → ResolverOk book (slice_set resolvers r (i + 1)) later (verdicts ++ sent ∷ [])
+  resolver-next later sent state said = record {
     taken = suc i;
     one = rw (ok.one, resolver-is.0, add-one) refl;
     within = slice_get_within book i entry there;
-    marked = marked ∙ ap (λ (ms : List Mark). (judged ms entry.version entry.batch).marks) marks-before
-        ∙ judged-marks (seen_before book i) entry (no_moves-before book still i) (no_moves-at book still i entry there) (all-at ReadsBelow book i entry below there)
-        ∙ ap (λ seen. marks_of seen.places) (sym (seen_before-next book i entry there));
+    state = subst (λ (front : List Entry). ResolverAt front later) (sym (take-next book i entry there)) state;
     sent = ap (λ vs. vs ++ sent ∷ []) (ok.sent ∙ ap (λ (n : ℕ). take n (along (verdicts_on [] 0) book)) resolver-is.1)
-        ∙ ap (λ v. take i (along (verdicts_on [] 0) book) ++ v ∷ []) (said ∙ resolver-said ∙ ap (λ (n : ℕ). verdicts_on [] n (seen_before book i) entry) resolver-is.0)
+        ∙ ap (λ v. take i (along (verdicts_on [] 0) book) ++ v ∷ []) said
         ∙ sym (take-next (along (verdicts_on [] 0) book) i _ (slice_get-along (verdicts_on [] 0) book i entry there));
   }
 

@@ -1,9 +1,10 @@
 -- What logs and shards keep, and the run of the committed transactions.
 use Rattle.std.proofs.Common.{◌≡◌, ◌∙◌, sym, ap, refl, ℕ, zero, suc, ◌<◌, ◌≤◌, if◌then◌else◌, nat_le, append_assoc, append-nil, take-append-drop, le_refl, le_of_lt, ⊎_elim, subst, List, [], ◌∷◌, ◌++◌, take, drop, fold, length, slice_get, Option, Some, arith}
+use Rattle.std.specs.List.{AllByRecursion}
 use Rattle.std.specs.Ordering.{nat_cmp}
 use Rattle.std.specs.Cmp.Lexicographic.{slice_cmp}
 use Rattle.std.specs.FinMap.{get, get-empty}
-use Rattle.std.proofs.lemmas.Bool.{cases_Bool, cond-true, cond-false, leb-true, leb-false, lt-leb}
+use Rattle.std.proofs.lemmas.Bool.{cases_Bool, cond-true, cond-false, leb-true, leb-false}
 use Rattle.std.proofs.lemmas.List.Sums.{fold-append}
 use Rattle.fdb_keys.specs.Points.{Point}
 use Rattle.fdb_mutations.specs.declared.mutation.Mutation.{Mutation}
@@ -12,12 +13,13 @@ use Rattle.fdb_txn.specs.declared.entry.Entry.{Entry}
 use Rattle.fdb_txn.specs.Transactions.{Transaction}
 use Rattle.fdb_txn.specs.Book.{Stamped, Place, Seen, nothing, placed, add_places, add_entry, seen_of}
 use Rattle.fdb_txn.specs.Run.{run, up_to, map_at}
-use Rattle.fdb_txn.proofs.HistoryLemmas.{AtMost, add_places-newer, up_to-above, up_to-all}
+use Rattle.fdb_txn.specs.History.{AreEntries}
+use Rattle.fdb_txn.proofs.HistoryLemmas.{all-weaken, AtMost, add_places-newer, up_to-above, up_to-all}
 use Rattle.fdb_txn.proofs.MessagesLemmas.{at_most-more, get-effects, run-add_places}
 use Rattle.fdb_core.specs.declared.pool.Message.{Message}
 use Rattle.fdb_core.specs.Machine.{last_version, seen_before}
 use Rattle.fdb_core.specs.Verdicts.{moves_through}
-use Rattle.fdb_core.specs.Kernel.{IsRising}
+use Rattle.fdb_core.specs.Kernel.{IsRising, ReadsBelow}
 use Rattle.fdb_core.specs.Roles.{along, message_on, value_in}
 use Rattle.fdb_txn.specs.Messages.{committed_from, value_after}
 
@@ -128,6 +130,20 @@ rises-at least [] rising i entry there = cc
 rises-at least (first ∷ book) rising zero entry there =
     let same : first ≡ entry = cc in subst (λ (e : Entry). least < e.version) same rising.0
 rises-at least (first ∷ book) rising (suc i) entry there = rises-at first.version book rising.1 i entry there
+
+-- entries rise
+entries-rise : (resolvers least : ℕ) (book : List Entry) → AreEntries resolvers least book → RisesFrom least book
+entries-rise resolvers least [] entries = tt
+entries-rise resolvers least (entry ∷ book) entries = (entries.0, entries-rise resolvers entry.version book entries.4)
+
+pub entries-rising : (resolvers : ℕ) (book : List Entry) → AreEntries resolvers 0 book → IsRising book
+entries-rising resolvers book entries = rises-at 0 book (entries-rise resolvers 0 book entries)
+
+-- and their transactions read below their versions
+pub entries-below : (resolvers least : ℕ) (book : List Entry) → AreEntries resolvers least book → AllByRecursion ReadsBelow book
+entries-below resolvers least [] entries = tt
+entries-below resolvers least (entry ∷ book) entries =
+    (all-weaken _ (λ (t : Transaction). t.read < entry.version) (λ (t : Transaction) may. may.0) entry.batch entries.3, entries-below resolvers entry.version book entries.4)
 
 -- the empty book rises
 pub rising-nil : IsRising []

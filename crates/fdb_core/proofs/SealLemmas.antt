@@ -1,32 +1,35 @@
 -- One more entry in the book, and what stays tied.
-use Rattle.std.proofs.Common.{◌≡◌, ◌∙◌, refl, sym, ap, ℕ, zero, suc, ◌<◌, ◌≤◌, Bool, true, false, List, [], ◌∷◌, ◌++◌, length, map, take, drop, replicate, Option, Some, None, Ok, arith}
+use Rattle.std.proofs.Common.{◌≡◌, ◌∙◌, refl, sym, ap, subst, ℕ, zero, suc, ◌<◌, ◌≤◌, Bool, true, false, List, [], ◌∷◌, ◌++◌, length, map, take, drop, replicate, Option, Some, None, Ok, arith}
 use Rattle.std.specs.List.{AllByRecursion, slice_get, slice_set}
 use Rattle.std.proofs.lemmas.Bool.{le-ltb, lt-leb}
 use Rattle.std.proofs.lemmas.List.{length-append, length-map, length-replicate, length-take, take-append-le}
 use Rattle.fdb_txn.specs.declared.batch.TheConstants.{PLACE_LIMIT}
 use Rattle.fdb_txn.specs.declared.entry.Entry.{Entry}
 use Rattle.fdb_txn.specs.Book.{Seen, seen_of}
-use Rattle.fdb_txn.specs.Transactions.{Transaction}
+use Rattle.fdb_txn.specs.History.{AreEntries}
+use Rattle.fdb_txn.specs.Transactions.{Transaction, NamesWrites}
+use Rattle.fdb_txn.proofs.HistoryLemmas.{entries_go_on}
+use Rattle.fdb_resolver.specs.Resolvers.{Resolver}
 use Rattle.fdb_sequencer.specs.Limits.{version_limit}
 use Rattle.fdb_sequencer.specs.Sequencer.{next_version}
 use Rattle.fdb_core.specs.declared.parts.Lane.{Lane}
 use Rattle.fdb_core.specs.declared.parts.Reach.{Reach}
 use Rattle.fdb_core.specs.declared.parts.Stage.TheVariants.{Resolving}
 use Rattle.fdb_core.specs.declared.parts.Submission.{Submission}
-use Rattle.fdb_core.specs.declared.pool.Mark.{Mark}
 use Rattle.fdb_core.specs.declared.pool.Message.{Message}
 use Rattle.fdb_core.specs.declared.program.Transcript.{Transcript}
 use Rattle.fdb_core.specs.declared.step.Answered.TheVariants as answered
 use Rattle.fdb_core.specs.declared.step.Outcome.{Outcome}
-use Rattle.fdb_core.specs.declared.step.Verdict.{Verdict}
-use Rattle.fdb_core.specs.Kernel.{ReadsBelow, BookOk, ResolverOk, LogOk, WaitsOk, LaneOk}
+use Rattle.fdb_resolver.specs.declared.verdict.Verdict.{Verdict}
+use Rattle.fdb_core.specs.Kernel.{BookOk, ResolverOk, LogOk, WaitsOk, LaneOk}
 use Rattle.fdb_core.specs.Machine.{Machine, is_set, last_version}
 use Rattle.fdb_core.specs.ProxySteps.{seals, is_idle}
-use Rattle.fdb_core.specs.Roles.{along, marks_of, message_on}
+use Rattle.fdb_core.specs.Resolving.{ResolverAt}
+use Rattle.fdb_core.specs.Roles.{along, message_on}
 use Rattle.fdb_core.specs.Verdicts.{verdicts_on}
-use Rattle.fdb_core.proofs.AllLemmas.{all-push, all-drop}
+use Rattle.fdb_core.proofs.AllLemmas.{all-drop}
 use Rattle.fdb_core.proofs.OneResolver.{no_moves-push}
-use Rattle.fdb_core.proofs.RunLaws.{along-push, length-along, rising-push}
+use Rattle.fdb_core.proofs.RunLaws.{along-push, length-along}
 
 -- the entry that a seal makes of what waits
 abbrev pub sealed_entry : Machine → ℕ → Lane → Entry
@@ -111,9 +114,9 @@ none-set (suc n) (suc i) = none-set n i
 
 -- what waits reads below a version above the committed one
 pub sealed-below : (committed version : ℕ) (submissions : List Submission) → committed < version → AllByRecursion (WaitsOk committed) submissions
-    → AllByRecursion (λ (t : Transaction). t.read < version) (map (λ (submission : Submission). submission.sealed) submissions)
+    → AllByRecursion (λ (t : Transaction). (t.read < version) × NamesWrites t) (map (λ (submission : Submission). submission.sealed) submissions)
 sealed-below committed version [] above all = tt
-sealed-below committed version (submission ∷ others) above all = (omega (arith, above, all.0), sealed-below committed version others above all.1)
+sealed-below committed version (submission ∷ others) above all = ((omega (arith, above, all.0.0), all.0.1), sealed-below committed version others above all.1)
 
 module _ (book : List Entry) (entry : Entry) where
   -- one more entry leaves what is made of the first ones
@@ -122,13 +125,13 @@ module _ (book : List Entry) (entry : Entry) where
       ap (λ made. take n made) (along-push f book entry)
       ∙ take-append-le n (along f book) (f (seen_of book) entry ∷ []) (omega (arith, length-along f book, within))
 
-  pub resolver-push : (resolvers : List ℕ) (marks : List Mark) (verdicts : List (List (ℕ × Verdict))) → ResolverOk book resolvers marks verdicts
-      → ResolverOk (book ++ entry ∷ []) resolvers marks verdicts
-  resolver-push resolvers marks verdicts ok = record {
+  pub resolver-push : (resolvers : List ℕ) (resolver : Resolver) (verdicts : List (List (ℕ × Verdict))) → ResolverOk book resolvers resolver verdicts
+      → ResolverOk (book ++ entry ∷ []) resolvers resolver verdicts
+  resolver-push resolvers resolver verdicts ok = record {
     taken = ok.taken;
     one = ok.one;
     within = omega (arith, length-append book (entry ∷ []), ok.within);
-    marked = ok.marked ∙ ap (λ (front : List Entry). marks_of (seen_of front).places) (sym (take-append-le ok.taken book (entry ∷ []) ok.within));
+    state = subst (λ (front : List Entry). ResolverAt front resolver) (sym (take-append-le ok.taken book (entry ∷ []) ok.within)) ok.state;
     sent = ok.sent ∙ sym (along-front (verdicts_on [] 0) ok.taken ok.within);
   }
 
@@ -146,12 +149,11 @@ module _ (book : List Entry) (entry : Entry) where
   }
 
   pub book-push : (filed : List ℕ) (decided : List Bool) (messages : List (Option Message)) (proxy : ℕ) → BookOk book filed decided messages
-      → entry.moves ≡ [] → last_version book < entry.version → ReadsBelow entry
+      → entry.moves ≡ [] → AreEntries 1 (last_version book) (entry ∷ [])
       → BookOk (book ++ entry ∷ []) (filed ++ proxy ∷ []) (decided ++ false ∷ []) (messages ++ None ∷ [])
-  book-push filed decided messages proxy ok still above below = record {
+  book-push filed decided messages proxy ok still next = record {
     no_moves = no_moves-push book entry ok.no_moves still;
-    rising = rising-push book entry ok.rising above;
-    reads_below = all-push ReadsBelow book entry ok.reads_below below;
+    entries = entries_go_on 1 0 book entry ok.entries next;
     each_filed = omega (arith, length-append filed (proxy ∷ []), length-append book (entry ∷ []), ok.each_filed);
     each_flagged = omega (arith, length-append decided (false ∷ []), length-append book (entry ∷ []), ok.each_flagged);
     each_pooled = omega (arith, length-append messages (None ∷ []), length-append book (entry ∷ []), ok.each_pooled);

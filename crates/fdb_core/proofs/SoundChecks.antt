@@ -21,12 +21,12 @@ use Rattle.fdb_core.specs.Machine.{Machine, last_version}
 use Rattle.fdb_core.specs.Roles.{along, message_on, value_in}
 use Rattle.fdb_core.specs.Soundness.{IsSound}
 use Rattle.fdb_core.proofs.AllLemmas.{all-at}
-use Rattle.fdb_core.proofs.RunLaws.{length-along, value-of-run}
+use Rattle.fdb_core.proofs.RunLaws.{entries-below, entries-rising, length-along, value-of-run}
 
 module _ (k : Kernel) (tied : Tied k) where
   -- its book is one that a check runs anew
   plain-book : IsPlainBook k.book.items
-  plain-book = record { no_moves = tied.book.no_moves; rising = tied.book.rising; reads_below = tied.book.reads_below }
+  plain-book = record { no_moves = tied.book.no_moves; rising = entries-rising 1 k.book.items tied.book.entries; reads_below = entries-below 1 0 k.book.items tied.book.entries }
 
   -- who stands at a spot agrees with the book there
   agrees-where-stands : (transcript : Transcript) (at : Spot) → StandsAtSpot (machine_of k) transcript at → AgreesAt k.book.items transcript at
@@ -48,7 +48,7 @@ module _ (k : Kernel) (tied : Tied k) where
       let reached : last_version (take (length k.shard.items) k.book.items) ≤ last_version (take log.pulled k.book.items) =
       subst (λ (n : ℕ). last_version (take n k.book.items) ≤ last_version (take log.pulled k.book.items)) (sym all) (le_refl (last_version (take log.pulled k.book.items))) in
       ap (λ (ms : List Message). value_in (last_version (take (length k.shard.items) k.book.items)) x ms) log.applied
-      ∙ value-of-run [] k.book.items tied.book.rising log.pulled (last_version (take (length k.shard.items) k.book.items)) reached x
+      ∙ value-of-run [] k.book.items (entries-rising 1 k.book.items tied.book.entries) log.pulled (last_version (take (length k.shard.items) k.book.items)) reached x
 
   -- so whatever is found is the number of acknowledged transactions, or want of memory
   sound-finds : IsSound (machine_of k) → (result : Result ℕ CheckFault) → Finds result k.book.items k.acknowledged.items true k.shard.items

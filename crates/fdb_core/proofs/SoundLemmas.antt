@@ -1,12 +1,11 @@
 -- What it takes to keep the machine sound: tests that accepted steps passed, transcripts, the book, and parts that change.
-use Rattle.std.proofs.Common.{◌≡◌, ◌∙◌, refl, sym, ap, ap₂, subst, arith, ◌<◌, ◌≤◌, le_refl, le_trans, ℕ, zero, suc, Bool, true, false, not, ◌||◌, if◌then◌else◌, List, [], ◌∷◌, ◌++◌, fold, map, replicate, Some, None, Result, Ok, position, ◌⊎◌, inl, inr}
+use Rattle.std.proofs.Common.{◌≡◌, ◌∙◌, refl, sym, ap, ap₂, subst, arith, ◌<◌, ◌≤◌, le_refl, le_trans, ℕ, zero, suc, Bool, true, false, not, ◌||◌, if◌then◌else◌, List, [], ◌∷◌, ◌++◌, fold, map, Some, None, Result, Ok, position, ◌⊎◌, inl, inr}
 use Rattle.std.specs.List.{AllByRecursion, slice_get}
 use Rattle.std.proofs.lemmas.List.Sums.{fold-append}
 use Rattle.fdb_keys.specs.declared.refusal.Refusal.{Refusal}
-use Rattle.fdb_keys.specs.Insertion.{inserted, with_range}
+use Rattle.fdb_keys.specs.Insertion.{with_range}
 use Rattle.fdb_keys.specs.Points.{Point}
-use Rattle.fdb_keys.specs.Ranges.{Range, in_range, in_set, is_empty_range}
-use Rattle.fdb_keys.proofs.InsertionLemmas.{in_inserted, in_range-empty}
+use Rattle.fdb_keys.specs.Ranges.{Range, in_range, in_set}
 use Rattle.fdb_keys.proofs.SingleLemmas.{in_range-single}
 use Rattle.fdb_mutations.specs.declared.mutation.Mutation.{Mutation}
 use Rattle.fdb_mutations.specs.declared.mutation.Mutation.TheVariants.{Set, Clear}
@@ -117,7 +116,7 @@ in_with_named (mutation ∷ mutations) writes x =
     in_any_order false false c = refl
 
 -- what is submitted of a transcript has in its write set all that its mutations name
-sealed_of-names : (transcript : Transcript) → NamesWrites (sealed_of transcript)
+pub sealed_of-names : (transcript : Transcript) → NamesWrites (sealed_of transcript)
 sealed_of-names transcript x named =
     let mutations = mutations_of (program transcript.ops) in
     in_with_named mutations [] x ∙ ap (λ (some : Bool). some || false) named

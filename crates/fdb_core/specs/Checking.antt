@@ -21,8 +21,9 @@ use Rattle.fdb_core.specs.declared.world.CheckFault.TheVariants.{Shard}
 use Rattle.fdb_core.specs.Comparing.{AnsweredAt, StopsBy}
 use Rattle.fdb_core.specs.Headline.{AnsweredOn}
 use Rattle.fdb_core.specs.Holding.{HoldsTheRun}
-use Rattle.fdb_core.specs.Kernel.{NoMovesIn, IsRising, ReadsBelow}
+use Rattle.fdb_core.specs.Kernel.{IsRising, ReadsBelow}
 use Rattle.fdb_core.specs.Machine.{last_version, seen_before}
+use Rattle.fdb_core.specs.Resolving.{NoMovesIn}
 use Rattle.fdb_core.specs.Roles.{marks_of, body_by}
 
 -- the map behind the first places of a batch

@@ -3,22 +3,24 @@ use Rattle.std.specs.Prelude.{◌≡◌, ℕ, ◌<◌, ◌≤◌, Bool, true, fa
 use Rattle.std.specs.List.{AllByRecursion}
 use Rattle.fdb_mutations.specs.Mutations.{mutation_fault}
 use Rattle.fdb_txn.specs.declared.entry.Entry.{Entry}
-use Rattle.fdb_txn.specs.Transactions.{Transaction}
+use Rattle.fdb_txn.specs.Transactions.{Transaction, NamesWrites}
+use Rattle.fdb_txn.specs.History.{AreEntries}
+use Rattle.fdb_resolver.specs.Resolvers.{Resolver}
 use Rattle.fdb_sequencer.specs.Sequencer.{Sequencer}
 use Rattle.fdb_core.specs.declared.config.Config.{Config}
 use Rattle.fdb_core.specs.declared.kernel.Kernel.{Kernel}
 use Rattle.fdb_core.specs.declared.parts.Lane.{Lane}
 use Rattle.fdb_core.specs.declared.parts.Submission.{Submission}
 use Rattle.fdb_core.specs.declared.parts.Reach.{Reach}
-use Rattle.fdb_core.specs.declared.pool.Mark.{Mark}
 use Rattle.fdb_core.specs.declared.pool.Message.{Message}
 use Rattle.fdb_core.specs.declared.program.Transcript.{Transcript}
-use Rattle.fdb_core.specs.declared.step.Verdict.{Verdict}
+use Rattle.fdb_resolver.specs.declared.verdict.Verdict.{Verdict}
 use Rattle.fdb_core.specs.declared.step.Outcome.{Outcome}
 use Rattle.fdb_core.specs.Machine.{Machine, is_set, last_version, seen_before}
+use Rattle.fdb_core.specs.Resolving.{NoMovesIn, ResolverAt}
 use Rattle.fdb_core.specs.Programs.{program, mutations_of}
 use Rattle.fdb_core.specs.ProxySteps.{is_idle, is_resolving}
-use Rattle.fdb_core.specs.Roles.{along, marks_of, message_on, outcomes_by, body_by}
+use Rattle.fdb_core.specs.Roles.{along, message_on, outcomes_by, body_by}
 use Rattle.fdb_core.specs.Serving.{System}
 use Rattle.fdb_core.specs.Verdicts.{verdicts_on, outcomes_on}
 
@@ -47,7 +49,7 @@ abbrev pub system_of : Bool → Kernel → System
 system_of failed k =
     record {
       machine = if failed then None else Some (machine_of k);
-      resolvers = k.marks.items ∷ [];
+      resolvers = k.resolver ∷ [];
       logs = k.log.items ∷ [];
       shards = k.shard.items ∷ [];
     }
@@ -55,11 +57,6 @@ system_of failed k =
 -- each entry's version is above that of the entry before it
 abbrev pub IsRising : List Entry → Type 0
 IsRising book = (i : ℕ) (entry : Entry) → slice_get book i ≡ Some entry → last_version (take i book) < entry.version
-
--- no entry has a move
-abbrev pub NoMovesIn : List Entry → Type 0
-NoMovesIn [] = Unit {0}
-NoMovesIn (entry ∷ book) = (entry.moves ≡ []) × NoMovesIn book
 
 -- each transaction of the entry has a read version below the entry's
 abbrev pub ReadsBelow : Entry → Type 0
@@ -74,8 +71,7 @@ pub record IsPlain (config : Config) : Type 0 where
 -- the book, with what stands beside each entry
 pub record BookOk (book : List Entry) (filed : List ℕ) (decided : List Bool) (messages : List (Option Message)) : Type 0 where
   pub no_moves : NoMovesIn book
-  pub rising : IsRising book
-  pub reads_below : AllByRecursion ReadsBelow book
+  pub entries : AreEntries 1 0 book
   pub each_filed : length filed ≡ length book
   pub each_flagged : length decided ≡ length book
   pub each_pooled : length messages ≡ length book
@@ -90,12 +86,12 @@ pub record SequencerOk (book : List Entry) (sequencer : Sequencer) : Type 0 wher
   pub last : sequencer.last ≡ last_version book
   pub committed : sequencer.committed ≤ last_version book
 
--- the resolver took this many entries, and holds what it makes of them
-pub record ResolverOk (book : List Entry) (resolvers : List ℕ) (marks : List Mark) (verdicts : List (List (ℕ × Verdict))) : Type 0 where
+-- the resolver took this many entries, and sent what the rule says of them
+pub record ResolverOk (book : List Entry) (resolvers : List ℕ) (resolver : Resolver) (verdicts : List (List (ℕ × Verdict))) : Type 0 where
   pub taken : ℕ
   pub one : resolvers ≡ taken ∷ []
   pub within : taken ≤ length book
-  pub marked : marks ≡ marks_of (seen_before book taken).places
+  pub state : ResolverAt (take taken book) resolver
   pub sent : verdicts ≡ take taken (along (verdicts_on [] 0) book)
 
 -- the log took this many entries, and the shard applied this many of them
@@ -109,9 +105,9 @@ pub record LogOk (book : List Entry) (logs : List ℕ) (shards : List Reach) (lo
   pub logged : log ≡ take taken (along (message_on []) book)
   pub applied : shard ≡ take pulled (along (message_on []) book)
 
--- a submission that waits: its read version is at most the committed one
+-- a submission that waits: its read version is at most the committed one, and its write set has all that it writes
 abbrev pub WaitsOk : ℕ → Submission → Type 0
-WaitsOk committed submission = submission.sealed.read ≤ committed
+WaitsOk committed submission = (submission.sealed.read ≤ committed) × NamesWrites submission.sealed
 
 -- the commit proxy with its batch in flight, and the outcomes that it holds once the batch is decided
 pub record LaneOk (book : List Entry) (resolvers : List ℕ) (committed : ℕ) (lane : Lane) (outcomes : List Outcome) : Type 0 where
@@ -147,7 +143,7 @@ pub record Tied (k : Kernel) : Type 0 where
   pub room : length k.book.items ≤ k.config.book
   pub sequencer : SequencerOk k.book.items k.sequencer
   pub book : BookOk k.book.items k.filed.items k.decided.items k.messages.items
-  pub resolver : ResolverOk k.book.items k.resolvers.items k.marks.items k.verdicts.items
+  pub resolver : ResolverOk k.book.items k.resolvers.items k.resolver k.verdicts.items
   pub log : LogOk k.book.items k.logs.items k.shards.items k.log.items k.shard.items
   pub lanes : LanesOk k.book.items k.resolvers.items k.sequencer.committed k.lanes.items k.outcomes
   pub opened : AllByRecursion (OpenOk k.sequencer.committed) k.opened.items

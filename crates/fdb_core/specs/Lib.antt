@@ -13,6 +13,7 @@ pub mod Promises
 pub mod RealTime
 pub mod ProxySteps
 pub mod RoleSteps
+pub mod Resolving
 pub mod Roles
 pub mod Serving
 pub mod Soundness

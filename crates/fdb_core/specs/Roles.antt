@@ -12,8 +12,8 @@ use Rattle.fdb_txn.specs.Owners.{window}
 use Rattle.fdb_txn.specs.Admission.{has_points, admits}
 use Rattle.fdb_core.specs.declared.pool.Mark.{Mark}
 use Rattle.fdb_core.specs.declared.pool.Message.{Message}
-use Rattle.fdb_core.specs.declared.step.Verdict.{Verdict}
-use Rattle.fdb_core.specs.declared.step.Verdict.TheVariants as verdict
+use Rattle.fdb_resolver.specs.declared.verdict.Verdict.{Verdict}
+use Rattle.fdb_resolver.specs.declared.verdict.Verdict.TheVariants as verdict
 use Rattle.fdb_core.specs.declared.step.Outcome.{Outcome}
 use Rattle.fdb_core.specs.declared.step.Outcome.TheVariants as outcome
 use Rattle.fdb_core.specs.declared.program.Op.{Op}

@@ -1,25 +1,25 @@
 -- What a world shows of its roles, and what holds of it.
-use Rattle.std.specs.Prelude.{◌≡◌, ◌≤◌, ℕ, max, List, take, length, fold, Option, Some, IfSome, slice_get, if◌then◌else◌}
+use Rattle.std.specs.Prelude.{◌≡◌, ◌≤◌, ◌-◌, ℕ, List, take, length, Option, Some, IfSome, slice_get}
 use Rattle.std.specs.FinMap.{get}
 use Rattle.fdb_keys.specs.Points.{Point}
-use Rattle.fdb_keys.specs.Ranges.{in_set}
+use Rattle.fdb_interval.specs.Versions.{version_at}
 use Rattle.fdb_txn.specs.Book.{seen_of}
-use Rattle.fdb_txn.specs.Owners.{first_owner}
-use Rattle.fdb_txn.specs.Resolvers.{last_version}
+use Rattle.fdb_txn.specs.Owners.{window, first_owner}
+use Rattle.fdb_txn.specs.Resolvers.{IsStateOf}
 use Rattle.fdb_txn.specs.Run.{map_at}
+use Rattle.fdb_resolver.specs.Resolvers.{Resolver}
 use Rattle.fdb_core.specs.declared.parts.Reach.{Reach}
-use Rattle.fdb_core.specs.declared.pool.Mark.{Mark}
 use Rattle.fdb_core.specs.declared.pool.Message.{Message}
 use Rattle.fdb_core.specs.ClientSteps.{version_of_shard}
-use Rattle.fdb_core.specs.Machine.{Machine, seen_before}
+use Rattle.fdb_core.specs.Machine.{Machine, last_version, seen_before}
 use Rattle.fdb_core.specs.Roles.{along, message_on, value_in}
 
 -- What a world shows: the machine, and what each of its roles keeps.
 pub record System : Type 0 where
   -- none once memory ran out in a step
   pub machine : Option Machine
-  -- by number: the write sets that a resolver admitted, the messages that a log took, and those that a shard applied
-  pub resolvers : List (List Mark)
+  -- by number: what a resolver keeps, the messages that a log took, and those that a shard applied
+  pub resolvers : List Resolver
   pub logs : List (List Message)
   pub shards : List (List Message)
 
@@ -29,15 +29,13 @@ abbrev pub EachKeeps : {A B : Type 0} → (ℕ → A → B → Type 0) → List 
 EachKeeps {A} {B} P far kept =
     (length kept ≡ length far) × ((i : ℕ) (a : A) (b : B) → slice_get far i ≡ Some a → slice_get kept i ≡ Some b → P i a b)
 
--- the greatest version of the admitted write sets that hold the point, 0 where none does
-abbrev pub version_at : List Mark → Point → ℕ
-version_at marks x = fold (λ (version : ℕ) (mark : Mark). if in_set mark.writes x then max mark.version version else version) 0 marks
-
--- A resolver that took so many entries has at each point the greatest version of a place of theirs that it admitted
--- and that wrote the point where the resolver owned it.
-abbrev pub ResolverKeeps : Machine → ℕ → ℕ → List Mark → Type 0
-ResolverKeeps m i taken marks =
-    (x : Point) → version_at marks x ≡ last_version m.config.resolver_splits i (seen_before m.book taken).places x
+-- A resolver that took so many entries has the version of the last of them. From the begin of that one's window on it
+-- tells at each point the greatest version of a place of theirs that it admitted and that wrote the point where the
+-- resolver owned it.
+abbrev pub ResolverKeeps : Machine → ℕ → ℕ → Resolver → Type 0
+ResolverKeeps m i taken resolver =
+    let last = last_version (take taken m.book) in
+    (resolver.last ≡ last) × IsStateOf m.config.resolver_splits i (seen_before m.book taken).places (last - window) (version_at resolver.versions)
 
 -- A log that took so many entries has for each its message, which holds the mutations of the entry's committed
 -- transactions.

@@ -6,8 +6,8 @@ use Rattle.fdb_txn.specs.Transactions.{Transaction}
 use Rattle.fdb_txn.specs.Book.{Stamped, Place, Seen, placed, add_moves}
 use Rattle.fdb_txn.specs.Owners.{is_asked}
 use Rattle.fdb_txn.specs.Admission.{is_fresh, admits, committed}
-use Rattle.fdb_core.specs.declared.step.Verdict.{Verdict}
-use Rattle.fdb_core.specs.declared.step.Verdict.TheVariants as verdict
+use Rattle.fdb_resolver.specs.declared.verdict.Verdict.{Verdict}
+use Rattle.fdb_resolver.specs.declared.verdict.Verdict.TheVariants as verdict
 use Rattle.fdb_core.specs.declared.step.Outcome.{Outcome}
 use Rattle.fdb_core.specs.declared.step.Outcome.TheVariants as outcome
 

@@ -2,9 +2,10 @@
 ghost use Rattle.std.specs.Prelude.{◌≡◌, ◌<◌, ◌^◌, [], ◌++◌, length, if◌then◌else◌, IfOk, OnOk};
 ghost use Rattle.fdb_core.specs.Roles.{outcome_by, verdict_for, outcomes_by, is_commit, body_by};
 
-use crate::step::{Outcome, Verdict};
+use crate::step::Outcome;
 use fdb_keys::Items;
 use fdb_mutations::Mutation;
+use fdb_resolver::Verdict;
 use fdb_txn::Sealed;
 use std::alloc::{AllocError, Global};
 

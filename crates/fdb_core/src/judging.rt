@@ -3,28 +3,17 @@ ghost use Rattle.std.specs.Prelude.{◌≡◌, ◌<◌, ◌^◌, ◌+◌, ◌||�
 ghost use Rattle.std.specs.List.{list_any};
 ghost use Rattle.std.specs.Slice.Iter.{iter_rest};
 ghost use Rattle.fdb_keys.specs.Ranges.{ranges_meet};
-ghost use Rattle.fdb_txn.specs.Admission.{has_points as points};
 ghost use Rattle.fdb_core.specs.Roles.{sets_meet, is_marked, judgement, marked_after, judged};
 
 use crate::pool::Mark;
-use crate::step::Verdict;
+use crate::resolving::{has_points, is_judged};
 use fdb_keys::{Items, KeyRange, RangeSet};
+use fdb_resolver::Verdict;
 use fdb_txn::Sealed;
 use std::alloc::{AllocError, Global};
 
 // Reads older than this many versions are no longer judged.
 const WINDOW: u64 = 5_000_000;
-
-pub(crate) fn has_points(set: &RangeSet) -> bool
-    ensures { result ≡ points set.now }
-{
-    for range in set.iter() {
-        if !range.is_empty() {
-            return true;
-        }
-    }
-    false
-}
 
 fn range_meets(range: &KeyRange, others: &RangeSet) -> bool
     ensures { result ≡ list_any (λ other. ranges_meet range.now other) others.now }
@@ -84,24 +73,6 @@ fn mark(marks: &mut Vec<Mark>, version: u64, txn: &Sealed) -> Result<Verdict, Al
         marks.push(Mark { version, writes })?;
     }
     Ok(verdict)
-}
-
-fn is_judged(txn: &Sealed) -> bool
-    ensures { result ≡ (points txn.now.writes || points txn.now.reads) }
-{
-    has_points(txn.writes()) || has_points(txn.reads())
-}
-
-/// Whether a transaction of the batch has a point in its sets, so that the resolver is asked about it.
-pub(crate) fn are_any_judged(batch: &[Sealed]) -> bool
-    ensures { result ≡ list_any (λ txn. points txn.writes || points txn.reads) batch.now }
-{
-    for txn in batch {
-        if is_judged(txn) {
-            return true;
-        }
-    }
-    false
 }
 
 /// Judges the places of a batch one after another, and marks what is admitted.

@@ -1,10 +1,11 @@
 // The parts of a world: the machine's bookkeeping, and what the roles keep for themselves.
 use crate::config::Config;
 use crate::parts::{Begun, Lane, Placed, Reach};
-use crate::pool::{Mark, Message};
+use crate::pool::Message;
 use crate::program::Transcript;
-use crate::step::{Outcome, Verdict};
+use crate::step::Outcome;
 use fdb_keys::Items;
+use fdb_resolver::{ResolverCore, Verdict};
 use fdb_sequencer::SequencerCore;
 use fdb_txn::Entry;
 use std::alloc::Global;
@@ -29,7 +30,7 @@ pub(crate) struct Kernel {
     // It gives the versions, and keeps the greatest one that was reported.
     pub(crate) sequencer: SequencerCore,
     // The one resolver, and what it sent for each entry that it took.
-    pub(crate) marks: Vec<Mark>,
+    pub(crate) resolver: ResolverCore,
     pub(crate) verdicts: Vec<Items<(u32, Verdict)>>,
     // What the one commit proxy decided of its batch, and the message of each entry once it is decided.
     pub(crate) outcomes: Items<Outcome>,

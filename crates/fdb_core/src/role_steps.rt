@@ -5,10 +5,10 @@ ghost use Rattle.fdb_core.specs.RoleSteps.{resolves, pushes, pulls};
 ghost use Rattle.fdb_core.specs.Steps.{answer_of, after};
 
 use crate::flags::is_set;
-use crate::judging::judge_batch;
 use crate::kernel::Kernel;
 use crate::messages::{copied_message, copy_range};
 use crate::parts::Reach;
+use crate::resolving::judge_entry;
 use crate::step::Answered;
 use crate::versions::last_version;
 use fdb_keys::{Items, Refusal};
@@ -39,12 +39,9 @@ impl Kernel {
             return Ok(Err(Refusal::NotYet(self.book[i].prev)));
         }
         let part = &self.book[i];
-        let verdicts = judge_batch(
-            self.alloc,
-            &mut self.marks,
-            part.version,
-            part.batch.as_slice(),
-        )?;
+        let Ok(verdicts) = judge_entry(self.alloc, &mut self.resolver, entry, part) else {
+            return Err(AllocError);
+        };
         let answer = Items::from_vec(Vec::from_slice(self.alloc, verdicts.as_slice())?);
         self.verdicts.push(verdicts)?;
         self.resolvers[of] = taken + 1;

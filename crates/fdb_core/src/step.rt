@@ -1,6 +1,7 @@
 use bytes::Bytes;
 use fdb_keys::{Items, Key};
 use fdb_mutations::Mutation;
+use fdb_resolver::Verdict;
 
 /// One step of a client or of a role. Roles, entries and sessions are named by their numbers, from 0.
 #[derive(Clone, Debug, Drop, PartialEq, Eq)]
@@ -72,17 +73,6 @@ pub enum Step {
         shard: u32,
         limit: u32,
     },
-}
-
-/// What a resolver says of a transaction.
-#[derive(Clone, Copy, Debug, PartialEq, Eq)]
-pub enum Verdict {
-    /// It may commit.
-    Yes,
-    /// Something that it read was written since its read version.
-    Conflict,
-    /// Its reads lie too far back to be judged.
-    Old,
 }
 
 /// What became of a submitted transaction.

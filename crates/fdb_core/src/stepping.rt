@@ -8,6 +8,7 @@ ghost use Rattle.fdb_sequencer.specs.Sequencer.{fresh};
 use crate::config::Config;
 use crate::kernel::Kernel;
 use crate::parts::{Lane, Reach, Stage};
+use crate::resolving::first_resolver;
 use crate::step::{Answered, Step};
 use fdb_keys::{Items, Refusal};
 use fdb_sequencer::SequencerCore;
@@ -85,7 +86,7 @@ impl Kernel {
             begun: Vec::new(alloc),
             sequencer: first_sequencer(alloc),
             acknowledged: Vec::new(alloc),
-            marks: Vec::new(alloc),
+            resolver: first_resolver(alloc),
             verdicts: Vec::new(alloc),
             outcomes: Items::new(alloc),
             messages: Vec::new(alloc),

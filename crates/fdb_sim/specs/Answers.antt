@@ -5,8 +5,8 @@ use Rattle.std.specs.Fmt.{decimal}
 use Rattle.fdb_keys.specs.declared.refusal.Refusal.{Refusal}
 use Rattle.fdb_keys.specs.declared.refusal.Refusal.TheVariants.{TransactionTooOld, FutureVersion, NotCommitted, CommitUnknownResult, KeyOutsideLegalRange, InvertedRange, TransactionTooLarge, KeyTooLarge, ValueTooLarge, NoMemory, NotYet, Stale, Failed, Exhausted, BookFull, Repeated, BadOperand, BadConfig, Chain, Taken, MovesFull, Closed, WrongState, NoTransaction, Unknown}
 use Rattle.fdb_keys.specs.Refusals.{code_of}
-use Rattle.fdb_core.specs.declared.step.Verdict.{Verdict}
-use Rattle.fdb_core.specs.declared.step.Verdict.TheVariants as verdict
+use Rattle.fdb_resolver.specs.declared.verdict.Verdict.{Verdict}
+use Rattle.fdb_resolver.specs.declared.verdict.Verdict.TheVariants as verdict
 use Rattle.fdb_core.specs.declared.step.Outcome.{Outcome}
 use Rattle.fdb_core.specs.declared.step.Outcome.TheVariants as outcome
 use Rattle.fdb_core.specs.declared.step.Answered.{Answered}

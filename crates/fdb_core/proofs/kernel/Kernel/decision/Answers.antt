@@ -6,7 +6,7 @@ use Rattle.fdb_mutations.specs.declared.mutation.Mutation.{Mutation}
 use Rattle.fdb_txn.specs.declared.entry.Entry.{Entry}
 use Rattle.fdb_txn.specs.Transactions.{Transaction}
 use Rattle.fdb_core.specs.declared.step.Outcome.{Outcome}
-use Rattle.fdb_core.specs.declared.step.Verdict.{Verdict}
+use Rattle.fdb_resolver.specs.declared.verdict.Verdict.{Verdict}
 use Rattle.fdb_core.specs.Roles.{outcomes_by, body_by}
 use Rattle.fdb_core.proofs.DecideLemmas.{length-outcomes_by}
 use Rattle.fdb_core.proofs.kernel.Kernel.decision.Goals as goal

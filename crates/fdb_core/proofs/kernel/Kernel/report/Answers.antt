@@ -11,6 +11,7 @@ use Rattle.fdb_core.proofs.LaneTies.{lanes-set, lane-reported}
 use Rattle.fdb_core.proofs.RoleTies.{below-last}
 use Rattle.fdb_core.proofs.TicketTies.{reports-turn}
 use Rattle.fdb_sequencer.specs.Sequencer.{Sequencer}
+use Rattle.fdb_core.proofs.RunLaws.{entries-rising}
 use Rattle.fdb_core.proofs.kernel.Kernel.report.Goals as goal
 use Rattle.fdb_core.proofs.kernel.Kernel.report.Goals.{After-committed}
 
@@ -59,17 +60,17 @@ take_report-requires c =
     let k = c.args.self.now in
     let in_book : c.index-2.result.now.entry < length k.book.items = search rules in
     rw c.requires.sequencer.last
-    (below-last k.book.items c.requires.book.rising c.index-2.result.now.entry c.index-4.result.now
+    (below-last k.book.items (entries-rising 1 k.book.items c.requires.book.entries) c.index-2.result.now.entry c.index-4.result.now
     (slice_get_read k.book.items (length k.book.items) c.index-2.result.now.entry c.index-4.result.now refl in_book c.index-4.ensures))
 
 -- what the machine does then
 turn : (c : After-committed) → reports (machine_of c.args.self.now) c.args.proxy ≡ Ok (record {
-      said = answered.Version (max c.args.self.now.sequencer.committed c.index-4.result.now.version);
-      to = record (machine_of c.args.self.now) {
-        committed = max c.args.self.now.sequencer.committed c.index-4.result.now.version;
-        lanes = slice_set c.args.self.now.lanes.items c.args.proxy (record c.index_mut-lane.result.now { stage = Reported });
-      };
-    })
+  said = answered.Version (max c.args.self.now.sequencer.committed c.index-4.result.now.version);
+  to = record (machine_of c.args.self.now) {
+    committed = max c.args.self.now.sequencer.committed c.index-4.result.now.version;
+    lanes = slice_set c.args.self.now.lanes.items c.args.proxy (record c.index_mut-lane.result.now { stage = Reported });
+  };
+})
 turn c =
     let lane = c.index_mut-lane.result.now in
     let none : first_missing (λ log. true) 0 lane.acknowledged ≡ None =
@@ -99,7 +100,7 @@ returns-clause-tied c =
     let version = c.index-4.result.now.version in
     let committed = max k.sequencer.committed version in
     let above : k.sequencer.committed ≤ committed = omega arith in
-    let below = below-last k.book.items before.book.rising c.index-2.result.now.entry c.index-4.result.now (entry c) in
+    let below = below-last k.book.items (entries-rising 1 k.book.items before.book.entries) c.index-2.result.now.entry c.index-4.result.now (entry c) in
     let within : committed ≤ last_version k.book.items = omega (arith, below, before.sequencer.committed) in
     rw c.take_report.ensures
     (record {

@@ -1,14 +1,13 @@
-use Rattle.std.proofs.Common.{◌≡◌, ◌∙◌, refl, sym, ap, ◌+◌, ◌<◌, length, ℕ, List, Some, Ok, slice_get, slice_set, arith, rules}
+use Rattle.std.proofs.Common.{◌≡◌, ◌∙◌, refl, sym, ap, ap₂, take, [], ◌+◌, ◌<◌, length, ℕ, List, Some, Ok, slice_get, slice_set, arith, rules}
 use Rattle.std.proofs.lemmas.Option.{slice_get_read}
 use Rattle.fdb_keys.specs.Points.{Point}
-use Rattle.fdb_txn.specs.Transactions.{Transaction}
 use Rattle.fdb_core.specs.declared.step.Answered.TheVariants as answered
-use Rattle.fdb_core.specs.declared.step.Verdict.{Verdict}
+use Rattle.fdb_resolver.specs.declared.verdict.Verdict.{Verdict}
 use Rattle.fdb_core.specs.Kernel.{machine_of}
 use Rattle.fdb_core.specs.Machine.{seen_before}
-use Rattle.fdb_core.specs.Roles.{judged}
+use Rattle.fdb_core.specs.Resolving.{IsNext}
 use Rattle.fdb_core.specs.Verdicts.{verdicts_on}
-use Rattle.fdb_core.proofs.RoleTies.{resolver-said, resolver-next, lanes-resolved}
+use Rattle.fdb_core.proofs.RoleTies.{resolver-is, resolver-awaits, resolver-next, lanes-resolved}
 use Rattle.fdb_core.proofs.Turns.{resolves-turn}
 use Rattle.fdb_core.proofs.kernel.Kernel.resolve.Goals as goal
 use Rattle.fdb_core.proofs.kernel.Kernel.resolve.Goals.{After-self-1}
@@ -28,21 +27,24 @@ at c =
     slice_get_read c.args.self.now.resolvers.items (length c.args.self.now.resolvers.items) c.args.resolver c.index-taken.result.now refl inside c.index-taken.ensures
     ∙ ap (λ (n : ℕ). Some n) (same c)
 
--- the verdicts are the definition's
-said : (c : After-self-1) → c.in_ok-verdicts.verdicts ≡ verdicts_on c.args.self.now.config.resolver_splits c.args.resolver (seen_before c.args.self.now.book.items c.args.entry) c.index-part.result.now
-said c =
+-- it is the one resolver's next entry
+awaits : (c : After-self-1) → IsNext (take c.args.entry c.args.self.now.book.items) c.args.self.now.resolver c.index-part.result.now
+awaits c =
     let k = c.args.self.now in
-    let before = c.requires in
-    c.in_ok-verdicts.ensures.verdicts
-    ∙ ap (λ (batch : List Transaction). (judged k.marks.items c.index-part.result.now.version batch).verdicts) c.as_slice.ensures.places
-    ∙ resolver-said k.book.items k.resolvers.items k.marks.items k.verdicts.items c.args.resolver c.args.entry c.index-part.result.now before.resolver before.book.no_moves before.book.reads_below (there c) (at c)
-    ∙ ap (λ (splits : List Point). verdicts_on splits c.args.resolver (seen_before k.book.items c.args.entry) c.index-part.result.now) (sym before.plain.resolver_splits)
+    resolver-awaits k.book.items k.resolvers.items k.resolver k.verdicts.items c.args.resolver c.args.entry c.index-part.result.now c.requires.resolver c.requires.book.no_moves c.requires.book.entries (there c) (at c)
 
+said : (c : After-self-1) → c.in-Ok.verdicts ≡ verdicts_on [] 0 (seen_before c.args.self.now.book.items c.args.entry) c.index-part.result.now
+said c = c.in-Ok.ensures.verdicts (take c.args.entry c.args.self.now.book.items) (awaits c)
+
+-- the verdicts are the definition's
 pub returns-clause-answer : goal.returns-clause-answer
 returns-clause-answer c =
-    let copy : c.from_vec-answer.result ≡ c.in_ok-verdicts.verdicts = search rules in
-    rw (resolves-turn (machine_of c.args.self.now) c.args.entry c.args.resolver c.index-part.result.now (there c) (at c))
-    (ap (λ (verdicts : List (ℕ × Verdict)). Ok (answered.Verdicts verdicts)) (copy ∙ said c))
+    let k = c.args.self.now in
+    let copy : c.from_vec-answer.result ≡ c.in-Ok.verdicts = search rules in
+    let own = (resolver-is k.book.items k.resolvers.items k.resolver k.verdicts.items c.args.resolver c.args.entry c.index-part.result.now c.requires.resolver c.requires.book.no_moves c.requires.book.entries (there c) (at c)).0 in
+    rw (resolves-turn (machine_of k) c.args.entry c.args.resolver c.index-part.result.now (there c) (at c))
+    (ap (λ (verdicts : List (ℕ × Verdict)). Ok (answered.Verdicts verdicts)) (copy ∙ said c
+    ∙ ap₂ (λ (splits : List Point) (r : ℕ). verdicts_on splits r (seen_before k.book.items c.args.entry) c.index-part.result.now) (sym c.requires.plain.resolver_splits) (sym own)))
 
 pub returns-clause-after : goal.returns-clause-after
 returns-clause-after c =
@@ -53,11 +55,10 @@ pub returns-clause-tied : goal.returns-clause-tied
 returns-clause-tied c =
     let k = c.args.self.now in
     let before = c.requires in
-    let marked = c.in_ok-verdicts.ensures.marks ∙ ap (λ (batch : List Transaction). (judged k.marks.items c.index-part.result.now.version batch).marks) c.as_slice.ensures.places in
-    let sent = c.in_ok-verdicts.ensures.verdicts ∙ ap (λ (batch : List Transaction). (judged k.marks.items c.index-part.result.now.version batch).verdicts) c.as_slice.ensures.places in
-    let resolver = resolver-next k.book.items k.resolvers.items k.marks.items k.verdicts.items c.args.resolver c.args.entry c.index-part.result.now before.resolver before.book.no_moves before.book.reads_below (there c) (at c)
-    c.judge_batch.new.marks.items c.in_ok-verdicts.verdicts marked sent in
-    let lanes = lanes-resolved k.book.items k.resolvers.items k.marks.items k.verdicts.items c.args.resolver c.args.entry c.index-part.result.now before.resolver before.book.no_moves before.book.reads_below (there c) (at c)
+    let state = c.in-Ok.ensures.state (take c.args.entry k.book.items) (awaits c) in
+    let resolver = resolver-next k.book.items k.resolvers.items k.resolver k.verdicts.items c.args.resolver c.args.entry c.index-part.result.now before.resolver before.book.no_moves before.book.entries (there c) (at c)
+    c.judge_entry.new.resolver c.in-Ok.verdicts state (said c) in
+    let lanes = lanes-resolved k.book.items k.resolvers.items k.resolver k.verdicts.items c.args.resolver c.args.entry c.index-part.result.now before.resolver before.book.no_moves before.book.entries (there c) (at c)
     k.sequencer.committed k.lanes.items k.outcomes before.lanes in
     record {
       plain = before.plain;

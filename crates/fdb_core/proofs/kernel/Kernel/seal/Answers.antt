@@ -1,5 +1,5 @@
 use Rattle.std.proofs.Common.{◌≡◌, ◌∙◌, refl, sym, ap, subst, ◌<◌, ◌≤◌, true, false, length, map, replicate, ℕ, List, [], ◌∷◌, ◌++◌, take, drop, Some, Ok, Err, slice_get, slice_set, arith, rules}
-use Rattle.std.proofs.lemmas.List.{length-append, length-map, take_all}
+use Rattle.std.proofs.lemmas.List.{length-append, length-map}
 use Rattle.std.proofs.lemmas.Option.{slice_get_read}
 use Rattle.fdb_keys.specs.declared.refusal.Refusal.TheVariants.{Exhausted}
 use Rattle.fdb_txn.specs.declared.batch.TheConstants.{PLACE_LIMIT}
@@ -11,7 +11,7 @@ use Rattle.fdb_core.specs.declared.parts.Lane.{Lane}
 use Rattle.fdb_core.specs.declared.parts.Stage.TheVariants.{Idle, Resolving}
 use Rattle.fdb_core.specs.declared.parts.Submission.{Submission}
 use Rattle.fdb_core.specs.declared.step.Answered.TheVariants as answered
-use Rattle.fdb_core.specs.Kernel.{machine_of, ReadsBelow, WaitsOk, LanesOk}
+use Rattle.fdb_core.specs.Kernel.{machine_of, WaitsOk, LanesOk}
 use Rattle.fdb_core.specs.Machine.{last_version}
 use Rattle.fdb_core.specs.ProxySteps.{seals, is_idle}
 use Rattle.fdb_core.proofs.AllLemmas.{all-take}
@@ -156,7 +156,7 @@ returns-clause-tied c =
     let e = sealed_entry m c.args.advance lane in
     let above : last_version k.book.items < e.version = omega arith in
     let ok = lane-at k.book.items k.resolvers.items k.sequencer.committed k.lanes.items k.outcomes c.args.proxy lane before.lanes (there c) in
-    let reads : ReadsBelow e = sealed-below k.sequencer.committed e.version (take PLACE_LIMIT lane.waiting) (omega (arith, above, before.sequencer.committed)) (all-take (WaitsOk k.sequencer.committed) PLACE_LIMIT lane.waiting ok.waiting) in
+    let reads = sealed-below k.sequencer.committed e.version (take PLACE_LIMIT lane.waiting) (omega (arith, above, before.sequencer.committed)) (all-take (WaitsOk k.sequencer.committed) PLACE_LIMIT lane.waiting ok.waiting) in
     let one : length k.resolvers.items ≡ 1 = ap (λ (rs : List ℕ). length rs) before.resolver.one in
     let fits : length k.book.items < k.config.book = room c in
     let aligned = length-map (take PLACE_LIMIT lane.waiting) (λ (submission : Submission). submission.transcript)
@@ -172,8 +172,8 @@ returns-clause-tied c =
             committed = rw (last-push k.book.items e) (omega (arith, above, before.sequencer.committed));
           });
       book = rw (book_then c, c.in_ok-push-2.ensures.items, c.in_ok-push-3.ensures.items, c.in_ok-push-4.ensures.items)
-          (book-push k.book.items e k.filed.items k.decided.items k.messages.items c.args.proxy before.book refl above reads);
-      resolver = rw (book_then c) (resolver-push k.book.items e k.resolvers.items k.marks.items k.verdicts.items before.resolver);
+          (book-push k.book.items e k.filed.items k.decided.items k.messages.items c.args.proxy before.book refl (above, refl, tt, reads, tt));
+      resolver = rw (book_then c) (resolver-push k.book.items e k.resolvers.items k.resolver k.verdicts.items before.resolver);
       log = rw (book_then c) (log-push k.book.items e k.logs.items k.shards.items k.log.items k.shard.items before.log);
       lanes = rw (c.issue.ensures, book_then c)
           (subst (λ (lanes : List Lane). LanesOk (k.book.items ++ e ∷ []) k.resolvers.items k.sequencer.committed lanes k.outcomes) (sym (lanes_then c))

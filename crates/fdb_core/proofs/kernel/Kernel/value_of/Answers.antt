@@ -11,7 +11,7 @@ use Rattle.fdb_core.specs.Kernel.{machine_of}
 use Rattle.fdb_core.specs.Machine.{last_version}
 use Rattle.fdb_core.specs.Programs.{program, decided}
 use Rattle.fdb_core.specs.Roles.{value_in, value_after_op}
-use Rattle.fdb_core.proofs.RunLaws.{value-of-run}
+use Rattle.fdb_core.proofs.RunLaws.{entries-rising, value-of-run}
 use Rattle.fdb_core.proofs.Turns.{answers-decided, answers-undecided}
 use Rattle.fdb_core.proofs.kernel.Kernel.value_of.Goals as goal
 
@@ -39,6 +39,6 @@ returns c =
     let served : shard_fault k.book.items transcript.read_version (slice_get k.shards.items (first_owner k.config.shard_splits c.args.key.now)) ≡ None =
     rw (log.one_shard, c.requires.plain.shard_splits, le-ltb transcript.read_version 0 (omega arith), le-ltb (last_version (take log.pulled k.book.items)) transcript.read_version reached) refl in
     let there : value_in transcript.read_version c.args.key.now k.shard.items ≡ get (map_at k.config.resolver_splits transcript.read_version (seen_of k.book.items).places) c.args.key.now =
-    rw (log.applied, c.requires.plain.resolver_splits) (value-of-run [] k.book.items c.requires.book.rising log.pulled transcript.read_version reached c.args.key.now) in
+    rw (log.applied, c.requires.plain.resolver_splits) (value-of-run [] k.book.items (entries-rising 1 k.book.items c.requires.book.entries) log.pulled transcript.read_version reached c.args.key.now) in
     let value : c.in_ok-value-2.value ≡ fold (value_after_op c.args.key.now) (value_in transcript.read_version c.args.key.now k.shard.items) transcript.ops = search rules in
     answers-undecided (machine_of k) (map_at k.config.resolver_splits transcript.read_version (seen_of k.book.items).places) transcript.ops transcript.read_version c.args.key.now _ _ other served there value
