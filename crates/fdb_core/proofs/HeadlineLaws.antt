@@ -13,6 +13,7 @@ use Rattle.fdb_core.specs.Steps.{next, after}
 use Rattle.fdb_core.specs.Serving.{System, AllServe, RolesKeep}
 use Rattle.fdb_core.specs.Traces.{machine_of_trace, StandsFor}
 use Rattle.fdb_core.specs.Worlds.{start, idle_lane, IsStep}
+use Rattle.fdb_core.proofs.OnceLaws.{stand_once}
 use Rattle.fdb_core.proofs.RealTimeLaws.{real_time}
 use Rattle.fdb_core.proofs.RunsLemmas.{run-push}
 use Rattle.fdb_core.proofs.TraceLaws.{kept-moved_by, shows}
@@ -67,6 +68,7 @@ pub strictly_serializable : (config : Config) (steps : List Step) (given : List 
 strictly_serializable config steps given system stands keep = record {
   stands_for = stands;
   shown = shows config steps given system.machine stands;
+  once = stand_once config steps given;
   serial = acknowledged_stand config steps given;
   real_time = real_time config steps given;
   served = served system.machine keep;

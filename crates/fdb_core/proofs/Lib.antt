@@ -11,6 +11,8 @@ pub mod HeadlineLaws
 pub mod HoldingLemmas
 pub mod LaneTies
 pub mod OneOwner
+pub mod OnceLaws
+pub mod OnceLemmas
 pub mod OneResolver
 pub mod ProgramLaws
 pub mod ProgramsAgree

@@ -137,7 +137,7 @@ begin-again begun session i at =
     rw at (ap (λ (last : Option ℕ). slice_set begun i (record { session = session; last = next_number last })) (begun-found session begun i (slice_get begun i) at refl))
 
 -- one more transaction: its session's last number is the next one
-last-next : (begun : List Begun) (session : ℕ) → last_begun session (begin_next begun session) ≡ Some (next_number (last_begun session begun))
+pub last-next : (begun : List Begun) (session : ℕ) → last_begun session (begin_next begun session) ≡ Some (next_number (last_begun session begun))
 last-next begun session = last-found session (begin_next begun session) ∙ ap last_of (by_place (position (notes session) begun) refl)
   where
     note : Begun
@@ -153,7 +153,7 @@ last-next begun session = last-found session (begin_next begun session) ∙ ap l
         ∙ find-set (notes session) begun i note parts.0 parts.1 (itself session)
 
 -- and those of other sessions stay
-last-others : (begun : List Begun) (session other : ℕ) → other ≢ session → last_begun other (begin_next begun session) ≡ last_begun other begun
+pub last-others : (begun : List Begun) (session other : ℕ) → other ≢ session → last_begun other (begin_next begun session) ≡ last_begun other begun
 last-others begun session other differs =
     last-found other (begin_next begun session) ∙ ap last_of (by_place (position (notes session) begun) refl) ∙ sym (last-found other begun)
   where
@@ -182,7 +182,7 @@ Begins begun id = (id.number ≤ greatest_number) × ((last : ℕ) × (last_begu
 next-above : (number last greatest : ℕ) → number ≤ greatest → number ≤ last → number ≤ min (last + 1) greatest
 next-above number last greatest within below = omega arith
 
-next-within : (last : Option ℕ) → next_number last ≤ greatest_number
+pub next-within : (last : Option ℕ) → next_number last ≤ greatest_number
 next-within None = omega arith
 next-within (Some last) = omega arith
 

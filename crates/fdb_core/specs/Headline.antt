@@ -19,6 +19,7 @@ use Rattle.fdb_core.specs.declared.step.Step.{Step}
 use Rattle.fdb_core.specs.Machine.{Machine, last_version}
 use Rattle.fdb_core.specs.ProgramLaws.{AgreeWhereOrdinary}
 use Rattle.fdb_core.specs.Programs.{program, exec, mutations_of, sealed_of}
+use Rattle.fdb_core.specs.Once.{StandOnce}
 use Rattle.fdb_core.specs.RealTime.{KeepsRealTime}
 use Rattle.fdb_core.specs.Serving.{System, AllServe}
 use Rattle.fdb_core.specs.Traces.{machine_of_trace, StandsFor}
@@ -67,12 +68,13 @@ abbrev pub AcknowledgedStand : Type 0
 AcknowledgedStand =
     (config : Config) (steps : List Step) (answers : List (Result Answered Refusal)) → AllStand (machine_of_trace config steps answers)
 
--- What holds of a trace and of the world that stands for it: the world shows the trace's machine; each transaction that
--- the trace acknowledged stands at its spot, and behind those that were acknowledged before it began; and every shard
+-- What holds of a trace and of the world that stands for it: the world shows the trace's machine; no transaction stands in
+-- the book twice; each that the trace acknowledged stands at its spot, and behind those that were acknowledged before it began; and every shard
 -- answers, at each version that it serves, from the run of the committed transactions one at a time.
 pub record IsStrictlySerializable (config : Config) (steps : List Step) (answers : List (Result Answered Refusal)) (system : System) : Type 0 where
   pub stands_for : StandsFor config steps answers system.machine
   pub shown : IfSome system.machine (λ (m : Machine). m ≡ machine_of_trace config steps answers)
+  pub once : StandOnce (machine_of_trace config steps answers).book
   pub serial : AllStand (machine_of_trace config steps answers)
   pub real_time : KeepsRealTime config steps answers
   pub served : IfSome system.machine (λ (m : Machine). AllServe m system.shards)

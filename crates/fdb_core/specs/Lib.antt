@@ -7,6 +7,7 @@ pub mod Headline
 pub mod Holding
 pub mod Kernel
 pub mod Machine
+pub mod Once
 pub mod ProgramLaws
 pub mod Programs
 pub mod Promises

@@ -5,6 +5,7 @@ ghost use Rattle.fdb_core.specs.ProgramLaws.{ProgramsAgree};
 ghost use Rattle.fdb_core.specs.Examples.{OnlyTheFirstStands, ReadOnlyAtItsVersion, BehindAVersion, AnEmptyShardDoesNotServe, Traced};
 ghost use Rattle.fdb_core.specs.Headline.{AcknowledgedStand};
 ghost use Rattle.fdb_core.specs.Traces.{TracesTell};
+ghost use Rattle.fdb_core.specs.Once.{TransactionsStandOnce};
 
 /// A refused step changes nothing.
 pub fn refusals_change_nothing()
@@ -64,4 +65,10 @@ pub fn worked_examples()
     ensures behind { BehindAVersion }
     ensures shard { AnEmptyShardDoesNotServe }
     ensures traces { Traced }
+{}
+
+/// Over every trace, each transaction stands in the book at most once: no two places of it, of one entry or of
+/// two, are of transactions with the same name.
+pub fn transactions_stand_at_most_once_in_the_book()
+    ensures { TransactionsStandOnce }
 {}
