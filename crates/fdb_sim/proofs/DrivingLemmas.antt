@@ -1,5 +1,5 @@
 -- Steps that are tried one after another, in parts.
-use Rattle.std.proofs.Common.{◌≡◌, refl, ◌+◌, ◌-◌, ◌<◌, sym, subst, ℕ, zero, suc, List, [], ◌∷◌, ◌++◌, Option, Result, Ok, Err, inl, inr, arith}
+use Rattle.std.proofs.Common.{◌≡◌, refl, ◌+◌, ◌-◌, ◌<◌, subst, ℕ, zero, suc, List, [], ◌∷◌, ◌++◌, Option, Result, Ok, Err, inl, inr, arith}
 use Rattle.fdb_keys.specs.declared.refusal.Refusal.{Refusal}
 use Rattle.fdb_core.specs.declared.flights.InFlight.{InFlight}
 use Rattle.fdb_core.specs.declared.step.Answered.{Answered}

@@ -1,5 +1,6 @@
 mod answers;
 mod failing;
+mod large;
 mod lines;
 mod rows;
 mod scripts;

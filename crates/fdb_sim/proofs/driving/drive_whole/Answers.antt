@@ -1,4 +1,4 @@
-use Rattle.std.proofs.Common.{refl, inl}
+use Rattle.std.proofs.Common.{inl}
 use Rattle.std.proofs.lemmas.Result.{err_from_is_err_and}
 use Rattle.fdb_sim.proofs.DrivingLemmas.{one_accepted, refused_first, refused_second, refused_third, refused_fourth, answered_last}
 use Rattle.fdb_sim.proofs.driving.drive_whole.Goals as goal

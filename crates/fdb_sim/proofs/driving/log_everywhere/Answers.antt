@@ -1,4 +1,4 @@
-use Rattle.std.proofs.Common.{◌<◌, ◌+◌, suc, add-one, rules}
+use Rattle.std.proofs.Common.{◌<◌, add-one, rules}
 use Rattle.std.proofs.lemmas.Result.{err_from_is_err_and}
 use Rattle.fdb_sim.specs.Driving.{log_steps}
 use Rattle.fdb_sim.proofs.DrivingLemmas.{accepted_both, refused_at}

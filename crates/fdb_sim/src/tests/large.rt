@@ -1,0 +1,72 @@
+// Scripts with more requests than a batch has places.
+use crate::script::run_script;
+use std::alloc::{AllocError, Global};
+use std::test::Fail;
+
+/// One more than the places of a batch.
+const CLIENTS: u32 = 4_097;
+
+/// The places of a batch.
+const PLACES: u32 = 4_096;
+
+// For each number below the count the two texts with it between.
+fn push_each(text: &mut String, count: u32, front: &str, back: &str) -> Result<(), AllocError> {
+    for number in 0..count {
+        write!(text, "{front}{number}{back}")?;
+    }
+    Ok(())
+}
+
+// What is told to the clients of a full batch.
+fn push_answers(text: &mut String) -> Result<(), AllocError> {
+    for place in 0..PLACES {
+        write!(text, " {place}=100/{place}")?;
+    }
+    Ok(())
+}
+
+fn push_oks(text: &mut String, count: u32) -> Result<(), AllocError> {
+    for _ in 0..count {
+        text.push_str("ok\n")?;
+    }
+    Ok(())
+}
+
+// Each client writes the one key, and two batches are sealed and driven.
+fn push_script(text: &mut String) -> Result<(), AllocError> {
+    text.push_str("config proxies 1 logs 1 resolvers - shards - book 100\n")?;
+    push_each(text, CLIENTS, "ask ", " 0\n")?;
+    text.push_str("grant 0\n")?;
+    push_each(text, CLIENTS, "write ", " set k x\n")?;
+    push_each(text, CLIENTS, "submit ", " 0\n")?;
+    text.push_str("seal 0 100\ndrive 0\nseal 0 100\ndrive 0\n")
+}
+
+fn push_output(text: &mut String) -> Result<(), AllocError> {
+    push_oks(text, 1 + CLIENTS)?;
+    text.push_str("grant")?;
+    push_each(text, CLIENTS, " ", "=0")?;
+    text.push_str("\n")?;
+    push_oks(text, 2 * CLIENTS)?;
+    text.push_str("entry 0 version 100 prev 0 places 4096\nanswer")?;
+    push_answers(text)?;
+    text.push_str("\nentry 1 version 200 prev 100 places 1\nanswer 4096=200/0\nchecked 4097\n")
+}
+
+fn output_of(alloc: Global) -> Result<Vec<u8>, Fail> {
+    let mut script = String::new(alloc);
+    push_script(&mut script)?;
+    let mut reader = script.as_bytes();
+    let mut out: Vec<u8> = Vec::new(alloc);
+    run_script(alloc, &mut reader, &mut out)?;
+    Ok(out)
+}
+
+#[test]
+fn more_requests_than_a_batch_has_places(rt: HostRuntime) -> Result<(), Fail> {
+    let mut expected = String::new(rt.alloc());
+    push_output(&mut expected)?;
+    let out = output_of(rt.alloc())?;
+    assert!(rt; out.as_slice() == expected.as_bytes());
+    Ok(())
+}
