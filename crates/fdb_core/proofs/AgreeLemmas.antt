@@ -1,5 +1,5 @@
 -- Who stands between two entries or in one agrees with the book just where he was answered as on the maps of the run there.
-use Rattle.std.proofs.Common.{◌≡◌, ◌∙◌, sym, ap, ap₂, subst, refl, ℕ, zero, suc, ◌+◌, ◌<◌, ◌≤◌, le_refl, add-one, arith, true, false, ◌&&◌, nat_lt, nat_le, List, [], ◌∷◌, take, length, Option, Some, None, Result, Ok, Err, MatchResult, inl, inr, ⊎_elim}
+use Rattle.std.proofs.Common.{◌≡◌, ◌∙◌, sym, ap, ap₂, subst, refl, ℕ, zero, suc, ◌+◌, ◌<◌, ◌≤◌, le_refl, add-one, arith, true, false, ◌&&◌, nat_lt, nat_le, List, [], ◌∷◌, ◌++◌, take, length, Option, Some, None, Result, Ok, Err, MatchResult, inl, inr, ⊎_elim}
 use Rattle.std.specs.List.{AllByRecursion, slice_get}
 use Rattle.std.specs.Prelude.{OnOk}
 use Rattle.std.specs.FinMap.{empty}
@@ -19,23 +19,21 @@ use Rattle.fdb_txn.proofs.MessagesLemmas.{run-add_places}
 use Rattle.fdb_core.specs.declared.checking.Replay.{Replay}
 use Rattle.fdb_core.specs.declared.comparing.Moment.TheVariants.{Before, Between}
 use Rattle.fdb_core.specs.declared.parts.Placed.{Placed}
-use Rattle.fdb_core.specs.declared.pool.Mark.{Mark}
 use Rattle.fdb_core.specs.declared.program.Transcript.{Transcript}
 use Rattle.fdb_core.specs.declared.step.Outcome.{Outcome}
 use Rattle.fdb_core.specs.declared.world.CheckFault.{CheckFault}
 use Rattle.fdb_core.specs.Checking.{AnsweredIn, map_behind, IsPlainBook, AgreesAt, Agrees, is_before, HasCome}
 use Rattle.fdb_core.specs.Comparing.{is_below, is_at, AnsweredAt, Differs, StopsBy}
 use Rattle.fdb_core.specs.Headline.{AnsweredOn}
-use Rattle.fdb_core.specs.Kernel.{ReadsBelow}
 use Rattle.fdb_core.specs.Machine.{last_version, seen_before}
-use Rattle.fdb_core.specs.Roles.{marks_of, judged, outcomes_by, body_by}
+use Rattle.fdb_core.specs.Resolving.{ResolverAt}
+use Rattle.fdb_core.specs.Roles.{body_by}
 use Rattle.fdb_core.specs.Verdicts.{moves_through, outcomes_on}
-use Rattle.fdb_core.proofs.AllLemmas.{all-at, all-both}
-use Rattle.fdb_core.proofs.BatchLaws.{judged-verdicts, judged-marks, outcomes-decided, body-committed, length-outcomes_on}
-use Rattle.fdb_core.proofs.OneResolver.{IsStill, no_moves-before, no_moves-at}
+use Rattle.fdb_core.proofs.AllLemmas.{all-both}
+use Rattle.fdb_core.proofs.BatchLaws.{body-committed, length-outcomes_on}
 use Rattle.fdb_core.proofs.ReplayLemmas.{place-map, place-there, place-within}
 use Rattle.fdb_core.proofs.RoleTies.{take-next, seen_before-next, last-push}
-use Rattle.fdb_core.proofs.RunLaws.{map-between}
+use Rattle.fdb_core.proofs.RunLaws.{entries-rising, map-between}
 
 -- a fault that names one of whom the claim isn't true also does so for whatever would make it true
 pub stops-weaken : (Claim Other : Placed → Type 0) → ((placed : Placed) → Other placed → Claim placed) → (acknowledged : List Placed) (fault : CheckFault)
@@ -57,8 +55,8 @@ nothing-behind (x ∷ xs) zero behind = absurd (omega (arith, behind))
 nothing-behind (x ∷ xs) (suc i) behind = nothing-behind xs i (omega (arith, behind))
 
 -- the entry with a number, or the end of the book
-abbrev pub IsNext : List Entry → ℕ → Option ℕ → Type 0
-IsNext book n until = (entry : Entry) → slice_get book n ≡ Some entry → until ≡ Some entry.version
+abbrev pub IsUntil : List Entry → ℕ → Option ℕ → Type 0
+IsUntil book n until = (entry : Entry) → slice_get book n ≡ Some entry → until ≡ Some entry.version
 
 -- below the version of the next entry
 below-next : (v : ℕ) (until : Option ℕ) (end : ℕ) → until ≡ Some end → is_below v until ≡ true → v < end
@@ -71,19 +69,19 @@ module _ (book : List Entry) (plain : IsPlainBook book) (n : ℕ) where
   behind = run [] (seen_before book n).places
 
   -- it is the map at each version from that of the last one of them up to the next one's
-  map-here : (until : Option ℕ) (v : ℕ) → IsNext book n until → nat_le (last_version (take n book)) v && is_below v until ≡ true
+  map-here : (until : Option ℕ) (v : ℕ) → IsUntil book n until → nat_le (last_version (take n book)) v && is_below v until ≡ true
       → map_at [] v (seen_of book).places ≡ behind
   map-here until v next between =
       let parts = and_parts _ _ between in
-      map-between [] book plain.rising n v (leb-true _ v parts.0) (λ entry there. below-next v until entry.version (next entry there) parts.1)
+      map-between [] book (entries-rising 1 book plain.entries) n v (leb-true _ v parts.0) (λ entry there. below-next v until entry.version (next entry there) parts.1)
 
-  pub agrees-between : (until : Option ℕ) → IsNext book n until → (transcript : Transcript) (at : Spot) → AgreesAt book transcript at
+  pub agrees-between : (until : Option ℕ) → IsUntil book n until → (transcript : Transcript) (at : Spot) → AgreesAt book transcript at
       → is_at (Between (last_version (take n book)) until) at ≡ true → AnsweredOn behind transcript
   agrees-between until next transcript (spot.Entry i p version) agrees never = absurd (both_ways _ refl never)
   agrees-between until next transcript (spot.ReadOnly version) agrees between =
       subst (λ (map : Map). AnsweredOn map transcript) (map-here until version next between) agrees
 
-  pub between-agrees : (until : Option ℕ) → IsNext book n until → (transcript : Transcript) (version : ℕ)
+  pub between-agrees : (until : Option ℕ) → IsUntil book n until → (transcript : Transcript) (version : ℕ)
       → (is_at (Between (last_version (take n book)) until) (spot.ReadOnly version) ≡ true → AnsweredOn behind transcript)
       → nat_le (last_version (take n book)) version && is_below version until ≡ true → AgreesAt book transcript (spot.ReadOnly version)
   between-agrees until next transcript version answered between =
@@ -97,36 +95,12 @@ module _ (book : List Entry) (plain : IsPlainBook book) (n : ℕ) where
     abbrev before : Seen
     before = seen_before book n
 
-    still : IsStill before
-    still = no_moves-before book plain.no_moves n
-
-    moveless : entry.moves ≡ []
-    moveless = no_moves-at book plain.no_moves n entry there
-
-    reads : ReadsBelow entry
-    reads = all-at ReadsBelow book n entry plain.reads_below there
-
     next-seen : seen_before book (n + 1) ≡ add_entry before entry
     next-seen = ap (seen_before book) (add-one n) ∙ seen_before-next book n entry there
 
     -- what becomes of the entry's places
     abbrev decided : List Outcome
     decided = outcomes_on [] before entry
-
-    -- the resolver's rule gives that, and the marks behind the entry
-    pub outcomes-are : (marks : List Mark) → marks ≡ marks_of before.places
-        → outcomes_by entry.version (judged marks entry.version entry.batch).verdicts (length entry.batch) ≡ decided
-    outcomes-are marks are =
-        ap (λ (ms : List Mark). outcomes_by entry.version (judged ms entry.version entry.batch).verdicts (length entry.batch)) are
-        ∙ ap (λ said. outcomes_by entry.version said (length entry.batch)) (judged-verdicts before entry still moveless reads)
-        ∙ outcomes-decided before entry still moveless reads
-
-    pub marks-are : (marks : List Mark) → marks ≡ marks_of before.places
-        → (judged marks entry.version entry.batch).marks ≡ marks_of (seen_before book (n + 1)).places
-    marks-are marks are =
-        ap (λ (ms : List Mark). (judged ms entry.version entry.batch).marks) are
-        ∙ judged-marks before entry still moveless reads
-        ∙ ap (λ (seen : Seen). marks_of seen.places) (sym next-seen)
 
     -- the map behind all its places is the run's behind the entry
     pub map-after : map_behind behind entry.batch decided (length entry.batch) ≡ run [] (seen_before book (n + 1)).places
@@ -178,14 +152,13 @@ module _ (book : List Entry) (plain : IsPlainBook book) (n : ℕ) where
     -- a check that has come to the entry and finds no fault between it and the one before, and none in it, comes to the next one
     pub comes-next : (acknowledged : List Placed) (old new : Replay) (from : ℕ) (outcomes : List Outcome) → HasCome book acknowledged n old
         → from ≡ last_version (take n book)
-        → outcomes ≡ outcomes_by entry.version (judged old.marks.items entry.version entry.batch).verdicts (length entry.batch)
-        → new.marks.items ≡ (judged old.marks.items entry.version entry.batch).marks
+        → outcomes ≡ decided → ResolverAt (take n book ++ entry ∷ []) new.resolver
         → new.map ≡ map_behind old.map entry.batch outcomes (length entry.batch)
         → AllByRecursion (AnsweredAt (Between from (Some entry.version)) old.map) acknowledged
         → AllByRecursion (AnsweredIn old.map entry.batch outcomes n (length entry.batch)) acknowledged
         → HasCome book acknowledged (n + 1) new
-    comes-next acknowledged old new from outcomes come is_last are marks map between inside = record {
-      marks = marks ∙ marks-are old.marks.items come.marks;
+    comes-next acknowledged old new from outcomes come is_last are_decided resolver map between inside = record {
+      resolver = subst (λ (front : List Entry). ResolverAt front new.resolver) (sym (ap (λ (k : ℕ). take k book) (add-one n) ∙ take-next book n entry there)) resolver;
       map = map ∙ ap₂ (λ (m : Map) (os : List Outcome). map_behind m entry.batch os (length entry.batch)) come.map are_decided ∙ map-after;
       compared = all-both (λ placed. AgreesBefore n placed × AnsweredAt (Between from (Some entry.version)) old.map placed)
           (AnsweredIn old.map entry.batch outcomes n (length entry.batch)) (AgreesBefore (n + 1))
@@ -197,9 +170,6 @@ module _ (book : List Entry) (plain : IsPlainBook book) (n : ℕ) where
           inside;
     }
       where
-        are_decided : outcomes ≡ decided
-        are_decided = are ∙ outcomes-are old.marks.items come.marks
-
         between_now : (placed : Placed) → AnsweredAt (Between from (Some entry.version)) old.map placed
             → AnsweredAt (Between (last_version (take n book)) (Some entry.version)) behind placed
         between_now placed here = subst (λ (v : ℕ). AnsweredAt (Between v (Some entry.version)) behind placed) is_last
@@ -211,18 +181,18 @@ module _ (book : List Entry) (plain : IsPlainBook book) (n : ℕ) where
 
     -- whom it finds in the entry answered otherwise doesn't agree
     pub stops-in : (acknowledged : List Placed) (old : Replay) (outcomes : List Outcome) (fault : CheckFault) → HasCome book acknowledged n old
-        → outcomes ≡ outcomes_by entry.version (judged old.marks.items entry.version entry.batch).verdicts (length entry.batch)
+        → outcomes ≡ decided
         → StopsBy (AnsweredIn old.map entry.batch outcomes n (length entry.batch)) acknowledged fault → StopsBy (Agrees book) acknowledged fault
     stops-in acknowledged old outcomes fault come are =
         stops-weaken (AnsweredIn old.map entry.batch outcomes n (length entry.batch)) (Agrees book)
         (λ placed agrees. subst (λ (m : Map). AnsweredIn m entry.batch outcomes n (length entry.batch) placed) (sym come.map)
-        (subst (λ (os : List Outcome). AnsweredIn behind entry.batch os n (length entry.batch) placed) (sym (are ∙ outcomes-are old.marks.items come.marks))
+        (subst (λ (os : List Outcome). AnsweredIn behind entry.batch os n (length entry.batch) placed) (sym are)
         (agrees-in placed.transcript placed.spot agrees)))
         acknowledged fault
 
   -- whom it finds between the entries answered otherwise doesn't agree
   pub stops-between : (acknowledged : List Placed) (old : Replay) (from : ℕ) (until : Option ℕ) (fault : CheckFault) → HasCome book acknowledged n old
-      → from ≡ last_version (take n book) → IsNext book n until
+      → from ≡ last_version (take n book) → IsUntil book n until
       → Differs (AnsweredAt (Between from until) old.map) acknowledged fault → StopsBy (Agrees book) acknowledged fault
   stops-between acknowledged old from until fault come is_last next differs =
       stops-weaken (AnsweredAt (Between from until) old.map) (Agrees book)
@@ -270,5 +240,5 @@ comes-first book (placed ∷ acknowledged) = (at_none placed.transcript placed.s
     at_none transcript (spot.Entry i p version) before = let never = ltb-true i 0 before in absurd (omega (arith, never))
     at_none transcript (spot.ReadOnly version) before = let never = ltb-true version 0 before in absurd (omega (arith, never))
 
-pub begins : (book : List Entry) (acknowledged : List Placed) (replay : Replay) → replay.marks.items ≡ [] → replay.map ≡ empty → HasCome book acknowledged 0 replay
-begins book acknowledged replay none nothing = record { marks = none; map = nothing; compared = comes-first book acknowledged }
+pub begins : (book : List Entry) (acknowledged : List Placed) (replay : Replay) → ResolverAt [] replay.resolver → replay.map ≡ empty → HasCome book acknowledged 0 replay
+begins book acknowledged replay none nothing = record { resolver = none; map = nothing; compared = comes-first book acknowledged }

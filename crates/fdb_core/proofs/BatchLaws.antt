@@ -1,65 +1,32 @@
--- A batch as the one resolver judges it, and what becomes of its places, beside what the book says of them.
-use Rattle.std.proofs.Common.{◌≡◌, ◌∙◌, sym, ap, refl, ℕ, suc, ◌+◌, ◌<◌, ◌≤◌, Bool, true, false, ◌&&◌, ◌||◌, List, [], ◌∷◌, if◌then◌else◌, ◌++◌, fold, length, append_assoc, append-nil, add-zero, zero-add, add-one, ne_of_lt, le_of_lt, le_refl, subst, ap₂, ⊎_elim, arith}
+-- What becomes of the places of a batch, by the verdicts of the one resolver and by the book.
+use Rattle.std.proofs.Common.{◌≡◌, ◌∙◌, sym, ap, refl, ℕ, suc, ◌+◌, ◌<◌, ◌≤◌, Bool, true, false, ◌&&◌, ◌||◌, List, [], ◌∷◌, if◌then◌else◌, ◌++◌, length, append_assoc, append-nil, add-zero, zero-add, ne_of_lt, le_of_lt, le_refl, subst, ap₂, ⊎_elim, arith}
 use Rattle.std.specs.List.{AllByRecursion, list_any}
 use Rattle.std.proofs.lemmas.Bool.{cases_Bool, or_parts, cond-true, cond-false, eq-eqb, ne_eqb}
 use Rattle.fdb_keys.specs.Points.{Point}
 use Rattle.fdb_mutations.specs.declared.mutation.Mutation.{Mutation}
 use Rattle.fdb_txn.specs.declared.entry.Entry.{Entry}
 use Rattle.fdb_txn.specs.Transactions.{Transaction}
-use Rattle.fdb_txn.specs.Book.{Stamped, Place, Seen, placed, add_places, add_entry}
+use Rattle.fdb_txn.specs.Book.{Stamped, Place, Seen, placed}
 use Rattle.fdb_txn.specs.Owners.{is_asked}
-use Rattle.fdb_txn.specs.Admission.{has_points, is_fresh, no_conflict, admits, all_below, committed}
-use Rattle.fdb_core.specs.declared.pool.Mark.{Mark}
+use Rattle.fdb_txn.specs.Admission.{is_fresh, no_conflict, admits, all_below, committed}
 use Rattle.fdb_resolver.specs.declared.verdict.Verdict.{Verdict}
 use Rattle.fdb_resolver.specs.declared.verdict.Verdict.TheVariants as verdict
 use Rattle.fdb_core.specs.declared.step.Outcome.TheVariants as outcome
 use Rattle.fdb_core.specs.Verdicts.{verdict_at, outcome_at, verdicts_from, asks_about, outcomes_from, moves_through, verdicts_on, is_needed, outcomes_on}
 use Rattle.fdb_core.specs.Kernel.{ReadsBelow}
-use Rattle.fdb_core.specs.Roles.{judgement, marked_after, marks_of, Judged, judge_next, judged, outcome_by, verdict_for, outcomes_by, is_commit, body_by}
+use Rattle.fdb_core.specs.Roles.{outcome_by, verdict_for, outcomes_by, is_commit, body_by}
 use Rattle.fdb_txn.specs.Messages.{committed_from}
-use Rattle.fdb_core.proofs.OneOwner.{asked-points}
-use Rattle.fdb_core.proofs.OneResolver.{NoMoves, IsStill, verdict-judgement, marks_of-next, unasked-commits, outcome-by, committed-admits, no_moves-through}
+use Rattle.fdb_core.specs.Resolving.{is_judged}
+use Rattle.fdb_core.proofs.NoMoves.{no_moves-through}
+use Rattle.fdb_core.proofs.OneResolver.{asked-points, unasked-admits, outcome-by}
 
 -- each transaction has a read version below the version
 abbrev AllBelow : ℕ → List Transaction → Type 0
 AllBelow version batch = AllByRecursion (λ (t : Transaction). t.read < version) batch
 
--- what the one resolver made of the earlier places, with these verdicts so far
-abbrev so_far : List Place → List (ℕ × Verdict) → ℕ → Judged
-so_far earlier verdicts p = record { marks = marks_of earlier; verdicts = verdicts; places = p }
-
 -- the verdict on a place, as the only one, or none where the resolver isn't asked
 abbrev verdict_if_asked : List Place → Place → ℕ → List (ℕ × Verdict)
 verdict_if_asked earlier place p = if is_asked [] 0 place then (p, verdict_at [] 0 earlier place) ∷ [] else []
-
--- one place more adds its mark and its verdict
-step-judged : (version : ℕ) (earlier : List Place) (verdicts : List (ℕ × Verdict)) (p : ℕ) (t : Transaction) → NoMoves earlier → t.read < version
-    → judge_next version (so_far earlier verdicts p) t
-    ≡ so_far (placed version [] t ∷ earlier) (verdicts ++ verdict_if_asked earlier (placed version [] t) p) (suc p)
-step-judged version earlier verdicts p t still before =
-    ap (λ (said : List (ℕ × Verdict)). record { marks = marks; verdicts = said; places = p + 1 })
-    (by_cases (has_points t.writes || has_points t.reads) (p, judged_now))
-    ∙ ap₂ (λ (asked : Bool) (kept : List Mark). made asked kept judged_now (p + 1))
-    (sym (asked-points place refl before)) (sym (marks_of-next earlier still version t))
-    ∙ ap₂ (λ (said : Verdict) (n : ℕ). made (is_asked [] 0 place) (marks_of (place ∷ earlier)) said n)
-    (sym (verdict-judgement earlier still version t)) (add-one p)
-  where
-    place : Place
-    place = placed version [] t
-
-    marks : List Mark
-    marks = marked_after (marks_of earlier) version t
-
-    judged_now : Verdict
-    judged_now = judgement (marks_of earlier) version t
-
-    made : Bool → List Mark → Verdict → ℕ → Judged
-    made asked kept said n = record { marks = kept; verdicts = verdicts ++ (if asked then (p, said) ∷ [] else []); places = n }
-
-    by_cases : (asked : Bool) (said : ℕ × Verdict)
-        → (if asked then verdicts ++ said ∷ [] else verdicts) ≡ verdicts ++ (if asked then said ∷ [] else [])
-    by_cases true said = refl
-    by_cases false said = sym (append-nil verdicts)
 
 -- the verdicts on places are the first one's and then the others'
 first-verdicts : (version : ℕ) (earlier : List Place) (t : Transaction) (ts : List Transaction) (p : ℕ)
@@ -79,37 +46,6 @@ first-verdicts version earlier t ts p =
 -- one place more of a count
 count-next : (p n : ℕ) → suc p + n ≡ p + suc n
 count-next p n = omega arith
-
--- all places add theirs
-steps-judged : (version : ℕ) (batch : List Transaction) (earlier : List Place) (verdicts : List (ℕ × Verdict)) (p : ℕ) → NoMoves earlier → AllBelow version batch
-    → fold (judge_next version) (so_far earlier verdicts p) batch
-    ≡ so_far (add_places version [] batch earlier) (verdicts ++ verdicts_from [] version [] 0 batch earlier p) (p + length batch)
-steps-judged version [] earlier verdicts p still below = ap₂ (λ said n. so_far earlier said n) (sym (append-nil verdicts)) (sym (add-zero p))
-steps-judged version (t ∷ ts) earlier verdicts p still below =
-    ap (λ (made : Judged). fold (judge_next version) made ts) (step-judged version earlier verdicts p t still below.0)
-    ∙ steps-judged version ts (placed version [] t ∷ earlier) (verdicts ++ verdict_if_asked earlier (placed version [] t) p) (suc p) (refl, still) below.1
-    ∙ ap₂ (λ said n. so_far (add_places version [] (t ∷ ts) earlier) said n)
-    (append_assoc verdicts _ _ ∙ ap (λ said. verdicts ++ said) (sym (first-verdicts version earlier t ts p)))
-    (count-next p (length ts))
-
--- what the one resolver makes of an entry's batch
-judged-is : (before : Seen) (entry : Entry) → IsStill before → entry.moves ≡ [] → ReadsBelow entry
-    → judged (marks_of before.places) entry.version entry.batch
-    ≡ so_far (add_entry before entry).places (verdicts_on [] 0 before entry) (length entry.batch)
-judged-is before entry still none below =
-    steps-judged entry.version entry.batch before.places [] 0 still.1 below
-    ∙ ap₂ (λ moves n. so_far (add_places entry.version moves entry.batch before.places) (verdicts_from [] entry.version moves 0 entry.batch before.places 0) n)
-    (sym (no_moves-through before entry still.0 none)) (zero-add (length entry.batch))
-
--- the verdicts that the one resolver gives on an entry
-pub judged-verdicts : (before : Seen) (entry : Entry) → IsStill before → entry.moves ≡ [] → ReadsBelow entry
-    → (judged (marks_of before.places) entry.version entry.batch).verdicts ≡ verdicts_on [] 0 before entry
-judged-verdicts before entry still none below = ap (λ (made : Judged). made.verdicts) (judged-is before entry still none below)
-
--- and the marks that it keeps behind it
-pub judged-marks : (before : Seen) (entry : Entry) → IsStill before → entry.moves ≡ [] → ReadsBelow entry
-    → (judged (marks_of before.places) entry.version entry.batch).marks ≡ marks_of (add_entry before entry).places
-judged-marks before entry still none below = ap (λ (made : Judged). made.marks) (judged-is before entry still none below)
 
 -- a place's verdict isn't that for another number
 not_its-verdict : (earlier : List Place) (place : Place) (p q : ℕ) (others : List (ℕ × Verdict)) → (p ≡ q → ⊥)
@@ -133,32 +69,32 @@ none_before version (t ∷ ts) earlier p q lesser =
     others = verdicts_from [] version [] 0 ts (placed version [] t ∷ earlier) (suc p)
 
 -- nothing stands against a place that the resolver isn't asked about
-unasked-verdict : (earlier : List Place) (place : Place) → NoMoves earlier → place.moves ≡ [] → place.transaction.read < place.version
+unasked-verdict : (earlier : List Place) (place : Place) → place.moves ≡ [] → place.transaction.read < place.version
     → is_asked [] 0 place ≡ false → verdict_at [] 0 earlier place ≡ verdict.Yes
-unasked-verdict earlier place all_still still before unasked =
-    let commits : (is_fresh place ≡ true) × (committed [] earlier place ≡ true) = unasked-commits earlier all_still place still before unasked in
-    cond-true _ _ _ commits.0 ∙ cond-true _ _ _ (sym (committed-admits earlier place) ∙ commits.1)
+unasked-verdict earlier place still before unasked =
+    let admits = unasked-admits place still before earlier unasked in
+    cond-true _ _ _ admits.0 ∙ cond-true _ _ _ admits.1
 
 -- the first place's verdict is found by its number, or there is none and nothing stands against it
-its-verdict : (version : ℕ) (t : Transaction) (ts : List Transaction) (earlier : List Place) (p : ℕ) → NoMoves earlier → t.read < version
+its-verdict : (version : ℕ) (t : Transaction) (ts : List Transaction) (earlier : List Place) (p : ℕ) → t.read < version
     → verdict_for (verdicts_from [] version [] 0 (t ∷ ts) earlier p) p ≡ verdict_at [] 0 earlier (placed version [] t)
-its-verdict version t ts earlier p still before = ⊎_elim
+its-verdict version t ts earlier p before = ⊎_elim
     (λ asked. ap (λ said. verdict_for said p) (cond-true _ _ _ asked) ∙ cond-true _ _ _ (eq-eqb p p refl))
     (λ unasked. ap (λ said. verdict_for said p) (cond-false _ _ _ unasked)
     ∙ none_before version ts (placed version [] t ∷ earlier) (suc p) p (omega arith)
-    ∙ sym (unasked-verdict earlier (placed version [] t) still refl before unasked))
+    ∙ sym (unasked-verdict earlier (placed version [] t) refl before unasked))
     (cases_Bool (is_asked [] 0 (placed version [] t)))
 
 -- outcomes by a list of verdicts that agrees with those on the places from p on
-steps-outcomes : (version : ℕ) (said : List (ℕ × Verdict)) (batch : List Transaction) (earlier : List Place) (p : ℕ) → NoMoves earlier → AllBelow version batch
+steps-outcomes : (version : ℕ) (said : List (ℕ × Verdict)) (batch : List Transaction) (earlier : List Place) (p : ℕ) → AllBelow version batch
     → ((q : ℕ) → p ≤ q → verdict_for said q ≡ verdict_for (verdicts_from [] version [] 0 batch earlier p) q)
     → outcomes_by version said p ++ outcomes_from [] version [] batch earlier p ≡ outcomes_by version said (p + length batch)
-steps-outcomes version said [] earlier p still below agree = append-nil _ ∙ ap (outcomes_by version said) (sym (add-zero p))
-steps-outcomes version said (t ∷ ts) earlier p still below agree =
+steps-outcomes version said [] earlier p below agree = append-nil _ ∙ ap (outcomes_by version said) (sym (add-zero p))
+steps-outcomes version said (t ∷ ts) earlier p below agree =
     ap (λ here. outcomes_by version said p ++ here ∷ outcomes_from [] version [] ts (place ∷ earlier) (suc p))
-    (outcome-by earlier place p ∙ ap (outcome_by version p) (sym (agree p (le_refl p) ∙ its-verdict version t ts earlier p still below.0)))
+    (outcome-by earlier place p ∙ ap (outcome_by version p) (sym (agree p (le_refl p) ∙ its-verdict version t ts earlier p below.0)))
     ∙ sym (append_assoc (outcomes_by version said p) _ _)
-    ∙ steps-outcomes version said ts (place ∷ earlier) (suc p) (refl, still) below.1
+    ∙ steps-outcomes version said ts (place ∷ earlier) (suc p) below.1
     (λ q later. agree q (le_of_lt later)
     ∙ ap (λ others. verdict_for others q) (first-verdicts version earlier t ts p)
     ∙ not_its-verdict earlier place p q (verdicts_from [] version [] 0 ts (place ∷ earlier) (suc p)) (ne_of_lt later))
@@ -168,13 +104,13 @@ steps-outcomes version said (t ∷ ts) earlier p still below agree =
     place = placed version [] t
 
 -- its verdicts alone settle what becomes of the places
-pub outcomes-decided : (before : Seen) (entry : Entry) → IsStill before → entry.moves ≡ [] → ReadsBelow entry
+pub outcomes-decided : (before : Seen) (entry : Entry) → before.moves ≡ [] → entry.moves ≡ [] → ReadsBelow entry
     → outcomes_by entry.version (verdicts_on [] 0 before entry) (length entry.batch) ≡ outcomes_on [] before entry
 outcomes-decided before entry still none below = subst
     (λ (moves : List Stamped). outcomes_by entry.version (verdicts_from [] entry.version moves 0 entry.batch before.places 0) (length entry.batch)
     ≡ outcomes_from [] entry.version moves entry.batch before.places 0)
-    (sym (no_moves-through before entry still.0 none))
-    (sym (steps-outcomes entry.version said entry.batch before.places 0 still.1 below (λ q from_here. refl)
+    (sym (no_moves-through before entry still none))
+    (sym (steps-outcomes entry.version said entry.batch before.places 0 below (λ q from_here. refl)
     ∙ ap (outcomes_by entry.version said) (zero-add (length entry.batch))))
   where
     said : List (ℕ × Verdict)
@@ -207,15 +143,15 @@ body-committed splits before entry = body-from splits entry.version (moves_throu
 
 -- the same as `needed-points`, without moves
 needed-from : (version : ℕ) (batch : List Transaction) → AllBelow version batch
-    → asks_about [] version [] 0 batch ≡ list_any (λ (t : Transaction). has_points t.writes || has_points t.reads) batch
+    → asks_about [] version [] 0 batch ≡ list_any is_judged batch
 needed-from version [] below = refl
 needed-from version (t ∷ ts) below = ap₂ ◌||◌ (asked-points (placed version [] t) refl below.0) (needed-from version ts below.1)
 
 -- the one resolver is needed just where some transaction has a point in a set
-pub needed-points : (before : Seen) (entry : Entry) → IsStill before → entry.moves ≡ [] → ReadsBelow entry
-    → is_needed [] 0 before entry ≡ list_any (λ (t : Transaction). has_points t.writes || has_points t.reads) entry.batch
+pub needed-points : (before : Seen) (entry : Entry) → before.moves ≡ [] → entry.moves ≡ [] → ReadsBelow entry
+    → is_needed [] 0 before entry ≡ list_any is_judged entry.batch
 needed-points before entry still none below =
-    ap (λ (moves : List Stamped). asks_about [] entry.version moves 0 entry.batch) (no_moves-through before entry still.0 none) ∙ needed-from entry.version entry.batch below
+    ap (λ (moves : List Stamped). asks_about [] entry.version moves 0 entry.batch) (no_moves-through before entry still none) ∙ needed-from entry.version entry.batch below
 
 -- the same as `not_needed-verdicts`, from place p on
 unneeded-from : (splits : List Point) (version : ℕ) (moves : List Stamped) (i : ℕ) (batch : List Transaction) (earlier : List Place) (p : ℕ)

@@ -1,5 +1,5 @@
 -- What the machine does where a commit proxy decides its batch, and what stays tied then.
-use Rattle.std.proofs.Common.{◌≡◌, ◌∙◌, sym, ap, ap₂, refl, ◌<◌, ◌≤◌, ⊎_elim, ℕ, zero, suc, Bool, true, false, ◌&&◌, ◌||◌, not, List, [], ◌∷◌, take, length, get_or, unwrap_or, Option, Some, None, Ok, Err, if◌then◌else◌, arith, length-take-le, length-append}
+use Rattle.std.proofs.Common.{◌≡◌, ◌∙◌, sym, ap, ap₂, refl, ◌<◌, ◌≤◌, ⊎_elim, ℕ, zero, suc, Bool, true, false, ◌&&◌, not, List, [], ◌∷◌, take, length, get_or, unwrap_or, Option, Some, None, Ok, Err, if◌then◌else◌, arith, length-take-le, length-append}
 use Rattle.std.specs.List.{AllZip, list_any, slice_get, slice_set}
 use Rattle.std.specs.Vec.{with_item}
 use Rattle.std.proofs.lemmas.Bool.{cases_eq, true≢false}
@@ -8,9 +8,7 @@ use Rattle.std.proofs.lemmas.List.{length-set}
 use Rattle.fdb_keys.specs.declared.refusal.Refusal.TheVariants.{NotYet}
 use Rattle.fdb_mutations.specs.declared.mutation.Mutation.{Mutation}
 use Rattle.fdb_txn.specs.declared.entry.Entry.{Entry}
-use Rattle.fdb_txn.specs.Transactions.{Transaction}
 use Rattle.fdb_txn.specs.Book.{Seen}
-use Rattle.fdb_txn.specs.Admission.{has_points}
 use Rattle.fdb_core.specs.declared.kernel.Kernel.{Kernel}
 use Rattle.fdb_core.specs.declared.parts.Lane.{Lane}
 use Rattle.fdb_core.specs.declared.parts.Stage.{Stage}
@@ -27,7 +25,8 @@ use Rattle.fdb_core.specs.Verdicts.{verdicts_on, is_needed, outcomes_on}
 use Rattle.fdb_core.proofs.AllLemmas.{all-at}
 use Rattle.fdb_core.proofs.BatchLaws.{needed-points, not_needed-verdicts, outcomes-decided, body-committed}
 use Rattle.fdb_core.proofs.LaneTies.{lane-at, lanes-set}
-use Rattle.fdb_core.proofs.OneResolver.{IsStill, no_moves-before, no_moves-at}
+use Rattle.fdb_core.specs.Resolving.{is_judged}
+use Rattle.fdb_core.proofs.NoMoves.{no_moves-before, no_moves-at}
 use Rattle.fdb_core.proofs.RunLaws.{entries-below, slice_get-along, length-along}
 
 -- a list's item that was set, and any other one
@@ -85,7 +84,7 @@ pub record Deciding (k : Kernel) (proxy : ℕ) (lane : Lane) (entry : Entry) : T
 
 -- some transaction of the batch has a point in a set
 abbrev pub is_any_judged : Entry → Bool
-is_any_judged entry = list_any (λ (t : Transaction). has_points t.writes || has_points t.reads) entry.batch
+is_any_judged entry = list_any is_judged entry.batch
 
 -- who resolves isn't idle
 busy : (stage : Stage) → is_resolving stage ≡ true → is_idle stage ≡ false
@@ -114,7 +113,7 @@ made-set decided made messages i new there within before j message is at = ⊎_e
 
 -- the entry that is decided, without moves and of a version above its read versions
 module _ (k : Kernel) (proxy : ℕ) (lane : Lane) (entry : Entry) (tied : Tied k) (found : Deciding k proxy lane entry) where
-  still : IsStill (seen_before k.book.items lane.entry)
+  still : (seen_before k.book.items lane.entry).moves ≡ []
   still = no_moves-before k.book.items tied.book.no_moves lane.entry
 
   moveless : entry.moves ≡ []

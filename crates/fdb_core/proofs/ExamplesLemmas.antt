@@ -1,5 +1,5 @@
 -- The examples compute.
-use Rattle.std.proofs.Common.{◌≡◌, ◌∙◌, sym, ap, refl, subst, arith, ⊎_elim, inl, inr, ℕ, ◌≤◌, true, false, List, [], ◌∷◌, Option, Some, None}
+use Rattle.std.proofs.Common.{◌≡◌, ◌∙◌, sym, ap, refl, subst, arith, ⊎_elim, inl, ℕ, true, false, List, [], ◌∷◌, Some, None}
 use Rattle.std.specs.Prelude.{codes}
 use Rattle.std.specs.FinMap.{get, empty, get-empty}
 use Rattle.std.specs.Ordering.{nat_cmp}
@@ -13,7 +13,7 @@ use Rattle.fdb_txn.specs.Run.{run}
 use Rattle.fdb_txn.proofs.MessagesLemmas.{get-effects}
 use Rattle.fdb_txn.specs.Admission.{committed}
 use Rattle.fdb_core.specs.declared.program.Reply.TheVariants as reply
-use Rattle.fdb_core.specs.Examples.{two_in_one_entry, reads_and_sets, OnlyTheFirstStands, ReadOnlyAtItsVersion, BehindAVersion, AnEmptyShardDoesNotServe, Traced}
+use Rattle.fdb_core.specs.Examples.{reads_and_sets, OnlyTheFirstStands, ReadOnlyAtItsVersion, BehindAVersion, AnEmptyShardDoesNotServe, Traced}
 use Rattle.fdb_core.specs.ClientSteps.{asks, grants}
 use Rattle.fdb_core.specs.Headline.{AnsweredOn}
 use Rattle.fdb_core.specs.Programs.{sealed_of}

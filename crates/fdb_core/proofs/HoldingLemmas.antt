@@ -25,7 +25,7 @@ use Rattle.fdb_core.specs.Machine.{last_version, seen_before}
 use Rattle.fdb_core.specs.Roles.{value_in}
 use Rattle.fdb_core.specs.Verdicts.{moves_through}
 use Rattle.fdb_core.proofs.RoleTies.{take-next}
-use Rattle.fdb_core.proofs.RunLaws.{map-between}
+use Rattle.fdb_core.proofs.RunLaws.{entries-rising, map-between}
 
 -- alike at the points that some item names, for any kind of items
 module _ {A : Type 0} (map : Map) (shard : List Message) (v : ℕ) (named : A → Point → Bool) where
@@ -141,8 +141,8 @@ held-where-named book plain shard map applied least behind = (
     its = ap (λ (n : ℕ). take n book) least ∙ take_min (length shard) book
 
     same : map ≡ map_at [] (last_version (take applied book)) (seen_of book).places
-    same = behind ∙ sym (map-between [] book plain.rising applied (last_version (take applied book)) (le_refl (last_version (take applied book)))
-        (λ entry there. plain.rising applied entry there))
+    same = behind ∙ sym (map-between [] book (entries-rising 1 book plain.entries) applied (last_version (take applied book)) (le_refl (last_version (take applied book)))
+        (λ entry there. entries-rising 1 book plain.entries applied entry there))
 
     nothing_there : (x : Point) → messages_name shard x ≡ false → entries_name (take applied book) x ≡ false
         → value_in (last_version (take applied book)) x shard ≡ get map x

@@ -10,7 +10,7 @@ pub mod ExamplesLemmas
 pub mod HeadlineLaws
 pub mod HoldingLemmas
 pub mod LaneTies
-pub mod OneOwner
+pub mod NoMoves
 pub mod OnceLaws
 pub mod OnceLemmas
 pub mod OneResolver

@@ -1,21 +1,20 @@
 -- The one resolver says of an entry what the book says, and keeps the state of the entries' places.
-use Rattle.std.proofs.Common.{◌≡◌, ◌∙◌, refl, sym, ap, subst, ℕ, suc, ◌-◌, ◌<◌, ◌≤◌, true, false, not, ◌==◌, nat_lt, List, [], ◌∷◌, ◌++◌, fold, None, ⊎_elim, arith}
+use Rattle.std.proofs.Common.{◌≡◌, ◌∙◌, refl, sym, ap, subst, ℕ, suc, ◌-◌, ◌<◌, ◌≤◌, true, false, not, ◌==◌, nat_lt, List, [], ◌∷◌, ◌++◌, None, ⊎_elim, arith}
 use Rattle.std.specs.List.{AllByRecursion}
 use Rattle.std.proofs.lemmas.Bool.{cases_Bool, or_parts, cond_both, cond-true, cond-false, and_right, false_from_ne_true, both_ways, eq-eqb, le-ltb}
 use Rattle.std.proofs.lemmas.List.Sums.{fold-append}
 use Rattle.fdb_keys.specs.Points.{Point}
 use Rattle.fdb_interval.specs.Versions.{version_at}
 use Rattle.fdb_txn.specs.declared.entry.Entry.{Entry}
-use Rattle.fdb_txn.specs.declared.entry.Move.{Move}
 use Rattle.fdb_txn.specs.Transactions.{Transaction}
-use Rattle.fdb_txn.specs.Book.{Stamped, Place, Seen, nothing, placed, add_moves, add_places, add_entry, seen_of}
+use Rattle.fdb_txn.specs.Book.{Stamped, Place, Seen, placed, add_places, seen_of}
 use Rattle.fdb_txn.specs.Owners.{window}
 use Rattle.fdb_txn.specs.Admission.{has_points, admits}
 use Rattle.fdb_txn.specs.History.{IsHistory, AreEntries}
 use Rattle.fdb_txn.specs.Resolvers.{part_writes, IsStateOf}
 use Rattle.fdb_txn.specs.RunLaws.{version_behind}
 use Rattle.fdb_txn.proofs.AskedLemmas.{points_from-in_set}
-use Rattle.fdb_txn.proofs.HistoryLemmas.{places_are_history, seen_of-push}
+use Rattle.fdb_txn.proofs.HistoryLemmas.{all-weaken, places_are_history, seen_of-push}
 use Rattle.fdb_txn.proofs.ResolverLemmas.{state_takes_place, state_forgets}
 use Rattle.fdb_resolver.specs.declared.part.Item.{Item}
 use Rattle.fdb_resolver.specs.declared.part.Part.{Part}
@@ -26,9 +25,11 @@ use Rattle.fdb_resolver.specs.Resolvers.{Resolver, part_fault, IsAnswer, HasTake
 use Rattle.fdb_resolver.specs.Rule.{AreVerdicts, versions_with, versions_behind}
 use Rattle.fdb_resolver.proofs.BookLemmas.{verdicts_are_by_the_book, places_keep_state}
 use Rattle.fdb_core.specs.Machine.{last_version}
-use Rattle.fdb_core.specs.Resolving.{is_judged, item_of, items_from, NoMovesIn, ResolverAt, IsNext}
+use Rattle.fdb_core.specs.Resolving.{is_judged, item_of, items_from, ResolverAt, IsNext}
 use Rattle.fdb_core.specs.Verdicts.{verdict_at, verdicts_from, moves_through, verdicts_on}
-use Rattle.fdb_core.proofs.OneOwner.{part_writes-all, item-is, asked-points}
+use Rattle.fdb_core.specs.Kernel.{ReadsBelow}
+use Rattle.fdb_core.proofs.NoMoves.{no_moves-through, no_moves-seen, no_moves-front}
+use Rattle.fdb_core.proofs.OneResolver.{part_writes-all, item-is, asked-points}
 
 -- the items of a batch from place p on have numbers from p on
 items-from : (ts : List Transaction) (p q : ℕ) → q < p → AllByRecursion (λ (item : Item). q < item.place) (items_from ts p)
@@ -131,13 +132,6 @@ entries-behind : (resolvers last : ℕ) (before : List Entry) (entry : Entry) �
 entries-behind resolvers last [] entry entries = entries
 entries-behind resolvers last (first ∷ before) entry entries = entries-behind resolvers first.version before entry entries.4
 
--- nothing moved before a place of entries without moves
-no_moves-behind : (seen : Seen) (before : List Entry) (entry : Entry) → seen.moves ≡ [] → NoMovesIn (before ++ entry ∷ [])
-    → moves_through (fold add_entry seen before) entry ≡ []
-no_moves-behind seen [] entry still none = ap (λ (moves : List Move). add_moves entry.version moves seen.moves) none.0 ∙ still
-no_moves-behind seen (first ∷ before) entry still none =
-    no_moves-behind (add_entry seen first) before entry (ap (λ (moves : List Move). add_moves first.version moves seen.moves) none.0 ∙ still) none.1
-
 -- The next entry of the resolver.
 module _ (before : List Entry) (entry : Entry) (old : Resolver) (next : IsNext before old entry) where
   follows : AreEntries 1 (last_version before) (entry ∷ [])
@@ -146,11 +140,20 @@ module _ (before : List Entry) (entry : Entry) (old : Resolver) (next : IsNext b
   pub rises : entry.prev < entry.version
   rises = let above = follows.0 in let on = follows.1 in omega (arith, above, on)
 
+  pub reads_below : ReadsBelow entry
+  reads_below = all-weaken _ (λ (t : Transaction). t.read < entry.version) (λ (t : Transaction) may. may.0) entry.batch follows.3
+
   abbrev moves : List Stamped
   moves = moves_through (seen_of before) entry
 
+  pub still_before : (seen_of before).moves ≡ []
+  still_before = no_moves-seen before (no_moves-front before entry next.still).0
+
+  pub moveless : entry.moves ≡ []
+  moveless = (no_moves-front before entry next.still).1
+
   still : moves ≡ []
-  still = no_moves-behind nothing before entry refl next.still
+  still = no_moves-through (seen_of before) entry still_before moveless
 
   abbrev places : List Place
   places = add_places entry.version moves entry.batch (seen_of before).places

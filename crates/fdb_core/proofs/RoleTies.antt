@@ -20,7 +20,7 @@ use Rattle.fdb_core.specs.Resolving.{NoMovesIn, ResolverAt, IsNext}
 use Rattle.fdb_core.specs.Roles.{along, message_on}
 use Rattle.fdb_core.specs.Verdicts.{verdicts_on}
 use Rattle.fdb_core.proofs.AllLemmas.{within-item}
-use Rattle.fdb_core.proofs.OneResolver.{no_moves-take}
+use Rattle.fdb_core.proofs.NoMoves.{no_moves-take}
 use Rattle.fdb_txn.proofs.HistoryLemmas.{seen_of-push}
 use Rattle.fdb_core.proofs.RunLaws.{slice_get-along, length-along}
 
@@ -45,6 +45,17 @@ entries-take resolvers last zero book entries = tt
 entries-take resolvers last (suc n) [] entries = tt
 entries-take resolvers last (suc n) (entry ∷ book) entries = (entries.0, entries.1, entries.2, entries.3, entries-take resolvers entry.version n book entries.4)
 
+-- a resolver that took the entries before one awaits that one
+pub awaits : (book : List Entry) (resolver : Resolver) (i : ℕ) (entry : Entry) → NoMovesIn book → AreEntries 1 0 book → slice_get book i ≡ Some entry
+    → ResolverAt (take i book) resolver → IsNext (take i book) resolver entry
+awaits book resolver i entry still entries there at =
+    let front = take-next book i entry there in
+    record {
+      taken = at;
+      still = subst NoMovesIn front (no_moves-take (suc i) book still);
+      entries = subst (AreEntries 1 0) front (entries-take 1 0 (suc i) book entries);
+    }
+
 -- the resolver takes the next entry
 module _ (book : List Entry) (resolvers : List ℕ) (resolver : Resolver) (verdicts : List (List (ℕ × Verdict))) (r i : ℕ) (entry : Entry)
     (ok : ResolverOk book resolvers resolver verdicts) (still : NoMovesIn book) (entries : AreEntries 1 0 book)
@@ -53,13 +64,7 @@ module _ (book : List Entry) (resolvers : List ℕ) (resolver : Resolver) (verdi
   resolver-is = one-at ok.taken i r (rw ok.one at at)
 
   pub resolver-awaits : IsNext (take i book) resolver entry
-  resolver-awaits =
-      let front = take-next book i entry there in
-      record {
-        taken = subst (λ (n : ℕ). ResolverAt (take n book) resolver) resolver-is.1 ok.state;
-        still = subst NoMovesIn front (no_moves-take (suc i) book still);
-        entries = subst (AreEntries 1 0) front (entries-take 1 0 (suc i) book entries);
-      }
+  resolver-awaits = awaits book resolver i entry still entries there (subst (λ (n : ℕ). ResolverAt (take n book) resolver) resolver-is.1 ok.state)
 
   pub resolver-next : (later : Resolver) (sent : List (ℕ × Verdict)) → ResolverAt (take i book ++ entry ∷ []) later
       → sent ≡ verdicts_on [] 0 (seen_before book i) entry → ResolverOk book (slice_set resolvers r (i + 1)) later (verdicts ++ sent ∷ [])

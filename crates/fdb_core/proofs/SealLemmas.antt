@@ -28,7 +28,7 @@ use Rattle.fdb_core.specs.Resolving.{ResolverAt}
 use Rattle.fdb_core.specs.Roles.{along, message_on}
 use Rattle.fdb_core.specs.Verdicts.{verdicts_on}
 use Rattle.fdb_core.proofs.AllLemmas.{all-drop}
-use Rattle.fdb_core.proofs.OneResolver.{no_moves-push}
+use Rattle.fdb_core.proofs.NoMoves.{no_moves-push}
 use Rattle.fdb_core.proofs.RunLaws.{along-push, length-along}
 
 -- the entry that a seal makes of what waits

@@ -21,12 +21,12 @@ use Rattle.fdb_core.specs.Machine.{Machine, last_version}
 use Rattle.fdb_core.specs.Roles.{along, message_on, value_in}
 use Rattle.fdb_core.specs.Soundness.{IsSound}
 use Rattle.fdb_core.proofs.AllLemmas.{all-at}
-use Rattle.fdb_core.proofs.RunLaws.{entries-below, entries-rising, length-along, value-of-run}
+use Rattle.fdb_core.proofs.RunLaws.{entries-rising, length-along, value-of-run}
 
 module _ (k : Kernel) (tied : Tied k) where
   -- its book is one that a check runs anew
   plain-book : IsPlainBook k.book.items
-  plain-book = record { no_moves = tied.book.no_moves; rising = entries-rising 1 k.book.items tied.book.entries; reads_below = entries-below 1 0 k.book.items tied.book.entries }
+  plain-book = record { no_moves = tied.book.no_moves; entries = tied.book.entries }
 
   -- who stands at a spot agrees with the book there
   agrees-where-stands : (transcript : Transcript) (at : Spot) → StandsAtSpot (machine_of k) transcript at → AgreesAt k.book.items transcript at

@@ -1,15 +1,15 @@
 -- The sequencer's ticket is what the machine says of the next entry.
-use Rattle.std.proofs.Common.{◌≡◌, ◌∙◌, ap, sym, refl, subst, arith, ℕ, max, ◌+◌, ◌<◌, ◌≤◌, Bool, true, false, List, [], ◌∷◌, length, Option, Some, None, Ok, Err, if◌then◌else◌}
+use Rattle.std.proofs.Common.{◌≡◌, ◌∙◌, ap, refl, subst, arith, ℕ, max, ◌<◌, ◌≤◌, Bool, true, false, List, [], length, Option, Some, None, Ok, Err, if◌then◌else◌}
 use Rattle.std.specs.Prelude.{◌||◌, nat_lt, nat_le, slice_get, slice_set}
 use Rattle.std.proofs.lemmas.Bool.{lt-leb, ltb-false}
 use Rattle.std.proofs.lemmas.Option.{slice_get_within}
 use Rattle.fdb_txn.specs.declared.entry.Entry.{Entry}
 use Rattle.fdb_keys.specs.declared.refusal.Refusal.{Refusal}
-use Rattle.fdb_keys.specs.declared.refusal.Refusal.TheVariants.{Exhausted, BadConfig}
+use Rattle.fdb_keys.specs.declared.refusal.Refusal.TheVariants.{Exhausted}
 use Rattle.fdb_keys.specs.Answers.{AnswersExactly}
 use Rattle.fdb_sequencer.specs.declared.ticket.Ticket.{Ticket}
 use Rattle.fdb_sequencer.specs.Limits.{ticket_limit, version_limit}
-use Rattle.fdb_sequencer.specs.Sequencer.{Sequencer, next_version, planned, plan_fault}
+use Rattle.fdb_sequencer.specs.Sequencer.{next_version, planned, plan_fault}
 use Rattle.fdb_core.specs.declared.kernel.Kernel.{Kernel}
 use Rattle.fdb_core.specs.declared.parts.Lane.{Lane}
 use Rattle.fdb_core.specs.declared.parts.Stage.TheVariants.{Logging, Reported}

@@ -8,6 +8,7 @@ use Rattle.fdb_txn.specs.declared.spot.Spot.{Spot}
 use Rattle.fdb_txn.specs.declared.spot.Spot.TheVariants as spot
 use Rattle.fdb_txn.specs.Transactions.{Transaction}
 use Rattle.fdb_txn.specs.Book.{Place, seen_of}
+use Rattle.fdb_txn.specs.History.{AreEntries}
 use Rattle.fdb_txn.specs.Places.{place_at}
 use Rattle.fdb_txn.specs.Run.{run, map_at}
 use Rattle.fdb_core.specs.declared.checking.Replay.{Replay}
@@ -21,10 +22,9 @@ use Rattle.fdb_core.specs.declared.world.CheckFault.TheVariants.{Shard}
 use Rattle.fdb_core.specs.Comparing.{AnsweredAt, StopsBy}
 use Rattle.fdb_core.specs.Headline.{AnsweredOn}
 use Rattle.fdb_core.specs.Holding.{HoldsTheRun}
-use Rattle.fdb_core.specs.Kernel.{IsRising, ReadsBelow}
 use Rattle.fdb_core.specs.Machine.{last_version, seen_before}
-use Rattle.fdb_core.specs.Resolving.{NoMovesIn}
-use Rattle.fdb_core.specs.Roles.{marks_of, body_by}
+use Rattle.fdb_core.specs.Resolving.{NoMovesIn, ResolverAt}
+use Rattle.fdb_core.specs.Roles.{body_by}
 
 -- the map behind the first places of a batch
 abbrev pub map_behind : Map → List Transaction → List Outcome → ℕ → Map
@@ -34,11 +34,10 @@ map_behind map batch outcomes count = effects map (body_by (take count batch) (t
 abbrev pub AnsweredIn : Map → List Transaction → List Outcome → ℕ → ℕ → Placed → Type 0
 AnsweredIn map batch outcomes entry count placed = (p : ℕ) → p < count → AnsweredAt (Before entry p) (map_behind map batch outcomes p) placed
 
--- the books that a check runs anew: their versions rise, nothing moves, and each transaction read below its entry's version
+-- the books that a check runs anew: entries of which none moves anything
 pub record IsPlainBook (book : List Entry) : Type 0 where
   pub no_moves : NoMovesIn book
-  pub rising : IsRising book
-  pub reads_below : AllByRecursion ReadsBelow book
+  pub entries : AreEntries 1 0 book
 
 -- The transcript was answered as on the run's map right before its place, if the book has that place, or as on that
 -- at its read version.
@@ -55,10 +54,10 @@ abbrev pub is_before : List Entry → ℕ → Spot → Bool
 is_before book n (spot.Entry index place version) = nat_lt index n
 is_before book n (spot.ReadOnly version) = nat_lt version (last_version (take n book))
 
--- A check has come to entry n: it has the resolver's marks and the run's map behind the entries before, and who stands
+-- A check has come to entry n: its resolver took the entries before, it has the run's map behind them, and who stands
 -- before was answered as in that run.
 pub record HasCome (book : List Entry) (acknowledged : List Placed) (n : ℕ) (replay : Replay) : Type 0 where
-  pub marks : replay.marks.items ≡ marks_of (seen_before book n).places
+  pub resolver : ResolverAt (take n book) replay.resolver
   pub map : replay.map ≡ run [] (seen_before book n).places
   pub compared : AllByRecursion (λ placed. is_before book n placed.spot ≡ true → Agrees book placed) acknowledged
 

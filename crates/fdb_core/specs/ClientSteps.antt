@@ -1,5 +1,5 @@
 -- The steps of clients, and of the read-version proxies that serve them.
-use Rattle.std.specs.Prelude.{ℕ, ◌+◌, ◌^◌, ◌-◌, min, Bool, false, not, ◌&&◌, ◌==◌, nat_lt, List, [], ◌∷◌, ◌++◌, fold, take, map, length, Option, Some, None, Result, Ok, slice_get, slice_set, position, if◌then◌else◌}
+use Rattle.std.specs.Prelude.{ℕ, ◌+◌, ◌^◌, ◌-◌, min, Bool, false, ◌&&◌, ◌==◌, nat_lt, List, [], ◌∷◌, ◌++◌, fold, take, map, length, Option, Some, None, Result, Ok, slice_get, slice_set, position, if◌then◌else◌}
 use Rattle.std.specs.List.{list_any, remove}
 use Rattle.fdb_keys.specs.declared.refusal.Refusal.{Refusal}
 use Rattle.fdb_keys.specs.declared.refusal.Refusal.TheVariants.{TransactionTooOld, FutureVersion, Exhausted, WrongState, Unknown}

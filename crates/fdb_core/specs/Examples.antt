@@ -1,9 +1,8 @@
 -- What the headline says of small worlds: who stands where, what a shard has to answer, and which answers a trace has.
-use Rattle.std.specs.Prelude.{◌≡◌, ℕ, false, List, [], ◌∷◌, Option, Some, None, Result, Ok, Err, codes}
+use Rattle.std.specs.Prelude.{◌≡◌, ℕ, false, List, [], ◌∷◌, Option, Some, None, Ok, Err, codes}
 use Rattle.fdb_keys.specs.declared.refusal.Refusal.TheVariants.{Unknown}
 use Rattle.fdb_mutations.specs.declared.mutation.Mutation.TheVariants.{Set}
 use Rattle.fdb_txn.specs.declared.spot.Spot.TheVariants as spot
-use Rattle.fdb_txn.specs.Transactions.{Transaction}
 use Rattle.fdb_core.specs.declared.config.Config.{Config}
 use Rattle.fdb_core.specs.declared.program.Op.TheVariants as op
 use Rattle.fdb_core.specs.declared.program.Reply.TheVariants as reply

@@ -1,5 +1,5 @@
 -- The steps of the commit proxies.
-use Rattle.std.specs.Prelude.{ℕ, ◌+◌, ◌^◌, min, max, Bool, true, false, not, ◌&&◌, ◌||◌, ◌==◌, nat_lt, nat_le, List, [], ◌∷◌, ◌++◌, take, drop, map, length, replicate, Result, Ok, slice_get, slice_set}
+use Rattle.std.specs.Prelude.{ℕ, max, Bool, true, false, not, ◌&&◌, ◌||◌, ◌==◌, nat_lt, nat_le, List, [], ◌∷◌, ◌++◌, take, drop, map, length, replicate, Result, Ok, slice_get, slice_set}
 use Rattle.fdb_keys.specs.declared.refusal.Refusal.{Refusal}
 use Rattle.fdb_keys.specs.declared.refusal.Refusal.TheVariants.{Unknown, Stale, NotYet, Exhausted, BookFull, WrongState}
 use Rattle.fdb_txn.specs.declared.batch.TheConstants.{PLACE_LIMIT}

@@ -1,16 +1,11 @@
--- What the one resolver, the log and the shard keep, as functions of what they took of the book.
-use Rattle.std.specs.Prelude.{ℕ, zero, suc, ◌+◌, Bool, true, false, ◌&&◌, ◌||◌, ◌==◌, nat_lt, nat_le, List, [], ◌∷◌, ◌++◌, fold, Option, None, if◌then◌else◌}
-use Rattle.std.specs.List.{list_any}
+-- What the log and the shard keep, as functions of what they took of the book, and what is made of verdicts.
+use Rattle.std.specs.Prelude.{ℕ, zero, suc, Bool, true, false, ◌==◌, nat_le, List, [], ◌∷◌, ◌++◌, fold, Option, None, if◌then◌else◌}
 use Rattle.fdb_keys.specs.Points.{Point}
-use Rattle.fdb_keys.specs.Ranges.{Range, ranges_meet}
 use Rattle.fdb_mutations.specs.declared.mutation.Mutation.{Mutation}
 use Rattle.fdb_txn.specs.declared.entry.Entry.{Entry}
 use Rattle.fdb_txn.specs.Transactions.{Transaction}
-use Rattle.fdb_txn.specs.Book.{Place, Seen, nothing, add_entry}
+use Rattle.fdb_txn.specs.Book.{Seen, nothing, add_entry}
 use Rattle.fdb_txn.specs.Messages.{committed_from, value_after}
-use Rattle.fdb_txn.specs.Owners.{window}
-use Rattle.fdb_txn.specs.Admission.{has_points, admits}
-use Rattle.fdb_core.specs.declared.pool.Mark.{Mark}
 use Rattle.fdb_core.specs.declared.pool.Message.{Message}
 use Rattle.fdb_resolver.specs.declared.verdict.Verdict.{Verdict}
 use Rattle.fdb_resolver.specs.declared.verdict.Verdict.TheVariants as verdict
@@ -31,36 +26,6 @@ along {A} f book = behind.1
     behind : Seen × List A
     behind = fold step (nothing, []) book
 
--- some range of the one set meets some range of the other
-abbrev pub sets_meet : List Range → List Range → Bool
-sets_meet some others = list_any (λ range. list_any (λ other. ranges_meet range other) others) some
-
--- a mark above the read version meets the reads
-abbrev pub is_marked : List Mark → ℕ → List Range → Bool
-is_marked marks read reads = list_any (λ (mark : Mark). nat_lt read mark.version && sets_meet mark.writes reads) marks
-
--- what one resolver that owns every key says of a transaction at a version, by the marks so far
-abbrev pub judgement : List Mark → ℕ → Transaction → Verdict
-judgement marks version t =
-    if has_points t.reads && nat_lt (t.read + window) version then verdict.Old
-    else (if is_marked marks t.read t.reads then verdict.Conflict else verdict.Yes)
-
--- the marks with the transaction's writes, where it is admitted
-abbrev pub marked_after : List Mark → ℕ → Transaction → List Mark
-marked_after marks version t = marked (judgement marks version t)
-  where
-    marked : Verdict → List Mark
-    marked verdict.Yes = marks ++ record { version = version; writes = t.writes } ∷ []
-    marked verdict.Conflict = marks
-    marked verdict.Old = marks
-
--- the marks of the places that resolver 0 admits, the earliest one first
-abbrev pub marks_of : List Place → List Mark
-marks_of [] = []
-marks_of (place ∷ earlier) =
-    if admits [] 0 earlier place then marks_of earlier ++ record { version = place.version; writes = place.transaction.writes } ∷ []
-    else marks_of earlier
-
 -- what logs get of an entry
 abbrev pub message_on : List Point → Seen → Entry → Message
 message_on splits before entry =
@@ -70,28 +35,6 @@ message_on splits before entry =
 abbrev pub value_in : ℕ → Point → List Message → Option (List ℕ)
 value_in v x messages =
     fold (λ (value : Option (List ℕ)) (message : Message). if nat_le message.version v then fold (value_after x) value message.body else value) None messages
-
--- what a resolver made of the places of a batch so far: its marks, its verdicts, and how many places they were
-pub record Judged : Type 0 where
-  pub marks : List Mark
-  pub verdicts : List (ℕ × Verdict)
-  pub places : ℕ
-
--- one place more; only a transaction with a point in its sets is judged
-abbrev pub judge_next : ℕ → Judged → Transaction → Judged
-judge_next version so_far t =
-    record {
-      marks = marked_after so_far.marks version t;
-      verdicts =
-          if has_points t.writes || has_points t.reads
-          then so_far.verdicts ++ (so_far.places, judgement so_far.marks version t) ∷ []
-          else so_far.verdicts;
-      places = so_far.places + 1;
-    }
-
--- all places of a batch, one after another
-abbrev pub judged : List Mark → ℕ → List Transaction → Judged
-judged marks version batch = fold (judge_next version) (record { marks = marks; verdicts = []; places = 0 }) batch
 
 -- what is made of a verdict on a place; without a verdict nothing stands against it
 abbrev pub outcome_by : ℕ → ℕ → Verdict → Outcome

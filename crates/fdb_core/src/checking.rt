@@ -1,31 +1,36 @@
 // The comparison of what was answered with the run of one transaction at a time.
-ghost use Rattle.std.specs.Prelude.{◌≡◌, ◌↔◌, ◌≤◌, ◌<◌, ◌+◌, [], length, take, IsTrue, IfOk, IfErr, OnOk, if◌then◌else◌};
+ghost use Rattle.std.specs.Prelude.{◌≡◌, ◌↔◌, ◌≤◌, ◌<◌, ◌+◌, ◌++◌, List, [], ◌∷◌, length, take, IsTrue, IfOk, IfErr, OnOk, if◌then◌else◌};
 ghost use Rattle.fdb_mutations.specs.Mutations.{effects};
+ghost use Rattle.fdb_txn.specs.declared.entry.Entry.{Entry};
+ghost use Rattle.fdb_txn.specs.Book.{seen_of};
 ghost use Rattle.fdb_core.specs.Checking.{AnsweredIn, map_behind, IsPlainBook, HasCome, ComesTo, Finds};
 ghost use Rattle.fdb_core.specs.Comparing.{AnsweredAt, Checks};
 ghost use Rattle.fdb_core.specs.Holding.{AreAlike, messages_name, entries_name};
 ghost use Rattle.fdb_core.specs.Machine.{last_version};
-ghost use Rattle.fdb_core.specs.Roles.{judged, outcomes_by, is_commit};
+ghost use Rattle.fdb_core.specs.Resolving.{ResolverAt, IsNext};
+ghost use Rattle.fdb_core.specs.Roles.{is_commit};
+ghost use Rattle.fdb_core.specs.Verdicts.{outcomes_on};
 
 use crate::comparing::{Moment, compare};
 use crate::deciding::decide_batch;
 use crate::holding::{are_alike_in_entries, are_alike_in_messages};
-use crate::judging::judge_batch;
 use crate::kernel::Kernel;
 use crate::parts::Placed;
-use crate::pool::{Mark, Message};
+use crate::pool::Message;
+use crate::resolving::{first_resolver, judge_entry};
 use crate::step::Outcome;
 use crate::versions::last_version;
 use crate::world::CheckFault;
 use fdb_keys::Items;
 use fdb_mutations::{Mutation, PlainMap};
+use fdb_resolver::ResolverCore;
 use fdb_txn::{Entry, Sealed};
 use std::alloc::Global;
 
-// The run so far: what its one resolver admitted, and the map.
+// The run so far: its one resolver, and the map.
 #[derive(Debug, Drop)]
 struct Replay {
-    marks: Vec<Mark>,
+    resolver: ResolverCore,
     map: PlainMap,
 }
 
@@ -44,16 +49,19 @@ fn apply(map: &mut PlainMap, mutations: &[Mutation]) -> Result<(), CheckFault>
 // What becomes of the places of an entry, by the one resolver's rule.
 fn outcomes_of(
     alloc: Global,
-    marks: &mut Vec<Mark>,
+    resolver: &mut ResolverCore,
+    index: usize,
     entry: &Entry,
 ) -> Result<Items<Outcome>, CheckFault>
-    ensures outcomes { IfOk result (λ outcomes. outcomes
-        ≡ outcomes_by entry.now.version (judged marks.old.items entry.now.version entry.now.batch).verdicts (length entry.now.batch)) }
-    ensures marks { OnOk result (marks.new.items ≡ (judged marks.old.items entry.now.version entry.now.batch).marks) }
+    ensures count { IfOk result (λ outcomes. length outcomes ≡ length entry.now.batch) }
+    ensures outcomes { (before : List Entry) → IsNext before resolver.old entry.now → IfOk result (λ outcomes. outcomes ≡ outcomes_on [] (seen_of before) entry.now) }
+    ensures resolver { (before : List Entry) → IsNext before resolver.old entry.now → OnOk result (ResolverAt (before ++ entry.now ∷ []) resolver.new) }
     ensures err { IfErr result (λ fault. fault ≡ CheckFault.NoMemory) }
 {
     let batch = entry.batch.as_slice();
-    let Ok(verdicts) = judge_batch(alloc, marks, entry.version, batch) else {
+    // The entries of a world's book are fewer than such numbers.
+    let number = index.min(u32::MAX as usize) as u32;
+    let Ok(verdicts) = judge_entry(alloc, resolver, number, entry) else {
         return Err(CheckFault::NoMemory);
     };
     match decide_batch(alloc, entry.version, verdicts.as_slice(), batch.len()) {
@@ -117,7 +125,7 @@ fn run_entry(
         until: Some(entry.version),
     };
     compare(&replay.map, acknowledged, before)?;
-    let outcomes = outcomes_of(alloc, &mut replay.marks, entry)?;
+    let outcomes = outcomes_of(alloc, &mut replay.resolver, index, entry)?;
     run_batch(
         &mut replay.map,
         acknowledged,
@@ -171,7 +179,7 @@ fn check_book(
     ensures finds { IsPlainBook book.now → Finds result book.now acknowledged.now with_shard shard.now }
 {
     let mut replay = Replay {
-        marks: Vec::new(alloc),
+        resolver: first_resolver(alloc),
         map: PlainMap::new(alloc),
     };
     let applied = shard.len().min(book.len());
@@ -190,8 +198,8 @@ fn check_book(
 
 /// Compares every acknowledged transcript with the run of one transaction at a time, and the shard at its
 /// version where `with_shard` says so. Answers the number of acknowledged transactions. For each book without
-/// moves whose versions rise, and whose transactions read below the versions of their entries, a fault is
-/// found just where something differs.
+/// moves whose versions rise from entry to entry, and whose transactions read below the versions of their
+/// entries, a fault is found just where something differs.
 pub(crate) fn check_all(kernel: &Kernel, with_shard: bool) -> Result<u64, CheckFault>
     ensures count { IfOk result (λ count. count ≡ length kernel.now.acknowledged.items) }
     ensures finds { IsPlainBook kernel.now.book.items

@@ -12,7 +12,6 @@ mod flags;
 mod flights;
 mod granting;
 mod holding;
-mod judging;
 mod kernel;
 pub mod laws;
 mod messages;
