@@ -105,7 +105,7 @@ pub record LogOk (book : List Entry) (logs : List ℕ) (shards : List Reach) (lo
   pub logged : log ≡ take taken (along (message_on []) book)
   pub applied : shard ≡ take pulled (along (message_on []) book)
 
--- a submission that waits: its read version is at most the committed one, and its write set has all that it writes
+-- a submission that waits: its read version is at most the committed one, and its write set has all that its mutations name
 abbrev pub WaitsOk : ℕ → Submission → Type 0
 WaitsOk committed submission = (submission.sealed.read ≤ committed) × NamesWrites submission.sealed
 

@@ -6,7 +6,6 @@ ghost use Rattle.fdb_keys.specs.Answers.{Answers};
 ghost use Rattle.fdb_txn.specs.declared.entry.Entry.{Entry};
 ghost use Rattle.fdb_txn.specs.Admission.{has_points};
 ghost use Rattle.fdb_txn.specs.Book.{seen_of};
-ghost use Rattle.fdb_resolver.specs.Resolvers.{IsNew};
 ghost use Rattle.fdb_core.specs.Resolving.{is_judged, item_of, items_from, ResolverAt, IsNext};
 ghost use Rattle.fdb_core.specs.Verdicts.{verdicts_on};
 
@@ -15,7 +14,7 @@ use fdb_resolver::{Item, Part, ResolverCore, Verdict};
 use fdb_txn::{Entry, Sealed};
 use std::alloc::{AllocError, Global};
 
-pub(crate) fn has_points(set: &RangeSet) -> bool
+fn has_points(set: &RangeSet) -> bool
     ensures { result ≡ has_points set.now }
 {
     for range in set.iter() {
@@ -26,7 +25,7 @@ pub(crate) fn has_points(set: &RangeSet) -> bool
     false
 }
 
-pub(crate) fn is_judged(txn: &Sealed) -> bool
+fn is_judged(txn: &Sealed) -> bool
     ensures { result ≡ is_judged txn.now }
 {
     has_points(txn.writes()) || has_points(txn.reads())
