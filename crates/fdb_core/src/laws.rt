@@ -1,11 +1,11 @@
 //! What the machine promises, at every step and over every run, and what holds of programs.
-ghost use Rattle.fdb_core.specs.Promises.{RefusalsChangeNothing, GrantsCommitted, CommittedIsGreatestReported, GetsFromTheRun, GetsRefused};
-ghost use Rattle.fdb_core.specs.RealTime.{RealTime};
-ghost use Rattle.fdb_core.specs.ProgramLaws.{ProgramsAgree};
-ghost use Rattle.fdb_core.specs.Examples.{OnlyTheFirstStands, ReadOnlyAtItsVersion, BehindAVersion, AnEmptyShardDoesNotServe, Traced};
-ghost use Rattle.fdb_core.specs.Headline.{AcknowledgedStand};
-ghost use Rattle.fdb_core.specs.Traces.{TracesTell};
-ghost use Rattle.fdb_core.specs.Once.{TransactionsStandOnce};
+ghost use Rattle.fdb_core.specs.headline.Promises.{RefusalsChangeNothing, GrantsCommitted, CommittedIsGreatestReported, GetsFromTheRun, GetsRefused};
+ghost use Rattle.fdb_core.specs.headline.RealTime.{RealTime};
+ghost use Rattle.fdb_core.specs.programs.ProgramLaws.{ProgramsAgree};
+ghost use Rattle.fdb_core.specs.headline.Examples.{OnlyTheFirstIsSerialized, ReadOnlyAtItsVersion, AfterAVersion, AnEmptyShardDoesNotServe, Traced};
+ghost use Rattle.fdb_core.specs.headline.Headline.{AcknowledgedAreSerialized};
+ghost use Rattle.fdb_core.specs.headline.Traces.{TracesDetermineTheMachine};
+ghost use Rattle.fdb_core.specs.headline.Once.{NoTraceHasAnIdTwice};
 
 /// A refused step changes nothing.
 pub fn refusals_change_nothing()
@@ -27,7 +27,7 @@ pub fn gets_answer_as_the_program_run_on_the_map_at_its_read_version()
 
 /// A read of an open transaction is refused as `FutureVersion` exactly where its own operations don't
 /// decide the key and the shard that holds the key still serves the read version but hasn't reached it.
-pub fn gets_are_refused_exactly_where_the_shard_is_behind()
+pub fn gets_are_refused_exactly_where_the_shard_lags()
     ensures { GetsRefused }
 {}
 
@@ -39,36 +39,36 @@ pub fn programs_agree_on_maps_that_agree_where_they_read()
 
 /// A trace determines the machine: a world that stands for a list of steps with their answers shows the machine
 /// that the list takes the first one to, an accepted step after another.
-pub fn traces_tell_the_machine()
-    ensures { TracesTell }
+pub fn traces_determine_the_machine()
+    ensures { TracesDetermineTheMachine }
 {}
 
 /// Over every trace, each acknowledged transaction stands at its spot. At a spot in an entry it is committed
 /// there, at the spot's place and under its version; at a read-only spot it wrote nothing, and stands behind
 /// the entries up to its read version. Each of its ordinary reads was answered as when the committed
 /// transactions before the spot run one at a time from the empty map, by version and by place in the batch.
-pub fn acknowledged_transactions_stand_at_their_spots()
-    ensures { AcknowledgedStand }
+pub fn acknowledged_transactions_are_serialized_at_their_spots()
+    ensures { AcknowledgedAreSerialized }
 {}
 
 /// Real time, over every trace: a transaction that begins after another was acknowledged reads at that one's version or a
 /// greater one, and never stands before it.
-pub fn who_begins_after_an_acknowledgement_stands_behind_it()
+pub fn who_begins_after_an_acknowledgement_is_ordered_after_it()
     ensures { RealTime }
 {}
 
 /// What the headline says of small worlds: which transactions stand at which spots and which don't, who stands
 /// behind a version, what an empty shard would have to answer, and which answers a trace has.
 pub fn worked_examples()
-    ensures spots { OnlyTheFirstStands }
+    ensures spots { OnlyTheFirstIsSerialized }
     ensures read_only { ReadOnlyAtItsVersion }
-    ensures behind { BehindAVersion }
+    ensures behind { AfterAVersion }
     ensures shard { AnEmptyShardDoesNotServe }
     ensures traces { Traced }
 {}
 
 /// Over every trace, each transaction stands in the book at most once: no two places of it, of one entry or of
 /// two, are of transactions with the same name.
-pub fn transactions_stand_at_most_once_in_the_book()
-    ensures { TransactionsStandOnce }
+pub fn no_transaction_is_in_the_book_twice()
+    ensures { NoTraceHasAnIdTwice }
 {}

@@ -1,6 +1,6 @@
 ghost use Rattle.fdb_keys.specs.Answers.{Answers};
-ghost use Rattle.fdb_core.specs.Headline.{IsStrictlySerializable};
-ghost use Rattle.fdb_core.specs.Worlds.{config_fault};
+ghost use Rattle.fdb_core.specs.headline.Headline.{IsStrictlySerializable};
+ghost use Rattle.fdb_core.specs.machine.Worlds.{config_fault};
 
 use crate::config::Config;
 use crate::step::{Answered, Step};

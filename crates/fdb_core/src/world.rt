@@ -1,7 +1,7 @@
-use crate::checking::check_all;
+use crate::check::serial::check_all;
+use crate::cluster::Cluster;
 use crate::config::Config;
-use crate::flights::InFlight;
-use crate::kernel::Kernel;
+use crate::in_flight::InFlight;
 use crate::step::{Answered, Step};
 use fdb_keys::Refusal;
 use fdb_txn::TxnId;
@@ -20,24 +20,24 @@ pub enum CheckFault {
 }
 
 /// The transaction system: clients and roles as one machine over a list of steps.
-#[derive(Debug, Drop)]
+#[derive(Drop)]
 pub struct World {
-    kernel: Kernel,
+    cluster: Cluster,
     // Memory ran out in a step, and what it was to change is only partly changed.
     failed: bool,
 }
 
 impl Model for World {
     ghost use Rattle.std.specs.Prelude.{◌≡◌, false};
-    ghost use Rattle.fdb_core.specs.Kernel.{machine_of, system_of, Tied};
-    ghost use Rattle.fdb_core.specs.Serving.{System};
-    ghost use Rattle.fdb_core.specs.Soundness.{IsSound};
+    ghost use Rattle.fdb_core.specs.refinement.Cluster.{machine_of, system_of, Refines};
+    ghost use Rattle.fdb_core.specs.headline.Serving.{System};
+    ghost use Rattle.fdb_core.specs.refinement.Invariant.{Invariant};
 
     ghost Value = { System };
 
-    ghost view = { λ world. system_of world.failed world.kernel };
+    ghost view = { λ world. system_of world.failed world.cluster };
 
-    ghost invariant = { λ world. world.failed ≡ false → Tied world.kernel × IsSound (machine_of world.kernel) };
+    ghost invariant = { λ world. world.failed ≡ false → Refines world.cluster × Invariant (machine_of world.cluster) };
 }
 
 impl World {
@@ -47,11 +47,11 @@ impl World {
     ghost use Rattle.fdb_core.specs.declared.config.Config.{Config};
     ghost use Rattle.fdb_core.specs.declared.step.Answered.{Answered};
     ghost use Rattle.fdb_core.specs.declared.step.Step.{Step};
-    ghost use Rattle.fdb_core.specs.Flights.{in_flight};
-    ghost use Rattle.fdb_core.specs.Headline.{AllStand, IsStrictlySerializable};
-    ghost use Rattle.fdb_core.specs.Serving.{RolesKeep};
-    ghost use Rattle.fdb_core.specs.Traces.{StandsFor};
-    ghost use Rattle.fdb_core.specs.Worlds.{config_fault, start, IsStep};
+    ghost use Rattle.fdb_core.specs.machine.InFlight.{in_flight};
+    ghost use Rattle.fdb_core.specs.headline.Headline.{AllSerialized, IsStrictlySerializable};
+    ghost use Rattle.fdb_core.specs.headline.Serving.{RolesKeep};
+    ghost use Rattle.fdb_core.specs.headline.Traces.{IsTraceOf};
+    ghost use Rattle.fdb_core.specs.machine.Worlds.{config_fault, start, IsStep};
 
     /// The world before its first step. Refused as `BadConfig` for a configuration that it does not
     /// serve: for now it serves one proxy of each kind, one log, no splits and a book of 1 to 1,048,576
@@ -69,9 +69,9 @@ impl World {
         if config.book < 1 || config.book > 1_048_576 {
             return Err(Refusal::BadConfig);
         }
-        let kernel = Kernel::new(alloc, config)?;
+        let cluster = Cluster::new(alloc, config)?;
         Ok(World {
-            kernel,
+            cluster,
             failed: false,
         })
     }
@@ -86,9 +86,9 @@ impl World {
     /// every shard answers, at each version that it serves, from that run's map.
     pub fn step(&mut self, step: Step) -> Result<Answered, Refusal>
         ensures step { IsStep self.old.machine step result self.new.machine }
-        ensures serial { IfSome self.new.machine AllStand }
+        ensures serial { IfSome self.new.machine AllSerialized }
         ensures roles { RolesKeep self.new }
-        ensures headline { (config : Config) (steps : List Step) (answers : List (Result Answered Refusal)) → StandsFor config steps answers self.old.machine
+        ensures headline { (config : Config) (steps : List Step) (answers : List (Result Answered Refusal)) → IsTraceOf config steps answers self.old.machine
             → IsStrictlySerializable config (steps ++ step ∷ []) (answers ++ result ∷ []) self.new }
     {
         self.take(&step)
@@ -96,14 +96,14 @@ impl World {
 
     pub(crate) fn take(&mut self, step: &Step) -> Result<Answered, Refusal>
         ensures step { IsStep self.old.machine step.now result self.new.machine }
-        ensures serial { IfSome self.new.machine AllStand }
+        ensures serial { IfSome self.new.machine AllSerialized }
         ensures roles { RolesKeep self.new }
     {
         if self.failed {
             return Err(Refusal::Failed);
         }
         self.failed = true;
-        let answer = self.kernel.step(step)?;
+        let answer = self.cluster.step(step)?;
         self.failed = false;
         answer
     }
@@ -115,7 +115,7 @@ impl World {
         ensures { result ≡ in_flight self.now.machine proxy }
     {
         if !self.failed {
-            return self.kernel.in_flight(proxy);
+            return self.cluster.in_flight(proxy);
         }
         Err(Refusal::Failed)
     }
@@ -127,6 +127,6 @@ impl World {
     pub fn check(&self) -> Result<u64, CheckFault>
         ensures { IfSome self.now.machine (λ machine. MatchResult result (λ count. count ≡ length machine.acknowledged) (λ fault. fault ≡ CheckFault.NoMemory)) }
     {
-        check_all(&self.kernel, !self.failed)
+        check_all(&self.cluster, !self.failed)
     }
 }

@@ -2,11 +2,11 @@
 use Rattle.std.proofs.Common.{◌≡◌, ◌∙◌, ◌↔◌, sym, ap, ap₂, refl, ℕ, ◌+◌, Bool, true, false, not, ◌&&◌, nat_lt, List, if◌then◌else◌, arith}
 use Rattle.std.proofs.lemmas.Bool.{both_ways, not_from_true, not_from_false, false_from_ne_true, cond-true, cond-false}
 use Rattle.fdb_keys.specs.Points.{Point}
-use Rattle.fdb_txn.specs.Book.{Place}
-use Rattle.fdb_txn.specs.Owners.{window}
-use Rattle.fdb_txn.specs.Admission.{is_fresh, admits}
-use Rattle.fdb_txn.specs.Resolvers.{with_place, IsAdmittedBy}
-use Rattle.fdb_txn.proofs.ResolverLemmas.{state_decides, state_takes_place}
+use Rattle.fdb_txn.specs.book.Book.{Place}
+use Rattle.fdb_txn.specs.rules.Owners.{window}
+use Rattle.fdb_txn.specs.rules.Admission.{is_fresh, admits}
+use Rattle.fdb_txn.specs.rules.Resolvers.{with_place, IsAdmittedBy}
+use Rattle.fdb_txn.proofs.rules.ResolverLemmas.{state_decides, state_takes_place}
 use Rattle.fdb_resolver.specs.declared.part.Item.{Item}
 use Rattle.fdb_resolver.specs.declared.verdict.Verdict.{Verdict}
 use Rattle.fdb_resolver.specs.declared.verdict.Verdict.TheVariants.{Yes, Conflict, Old}

@@ -1,7 +1,7 @@
 -- Which parts a resolver may be given.
 use Rattle.std.specs.Prelude.{◌≡◌, ◌<◌, ⊤, true, List, [], ◌∷◌}
 use Rattle.std.specs.List.{AllByRecursion}
-use Rattle.fdb_txn.specs.Admission.{has_points}
+use Rattle.fdb_txn.specs.rules.Admission.{has_points}
 use Rattle.fdb_resolver.specs.declared.part.Item.{Item}
 use Rattle.fdb_resolver.specs.declared.part.Part.{Part}
 

@@ -5,8 +5,8 @@ use Rattle.fdb_keys.specs.declared.refusal.Refusal.{Refusal}
 use Rattle.fdb_keys.specs.declared.refusal.Refusal.TheVariants.{NotYet, Stale, Failed, Unknown}
 use Rattle.fdb_interval.specs.declared.last_commit.LastCommit.{LastCommit}
 use Rattle.fdb_interval.specs.Versions.{version_at}
-use Rattle.fdb_txn.specs.Owners.{window}
-use Rattle.fdb_txn.specs.Resolvers.{AgreeFrom}
+use Rattle.fdb_txn.specs.rules.Owners.{window}
+use Rattle.fdb_txn.specs.rules.Resolvers.{AgreeFrom}
 use Rattle.fdb_resolver.specs.declared.part.Part.{Part}
 use Rattle.fdb_resolver.specs.declared.verdict.Verdicts.{Verdicts}
 use Rattle.fdb_resolver.specs.Rule.{AreVerdicts, versions_behind}

@@ -2,11 +2,11 @@
 use Rattle.std.specs.Prelude.{◌≡◌, ◌≤◌, ◌-◌, ℕ, suc, List, ◌∷◌, length, if◌then◌else◌}
 use Rattle.fdb_keys.specs.Points.{Point}
 use Rattle.fdb_keys.specs.Ranges.{in_set}
-use Rattle.fdb_txn.specs.Book.{Place}
-use Rattle.fdb_txn.specs.Owners.{window}
-use Rattle.fdb_txn.specs.Admission.{has_points, is_fresh, admits}
-use Rattle.fdb_txn.specs.History.{IsHistory}
-use Rattle.fdb_txn.specs.Resolvers.{part_reads, part_writes, IsStateOf}
+use Rattle.fdb_txn.specs.book.Book.{Place}
+use Rattle.fdb_txn.specs.rules.Owners.{window}
+use Rattle.fdb_txn.specs.rules.Admission.{has_points, is_fresh, admits}
+use Rattle.fdb_txn.specs.book.History.{IsHistory}
+use Rattle.fdb_txn.specs.rules.Resolvers.{part_reads, part_writes, IsStateOf}
 use Rattle.fdb_resolver.specs.declared.part.Item.{Item}
 use Rattle.fdb_resolver.specs.declared.verdict.Verdict.{Verdict}
 use Rattle.fdb_resolver.specs.declared.verdict.Verdict.TheVariants.{Yes, Conflict, Old}

@@ -8,8 +8,8 @@ use Rattle.fdb_txn.specs.declared.txn_id.TxnId.{TxnId}
 use Rattle.fdb_core.specs.declared.config.Config.{Config}
 use Rattle.fdb_core.specs.declared.step.Answered.{Answered}
 use Rattle.fdb_core.specs.declared.step.Step.{Step}
-use Rattle.fdb_core.specs.Machine.{Machine}
-use Rattle.fdb_core.specs.Worlds.{IsStep, config_fault, start}
+use Rattle.fdb_core.specs.machine.Machine.{Machine}
+use Rattle.fdb_core.specs.machine.Worlds.{IsStep, config_fault, start}
 use Rattle.fdb_sim.specs.declared.line.Line.{Line}
 use Rattle.fdb_sim.specs.declared.line.Line.TheVariants as given
 use Rattle.fdb_sim.specs.declared.step_line.Kind.{Kind}

@@ -1,7 +1,7 @@
 ghost use Rattle.std.specs.Prelude.{◌≡◌, ◌<◌, ◌≤◌, ◌++◌, suc, ℕ, List, [], ◌∷◌, Some, None, true, false, IfOk, IfErr, OnOk, IfSome, string_bytes};
 ghost use Rattle.std.specs.Io.KnownBytes.{Appends};
 ghost use Rattle.fdb_keys.specs.declared.refusal.Refusal.TheVariants.{NoMemory};
-ghost use Rattle.fdb_core.specs.Worlds.{IsStep, config_fault, start};
+ghost use Rattle.fdb_core.specs.machine.Worlds.{IsStep, config_fault, start};
 ghost use Rattle.fdb_sim.specs.Answers.{result_text};
 ghost use Rattle.fdb_sim.specs.Configs.{WritesConfig, line_fault};
 ghost use Rattle.fdb_sim.specs.Lines.{left, lines_of, line_text, line_number};

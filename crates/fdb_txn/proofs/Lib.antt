@@ -1,8 +1,2 @@
-pub mod AdmissionLemmas
-pub mod AskedLemmas
-pub mod CornersLemmas
-pub mod ExamplesLemmas
-pub mod HistoryLemmas
-pub mod MessagesLemmas
-pub mod ResolverLemmas
-pub mod RunLemmas
+pub mod book
+pub mod rules

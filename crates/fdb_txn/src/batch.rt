@@ -13,7 +13,7 @@ pub struct Batch {
 
 impl Model for Batch {
     ghost use Rattle.std.specs.Prelude.{◌≤◌, List, length};
-    ghost use Rattle.fdb_txn.specs.Transactions.{Transaction};
+    ghost use Rattle.fdb_txn.specs.book.Transactions.{Transaction};
     ghost use Rattle.fdb_txn.specs.declared.batch.TheConstants.{PLACE_LIMIT};
 
     ghost Value = { List Transaction };

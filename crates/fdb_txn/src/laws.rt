@@ -3,11 +3,11 @@
 ghost use Rattle.std.specs.Prelude.{◌≡◌};
 ghost use Rattle.std.specs.Bool.{Decides};
 ghost use Rattle.fdb_txn.specs.Equality.{txn_id_eq, spot_eq, move_eq, entry_eq, batch_eq, sealed_eq};
-ghost use Rattle.fdb_txn.specs.Examples.{OneBatch, WriteSkew, FalseConflict, FormerOwner, ThereAndBack, EqualIsNotNewer, Window, OldReading, TwoMoves, Spans, AtBounds, Entries};
-ghost use Rattle.fdb_txn.specs.AdmissionLaws.{OverlapsAtSomePoint, AskedAtSomePoint, OwnedAtSomeVersion, AdmitsWithoutConflict, CommittedByTheAsked, OldIsAsked};
-ghost use Rattle.fdb_txn.specs.ResolverLaws.{LastVersionsDecide, OnePlaceMore, StateDecides, StateTakesPlace, StateForgets, ForgottenAgree};
-ghost use Rattle.fdb_txn.specs.Messages.{MeetsAtSomePoint, ShardsHoldTheRun};
-ghost use Rattle.fdb_txn.specs.RunLaws.{PlacesAreHistory, ReadsStand, EarlierPlacesStay, EarlierMapsStay, EntriesGoOn};
+ghost use Rattle.fdb_txn.specs.laws.Examples.{OneBatch, WriteSkew, FalseConflict, FormerOwner, ThereAndBack, EqualIsNotNewer, Window, OldReading, TwoMoves, Spans, AtBounds, Entries};
+ghost use Rattle.fdb_txn.specs.laws.AdmissionLaws.{OverlapsAtSomePoint, AskedAtSomePoint, OwnedAtSomeVersion, AdmitsWithoutConflict, CommittedByTheAsked, OldIsAsked};
+ghost use Rattle.fdb_txn.specs.laws.ResolverLaws.{LastVersionsDecide, OnePlaceMore, StateDecides, StateTakesPlace, StateForgets, ForgottenAgree};
+ghost use Rattle.fdb_txn.specs.rules.Messages.{MeetsAtSomePoint, ShardsHoldTheRun};
+ghost use Rattle.fdb_txn.specs.laws.SerialMapLaws.{PlacesAreHistory, ReadsStand, EarlierPlacesStay, EarlierMapsStay, EntriesGoOn};
 
 use crate::batch::Batch;
 use crate::entry::{Entry, Move};

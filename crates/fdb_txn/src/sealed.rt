@@ -27,7 +27,7 @@ pub struct Unsealed {
 }
 
 impl Model for Sealed {
-    ghost use Rattle.fdb_txn.specs.Transactions.{Transaction, NamesWrites};
+    ghost use Rattle.fdb_txn.specs.book.Transactions.{Transaction, NamesWrites};
 
     ghost Value = { Transaction };
 
@@ -44,7 +44,7 @@ impl Sealed {
     ghost use Rattle.fdb_keys.specs.Points.{Point};
     ghost use Rattle.fdb_keys.specs.Ranges.{in_set};
     ghost use Rattle.fdb_mutations.specs.Mutations.{mutation_fault};
-    ghost use Rattle.fdb_txn.specs.Transactions.{with_named, some_names, NamesWrites};
+    ghost use Rattle.fdb_txn.specs.book.Transactions.{with_named, some_names, NamesWrites};
 
     /// Seals a transaction with its read version, its read set, its write set and its mutations, each of
     /// which passes `check`. What the mutations name joins the write set. Refused only as `NoMemory`; a

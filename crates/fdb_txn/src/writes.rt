@@ -5,7 +5,7 @@ ghost use Rattle.fdb_keys.specs.Insertion.{with_range};
 ghost use Rattle.fdb_keys.specs.Points.{Point, point_eq};
 ghost use Rattle.fdb_keys.specs.Ranges.{in_set, single_range};
 ghost use Rattle.fdb_mutations.specs.Mutations.{names, named_range};
-ghost use Rattle.fdb_txn.specs.Transactions.{with_named, some_names};
+ghost use Rattle.fdb_txn.specs.book.Transactions.{with_named, some_names};
 
 use fdb_keys::{Key, KeyRange, RangeSet, Refusal};
 use fdb_mutations::Mutation;

@@ -1,4 +1,4 @@
-use Rattle.fdb_core.proofs.PromiseLaws.{gets_from_the_run}
+use Rattle.fdb_core.proofs.headline.PromiseLaws.{gets_from_the_run}
 use Rattle.fdb_core.proofs.laws.gets_answer_as_the_program_run_on_the_map_at_its_read_version.Goals as goal
 
 pub returns : goal.returns

@@ -1,4 +1,4 @@
-use Rattle.fdb_core.proofs.ExamplesLemmas.{only_the_first_stands, read_only_at_its_version, behind_a_version, an_empty_shard_does_not_serve, traced}
+use Rattle.fdb_core.proofs.headline.ExamplesLemmas.{only_the_first_stands, read_only_at_its_version, behind_a_version, an_empty_shard_does_not_serve, traced}
 use Rattle.fdb_core.proofs.laws.worked_examples.Goals as goal
 
 pub returns : goal.returns

@@ -1,10 +1,10 @@
 use Rattle.std.proofs.Common.{◌≡◌, ◌∙◌, sym, ap, ◌+◌, ◌<◌, ◌≤◌, length, [], ◌∷◌, ◌++◌, take, Some, List, subst, rules}
 use Rattle.std.proofs.lemmas.List.{take_all, take_more}
 use Rattle.fdb_core.specs.declared.step.Step.{Step}
-use Rattle.fdb_core.specs.Traces.{StandsFor}
-use Rattle.fdb_core.specs.Worlds.{start}
-use Rattle.fdb_core.proofs.HeadlineLaws.{strictly_serializable}
-use Rattle.fdb_core.proofs.RunsLemmas.{run-push}
+use Rattle.fdb_core.specs.headline.Traces.{IsTraceOf}
+use Rattle.fdb_core.specs.machine.Worlds.{start}
+use Rattle.fdb_core.proofs.headline.HeadlineLaws.{strictly_serializable}
+use Rattle.fdb_core.proofs.headline.RunsLemmas.{run-push}
 use Rattle.fdb_core.proofs.runs.run.Goals as goal
 
 pub loop-step-preserved : goal.loop-step-preserved
@@ -29,5 +29,5 @@ returns c =
     let whole : take c.loop-step.step-index steps ≡ steps = take_all c.loop-step.step-index steps behind in
     rw c.loop-step.invariant.legal
     (strictly_serializable c.args.config steps c.loop-step.answers c.loop-step.world
-    (subst (λ (taken : List Step). StandsFor c.args.config taken c.loop-step.answers c.loop-step.world.machine) whole c.loop-step.invariant.stands)
+    (subst (λ (taken : List Step). IsTraceOf c.args.config taken c.loop-step.answers c.loop-step.world.machine) whole c.loop-step.invariant.stands)
     c.loop-step.invariant.keep)

@@ -1,4 +1,4 @@
-use Rattle.fdb_txn.proofs.MessagesLemmas.{meets_at_some_point, shards_hold_the_run}
+use Rattle.fdb_txn.proofs.rules.MessagesLemmas.{meets_at_some_point, shards_hold_the_run}
 use Rattle.fdb_txn.proofs.laws.messages_of_a_shard_leave_the_run_on_its_range.Goals as goal
 
 pub returns : goal.returns

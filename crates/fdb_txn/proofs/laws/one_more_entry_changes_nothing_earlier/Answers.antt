@@ -1,4 +1,4 @@
-use Rattle.fdb_txn.proofs.HistoryLemmas.{earlier_places_stay, earlier_maps_stay, entries_go_on}
+use Rattle.fdb_txn.proofs.book.HistoryLemmas.{earlier_places_stay, earlier_maps_stay, entries_go_on}
 use Rattle.fdb_txn.proofs.laws.one_more_entry_changes_nothing_earlier.Goals as goal
 
 pub returns : goal.returns

@@ -1,4 +1,4 @@
-use Rattle.fdb_txn.proofs.AskedLemmas.{committed_by_the_asked, old_is_asked}
+use Rattle.fdb_txn.proofs.rules.AskedLemmas.{committed_by_the_asked, old_is_asked}
 use Rattle.fdb_txn.proofs.laws.resolvers_that_are_not_asked_never_matter.Goals as goal
 
 pub returns : goal.returns

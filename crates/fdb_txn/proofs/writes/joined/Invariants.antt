@@ -1,7 +1,7 @@
 use Rattle.std.proofs.Common.{◌≡◌, ◌||◌, take}
 use Rattle.fdb_keys.specs.Points.{Point}
 use Rattle.fdb_keys.specs.Ranges.{in_set}
-use Rattle.fdb_txn.specs.Transactions.{with_named, some_names}
+use Rattle.fdb_txn.specs.book.Transactions.{with_named, some_names}
 use Rattle.fdb_txn.proofs.writes.joined.Given as goal
 
 abbrev pub invariant-loop-mutation : goal.invariant-loop-mutation

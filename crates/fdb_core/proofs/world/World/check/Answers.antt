@@ -1,7 +1,7 @@
 use Rattle.std.proofs.Common.{ap}
-use Rattle.fdb_core.specs.Serving.{System}
-use Rattle.fdb_core.proofs.SoundChecks.{world-finds}
+use Rattle.fdb_core.specs.headline.Serving.{System}
+use Rattle.fdb_core.proofs.checking.SoundChecks.{world-finds}
 use Rattle.fdb_core.proofs.world.World.check.Goals as goal
 
 pub returns : goal.returns
-returns c = world-finds c.self.inside.kernel c.self.inside.failed c.args.self.now.machine c.check_all.result (ap (λ (system : System). system.machine) c.self.view_is) c.self.invariant c.check_all.ensures.finds
+returns c = world-finds c.self.inside.cluster c.self.inside.failed c.args.self.now.machine c.check_all.result (ap (λ (system : System). system.machine) c.self.view_is) c.self.invariant c.check_all.ensures.finds

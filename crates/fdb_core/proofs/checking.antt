@@ -1,0 +1,5 @@
+pub mod AgreeLemmas
+pub mod ComparingLemmas
+pub mod HoldingLemmas
+pub mod ReplayLemmas
+pub mod SoundChecks

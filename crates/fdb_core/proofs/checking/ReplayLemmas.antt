@@ -1,0 +1,102 @@
+-- A batch that is run anew by its outcomes, beside the run of the book.
+use Rattle.std.proofs.Common.{◌≡◌, ◌∙◌, sym, ap, ap₂, refl, ℕ, zero, suc, ◌+◌, ◌<◌, add-one, arith, Bool, true, false, List, [], ◌∷◌, ◌++◌, take, length, get_or, if◌then◌else◌, append_assoc, append-nil, Some}
+use Rattle.std.specs.List.{slice_get}
+use Rattle.std.proofs.lemmas.List.Sums.{fold-append}
+use Rattle.std.proofs.lemmas.Option.{slice_get-get_or}
+use Rattle.fdb_mutations.specs.declared.mutation.Mutation.{Mutation}
+use Rattle.fdb_mutations.specs.Maps.{Map}
+use Rattle.fdb_mutations.specs.Mutations.{effect, effects}
+use Rattle.fdb_txn.specs.book.Transactions.{Transaction}
+use Rattle.fdb_txn.specs.book.Book.{Stamped, Place, placed}
+use Rattle.fdb_txn.specs.book.Places.{place_in}
+use Rattle.fdb_txn.specs.rules.Admission.{committed}
+use Rattle.fdb_txn.specs.rules.SerialMap.{serial_map}
+use Rattle.fdb_core.specs.declared.step.Outcome.{Outcome}
+use Rattle.fdb_core.specs.check.Checking.{map_after}
+use Rattle.fdb_core.specs.refinement.Roles.{body_by, is_commit}
+use Rattle.fdb_core.specs.machine.Verdicts.{outcome_at, outcomes_from}
+use Rattle.fdb_core.proofs.refinement.BatchLaws.{commit-at}
+use Rattle.fdb_core.proofs.refinement.RoleTies.{take-next}
+
+-- mutations one after another
+effects-append : (map : Map) (first later : List Mutation) → effects map (first ++ later) ≡ effects (effects map first) later
+effects-append map first later = fold-append effect map first later
+
+-- one mutation more
+pub effects-next : (map : Map) (mutations : List Mutation) (i : ℕ) (mutation : Mutation) → slice_get mutations i ≡ Some mutation
+    → effects map (take (i + 1) mutations) ≡ effect (effects map (take i mutations)) mutation
+effects-next map mutations i mutation there =
+    ap (effects map) (ap (λ (n : ℕ). take n mutations) (add-one i) ∙ take-next mutations i mutation there)
+    ∙ fold-append effect map (take i mutations) (mutation ∷ [])
+
+-- the mutations of one place more of a batch
+body-next : (batch : List Transaction) (outcomes : List Outcome) (p : ℕ) (t : Transaction) (outcome : Outcome)
+    → slice_get batch p ≡ Some t → slice_get outcomes p ≡ Some outcome
+    → body_by (take (suc p) batch) (take (suc p) outcomes)
+    ≡ body_by (take p batch) (take p outcomes) ++ (if is_commit outcome then t.mutations else [])
+body-next [] outcomes p t outcome there at = cc
+body-next (first ∷ batch) [] p t outcome there at = cc
+body-next (first ∷ batch) (o ∷ outcomes) zero t outcome there at =
+    let same : first ≡ t = cc in
+    let same_outcome : o ≡ outcome = cc in
+    append-nil (if is_commit o then first.mutations else [])
+    ∙ ap₂ (λ (one : Outcome) (of : Transaction). if is_commit one then of.mutations else []) same_outcome same
+body-next (first ∷ batch) (o ∷ outcomes) (suc p) t outcome there at =
+    ap (λ others. (if is_commit o then first.mutations else []) ++ others) (body-next batch outcomes p t outcome there at)
+    ∙ sym (append_assoc (if is_commit o then first.mutations else []) (body_by (take p batch) (take p outcomes)) (if is_commit outcome then t.mutations else []))
+
+-- the map behind one place more
+pub behind-next : (map old new : Map) (batch : List Transaction) (outcomes : List Outcome) (p : ℕ) (t : Transaction) (other : Outcome)
+    → slice_get batch p ≡ Some t → p < length outcomes → old ≡ map_after map batch outcomes p
+    → new ≡ effects old (if is_commit (get_or outcomes p other) then t.mutations else [])
+    → new ≡ map_after map batch outcomes (p + 1)
+behind-next map old new batch outcomes p t other there within before after =
+    let outcome = get_or outcomes p other in
+    after
+    ∙ ap (λ (at : Map). effects at (if is_commit outcome then t.mutations else [])) before
+    ∙ sym (effects-append map (body_by (take p batch) (take p outcomes)) (if is_commit outcome then t.mutations else []))
+    ∙ ap (effects map) (sym (body-next batch outcomes p t outcome there (slice_get-get_or outcomes p other within)))
+    ∙ ap (map_after map batch outcomes) (sym (add-one p))
+
+-- the run goes on by a place just as by its outcome
+serial_map-place : (earlier : List Place) (place : Place) (p : ℕ)
+    → serial_map [] (place ∷ earlier) ≡ effects (serial_map [] earlier) (if is_commit (outcome_at [] earlier place p) then place.transaction.mutations else [])
+serial_map-place earlier place p =
+    by_cases (committed [] earlier place)
+    ∙ ap (λ (commits : Bool). effects (serial_map [] earlier) (if commits then place.transaction.mutations else [])) (sym (commit-at [] earlier place p))
+  where
+    by_cases : (commits : Bool) → (if commits then effects (serial_map [] earlier) place.transaction.mutations else serial_map [] earlier)
+        ≡ effects (serial_map [] earlier) (if commits then place.transaction.mutations else [])
+    by_cases true = refl
+    by_cases false = refl
+
+-- the run's map right before a place of a batch
+pub place-map : (version : ℕ) (moves : List Stamped) (batch : List Transaction) (earlier : List Place) (n p : ℕ) (there : Place × List Place)
+    → place_in version moves batch earlier p ≡ Some there
+    → serial_map [] there.1 ≡ map_after (serial_map [] earlier) batch (outcomes_from [] version moves batch earlier n) p
+place-map version moves [] earlier n p there at = cc
+place-map version moves (t ∷ ts) earlier n zero there at = let same : there ≡ (placed version moves t, earlier) = cc in ap (λ (one : Place × List Place). serial_map [] one.1) same
+place-map version moves (t ∷ ts) earlier n (suc p) there at =
+    place-map version moves ts (place ∷ earlier) (suc n) p there at
+    ∙ ap (λ (map : Map). effects map others) (serial_map-place earlier place n)
+    ∙ sym (effects-append (serial_map [] earlier) (if is_commit (outcome_at [] earlier place n) then t.mutations else []) others)
+  where
+    place : Place
+    place = placed version moves t
+
+    others : List Mutation
+    others = body_by (take p ts) (take p (outcomes_from [] version moves ts (place ∷ earlier) (suc n)))
+
+-- there is a place for each transaction of a batch, and no other
+pub place-there : (version : ℕ) (moves : List Stamped) (batch : List Transaction) (earlier : List Place) (p : ℕ) → p < length batch
+    → (there : Place × List Place) × (place_in version moves batch earlier p ≡ Some there)
+place-there version moves [] earlier p within = absurd (omega (arith, within))
+place-there version moves (t ∷ ts) earlier zero within = ((placed version moves t, earlier), refl)
+place-there version moves (t ∷ ts) earlier (suc p) within = place-there version moves ts (placed version moves t ∷ earlier) p (omega (arith, within))
+
+pub place-within : (version : ℕ) (moves : List Stamped) (batch : List Transaction) (earlier : List Place) (p : ℕ) (there : Place × List Place)
+    → place_in version moves batch earlier p ≡ Some there → p < length batch
+place-within version moves [] earlier p there at = cc
+place-within version moves (t ∷ ts) earlier zero there at = omega arith
+place-within version moves (t ∷ ts) earlier (suc p) there at =
+    let within = place-within version moves ts (placed version moves t ∷ earlier) p there at in omega (arith, within)

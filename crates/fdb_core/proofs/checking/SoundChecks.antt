@@ -1,0 +1,75 @@
+-- A check of a sound world finds no difference.
+use Rattle.std.proofs.Common.{◌≡◌, ◌∙◌, sym, ap, subst, refl, length, take, ℕ, ◌≤◌, le_refl, arith, Bool, true, false, not, if◌then◌else◌, List, [], Option, Some, None, ⊎_elim, Result, Ok, Err, MatchResult, length-take-le}
+use Rattle.std.specs.Prelude.{IfSome}
+use Rattle.std.proofs.lemmas.Option.{same_Some, slice_get_read}
+use Rattle.fdb_keys.specs.Points.{Point}
+use Rattle.fdb_txn.specs.declared.spot.Spot.{Spot}
+use Rattle.fdb_txn.specs.declared.spot.Spot.TheVariants as spot
+use Rattle.fdb_txn.specs.book.Book.{Place, seen_of}
+use Rattle.fdb_txn.specs.rules.SerialMap.{serial_map, serial_map_at}
+use Rattle.fdb_core.specs.declared.cluster.Cluster.{Cluster}
+use Rattle.fdb_core.specs.declared.roles.log.Message.{Message}
+use Rattle.fdb_core.specs.declared.roles.client.program.Transcript.{Transcript}
+use Rattle.fdb_core.specs.declared.world.CheckFault.{CheckFault}
+use Rattle.fdb_core.specs.declared.world.CheckFault.TheVariants.{NoMemory}
+use Rattle.fdb_core.specs.check.Checking.{IsPlainBook, AgreesAt, Agrees, Finds}
+use Rattle.fdb_core.specs.check.Comparing.{Differs}
+use Rattle.fdb_core.specs.check.Holding.{HoldsTheRun}
+use Rattle.fdb_core.specs.headline.Headline.{AnsweredOn, IsSerializedAtSpot, IsSerialized}
+use Rattle.fdb_core.specs.refinement.Cluster.{machine_of, Refines}
+use Rattle.fdb_core.specs.machine.Machine.{Machine, last_version}
+use Rattle.fdb_core.specs.refinement.Roles.{along, message_on, value_in}
+use Rattle.fdb_core.specs.refinement.Invariant.{Invariant}
+use Rattle.fdb_core.proofs.common.AllLemmas.{all-at}
+use Rattle.fdb_core.proofs.refinement.RunLaws.{entries-rising, length-along, value-of-serial_map}
+
+module _ (k : Cluster) (refines : Refines k) where
+  -- its book is one that a check runs anew
+  plain-book : IsPlainBook k.book.items
+  plain-book = record { no_moves = refines.book.no_moves; entries = refines.book.entries }
+
+  -- who stands at a spot agrees with the book there
+  agrees-where-stands : (transcript : Transcript) (at : Spot) → IsSerializedAtSpot (machine_of k) transcript at → AgreesAt k.book.items transcript at
+  agrees-where-stands transcript (spot.Entry i p version) stands = λ found at.
+      let same : stands.0 ≡ found = same_Some stands.0 found (sym stands.1 ∙ at) in
+      subst (λ (there : Place × List Place). AnsweredOn (serial_map [] there.1) transcript) same
+      (subst (λ (splits : List Point). AnsweredOn (serial_map splits stands.0.1) transcript) refines.plain.resolver_splits stands.5)
+  agrees-where-stands transcript (spot.ReadOnly version) stands =
+      subst (λ (splits : List Point). AnsweredOn (serial_map_at splits version (seen_of k.book.items).places) transcript) refines.plain.resolver_splits stands.3
+
+  -- its shard has the run's map
+  shard-holds : HoldsTheRun k.book.items k.shard.items
+  shard-holds x =
+      let log = refines.log in
+      let messages = along (message_on []) k.book.items in
+      let each : length messages ≡ length k.book.items = length-along (message_on []) k.book.items in
+      let all : length k.shard.items ≡ log.applied =
+      ap (λ (ms : List Message). length ms) log.kept ∙ length-take-le log.applied messages (omega (arith, each, log.behind, log.within)) in
+      let reached : last_version (take (length k.shard.items) k.book.items) ≤ last_version (take log.applied k.book.items) =
+      subst (λ (n : ℕ). last_version (take n k.book.items) ≤ last_version (take log.applied k.book.items)) (sym all) (le_refl (last_version (take log.applied k.book.items))) in
+      ap (λ (ms : List Message). value_in (last_version (take (length k.shard.items) k.book.items)) x ms) log.kept
+      ∙ value-of-serial_map [] k.book.items (entries-rising 1 k.book.items refines.book.entries) log.applied (last_version (take (length k.shard.items) k.book.items)) reached x
+
+  -- so whatever is found is the number of acknowledged transactions, or want of memory
+  sound-finds : Invariant (machine_of k) → (result : Result ℕ CheckFault) → Finds result k.book.items k.acknowledged.items true k.shard.items
+      → MatchResult result (λ count. count ≡ length k.acknowledged.items) (λ fault. fault ≡ NoMemory)
+  sound-finds sound (Ok count) finds = finds.0
+  sound-finds sound (Err fault) finds = ⊎_elim
+      (⊎_elim (λ waits_for. waits_for) (λ (differs : Differs (Agrees k.book.items) k.acknowledged.items fault).
+      let there = slice_get_read k.acknowledged.items (length k.acknowledged.items) differs.0 differs.1 refl differs.2 (sym differs.3) in
+      let stands = all-at (IsSerialized (machine_of k)) k.acknowledged.items differs.0 differs.1 sound.acknowledged there in
+      absurd (differs.4.1 (agrees-where-stands differs.1.transcript differs.1.spot stands))))
+      (λ unlike. absurd (unlike.2 shard-holds))
+      finds
+
+-- and so of a world, unless memory ran out in a step
+pub world-finds : (k : Cluster) (failed : Bool) (world : Option Machine) (result : Result ℕ CheckFault) → (if failed then None else Some (machine_of k)) ≡ world
+    → (failed ≡ false → Refines k × Invariant (machine_of k))
+    → (IsPlainBook k.book.items → Finds result k.book.items k.acknowledged.items (not failed) k.shard.items)
+    → IfSome world (λ machine. MatchResult result (λ count. count ≡ length machine.acknowledged) (λ fault. fault ≡ NoMemory))
+world-finds k true world result is holds finds =
+    subst (λ (now : Option Machine). IfSome now (λ machine. MatchResult result (λ count. count ≡ length machine.acknowledged) (λ fault. fault ≡ NoMemory))) is tt
+world-finds k false world result is holds finds =
+    let sound = holds refl in
+    subst (λ (now : Option Machine). IfSome now (λ machine. MatchResult result (λ count. count ≡ length machine.acknowledged) (λ fault. fault ≡ NoMemory))) is
+    (sound-finds k sound.0 sound.1 result (finds (plain-book k sound.0)))

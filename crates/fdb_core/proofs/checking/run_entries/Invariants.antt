@@ -1,5 +1,0 @@
-use Rattle.fdb_core.specs.Checking.{IsPlainBook, HasCome}
-use Rattle.fdb_core.proofs.checking.run_entries.Given as goal
-
-abbrev pub invariant-loop-index : goal.invariant-loop-index
-invariant-loop-index l = IsPlainBook l.book → HasCome l.book l.acknowledged l.fn.from l.initial.replay → HasCome l.book l.acknowledged l.index l.replay

@@ -1,0 +1,46 @@
+use Rattle.std.proofs.Common.{◌≡◌, ◌∙◌, refl, sym, ap, ap₂, ℕ, if◌then◌else◌, length, List, [], Some, slice_get}
+use Rattle.std.specs.Borrow.{Bor}
+use Rattle.std.proofs.lemmas.Bool.{cond-true, cond-false}
+use Rattle.std.proofs.lemmas.Option.{same_Some, slice_get_read}
+use Rattle.fdb_mutations.specs.declared.mutation.Mutation.{Mutation}
+use Rattle.fdb_txn.specs.declared.entry.Entry.{Entry}
+use Rattle.fdb_txn.specs.book.Transactions.{Transaction}
+use Rattle.fdb_core.specs.declared.step.Outcome.{Outcome}
+use Rattle.fdb_resolver.specs.declared.verdict.Verdict.{Verdict}
+use Rattle.fdb_core.specs.refinement.Roles.{outcomes_by, body_by}
+use Rattle.fdb_core.proofs.refinement.DecideLemmas.{length-outcomes_by}
+use Rattle.fdb_core.proofs.cluster.Cluster.decision.Goals as goal
+use Rattle.fdb_core.proofs.cluster.Cluster.decision.Goals.{then-is_received, else-is_received}
+
+pub committed_body-requires : goal.committed_body-requires
+committed_body-requires c =
+    sym (ap (λ (outcomes : List Outcome). length outcomes) (c.as_slice.ensures ∙ c.in_ok-outcomes.ensures)
+    ∙ length-outcomes_by c.index-entry.result.now.version c.if-is_received.said.now (length c.as_slice-batch.result.now))
+
+pub returns : goal.returns
+returns c entry sent there verdicts_received =
+    let k = c.args.self.now in
+    let found : slice_get k.book.items c.args.i ≡ Some c.index-entry.result.now =
+    slice_get_read k.book.items (length k.book.items) c.args.i c.index-entry.result.now refl c.requires.within c.index-entry.ensures in
+    let same : c.index-entry.result.now ≡ entry = same_Some c.index-entry.result.now entry (sym found ∙ there) in
+    let said : c.if-is_received.said.now ≡ (if c.args.is_received then sent else []) = elim c.if-is_received.branch [
+      | then-is_received w ↦
+          let is : slice_get k.verdicts.items c.args.i ≡ Some w.index.result.now =
+          slice_get_read k.verdicts.items (length k.verdicts.items) c.args.i w.index.result.now refl (c.requires.verdicts_received w.if-is_received.true) w.index.ensures in
+          ap (λ (verdicts : Bor (List (ℕ × Verdict))). verdicts.now) w.said-is ∙ w.as_slice-said.ensures
+          ∙ same_Some w.index.result.now sent (sym is ∙ verdicts_received w.if-is_received.true)
+          ∙ sym (cond-true c.args.is_received sent [] w.if-is_received.true)
+      | else-is_received w ↦
+          ap (λ (verdicts : Bor (List (ℕ × Verdict))). verdicts.now) w.said-is ∙ sym (cond-false c.args.is_received sent [] w.if-is_received.false)
+    ] in
+    let outcomes : c.in_ok-outcomes.outcomes ≡ outcomes_by entry.version (if c.args.is_received then sent else []) (length entry.batch) =
+    c.in_ok-outcomes.ensures
+    ∙ ap (λ (count : ℕ). outcomes_by c.index-entry.result.now.version c.if-is_received.said.now count)
+    (ap (λ (batch : List Transaction). length batch) c.as_slice-batch.ensures.places)
+    ∙ ap (λ (e : Entry). outcomes_by e.version c.if-is_received.said.now (length e.batch)) same
+    ∙ ap (λ (verdicts : List (ℕ × Verdict)). outcomes_by entry.version verdicts (length entry.batch)) said in
+    let body : c.in_ok-body.body ≡ body_by entry.batch c.in_ok-outcomes.outcomes =
+    c.in_ok-body.ensures
+    ∙ ap₂ (λ (batch : List Transaction) (made : List Outcome). body_by batch made)
+    (c.as_slice-batch.ensures.places ∙ ap (λ (e : Entry). e.batch) same) c.as_slice.ensures in
+    (outcomes, ap₂ (λ (version : ℕ) (made : List Mutation). record { version = version; body = made }) (ap (λ (e : Entry). e.version) same) body)

@@ -1,0 +1,6 @@
+pub mod ExamplesLemmas
+pub mod HeadlineLaws
+pub mod PromiseLaws
+pub mod RunsLemmas
+pub mod ServingLaws
+pub mod TraceLaws

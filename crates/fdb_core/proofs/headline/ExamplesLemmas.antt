@@ -1,0 +1,82 @@
+-- The examples compute.
+use Rattle.std.proofs.Common.{◌≡◌, ◌∙◌, sym, ap, refl, subst, arith, ⊎_elim, inl, ℕ, true, false, List, [], ◌∷◌, Some, None}
+use Rattle.std.specs.Prelude.{codes}
+use Rattle.std.specs.FinMap.{get, empty, get-empty}
+use Rattle.std.specs.Ordering.{nat_cmp}
+use Rattle.std.specs.Cmp.Lexicographic.{slice_cmp}
+use Rattle.fdb_keys.specs.Points.{point_lt}
+use Rattle.fdb_keys.specs.Insertion as insertion
+use Rattle.fdb_mutations.specs.Mutations.{effects}
+use Rattle.fdb_txn.specs.book.Transactions.{Transaction}
+use Rattle.fdb_txn.specs.book.Book.{Place, placed}
+use Rattle.fdb_txn.specs.rules.SerialMap.{serial_map}
+use Rattle.fdb_txn.proofs.rules.MessagesLemmas.{get-effects}
+use Rattle.fdb_txn.specs.rules.Admission.{committed}
+use Rattle.fdb_core.specs.declared.roles.client.program.Reply.TheVariants as reply
+use Rattle.fdb_core.specs.headline.Examples.{reads_and_sets, OnlyTheFirstIsSerialized, ReadOnlyAtItsVersion, AfterAVersion, AnEmptyShardDoesNotServe, Traced}
+use Rattle.fdb_core.specs.machine.ClientSteps.{asks, grants}
+use Rattle.fdb_core.specs.headline.Headline.{AnsweredOn}
+use Rattle.fdb_core.specs.programs.Programs.{commit_request_of}
+
+-- the two places of the entry
+abbrev first : Place
+first = placed 100 [] (commit_request_of (reads_and_sets 0 None))
+
+abbrev second : Place
+second = placed 100 [] (commit_request_of (reads_and_sets 1 None))
+
+-- the empty map has nothing at a key
+nothing_there : get {X = List ℕ} {R = slice_cmp nat_cmp} empty (codes "a") ≡ None
+nothing_there = get-empty {X = List ℕ} (slice_cmp nat_cmp) (codes "a")
+
+-- a value is not none
+different : reply.Value (Some (codes "1")) ≡ reply.Value None → ⊥
+different told = cc
+
+pub only_the_first_stands : OnlyTheFirstIsSerialized
+unfolding point_lt insertion.inserted
+only_the_first_stands = (
+  ((first, []), refl, refl, refl, refl, ((λ write. refl), ((λ read. ap reply.Value (sym nothing_there)), tt))),
+  (λ stands.
+      let same : Path (Place × List Place) (second, first ∷ []) stands.0 = cc (stands.1) in
+      omega (arith, ap (λ (found : Place × List Place). found.0.transaction.id.session) same ∙ ap (λ (t : Transaction). t.id.session) stands.3)),
+  (λ stands.
+      let same : Path (Place × List Place) (first, []) stands.0 = cc (stands.1) in
+      omega (arith, ap (λ (found : Place × List Place). found.0.version) same ∙ stands.2)),
+  (λ stands.
+      let same : Path (Place × List Place) (first, []) stands.0 = cc (stands.1) in
+      let answers = subst (λ (found : Place × List Place). AnsweredOn (serial_map [] found.1) (reads_and_sets 0 (Some (codes "1")))) (sym same) stands.5 in
+      let told : reply.Value (Some (codes "1")) ≡ reply.Value None = answers.1.0 refl ∙ ap reply.Value nothing_there in different told),
+  (λ stands.
+      let same : Path (Place × List Place) (second, first ∷ []) stands.0 = cc (stands.1) in
+      let wrong : false ≡ true = subst (λ (found : Place × List Place). committed [] found.1 found.0 ≡ true) (sym same) stands.4 in cc),
+)
+
+pub read_only_at_its_version : ReadOnlyAtItsVersion
+unfolding point_lt
+read_only_at_its_version = (
+  (refl, omega arith, refl, tt),
+  (λ stands. omega (arith, stands.0)),
+  (λ stands. omega (arith, stands.1)),
+  (λ stands. cc (stands.2)),
+)
+
+pub behind_a_version : AfterAVersion
+behind_a_version = ((λ behind. omega (arith, behind)), omega arith, (λ behind. omega (arith, behind)), omega arith)
+
+pub an_empty_shard_does_not_serve : AnEmptyShardDoesNotServe
+unfolding point_lt insertion.inserted
+an_empty_shard_does_not_serve serves =
+    let nothing = serves 100 (codes "a") (omega arith) (omega arith) refl in
+    let something : get (effects empty (commit_request_of (reads_and_sets 0 None)).mutations) (codes "a") ≡ Some (codes "1") =
+    get-effects empty (commit_request_of (reads_and_sets 0 None)).mutations (codes "a") in
+    let wrong : None ≡ Some (codes "1") = nothing ∙ something in cc
+
+pub traced : Traced
+unfolding asks grants
+traced = (
+  refl,
+  refl,
+  (_, inl (refl, refl), refl),
+  (λ world stands. ⊎_elim (λ went. let wrong = went.0 in cc) (λ failed. let wrong = failed.0 in cc) stands.1),
+)

@@ -1,0 +1,91 @@
+-- What follows from the answer of one step.
+use Rattle.std.proofs.Common.{◌≡◌, ◌∙◌, sym, ap, refl, ℕ, Bool, true, false, List, Option, Some, None, Ok, Err, position, if◌then◌else◌}
+use Rattle.std.specs.Prelude.{◌↔◌, nat_lt}
+use Rattle.std.specs.List.{slice_get, list_any}
+use Rattle.fdb_keys.specs.declared.refusal.Refusal.{Refusal}
+use Rattle.fdb_keys.specs.declared.refusal.Refusal.TheVariants.{TransactionTooOld, FutureVersion, Exhausted}
+use Rattle.fdb_txn.specs.rules.Owners.{first_owner}
+use Rattle.fdb_core.specs.declared.roles.shard.ShardProgress.{ShardProgress}
+use Rattle.fdb_core.specs.declared.roles.client.program.Transcript.{Transcript}
+use Rattle.fdb_core.specs.machine.ClientSteps.{grants, gets, read_fault, shard_fault, has_no_number, version_of_shard}
+use Rattle.fdb_core.specs.machine.Machine.{Machine, Transition, refused_by, is_of}
+use Rattle.fdb_core.specs.programs.Programs.{program, decided}
+use Rattle.fdb_core.specs.headline.Promises.{RefusalsChangeNothing, GrantsCommitted, GetsFromTheRun, GetsRefused}
+use Rattle.fdb_core.specs.machine.Steps.{after}
+use Rattle.fdb_core.proofs.machine.AcceptedTransitions.{found-accepted, refused_where-accepted, refused_by-accepted, with_opened-accepted, answer-of}
+
+-- a refused step changes nothing
+pub refusals_change_nothing : RefusalsChangeNothing
+refusals_change_nothing m step refusal refused = ap (after m) refused
+
+-- a grant tells each session that asks there the committed version
+pub grants_committed : GrantsCommitted
+unfolding grants
+grants_committed m proxy transition accepted =
+    found-accepted (slice_get m.grv_proxies proxy) _ transition accepted (λ there at on_there.
+    (there, at, answer-of _ _ transition (refused_where-accepted (list_any (has_no_number m.last_transactions) there) Exhausted _ transition on_there)))
+
+-- a read answers from the map at the read version
+pub gets_from_the_run : GetsFromTheRun
+unfolding gets
+gets_from_the_run m session key snapshot transition accepted =
+    with_opened-accepted session m.opened _ transition accepted (λ i transcript at there on_transcript. (
+      i,
+      transcript,
+      at,
+      there,
+      answer-of _ _ transition (refused_by-accepted (read_fault m (program transcript.ops) transcript.read_version key) _ transition on_transcript),
+    ))
+
+-- why a read of an open transaction is refused
+gets-refused : (m : Machine) (session : ℕ) (key : List ℕ) (snapshot : Bool) (i : ℕ) (transcript : Transcript) (why : Refusal)
+    → position (is_of session) m.opened ≡ Some i → slice_get m.opened i ≡ Some transcript
+    → (gets m session key snapshot ≡ Err why) ↔ (read_fault m (program transcript.ops) transcript.read_version key ≡ Some why)
+unfolding gets
+gets-refused m session key snapshot i transcript why at there =
+    rw (at, there) (by_fault (read_fault m (program transcript.ops) transcript.read_version key) _)
+  where
+    by_fault : (fault : Option Refusal) (transition : Transition) → (refused_by fault (Ok transition) ≡ Err why) ↔ (fault ≡ Some why)
+    by_fault None transition = ((λ refused. cc), (λ faulty. cc))
+    by_fault (Some other) transition = ((λ refused. cc), (λ faulty. cc))
+
+-- a shard is ahead of a version exactly where it has it and is not there yet
+shard-behind : (m : Machine) (version : ℕ) (there : Option ShardProgress)
+    → (shard_fault m.book version there ≡ Some FutureVersion)
+    ↔ ((progress : ShardProgress) × (there ≡ Some progress) × (nat_lt version progress.floor ≡ false) × (nat_lt (version_of_shard m.book progress) version ≡ true))
+shard-behind m version None = ((λ faulty. cc), (λ behind. let h = behind.1 in cc))
+shard-behind m version (Some progress) = (
+  (λ faulty. let tests = (by_tests _ _).0 faulty in (progress, refl, tests.0, tests.1)),
+  (λ behind. let same : behind.0 ≡ progress = cc (behind.1) in
+      (by_tests _ _).1 (ap (λ (r : ShardProgress). nat_lt version r.floor) (sym same) ∙ behind.2, ap (λ (r : ShardProgress). nat_lt (version_of_shard m.book r) version) (sym same) ∙ behind.3)),
+)
+  where
+    by_tests : (old late : Bool)
+        → ((if old then Some TransactionTooOld else (if late then Some FutureVersion else None)) ≡ Some FutureVersion) ↔ ((old ≡ false) × (late ≡ true))
+    by_tests true late = ((λ faulty. cc), (λ tests. let h = tests.0 in cc))
+    by_tests false true = ((λ faulty. (refl, refl)), (λ tests. refl))
+    by_tests false false = ((λ faulty. cc), (λ tests. let h = tests.1 in cc))
+
+-- a read of an open transaction is refused as in the future exactly where the key's shard is behind
+pub gets_refused : GetsRefused
+gets_refused m session key snapshot i transcript at there = (
+  (λ refused. (by_decided (decided (program transcript.ops) key)).0 (answer.0 refused)),
+  (λ behind. answer.1 ((by_decided (decided (program transcript.ops) key)).1 behind)),
+)
+  where
+    answer : (gets m session key snapshot ≡ Err FutureVersion) ↔ (read_fault m (program transcript.ops) transcript.read_version key ≡ Some FutureVersion)
+    answer = gets-refused m session key snapshot i transcript FutureVersion at there
+
+    Behind : Type 0
+    Behind =
+        (progress : ShardProgress) × (slice_get m.shards (first_owner m.config.shard_splits key) ≡ Some progress)
+        × (nat_lt transcript.read_version progress.floor ≡ false) × (nat_lt (version_of_shard m.book progress) transcript.read_version ≡ true)
+
+    shard : Option Refusal
+    shard = shard_fault m.book transcript.read_version (slice_get m.shards (first_owner m.config.shard_splits key))
+
+    by_decided : (own : Bool) → ((if own then None else shard) ≡ Some FutureVersion) ↔ ((own ≡ false) × Behind)
+    by_decided true = ((λ faulty. cc), (λ behind. let h = behind.0 in cc))
+    by_decided false =
+        let there_behind = shard-behind m transcript.read_version (slice_get m.shards (first_owner m.config.shard_splits key)) in
+        ((λ faulty. (refl, there_behind.0 faulty)), (λ behind. there_behind.1 behind.1))

@@ -1,0 +1,22 @@
+-- Runs of steps, one step longer.
+use Rattle.std.proofs.Common.{◌≡◌, List, [], ◌∷◌, ◌++◌, Option, Some, None, Result, Ok, Err, subst}
+use Rattle.fdb_keys.specs.declared.refusal.Refusal.{Refusal}
+use Rattle.fdb_keys.specs.Answers.{Answers}
+use Rattle.fdb_core.specs.declared.step.Answered.{Answered}
+use Rattle.fdb_core.specs.declared.step.Step.{Step}
+use Rattle.fdb_core.specs.machine.Machine.{Machine}
+use Rattle.fdb_core.specs.machine.Worlds.{IsStep, IsRun}
+
+-- a run goes on by one step
+pub run-push : (old mid new : Option Machine) (steps : List Step) (answers : List (Result Answered Refusal)) (step : Step) (answer : Result Answered Refusal)
+    → IsRun old steps answers mid → IsStep mid step answer new → IsRun old (steps ++ step ∷ []) (answers ++ answer ∷ []) new
+run-push old mid new [] [] step answer ran taken =
+    (new, subst (λ (m : Option Machine). IsStep m step answer new) ran taken, Rattle.std.proofs.Common.refl)
+run-push old mid new [] (a ∷ others) step answer ran taken = absurd ran
+run-push old mid new (s ∷ ss) [] step answer ran taken = absurd ran
+run-push old mid new (s ∷ ss) (a ∷ others) step answer ran taken = (ran.0, ran.1, run-push ran.0 mid new ss others step answer ran.2 taken)
+
+-- a call that gave something had no fault
+pub answers-fault : {T : Type 0} (fault : Option Refusal) (given : T) (P : T → Type 0) → Answers (Ok given) fault P → (fault ≡ None) × P given
+answers-fault None given P answers = (Rattle.std.proofs.Common.refl, answers)
+answers-fault (Some why) given P answers = absurd answers

@@ -1,0 +1,68 @@
+-- Traces: what every step keeps holds after any of them, and they tell the machine.
+use Rattle.std.proofs.Common.{◌≡◌, ◌∙◌, sym, ap, refl, subst, ⊎_elim, ℕ, zero, suc, List, [], ◌∷◌, take, drop, Option, Some, None, Result, Ok, Err}
+use Rattle.std.specs.Prelude.{IfSome}
+use Rattle.fdb_keys.specs.declared.refusal.Refusal.{Refusal}
+use Rattle.fdb_core.specs.declared.config.Config.{Config}
+use Rattle.fdb_core.specs.declared.step.Answered.{Answered}
+use Rattle.fdb_core.specs.declared.step.Step.{Step}
+use Rattle.fdb_core.specs.machine.Machine.{Machine, Transition}
+use Rattle.fdb_core.specs.machine.Steps.{next, answer_of, after}
+use Rattle.fdb_core.specs.headline.Traces.{after_step, after_steps, machine_of_trace, IsTraceOf, TracesDetermineTheMachine}
+use Rattle.fdb_core.specs.machine.Worlds.{start, IsRun}
+use Rattle.fdb_core.proofs.invariant.CommittedLaws.{run-none}
+
+-- what every step keeps holds after any step with any answer
+kept-after_step : (P : Machine → Type 0) → ((m : Machine) (taken : Step) → P m → P (after m (next m taken)))
+    → (m : Machine) (taken : Step) (answer : Result Answered Refusal) → P m → P (after_step m taken answer)
+kept-after_step P keeps m taken (Ok said) holds = keeps m taken holds
+kept-after_step P keeps m taken (Err refusal) holds = holds
+
+-- and after any list of them
+pub kept-after_steps : (P : Machine → Type 0) → ((m : Machine) (taken : Step) → P m → P (after m (next m taken)))
+    → (m : Machine) (steps : List Step) (given : List (Result Answered Refusal)) → P m → P (after_steps m steps given)
+kept-after_steps P keeps m [] given holds = holds
+kept-after_steps P keeps m (taken ∷ steps) [] holds = holds
+kept-after_steps P keeps m (taken ∷ steps) (answer ∷ given) holds =
+    kept-after_steps P keeps (after_step m taken answer) steps given (kept-after_step P keeps m taken answer holds)
+
+-- steps without answers take the machine nowhere
+after_steps-unanswered : (m : Machine) (steps : List Step) → after_steps m steps [] ≡ m
+after_steps-unanswered m [] = refl
+after_steps-unanswered m (taken ∷ steps) = refl
+
+-- a trace is its first steps, and then the others
+pub after_steps-parts : (n : ℕ) (m : Machine) (steps : List Step) (given : List (Result Answered Refusal))
+    → after_steps (after_steps m (take n steps) (take n given)) (drop n steps) (drop n given) ≡ after_steps m steps given
+after_steps-parts zero m steps given = refl
+after_steps-parts (suc n) m [] given = refl
+after_steps-parts (suc n) m (taken ∷ steps) [] = after_steps-unanswered m (drop n steps)
+after_steps-parts (suc n) m (taken ∷ steps) (answer ∷ given) = after_steps-parts n (after_step m taken answer) steps given
+
+-- with the machine's own answer a step takes the machine on
+after_step-answered : (m : Machine) (taken : Step) (transition : Result Transition Refusal) → next m taken ≡ transition → after_step m taken (answer_of transition) ≡ after m (next m taken)
+after_step-answered m taken (Ok transition) is = refl
+after_step-answered m taken (Err refusal) is = ap (after m) (sym is)
+
+-- a run leaves the machine to which its steps with their answers take it
+run-after_steps : (m new : Machine) (steps : List Step) (given : List (Result Answered Refusal)) → IsRun (Some m) steps given (Some new) → new ≡ after_steps m steps given
+run-after_steps m new [] [] ran = cc
+run-after_steps m new [] (answer ∷ given) ran = absurd ran
+run-after_steps m new (taken ∷ steps) [] ran = absurd ran
+run-after_steps m new (taken ∷ steps) (answer ∷ given) ran = ⊎_elim
+    (λ went. let others : IsRun (Some (after m (next m taken))) steps given (Some new)
+    = subst (λ (mid : Option Machine). IsRun mid steps given (Some new)) went.1 ran.2 in
+    run-after_steps (after m (next m taken)) new steps given others
+    ∙ ap (λ (mid : Machine). after_steps mid steps given)
+    (sym (ap (after_step m taken) went.0 ∙ after_step-answered m taken (next m taken) refl)))
+    (λ failed. let none : Some new ≡ None
+    = run-none steps given (Some new) (subst (λ (mid : Option Machine). IsRun mid steps given (Some new)) failed.1 ran.2) in cc)
+    ran.1
+
+pub traces_tell : TracesDetermineTheMachine
+traces_tell config steps given m stands = run-after_steps (start config) m steps given stands
+
+-- the same of a world that may have run out of memory
+pub shows : (config : Config) (steps : List Step) (given : List (Result Answered Refusal)) (world : Option Machine) → IsTraceOf config steps given world
+    → IfSome world (λ (m : Machine). m ≡ machine_of_trace config steps given)
+shows config steps given None stands = tt
+shows config steps given (Some m) stands = traces_tell config steps given m stands

@@ -1,0 +1,7 @@
+pub mod CommittedLaws
+pub mod OnceLaws
+pub mod OnceLemmas
+pub mod RealTimeLaws
+pub mod SerializedLemmas
+pub mod SoundLemmas
+pub mod SoundSteps

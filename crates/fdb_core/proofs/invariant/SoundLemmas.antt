@@ -1,0 +1,184 @@
+-- What it takes to keep the machine sound: tests that accepted steps passed, transcripts, the book, and parts that change.
+use Rattle.std.proofs.Common.{◌≡◌, ◌∙◌, refl, sym, ap, ap₂, subst, arith, ◌<◌, ◌≤◌, le_refl, le_trans, ℕ, zero, suc, Bool, true, false, not, ◌||◌, if◌then◌else◌, List, [], ◌∷◌, ◌++◌, fold, map, Some, None, Result, Ok, position, ◌⊎◌, inl, inr}
+use Rattle.std.specs.List.{AllByRecursion, slice_get}
+use Rattle.std.proofs.lemmas.List.Sums.{fold-append}
+use Rattle.fdb_keys.specs.declared.refusal.Refusal.{Refusal}
+use Rattle.fdb_keys.specs.Insertion.{with_range}
+use Rattle.fdb_keys.specs.Points.{Point}
+use Rattle.fdb_keys.specs.Ranges.{Range, in_range, in_set}
+use Rattle.fdb_keys.proofs.SingleLemmas.{in_range-single}
+use Rattle.fdb_mutations.specs.declared.mutation.Mutation.{Mutation}
+use Rattle.fdb_mutations.specs.declared.mutation.Mutation.TheVariants.{Set, Clear}
+use Rattle.fdb_mutations.specs.Maps.{Map}
+use Rattle.fdb_mutations.specs.Mutations.{names, named_range}
+use Rattle.fdb_txn.specs.declared.entry.Entry.{Entry}
+use Rattle.fdb_txn.specs.book.Book.{seen_of}
+use Rattle.fdb_txn.specs.book.History.{AreEntries}
+use Rattle.fdb_txn.specs.rules.SerialMap.{serial_map_at}
+use Rattle.fdb_txn.specs.laws.SerialMapLaws.{version_after}
+use Rattle.fdb_txn.specs.book.Transactions.{Transaction, NamesWrites, with_named, some_names}
+use Rattle.fdb_txn.proofs.book.HistoryLemmas.{earlier_maps_stay}
+use Rattle.fdb_core.specs.declared.roles.client.LastTransaction.{LastTransaction}
+use Rattle.fdb_core.specs.declared.roles.commit_proxy.CommitProxy.{CommitProxy}
+use Rattle.fdb_core.specs.declared.roles.commit_proxy.Stage.{Stage}
+use Rattle.fdb_core.specs.declared.roles.commit_proxy.Stage.TheVariants.{Idle, Resolving, Logging, Reported}
+use Rattle.fdb_core.specs.declared.roles.client.Submission.{Submission}
+use Rattle.fdb_core.specs.declared.roles.client.program.Op.{Op}
+use Rattle.fdb_core.specs.declared.roles.client.program.Reply.{Reply}
+use Rattle.fdb_core.specs.declared.roles.client.program.Transcript.{Transcript}
+use Rattle.fdb_core.specs.machine.ClientSteps.{without, without_at, serve, begin_next, first_of}
+use Rattle.fdb_core.specs.headline.Headline.{replies_of}
+use Rattle.fdb_core.specs.machine.Machine.{Machine, Transition, refused_where, last_version, is_of}
+use Rattle.fdb_core.specs.programs.Programs.{program, copy, reply_on, exec, commit_request_of, mutations_of}
+use Rattle.fdb_core.specs.machine.CommitProxySteps.{is_idle, is_resolving, is_logging}
+use Rattle.fdb_core.specs.refinement.Invariant.{IsReplied, Waits, CommitProxyIsSound}
+use Rattle.fdb_core.proofs.common.AllLemmas.{all-push, all-remove, all-map}
+use Rattle.fdb_txn.proofs.book.HistoryLemmas.{all-weaken}
+use Rattle.fdb_core.proofs.programs.ReadSetLemmas.{in_with_range}
+use Rattle.fdb_core.proofs.programs.ProgramLaws.{program-push}
+
+-- what is accepted behind a test failed it
+pub refused_where-failed : (test : Bool) (refusal : Refusal) (next : Result Transition Refusal) (transition : Transition) → refused_where test refusal next ≡ Ok transition
+    → test ≡ false
+refused_where-failed true refusal next transition accepted = cc
+refused_where-failed false refusal next transition accepted = refl
+
+-- what is accepted of two branches is of the one that the test picks
+pub if-picked : (test : Bool) (one other : Result Transition Refusal) (transition : Transition) → (if test then one else other) ≡ Ok transition
+    → ((test ≡ true) × (one ≡ Ok transition)) ⊎ (other ≡ Ok transition)
+if-picked true one other transition accepted = inl (refl, accepted)
+if-picked false one other transition accepted = inr accepted
+
+-- a proxy whose batch is being resolved or logged isn't idle
+pub resolving-busy : (stage : Stage) → not (is_resolving stage) ≡ false → is_idle stage ≡ false
+resolving-busy Idle resolving = cc
+resolving-busy Resolving resolving = refl
+resolving-busy Logging resolving = refl
+resolving-busy Reported resolving = refl
+
+pub logging-busy : (stage : Stage) → not (is_logging stage) ≡ false → is_idle stage ≡ false
+logging-busy Idle logging = cc
+logging-busy Resolving logging = refl
+logging-busy Logging logging = refl
+logging-busy Reported logging = refl
+
+module _ (P : Transcript → Type 0) where
+  -- what holds of the open transactions holds of those but the session's
+  pub all-without : (session : ℕ) (opened : List Transcript) → AllByRecursion P opened → AllByRecursion P (without session opened)
+  all-without session opened all =
+      elim (position (is_of session) opened) as (λ there. AllByRecursion P (without_at opened there)) [ None ↦ all | Some i ↦ all-remove P opened i all ]
+
+  -- what holds of transactions at their begin holds still with more of them
+  pub all-served : (version : ℕ) → ((last_transactions : List LastTransaction) (session : ℕ) → P (first_of last_transactions version session))
+      → (sessions : List ℕ) (last_transactions : List LastTransaction) (opened : List Transcript)
+      → AllByRecursion P opened → AllByRecursion P (fold (serve version) (last_transactions, opened) sessions).1
+  all-served version first [] last_transactions opened all = all
+  all-served version first (session ∷ sessions) last_transactions opened all =
+      all-served version first sessions (begin_next last_transactions session) (opened ++ first_of last_transactions version session ∷ []) (all-push P opened _ all (first last_transactions session))
+
+-- the reply to one more operation is the newest
+pub replies_of-push : (ops : List (Op × Reply)) (done : Op × Reply) → replies_of (ops ++ done ∷ []) ≡ done.1 ∷ replies_of ops
+replies_of-push ops done = fold-append (λ (earlier : List Reply) (one : Op × Reply). one.1 ∷ earlier) [] ops (done ∷ [])
+
+-- a transcript stays told with one more operation that is replied from the copy after the earlier ones
+pub told-push : (m : Machine) (transcript : Transcript) (op : Op) (reply : Reply)
+    → reply ≡ reply_on (copy (serial_map_at m.config.resolver_splits transcript.read_version (seen_of m.book).places) (program transcript.ops)) op
+    → IsReplied m transcript → IsReplied m (record transcript { ops = transcript.ops ++ (op, reply) ∷ [] })
+told-push m transcript op reply is told = (
+  told.0,
+  replies_of-push transcript.ops (op, reply) ∙ ap (λ (first : Reply). first ∷ replies_of transcript.ops) is
+      ∙ ap (λ (others : List Reply). reply_on (copy there (program transcript.ops)) op ∷ others) told.1
+      ∙ ap (exec there) (sym (program-push transcript.ops (op, reply))),
+)
+  where
+    there : Map
+    there = serial_map_at m.config.resolver_splits transcript.read_version (seen_of m.book).places
+
+-- the range of a mutation has the points that it names
+in_named_range : (mutation : Mutation) (x : Point) → in_range (named_range mutation) x ≡ names mutation x
+in_named_range (Set key value) x = in_range-single key x
+in_named_range (Clear key) x = in_range-single key x
+
+-- a set with all that mutations name has their points and its own
+in_with_named : (mutations : List Mutation) (writes : List Range) (x : Point)
+    → in_set (with_named writes mutations) x ≡ (some_names mutations x || in_set writes x)
+in_with_named [] writes x = refl
+in_with_named (mutation ∷ mutations) writes x =
+    in_with_named mutations (with_range (named_range mutation) writes) x
+    ∙ ap (λ (own : Bool). some_names mutations x || own) (in_with_range (named_range mutation) writes x
+    ∙ ap (λ (here : Bool). here || in_set writes x) (in_named_range mutation x))
+    ∙ in_any_order (names mutation x) (some_names mutations x) (in_set writes x)
+  where
+    in_any_order : (a b c : Bool) → (b || (a || c)) ≡ ((a || b) || c)
+    in_any_order true true c = refl
+    in_any_order true false c = refl
+    in_any_order false true c = refl
+    in_any_order false false c = refl
+
+-- what is submitted of a transcript has in its write set all that its mutations name
+pub commit_request_of-names : (transcript : Transcript) → NamesWrites (commit_request_of transcript)
+commit_request_of-names transcript x named =
+    let mutations = mutations_of (program transcript.ops) in
+    in_with_named mutations [] x ∙ ap (λ (some : Bool). some || false) named
+
+-- those who wait may be the batch of an entry of a version above the committed one
+pub sealed-batch : (m : Machine) (version : ℕ) (submissions : List Submission) → m.committed < version → AllByRecursion (Waits m) submissions
+    → AllByRecursion (λ (t : Transaction). (t.read < version) × NamesWrites t) (map (λ (submission : Submission). submission.sealed) submissions)
+sealed-batch m version submissions above waits =
+    all-map (Waits m) May (λ (submission : Submission). submission.sealed)
+    (λ submission waiting. subst May (sym waiting.0) (omega (arith, waiting.1.0, above), commit_request_of-names submission.transcript)) submissions waits
+  where
+    May : Transaction → Type 0
+    May t = (t.read < version) × NamesWrites t
+
+-- and what is judged of them is what is submitted of their transcripts
+pub sealed-in_flight : (m : Machine) (submissions : List Submission) → AllByRecursion (Waits m) submissions
+    → map (λ (submission : Submission). submission.sealed) submissions ≡ map commit_request_of (map (λ (submission : Submission). submission.transcript) submissions)
+sealed-in_flight m [] waits = refl
+sealed-in_flight m (submission ∷ submissions) waits = ap₂ (λ first others. first ∷ others) waits.0.0 (sealed-in_flight m submissions waits.1)
+
+-- what is found in a list is found there with more behind it
+pub found-front : {A : Type 0} (xs ys : List A) (i : ℕ) (x : A) → slice_get xs i ≡ Some x → slice_get (xs ++ ys) i ≡ Some x
+found-front [] ys i x there = cc
+found-front (y ∷ xs) ys zero x there = there
+found-front (y ∷ xs) ys (suc i) x there = found-front xs ys i x there
+
+-- the last version of a book with one more entry
+pub last_version-push : (book : List Entry) (entry : Entry) → last_version (book ++ entry ∷ []) ≡ entry.version
+last_version-push book entry = fold-append (λ (last : ℕ) (one : Entry). one.version) 0 book (entry ∷ [])
+
+-- no entry has a version above that of the last one
+last-above : (resolvers last : ℕ) (book : List Entry) → AreEntries resolvers last book → last ≤ version_after last book
+last-above resolvers last [] entries = le_refl last
+last-above resolvers last (entry ∷ book) entries =
+    let rest = last-above resolvers entry.version book entries.4 in
+    omega (arith, entries.0, rest)
+
+pub version-within : (resolvers last : ℕ) (book : List Entry) (i : ℕ) (entry : Entry) → AreEntries resolvers last book → slice_get book i ≡ Some entry
+    → entry.version ≤ version_after last book
+version-within resolvers last [] i entry entries there = cc
+version-within resolvers last (first ∷ book) zero entry entries there =
+    let same : first ≡ entry = cc in
+    subst (λ (e : Entry). e.version ≤ version_after first.version book) same (last-above resolvers first.version book entries.4)
+version-within resolvers last (first ∷ book) (suc i) entry entries there = version-within resolvers first.version book i entry entries.4 there
+
+-- with one more entry of a version above the committed one each transcript stays told
+pub told-entry : (m after : Machine) (entry : Entry) (transcript : Transcript) → after.config ≡ m.config → after.book ≡ m.book ++ entry ∷ []
+    → m.committed < entry.version → m.committed ≤ after.committed → IsReplied m transcript → IsReplied after transcript
+told-entry m after entry transcript same_config longer above raised told = (
+  le_trans told.0 raised,
+  told.1 ∙ ap (λ (there : Map). exec there (program transcript.ops)) (sym (
+      ap (λ (splits : List Point). serial_map_at splits transcript.read_version (seen_of after.book).places) (ap (λ c. c.resolver_splits) same_config)
+      ∙ ap (λ (book : List Entry). serial_map_at m.config.resolver_splits transcript.read_version (seen_of book).places) longer
+      ∙ earlier_maps_stay m.config.resolver_splits m.book entry transcript.read_version (omega (arith, told.0, above)))),
+)
+
+-- what keeps transcripts told and entries found keeps commit proxies sound
+pub commit_proxy-kept : (m after : Machine) → ((transcript : Transcript) → IsReplied m transcript → IsReplied after transcript)
+    → ((i : ℕ) (entry : Entry) → slice_get m.book i ≡ Some entry → slice_get after.book i ≡ Some entry)
+    → (commit_proxy : CommitProxy) → CommitProxyIsSound m commit_proxy → CommitProxyIsSound after commit_proxy
+commit_proxy-kept m after told found commit_proxy sound = (
+  all-weaken (Waits m) (Waits after) (λ (submission : Submission) waits. (waits.0, told submission.transcript waits.1)) commit_proxy.waiting sound.0,
+  all-weaken (IsReplied m) (IsReplied after) told commit_proxy.in_flight sound.1,
+  λ busy. let there = sound.2 busy in (there.0, found commit_proxy.entry there.0 there.1, there.2),
+)

@@ -1,0 +1,5 @@
+use Rattle.fdb_core.proofs.headline.HeadlineLaws.{acknowledged_stand}
+use Rattle.fdb_core.proofs.laws.acknowledged_transactions_are_serialized_at_their_spots.Goals as goal
+
+pub returns : goal.returns
+returns c = acknowledged_stand

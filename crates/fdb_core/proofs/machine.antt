@@ -1,0 +1,2 @@
+pub mod AcceptedTransitions
+pub mod Transitions

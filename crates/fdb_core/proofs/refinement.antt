@@ -1,0 +1,12 @@
+pub mod AnswerLemmas
+pub mod BatchLaws
+pub mod CommitProxyTies
+pub mod DecideLemmas
+pub mod NoMoves
+pub mod OneResolver
+pub mod ResolvingLemmas
+pub mod RoleTies
+pub mod RunLaws
+pub mod SealLemmas
+pub mod TicketTies
+pub mod Ties

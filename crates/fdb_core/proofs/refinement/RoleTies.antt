@@ -1,0 +1,199 @@
+-- The resolver, the log and the shard, kept tied through the steps.
+use Rattle.std.proofs.Common.{◌≡◌, ◌∙◌, refl, sym, ap, subst, ℕ, zero, suc, ◌+◌, ◌-◌, ◌≤◌, min, max, List, [], ◌∷◌, ◌++◌, length, take, drop, Some, arith, add-one}
+use Rattle.std.specs.List.{slice_get, slice_set}
+use Rattle.std.proofs.lemmas.Grind.{fold-append}
+use Rattle.std.proofs.lemmas.List.{length-take, take_all}
+use Rattle.std.proofs.lemmas.Option.{slice_get_within}
+use Rattle.std.proofs.Math.Seq.{take-add}
+use Rattle.fdb_txn.specs.declared.entry.Entry.{Entry}
+use Rattle.fdb_txn.specs.book.Book.{add_entry, seen_of}
+use Rattle.fdb_txn.specs.book.History.{AreEntries}
+use Rattle.fdb_resolver.specs.Resolvers.{Resolver}
+use Rattle.fdb_core.specs.declared.roles.commit_proxy.CommitProxy.{CommitProxy}
+use Rattle.fdb_core.specs.declared.roles.shard.ShardProgress.{ShardProgress}
+use Rattle.fdb_core.specs.declared.roles.log.Message.{Message}
+use Rattle.fdb_core.specs.declared.step.Outcome.{Outcome}
+use Rattle.fdb_resolver.specs.declared.verdict.Verdict.{Verdict}
+use Rattle.fdb_core.specs.refinement.Cluster.{IsRising, ResolverRefines, LogRefines, CommitProxyRefines, CommitProxiesRefine}
+use Rattle.fdb_core.specs.machine.Machine.{last_version, seen_before}
+use Rattle.fdb_core.specs.refinement.Resolving.{NoMovesIn, ResolverAt, IsNext}
+use Rattle.fdb_core.specs.refinement.Roles.{along, message_on}
+use Rattle.fdb_core.specs.machine.Verdicts.{verdicts_on}
+use Rattle.fdb_core.proofs.common.AllLemmas.{within-item}
+use Rattle.fdb_core.proofs.refinement.NoMoves.{no_moves-take}
+use Rattle.fdb_txn.proofs.book.HistoryLemmas.{seen_of-push}
+use Rattle.fdb_core.proofs.refinement.RunLaws.{slice_get-along, length-along}
+
+-- a front of a list with the next item
+pub take-next : {A : Type 0} (xs : List A) (i : ℕ) (x : A) → slice_get xs i ≡ Some x → take (suc i) xs ≡ take i xs ++ x ∷ []
+take-next [] i x there = cc
+take-next (y ∷ ys) zero x there = let same : y ≡ x = cc in ap (λ z. z ∷ []) same
+take-next (y ∷ ys) (suc i) x there = ap (λ zs. y ∷ zs) (take-next ys i x there)
+
+-- what was seen before the next entry
+pub seen_before-next : (book : List Entry) (i : ℕ) (entry : Entry) → slice_get book i ≡ Some entry → seen_before book (suc i) ≡ add_entry (seen_before book i) entry
+seen_before-next book i entry there = ap seen_of (take-next book i entry there) ∙ seen_of-push (take i book) entry
+
+-- the one number of a list is found under 0 alone
+pub one-at : {A : Type 0} (one x : A) (r : ℕ) → slice_get (one ∷ []) r ≡ Some x → (r ≡ 0) × (one ≡ x)
+one-at one x zero there = (refl, cc)
+one-at one x (suc r) there = cc
+
+-- a front of entries
+entries-take : (resolvers last n : ℕ) (book : List Entry) → AreEntries resolvers last book → AreEntries resolvers last (take n book)
+entries-take resolvers last zero book entries = tt
+entries-take resolvers last (suc n) [] entries = tt
+entries-take resolvers last (suc n) (entry ∷ book) entries = (entries.0, entries.1, entries.2, entries.3, entries-take resolvers entry.version n book entries.4)
+
+-- a resolver that took the entries before one awaits that one
+pub awaits : (book : List Entry) (resolver : Resolver) (i : ℕ) (entry : Entry) → NoMovesIn book → AreEntries 1 0 book → slice_get book i ≡ Some entry
+    → ResolverAt (take i book) resolver → IsNext (take i book) resolver entry
+awaits book resolver i entry still entries there at =
+    let front = take-next book i entry there in
+    record {
+      taken = at;
+      still = subst NoMovesIn front (no_moves-take (suc i) book still);
+      entries = subst (AreEntries 1 0) front (entries-take 1 0 (suc i) book entries);
+    }
+
+-- the resolver takes the next entry
+module _ (book : List Entry) (resolvers : List ℕ) (resolver : Resolver) (verdicts : List (List (ℕ × Verdict))) (r i : ℕ) (entry : Entry)
+    (ok : ResolverRefines book resolvers resolver verdicts) (still : NoMovesIn book) (entries : AreEntries 1 0 book)
+    (there : slice_get book i ≡ Some entry) (at : slice_get resolvers r ≡ Some i) where
+  pub resolver-is : (r ≡ 0) × (ok.taken ≡ i)
+  resolver-is = one-at ok.taken i r (rw ok.one at at)
+
+  pub resolver-awaits : IsNext (take i book) resolver entry
+  resolver-awaits = awaits book resolver i entry still entries there (subst (λ (n : ℕ). ResolverAt (take n book) resolver) resolver-is.1 ok.state)
+
+  pub resolver-next : (later : Resolver) (sent : List (ℕ × Verdict)) → ResolverAt (take i book ++ entry ∷ []) later
+      → sent ≡ verdicts_on [] 0 (seen_before book i) entry → ResolverRefines book (slice_set resolvers r (i + 1)) later (verdicts ++ sent ∷ [])
+  resolver-next later sent state said = record {
+    taken = suc i;
+    one = rw (ok.one, resolver-is.0, add-one) refl;
+    within = slice_get_within book i entry there;
+    state = subst (λ (front : List Entry). ResolverAt front later) (sym (take-next book i entry there)) state;
+    sent = ap (λ vs. vs ++ sent ∷ []) (ok.sent ∙ ap (λ (n : ℕ). take n (along (verdicts_on [] 0) book)) resolver-is.1)
+        ∙ ap (λ v. take i (along (verdicts_on [] 0) book) ++ v ∷ []) said
+        ∙ sym (take-next (along (verdicts_on [] 0) book) i _ (slice_get-along (verdicts_on [] 0) book i entry there));
+  }
+
+  -- what was delivered stays delivered
+  pub commit_proxy-resolved : (committed : ℕ) (commit_proxy : CommitProxy) (outcomes : List Outcome) → CommitProxyRefines book resolvers committed commit_proxy outcomes
+      → CommitProxyRefines book (slice_set resolvers r (i + 1)) committed commit_proxy outcomes
+  commit_proxy-resolved committed commit_proxy outcomes refines = record {
+    waiting = refines.waiting;
+    in_book = refines.in_book;
+    aligned = refines.aligned;
+    verdicts_received = refines.verdicts_received;
+    decision = refines.decision;
+    delivered = λ taken busy verdicts_received now.
+        let one : slice_get ((i + 1) ∷ []) 0 ≡ Some taken = rw (ok.one, resolver-is.0) at now in
+        let same = (one-at (i + 1) taken 0 one).1 in
+        let before = refines.delivered i busy verdicts_received (rw resolver-is.0 at at) in
+        omega (arith, before, same);
+  }
+
+  pub commit_proxies-resolved : (committed : ℕ) (commit_proxies : List CommitProxy) (outcomes : List Outcome) → CommitProxiesRefine book resolvers committed commit_proxies outcomes
+      → CommitProxiesRefine book (slice_set resolvers r (i + 1)) committed commit_proxies outcomes
+  commit_proxies-resolved committed commit_proxies outcomes refines = record { commit_proxy = refines.commit_proxy; one = refines.one; ok = commit_proxy-resolved committed refines.commit_proxy outcomes refines.ok }
+
+-- the log takes the message of the next entry
+module _ (book : List Entry) (logs : List ℕ) (shards : List ShardProgress) (log shard : List Message) (l i : ℕ) (entry : Entry)
+    (ok : LogRefines book logs shards log shard) (there : slice_get book i ≡ Some entry) (at : slice_get logs l ≡ Some i) where
+  log-is : (l ≡ 0) × (ok.taken ≡ i)
+  log-is = one-at ok.taken i l (rw ok.one_log at at)
+
+  pub log-next : (message : Message) → message ≡ message_on [] (seen_before book i) entry → LogRefines book (slice_set logs l (i + 1)) shards (log ++ message ∷ []) shard
+  log-next message is = record {
+    taken = suc i;
+    applied = ok.applied;
+    one_log = rw (ok.one_log, log-is.0, add-one) refl;
+    one_shard = ok.one_shard;
+    within = slice_get_within book i entry there;
+    behind = omega (arith, ok.behind, log-is.1);
+    logged = ap (λ ms. ms ++ message ∷ []) (ok.logged ∙ ap (λ (n : ℕ). take n (along (message_on []) book)) log-is.1)
+        ∙ ap (λ m. take i (along (message_on []) book) ++ m ∷ []) is
+        ∙ sym (take-next (along (message_on []) book) i _ (slice_get-along (message_on []) book i entry there));
+    kept = ok.kept;
+  }
+
+-- a front of a front
+take-take : {A : Type 0} (xs : List A) (p t : ℕ) → p ≤ t → take p (take t xs) ≡ take p xs
+take-take [] zero zero h = refl
+take-take [] (suc p) zero h = refl
+take-take [] zero (suc t) h = refl
+take-take [] (suc p) (suc t) h = refl
+take-take (x ∷ xs) zero zero h = refl
+take-take (x ∷ xs) (suc p) zero h = absurd (omega (arith, h))
+take-take (x ∷ xs) zero (suc t) h = refl
+take-take (x ∷ xs) (suc p) (suc t) h = ap (λ ys. x ∷ ys) (take-take xs p t (omega (arith, h)))
+
+-- the shard applies further messages of the log
+module _ (book : List Entry) (logs : List ℕ) (shards : List ShardProgress) (log shard : List Message) (ok : LogRefines book logs shards log shard) where
+  pub length-log : length log ≡ ok.taken
+  length-log =
+      let through : length log ≡ min ok.taken (length (along (message_on []) book)) = ap length ok.logged ∙ length-take ok.taken (along (message_on []) book) in
+      omega (arith, through, length-along (message_on []) book, ok.within)
+
+  -- what is pulled is in the log
+  pub applied-until : (i has s n q : ℕ) (progress : ShardProgress) → slice_get logs i ≡ Some has → slice_get shards s ≡ Some progress
+      → q ≡ max progress.applied (min has n) → q ≤ length log
+  applied-until i has s n q progress at there is =
+      let found = one-at (record { applied = ok.applied; floor = 0 }) progress s (rw ok.one_shard at there) in
+      let from_there : ok.applied ≡ progress.applied = ap (λ (r : ShardProgress). r.applied) found.1 in
+      let same = (one-at ok.taken has i (rw ok.one_log at at)).1 in
+      omega (arith, is, from_there, same, length-log, ok.behind)
+
+  pub applied-next : (s q : ℕ) (progress : ShardProgress) → slice_get shards s ≡ Some progress → progress.applied ≤ q → q ≤ length log
+      → LogRefines book logs (slice_set shards s (record { applied = q; floor = progress.floor })) log (shard ++ take (q - progress.applied) (drop progress.applied log))
+  applied-next s q progress there from until =
+      let found = one-at (record { applied = ok.applied; floor = 0 }) progress s (rw ok.one_shard at there) in
+      let from_there : ok.applied ≡ progress.applied = ap (λ (r : ShardProgress). r.applied) found.1 in
+      let floor : 0 ≡ progress.floor = ap (λ (r : ShardProgress). r.floor) found.1 in
+      let below : q ≤ ok.taken = omega (arith, length-log, until) in
+      let whole : progress.applied + (q - progress.applied) ≡ q = omega (arith, from) in
+      record {
+        taken = ok.taken;
+        applied = q;
+        one_log = ok.one_log;
+        one_shard = rw (ok.one_shard, found.0, ← floor) refl;
+        within = ok.within;
+        behind = below;
+        logged = ok.logged;
+        kept =
+            ap (λ ms. ms ++ take (q - progress.applied) (drop progress.applied log))
+            (ok.kept ∙ ap (λ (n : ℕ). take n (along (message_on []) book)) from_there
+            ∙ sym (take-take (along (message_on []) book) progress.applied ok.taken (omega (arith, ok.behind, from_there)))
+            ∙ ap (λ (ms : List Message). take progress.applied ms) (sym ok.logged))
+            ∙ sym (take-add progress.applied (q - progress.applied) log)
+            ∙ ap (λ (n : ℕ). take n log) whole
+            ∙ ap (λ (ms : List Message). take q ms) ok.logged
+            ∙ take-take (along (message_on []) book) q ok.taken below;
+      }
+
+-- the last version of a book that grows
+pub last-push : (book : List Entry) (entry : Entry) → last_version (book ++ entry ∷ []) ≡ entry.version
+last-push book entry = fold-append (λ (last : ℕ) (e : Entry). e.version) 0 book (entry ∷ [])
+
+-- no entry's version is above the last
+module _ (book : List Entry) (rising : IsRising book) (i : ℕ) (entry : Entry) (there : slice_get book i ≡ Some entry) where
+  below-later : (d : ℕ) → i + suc d ≤ length book → entry.version ≤ last_version (take (i + suc d) book)
+  below-later zero within =
+      let last : last_version (take (suc i) book) ≡ entry.version = ap last_version (take-next book i entry there) ∙ last-push (take i book) entry in
+      let next : i + 1 ≡ suc i = omega arith in
+      rw (next, last) (omega arith)
+  below-later (suc d) within =
+      let later = within-item book (i + suc d) (omega (arith, within)) in
+      let last : last_version (take (suc (i + suc d)) book) ≡ later.0.version = ap last_version (take-next book (i + suc d) later.0 later.1) ∙ last-push (take (i + suc d) book) later.0 in
+      let next : i + suc (suc d) ≡ suc (i + suc d) = omega arith in
+      let before = below-later d (omega (arith, within)) in
+      let above = rising (i + suc d) later.0 later.1 in
+      rw (next, last) (omega (arith, before, above))
+
+  pub below-last : entry.version ≤ last_version book
+  below-last =
+      let within = slice_get_within book i entry there in
+      let count : i + suc (length book - suc i) ≡ length book = omega (arith, within) in
+      let before = below-later (length book - suc i) (omega (arith, count)) in
+      rw (count, take_all (length book) book (omega arith)) at before

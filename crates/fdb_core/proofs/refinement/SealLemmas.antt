@@ -1,0 +1,184 @@
+-- One more entry in the book, and what stays tied.
+use Rattle.std.proofs.Common.{◌≡◌, ◌∙◌, refl, sym, ap, subst, ℕ, zero, suc, ◌<◌, ◌≤◌, Bool, true, false, List, [], ◌∷◌, ◌++◌, length, map, take, drop, replicate, Option, Some, None, Ok, arith}
+use Rattle.std.specs.List.{AllByRecursion, slice_get, slice_set}
+use Rattle.std.proofs.lemmas.Bool.{le-ltb, lt-leb}
+use Rattle.std.proofs.lemmas.List.{length-append, length-map, length-replicate, length-take, take-append-le}
+use Rattle.fdb_txn.specs.declared.batch.TheConstants.{PLACE_LIMIT}
+use Rattle.fdb_txn.specs.declared.entry.Entry.{Entry}
+use Rattle.fdb_txn.specs.book.Book.{Seen, seen_of}
+use Rattle.fdb_txn.specs.book.History.{AreEntries}
+use Rattle.fdb_txn.specs.book.Transactions.{Transaction, NamesWrites}
+use Rattle.fdb_txn.proofs.book.HistoryLemmas.{entries_go_on}
+use Rattle.fdb_resolver.specs.Resolvers.{Resolver}
+use Rattle.fdb_sequencer.specs.Limits.{version_limit}
+use Rattle.fdb_sequencer.specs.Sequencer.{next_version}
+use Rattle.fdb_core.specs.declared.roles.commit_proxy.CommitProxy.{CommitProxy}
+use Rattle.fdb_core.specs.declared.roles.shard.ShardProgress.{ShardProgress}
+use Rattle.fdb_core.specs.declared.roles.commit_proxy.Stage.TheVariants.{Resolving}
+use Rattle.fdb_core.specs.declared.roles.client.Submission.{Submission}
+use Rattle.fdb_core.specs.declared.roles.log.Message.{Message}
+use Rattle.fdb_core.specs.declared.roles.client.program.Transcript.{Transcript}
+use Rattle.fdb_core.specs.declared.step.Answered.TheVariants as answered
+use Rattle.fdb_core.specs.declared.step.Outcome.{Outcome}
+use Rattle.fdb_resolver.specs.declared.verdict.Verdict.{Verdict}
+use Rattle.fdb_core.specs.refinement.Cluster.{BookRefines, ResolverRefines, LogRefines, WaitsRefines, CommitProxyRefines}
+use Rattle.fdb_core.specs.machine.Machine.{Machine, is_set, last_version}
+use Rattle.fdb_core.specs.machine.CommitProxySteps.{seals, is_idle}
+use Rattle.fdb_core.specs.refinement.Resolving.{ResolverAt}
+use Rattle.fdb_core.specs.refinement.Roles.{along, message_on}
+use Rattle.fdb_core.specs.machine.Verdicts.{verdicts_on}
+use Rattle.fdb_core.proofs.common.AllLemmas.{all-drop}
+use Rattle.fdb_core.proofs.refinement.NoMoves.{no_moves-push}
+use Rattle.fdb_core.proofs.refinement.RunLaws.{along-push, length-along}
+
+-- the entry that a seal makes of what waits
+abbrev pub sealed_entry : Machine → ℕ → CommitProxy → Entry
+sealed_entry m advance commit_proxy = record {
+  version = next_version (last_version m.book) advance;
+  prev = last_version m.book;
+  moves = m.pending;
+  batch = map (λ (submission : Submission). submission.sealed) (take PLACE_LIMIT commit_proxy.waiting);
+}
+
+-- the commit proxy with its batch in flight
+abbrev pub sealed_proxy : Machine → CommitProxy → CommitProxy
+sealed_proxy m commit_proxy = record {
+  waiting = drop PLACE_LIMIT commit_proxy.waiting;
+  in_flight = map (λ (submission : Submission). submission.transcript) (take PLACE_LIMIT commit_proxy.waiting);
+  stage = Resolving;
+  entry = length m.book;
+  verdicts_received = replicate (length m.resolvers) false;
+  acknowledgements_received = replicate (length m.logs) false;
+}
+
+-- the machine behind a seal
+abbrev pub sealed_machine : Machine → ℕ → ℕ → CommitProxy → Machine
+sealed_machine m proxy advance commit_proxy = record m {
+  book = m.book ++ sealed_entry m advance commit_proxy ∷ [];
+  entry_proxies = m.entry_proxies ++ proxy ∷ [];
+  decided = m.decided ++ false ∷ [];
+  pending = [];
+  commit_proxies = slice_set m.commit_proxies proxy (sealed_proxy m commit_proxy);
+}
+
+-- a proxy without a batch in flight seals, where there are versions and places in the book left
+pub seals-transition : (m : Machine) (proxy advance : ℕ) (commit_proxy : CommitProxy) → slice_get m.commit_proxies proxy ≡ Some commit_proxy → is_idle commit_proxy.stage ≡ true
+    → next_version (last_version m.book) advance ≤ version_limit → length m.book < m.config.book
+    → seals m proxy advance ≡ Ok (record {
+      answer = answered.Issued (length m.book) (next_version (last_version m.book) advance) (last_version m.book) (length (take PLACE_LIMIT commit_proxy.waiting));
+      next = sealed_machine m proxy advance commit_proxy;
+    })
+unfolding seals
+seals-transition m proxy advance commit_proxy there idle few room =
+    rw (there, idle, le-ltb version_limit (next_version (last_version m.book) advance) few, lt-leb m.config.book (length m.book) room) refl
+
+-- as many transactions as transcripts, and at most as many as a batch may have
+pub length-sealed : (waiting : List Submission) (batch : List Transaction)
+    → batch ≡ map (λ (submission : Submission). submission.sealed) (take PLACE_LIMIT waiting) → length batch ≡ length (take PLACE_LIMIT waiting)
+length-sealed waiting batch is = ap length is ∙ length-map (take PLACE_LIMIT waiting) (λ (submission : Submission). submission.sealed)
+
+pub batch-fits : (waiting : List Submission) (batch : List Transaction)
+    → batch ≡ map (λ (submission : Submission). submission.sealed) (take PLACE_LIMIT waiting) → length batch ≤ PLACE_LIMIT
+batch-fits waiting batch is = omega (arith, length-sealed waiting batch is, length-take PLACE_LIMIT waiting)
+
+-- what comes at the end of a list leaves what stands before it
+front-at : {A : Type 0} (xs ys : List A) (i : ℕ) → i < length xs → slice_get (xs ++ ys) i ≡ slice_get xs i
+front-at [] ys i within = absurd (omega (arith, within))
+front-at (x ∷ xs) ys zero within = refl
+front-at (x ∷ xs) ys (suc i) within = front-at xs ys i (omega (arith, within))
+
+-- what was put at a place last stands there
+pub set-twice : {A : Type 0} (xs : List A) (i : ℕ) (x y : A) → slice_set (slice_set xs i x) i y ≡ slice_set xs i y
+set-twice [] zero x y = refl
+set-twice [] (suc i) x y = refl
+set-twice (z ∷ zs) zero x y = refl
+set-twice (z ∷ zs) (suc i) x y = ap (λ rest. z ∷ rest) (set-twice zs i x y)
+
+-- the one at the end is found under the old length
+pub last-at : {A : Type 0} (xs : List A) (x : A) → slice_get (xs ++ x ∷ []) (length xs) ≡ Some x
+last-at [] x = refl
+last-at (y ∷ ys) x = last-at ys x
+
+-- a flag that is set with one more that isn't was set before
+set-before : (flags : List Bool) (i : ℕ) → is_set (flags ++ false ∷ []) i ≡ true → (i < length flags) × (is_set flags i ≡ true)
+set-before [] zero set = cc
+set-before [] (suc i) set = cc
+set-before (flag ∷ flags) zero set = (omega arith, set)
+set-before (flag ∷ flags) (suc i) set = let before = set-before flags i set in (omega (arith, before.0), before.1)
+
+-- no flag of as many that aren't set is set
+none-set : (n i : ℕ) → is_set (replicate n false) i ≡ false
+none-set zero i = refl
+none-set (suc n) zero = refl
+none-set (suc n) (suc i) = none-set n i
+
+-- what waits reads below a version above the committed one
+pub sealed-below : (committed version : ℕ) (submissions : List Submission) → committed < version → AllByRecursion (WaitsRefines committed) submissions
+    → AllByRecursion (λ (t : Transaction). (t.read < version) × NamesWrites t) (map (λ (submission : Submission). submission.sealed) submissions)
+sealed-below committed version [] above all = tt
+sealed-below committed version (submission ∷ others) above all = ((omega (arith, above, all.0.0), all.0.1), sealed-below committed version others above all.1)
+
+module _ (book : List Entry) (entry : Entry) where
+  -- one more entry leaves what is made of the first ones
+  along-front : {A : Type 0} (f : Seen → Entry → A) (n : ℕ) → n ≤ length book → take n (along f (book ++ entry ∷ [])) ≡ take n (along f book)
+  along-front f n within =
+      ap (λ made. take n made) (along-push f book entry)
+      ∙ take-append-le n (along f book) (f (seen_of book) entry ∷ []) (omega (arith, length-along f book, within))
+
+  pub resolver-push : (resolvers : List ℕ) (resolver : Resolver) (verdicts : List (List (ℕ × Verdict))) → ResolverRefines book resolvers resolver verdicts
+      → ResolverRefines (book ++ entry ∷ []) resolvers resolver verdicts
+  resolver-push resolvers resolver verdicts ok = record {
+    taken = ok.taken;
+    one = ok.one;
+    within = omega (arith, length-append book (entry ∷ []), ok.within);
+    state = subst (λ (front : List Entry). ResolverAt front resolver) (sym (take-append-le ok.taken book (entry ∷ []) ok.within)) ok.state;
+    sent = ok.sent ∙ sym (along-front (verdicts_on [] 0) ok.taken ok.within);
+  }
+
+  pub log-push : (logs : List ℕ) (shards : List ShardProgress) (log shard : List Message) → LogRefines book logs shards log shard
+      → LogRefines (book ++ entry ∷ []) logs shards log shard
+  log-push logs shards log shard ok = record {
+    taken = ok.taken;
+    applied = ok.applied;
+    one_log = ok.one_log;
+    one_shard = ok.one_shard;
+    within = omega (arith, length-append book (entry ∷ []), ok.within);
+    behind = ok.behind;
+    logged = ok.logged ∙ sym (along-front (message_on []) ok.taken ok.within);
+    kept = ok.kept ∙ sym (along-front (message_on []) ok.applied (omega (arith, ok.behind, ok.within)));
+  }
+
+  pub book-push : (entry_proxies : List ℕ) (decided : List Bool) (messages : List (Option Message)) (proxy : ℕ) → BookRefines book entry_proxies decided messages
+      → entry.moves ≡ [] → AreEntries 1 (last_version book) (entry ∷ [])
+      → BookRefines (book ++ entry ∷ []) (entry_proxies ++ proxy ∷ []) (decided ++ false ∷ []) (messages ++ None ∷ [])
+  book-push entry_proxies decided messages proxy ok still next = record {
+    no_moves = no_moves-push book entry ok.no_moves still;
+    entries = entries_go_on 1 0 book entry ok.entries next;
+    each_has_proxy = omega (arith, length-append entry_proxies (proxy ∷ []), length-append book (entry ∷ []), ok.each_has_proxy);
+    each_flagged = omega (arith, length-append decided (false ∷ []), length-append book (entry ∷ []), ok.each_flagged);
+    each_pooled = omega (arith, length-append messages (None ∷ []), length-append book (entry ∷ []), ok.each_pooled);
+    made = λ i message set there.
+        let before = set-before decided i set in
+        let early : i < length book = omega (arith, before.0, ok.each_flagged) in
+        let in_along : i < length (along (message_on []) book) = omega (arith, early, length-along (message_on []) book) in
+        let in_pool : i < length messages = omega (arith, early, ok.each_pooled) in
+        let stood = sym (front-at (along (message_on []) book) (message_on [] (seen_of book) entry ∷ []) i in_along)
+        ∙ ap (λ (made : List Message). slice_get made i) (sym (along-push (message_on []) book entry)) ∙ there in
+        front-at messages (None ∷ []) i in_pool ∙ ok.made i message before.1 stood;
+  }
+
+  -- the commit proxy whose batch is that of the new entry
+  pub commit_proxy-seal : (resolvers : List ℕ) (committed : ℕ) (commit_proxy : CommitProxy) (outcomes : List Outcome) (limit : ℕ) (in_flight : List Transcript) (acknowledgements_received : List Bool)
+      → length resolvers ≡ 1 → length in_flight ≡ length entry.batch → CommitProxyRefines book resolvers committed commit_proxy outcomes
+      → CommitProxyRefines (book ++ entry ∷ []) resolvers committed
+      (record { waiting = drop limit commit_proxy.waiting; in_flight = in_flight; stage = Resolving; entry = length book; verdicts_received = replicate (length resolvers) false; acknowledgements_received = acknowledgements_received }) outcomes
+  commit_proxy-seal resolvers committed commit_proxy outcomes limit in_flight acknowledgements_received one aligned ok = record {
+    waiting = all-drop (WaitsRefines committed) limit commit_proxy.waiting ok.waiting;
+    in_book = λ busy. omega (arith, length-append book (entry ∷ []));
+    aligned = λ other busy there.
+        let same : entry ≡ other = let last = last-at book entry in cc in
+        aligned ∙ ap (λ (e : Entry). length e.batch) same;
+    verdicts_received = λ busy. length-replicate (length resolvers) false ∙ one;
+    delivered = λ taken busy set there. let none = none-set (length resolvers) 0 in cc;
+    decision = λ other busy decided there. cc;
+  }

@@ -1,7 +1,0 @@
-use Rattle.std.proofs.Common.{◌≡◌, take, fold}
-use Rattle.std.specs.Option.{option_copied}
-use Rattle.fdb_core.specs.Roles.{value_after_op}
-use Rattle.fdb_core.proofs.serving.value_after_ops.Given as goal
-
-abbrev pub invariant-loop-op : goal.invariant-loop-op
-invariant-loop-op l = option_copied l.value ≡ fold (value_after_op l.key) (option_copied l.initial.value) (take l.op-index l.ops)

@@ -1,0 +1,79 @@
+-- What a check of the acknowledged transactions and of the shard finds.
+use Rattle.std.specs.Prelude.{◌≡◌, ◌<◌, ℕ, Bool, true, nat_lt, List, [], take, length, Some, Result, MatchResult, ◌⊎◌}
+use Rattle.std.specs.List.{AllByRecursion}
+use Rattle.fdb_mutations.specs.Maps.{Map}
+use Rattle.fdb_mutations.specs.Mutations.{effects}
+use Rattle.fdb_txn.specs.declared.entry.Entry.{Entry}
+use Rattle.fdb_txn.specs.declared.spot.Spot.{Spot}
+use Rattle.fdb_txn.specs.declared.spot.Spot.TheVariants as spot
+use Rattle.fdb_txn.specs.book.Transactions.{Transaction}
+use Rattle.fdb_txn.specs.book.Book.{Place, seen_of}
+use Rattle.fdb_txn.specs.book.History.{AreEntries}
+use Rattle.fdb_txn.specs.book.Places.{place_at}
+use Rattle.fdb_txn.specs.rules.SerialMap.{serial_map, serial_map_at}
+use Rattle.fdb_core.specs.declared.check.serial.Replay.{Replay}
+use Rattle.fdb_core.specs.declared.check.compare.Moment.TheVariants.{Before}
+use Rattle.fdb_core.specs.declared.roles.client.Placed.{Placed}
+use Rattle.fdb_core.specs.declared.roles.log.Message.{Message}
+use Rattle.fdb_core.specs.declared.roles.client.program.Transcript.{Transcript}
+use Rattle.fdb_core.specs.declared.step.Outcome.{Outcome}
+use Rattle.fdb_core.specs.declared.world.CheckFault.{CheckFault}
+use Rattle.fdb_core.specs.declared.world.CheckFault.TheVariants.{Shard}
+use Rattle.fdb_core.specs.check.Comparing.{AnsweredAt, StopsBy}
+use Rattle.fdb_core.specs.headline.Headline.{AnsweredOn}
+use Rattle.fdb_core.specs.check.Holding.{HoldsTheRun}
+use Rattle.fdb_core.specs.machine.Machine.{last_version, seen_before}
+use Rattle.fdb_core.specs.refinement.Resolving.{NoMovesIn, ResolverAt}
+use Rattle.fdb_core.specs.refinement.Roles.{body_by}
+
+-- the map behind the first places of a batch
+abbrev pub map_after : Map → List Transaction → List Outcome → ℕ → Map
+map_after map batch outcomes count = effects map (body_by (take count batch) (take count outcomes))
+
+-- who stands at one of the first places of the entry was answered as on the map behind the places before his
+abbrev pub AnsweredIn : Map → List Transaction → List Outcome → ℕ → ℕ → Placed → Type 0
+AnsweredIn map batch outcomes entry count placed = (p : ℕ) → p < count → AnsweredAt (Before entry p) (map_after map batch outcomes p) placed
+
+-- the books that a check runs anew: entries of which none moves anything
+pub record IsPlainBook (book : List Entry) : Type 0 where
+  pub no_moves : NoMovesIn book
+  pub entries : AreEntries 1 0 book
+
+-- The transcript was answered as on the run's map right before its place, if the book has that place, or as on that
+-- at its read version.
+abbrev pub AgreesAt : List Entry → Transcript → Spot → Type 0
+AgreesAt book transcript (spot.Entry entry place version) =
+    (there : Place × List Place) → place_at book entry place ≡ Some there → AnsweredOn (serial_map [] there.1) transcript
+AgreesAt book transcript (spot.ReadOnly version) = AnsweredOn (serial_map_at [] version (seen_of book).places) transcript
+
+abbrev pub Agrees : List Entry → Placed → Type 0
+Agrees book placed = AgreesAt book placed.transcript placed.spot
+
+-- the spot is in one of the first n entries, or at a version below that of the last of them
+abbrev pub is_before : List Entry → ℕ → Spot → Bool
+is_before book n (spot.Entry index place version) = nat_lt index n
+is_before book n (spot.ReadOnly version) = nat_lt version (last_version (take n book))
+
+-- A check has come to entry n: its resolver took the entries before, it has the run's map behind them, and who stands
+-- before was answered as in that run.
+pub record HasCome (book : List Entry) (acknowledged : List Placed) (n : ℕ) (replay : Replay) : Type 0 where
+  pub resolver : ResolverAt (take n book) replay.resolver
+  pub map : replay.map ≡ serial_map [] (seen_before book n).places
+  pub compared : AllByRecursion (λ placed. is_before book n placed.spot ≡ true → Agrees book placed) acknowledged
+
+-- a check comes to entry n, or memory runs out, or it finds an acknowledged transaction that was answered otherwise
+abbrev pub ComesTo : {T : Type 0} → Result T CheckFault → List Entry → List Placed → ℕ → Replay → Type 0
+ComesTo result book acknowledged n replay =
+    MatchResult result (λ _. HasCome book acknowledged n replay) (StopsBy (Agrees book) acknowledged)
+
+-- the shard is compared, and doesn't have the run's map
+abbrev pub ShardDiffers : List Entry → Bool → List Message → CheckFault → Type 0
+ShardDiffers book with_shard shard fault = (fault ≡ Shard 0) × (with_shard ≡ true) × ¬ HoldsTheRun book shard
+
+-- What a check finds: that each acknowledged transaction was answered as in the run, and that the shard, if it is
+-- compared, has the run's map; or one for which that isn't so. Or memory runs out.
+abbrev pub Finds : Result ℕ CheckFault → List Entry → List Placed → Bool → List Message → Type 0
+Finds result book acknowledged with_shard shard =
+    MatchResult result
+    (λ count. (count ≡ length acknowledged) × AllByRecursion (Agrees book) acknowledged × (with_shard ≡ true → HoldsTheRun book shard))
+    (λ fault. StopsBy (Agrees book) acknowledged fault ⊎ ShardDiffers book with_shard shard fault)

@@ -1,0 +1,70 @@
+-- What holds of the machine at every step and over every run.
+use Rattle.std.specs.Prelude.{◌≡◌, ◌↔◌, ℕ, max, Bool, true, false, nat_lt, List, [], ◌∷◌, map, Some, Result, Ok, Err, slice_get, position}
+use Rattle.std.specs.FinMap.{get}
+use Rattle.fdb_keys.specs.declared.refusal.Refusal.{Refusal}
+use Rattle.fdb_keys.specs.declared.refusal.Refusal.TheVariants.{FutureVersion}
+use Rattle.fdb_txn.specs.book.Book.{seen_of}
+use Rattle.fdb_txn.specs.rules.Owners.{first_owner}
+use Rattle.fdb_txn.specs.rules.SerialMap.{serial_map_at}
+use Rattle.fdb_core.specs.declared.config.Config.{Config}
+use Rattle.fdb_core.specs.declared.roles.shard.ShardProgress.{ShardProgress}
+use Rattle.fdb_core.specs.declared.roles.client.program.Transcript.{Transcript}
+use Rattle.fdb_core.specs.declared.step.Answered.{Answered}
+use Rattle.fdb_core.specs.declared.step.Answered.TheVariants as answered
+use Rattle.fdb_core.specs.declared.step.Step.{Step}
+use Rattle.fdb_core.specs.declared.step.Step.TheVariants as step
+use Rattle.fdb_core.specs.machine.ClientSteps.{version_of_shard}
+use Rattle.fdb_core.specs.machine.Machine.{Machine, Transition, is_of}
+use Rattle.fdb_core.specs.programs.Programs.{program, copy, decided}
+use Rattle.fdb_core.specs.machine.Steps.{next, after}
+use Rattle.fdb_core.specs.headline.Traces.{IsTraceOf}
+
+-- a refused step changes nothing
+abbrev pub RefusalsChangeNothing : Type 0
+RefusalsChangeNothing = (m : Machine) (step : Step) (refusal : Refusal) → next m step ≡ Err refusal → after m (next m step) ≡ m
+
+-- a read-version proxy tells each session that asks there the committed version
+abbrev pub GrantsCommitted : Type 0
+GrantsCommitted =
+    (m : Machine) (proxy : ℕ) (transition : Transition) → next m (step.Grant proxy) ≡ Ok transition
+    → (there : List ℕ) × (slice_get m.grv_proxies proxy ≡ Some there)
+    × (transition.answer ≡ answered.Granted (map (λ (session : ℕ). (session, m.committed)) there))
+
+-- the version that a report answers, 0 for any other step or answer
+abbrev pub reported : Step → Result Answered Refusal → ℕ
+reported (step.Report proxy) (Ok (answered.Version version)) = version
+reported step answer = 0
+
+-- the greatest version that the steps' answers report, 0 where there is none
+abbrev pub greatest_reported : List Step → List (Result Answered Refusal) → ℕ
+greatest_reported [] answers = 0
+greatest_reported (step ∷ steps) [] = 0
+greatest_reported (step ∷ steps) (answer ∷ answers) = max (reported step answer) (greatest_reported steps answers)
+
+-- over every trace the committed version is the greatest one that was reported
+abbrev pub CommittedIsGreatestReported : Type 0
+CommittedIsGreatestReported =
+    (config : Config) (steps : List Step) (answers : List (Result Answered Refusal)) (m : Machine)
+    → IsTraceOf config steps answers (Some m) → m.committed ≡ greatest_reported steps answers
+
+-- a read answers as the transaction's own operations, executed on the map at its read version, leave the key
+abbrev pub GetsFromTheRun : Type 0
+GetsFromTheRun =
+    (m : Machine) (session : ℕ) (key : List ℕ) (snapshot : Bool) (transition : Transition) → next m (step.Get session key snapshot) ≡ Ok transition
+    → (i : ℕ) × (transcript : Transcript) × (position (is_of session) m.opened ≡ Some i) × (slice_get m.opened i ≡ Some transcript)
+    × (transition.answer ≡ answered.Value (get (copy (serial_map_at m.config.resolver_splits transcript.read_version (seen_of m.book).places) (program transcript.ops)) key))
+
+-- the transaction's own operations don't decide the key, and the shard that holds it still serves the read
+-- version but hasn't reached it
+abbrev pub IsLagging : Machine → Transcript → List ℕ → Type 0
+IsLagging m transcript key =
+    (decided (program transcript.ops) key ≡ false)
+    × ((progress : ShardProgress) × (slice_get m.shards (first_owner m.config.shard_splits key) ≡ Some progress)
+    × (nat_lt transcript.read_version progress.floor ≡ false) × (nat_lt (version_of_shard m.book progress) transcript.read_version ≡ true))
+
+-- a read of an open transaction is refused as in the future where the key's shard is behind, and only there
+abbrev pub GetsRefused : Type 0
+GetsRefused =
+    (m : Machine) (session : ℕ) (key : List ℕ) (snapshot : Bool) (i : ℕ) (transcript : Transcript)
+    → position (is_of session) m.opened ≡ Some i → slice_get m.opened i ≡ Some transcript
+    → (next m (step.Get session key snapshot) ≡ Err FutureVersion) ↔ IsLagging m transcript key

@@ -1,0 +1,35 @@
+-- Traces: steps with their answers, and the machine that they determine.
+use Rattle.std.specs.Prelude.{◌≡◌, List, [], ◌∷◌, Option, Some, Result, Ok, Err}
+use Rattle.fdb_keys.specs.declared.refusal.Refusal.{Refusal}
+use Rattle.fdb_core.specs.declared.config.Config.{Config}
+use Rattle.fdb_core.specs.declared.step.Answered.{Answered}
+use Rattle.fdb_core.specs.declared.step.Step.{Step}
+use Rattle.fdb_core.specs.machine.Machine.{Machine}
+use Rattle.fdb_core.specs.machine.Steps.{next, after}
+use Rattle.fdb_core.specs.machine.Worlds.{start, IsRun}
+
+-- the machine after a step with its answer: an accepted step takes it on, a refused one leaves it as it is
+abbrev pub after_step : Machine → Step → Result Answered Refusal → Machine
+after_step m step (Ok said) = after m (next m step)
+after_step m step (Err refusal) = m
+
+-- the machine after steps with their answers
+abbrev pub after_steps : Machine → List Step → List (Result Answered Refusal) → Machine
+after_steps m [] answers = m
+after_steps m (step ∷ steps) [] = m
+after_steps m (step ∷ steps) (answer ∷ answers) = after_steps (after_step m step answer) steps answers
+
+-- the machine after the steps of a trace, as a function of the trace
+abbrev pub machine_of_trace : Config → List Step → List (Result Answered Refusal) → Machine
+machine_of_trace config steps answers = after_steps (start config) steps answers
+
+-- What a world shows stands for a trace: from the first world on, each step of the trace was answered as the trace
+-- says, and left the world so in the end.
+abbrev pub IsTraceOf : Config → List Step → List (Result Answered Refusal) → Option Machine → Type 0
+IsTraceOf config steps answers world = IsRun (Some (start config)) steps answers world
+
+-- a world that stands for a trace shows the machine of the trace
+abbrev pub TracesDetermineTheMachine : Type 0
+TracesDetermineTheMachine =
+    (config : Config) (steps : List Step) (answers : List (Result Answered Refusal)) (m : Machine)
+    → IsTraceOf config steps answers (Some m) → m ≡ machine_of_trace config steps answers

@@ -1,0 +1,24 @@
+-- The batches that the commit proxies have in flight.
+use Rattle.std.specs.Prelude.{ℕ, length, Option, Some, None, Result, Ok, Err, slice_get, if◌then◌else◌}
+use Rattle.fdb_keys.specs.declared.refusal.Refusal.{Refusal}
+use Rattle.fdb_keys.specs.declared.refusal.Refusal.TheVariants.{Failed, Unknown, WrongState}
+use Rattle.fdb_core.specs.declared.in_flight.InFlight.{InFlight}
+use Rattle.fdb_core.specs.declared.roles.commit_proxy.CommitProxy.{CommitProxy}
+use Rattle.fdb_core.specs.machine.Machine.{Machine}
+use Rattle.fdb_core.specs.machine.CommitProxySteps.{is_idle}
+
+-- the batch in flight at a commit proxy, which may be none of the machine's
+abbrev pub in_flight_on : Machine → Option CommitProxy → Result InFlight Refusal
+in_flight_on m None = Err Unknown
+in_flight_on m (Some commit_proxy) =
+    if is_idle commit_proxy.stage then Err WrongState
+    else Ok (record { entry = commit_proxy.entry; resolvers = length m.resolvers; logs = length m.logs })
+
+-- the same of the commit proxy with the number
+abbrev pub in_flight_at : Machine → ℕ → Result InFlight Refusal
+in_flight_at m proxy = in_flight_on m (slice_get m.commit_proxies proxy)
+
+-- what a world answers, which has no machine once memory ran out in a step
+abbrev pub in_flight : Option Machine → ℕ → Result InFlight Refusal
+in_flight None proxy = Err Failed
+in_flight (Some m) proxy = in_flight_at m proxy

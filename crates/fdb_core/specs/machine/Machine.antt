@@ -1,0 +1,116 @@
+-- The abstract machine: its state is what can be read off the steps so far with their answers.
+use Rattle.std.specs.Prelude.{ℕ, suc, Bool, true, false, not, ◌&&◌, ◌||◌, ◌==◌, nat_lt, List, [], ◌∷◌, take, fold, Option, Some, None, unwrap_or, Result, Err, slice_get, position, if◌then◌else◌}
+use Rattle.std.specs.List.{list_any}
+use Rattle.fdb_keys.specs.declared.refusal.Refusal.{Refusal}
+use Rattle.fdb_keys.specs.declared.refusal.Refusal.TheVariants.{Unknown, Stale, NotYet, NoTransaction}
+use Rattle.fdb_txn.specs.declared.entry.Move.{Move}
+use Rattle.fdb_txn.specs.declared.entry.Entry.{Entry}
+use Rattle.fdb_txn.specs.book.Book.{Seen, seen_of}
+use Rattle.fdb_core.specs.declared.config.Config.{Config}
+use Rattle.fdb_core.specs.declared.roles.client.Submission.{Submission}
+use Rattle.fdb_core.specs.declared.roles.client.Placed.{Placed}
+use Rattle.fdb_core.specs.declared.roles.commit_proxy.CommitProxy.{CommitProxy}
+use Rattle.fdb_core.specs.declared.roles.shard.ShardProgress.{ShardProgress}
+use Rattle.fdb_core.specs.declared.roles.client.LastTransaction.{LastTransaction}
+use Rattle.fdb_core.specs.declared.roles.client.program.Transcript.{Transcript}
+use Rattle.fdb_core.specs.declared.step.Answered.{Answered}
+
+pub record Machine : Type 0 where
+  pub config : Config
+  -- the entries, the first one first, and for each the number of its proxy and whether it is decided
+  pub book : List Entry
+  pub entry_proxies : List ℕ
+  pub decided : List Bool
+  -- moves that take effect with the next entry
+  pub pending : List Move
+  -- the commit proxies
+  pub commit_proxies : List CommitProxy
+  -- how many entries each resolver and each log took
+  pub resolvers : List ℕ
+  pub logs : List ℕ
+  -- how far each shard is
+  pub shards : List ShardProgress
+  -- for each read-version proxy the sessions that ask there
+  pub grv_proxies : List (List ℕ)
+  -- the open transactions, and the last one that each session began
+  pub opened : List Transcript
+  pub last_transactions : List LastTransaction
+  -- the greatest version that was reported
+  pub committed : ℕ
+  -- the acknowledged transactions
+  pub acknowledged : List Placed
+
+-- what a step answers, and the machine behind it
+pub record Transition : Type 0 where
+  pub answer : Answered
+  pub next : Machine
+
+-- a step goes on with what has the number, and is refused where nothing has it
+abbrev pub found : {A : Type 0} → Option A → (A → Result Transition Refusal) → Result Transition Refusal
+found None next = Err Unknown
+found (Some x) next = next x
+
+-- a step is refused where the test holds
+abbrev pub refused_where : Bool → Refusal → Result Transition Refusal → Result Transition Refusal
+refused_where true refusal next = Err refusal
+refused_where false refusal next = next
+
+-- entry i is taken by one who took some entries only as the next one
+abbrev pub in_turn : ℕ → ℕ → Entry → Result Transition Refusal → Result Transition Refusal
+in_turn taken i entry next = refused_where (nat_lt i taken) Stale (refused_where (nat_lt taken i) (NotYet entry.prev) next)
+
+-- a step goes on where there is no fault
+abbrev pub refused_by : Option Refusal → Result Transition Refusal → Result Transition Refusal
+refused_by None next = next
+refused_by (Some fault) next = Err fault
+
+-- a step waits for the least one that is missing
+abbrev pub waits_for : Option ℕ → Result Transition Refusal → Result Transition Refusal
+waits_for None next = next
+waits_for (Some i) next = Err (NotYet i)
+
+-- the flag with the number is there and set
+abbrev pub is_set : List Bool → ℕ → Bool
+is_set flags i = unwrap_or (slice_get flags i) false
+
+-- the least number from n on that is needed and whose flag isn't set
+abbrev pub first_missing : (ℕ → Bool) → ℕ → List Bool → Option ℕ
+first_missing needed n [] = None
+first_missing needed n (flag ∷ flags) = if needed n && not flag then Some n else first_missing needed (suc n) flags
+
+-- the version of the last entry, 0 where there is none
+abbrev pub last_version : List Entry → ℕ
+last_version book = fold (λ (last : ℕ) (entry : Entry). entry.version) 0 book
+
+-- what was seen before entry i
+abbrev pub seen_before : List Entry → ℕ → Seen
+seen_before book i = seen_of (take i book)
+
+-- the transcript is of the session
+abbrev pub is_of : ℕ → Transcript → Bool
+is_of session transcript = transcript.id.session == session
+
+-- the session waits at the commit proxy for an answer
+abbrev pub waits_at_commit_proxy : ℕ → CommitProxy → Bool
+waits_at_commit_proxy session commit_proxy =
+    list_any (λ (submission : Submission). is_of session submission.transcript) commit_proxy.waiting || list_any (is_of session) commit_proxy.in_flight
+
+-- the session is among those who ask at a read-version proxy
+abbrev pub waits_at_grv_proxy : ℕ → List ℕ → Bool
+waits_at_grv_proxy session there = list_any (λ (asker : ℕ). asker == session) there
+
+-- the session asks, or waits for an answer
+abbrev pub is_busy : ℕ → List (List ℕ) → List CommitProxy → Bool
+is_busy session grv_proxies commit_proxies = list_any (waits_at_grv_proxy session) grv_proxies || list_any (waits_at_commit_proxy session) commit_proxies
+
+-- a step goes on with the session's open transaction and its place in the list
+abbrev pub with_opened : ℕ → List Transcript → (ℕ → Transcript → Result Transition Refusal) → Result Transition Refusal
+with_opened session opened next = opened_at (position (is_of session) opened)
+  where
+    opened_there : ℕ → Option Transcript → Result Transition Refusal
+    opened_there i None = Err NoTransaction
+    opened_there i (Some transcript) = next i transcript
+
+    opened_at : Option ℕ → Result Transition Refusal
+    opened_at None = Err NoTransaction
+    opened_at (Some i) = opened_there i (slice_get opened i)

@@ -1,0 +1,37 @@
+-- The steps of resolvers, logs and shards.
+use Rattle.std.specs.Prelude.{ℕ, ◌+◌, ◌%◌, min, max, not, take, length, Result, Ok, slice_get, slice_set}
+use Rattle.fdb_keys.specs.declared.refusal.Refusal.{Refusal}
+use Rattle.fdb_keys.specs.declared.refusal.Refusal.TheVariants.{Unknown}
+use Rattle.fdb_txn.specs.declared.entry.Entry.{Entry}
+use Rattle.fdb_core.specs.declared.roles.shard.ShardProgress.{ShardProgress}
+use Rattle.fdb_core.specs.declared.step.Answered.TheVariants as answered
+use Rattle.fdb_core.specs.machine.Machine.{Machine, Transition, found, refused_where, in_turn, is_set, last_version, seen_before}
+use Rattle.fdb_core.specs.machine.Verdicts.{verdicts_on}
+
+-- Resolve: entries are taken in order, each once.
+unfoldable pub resolves : Machine → ℕ → ℕ → Result Transition Refusal
+resolves m i resolver = found (slice_get m.book i) (λ (entry : Entry). found (slice_get m.resolvers resolver) (λ (taken : ℕ).
+    in_turn taken i entry
+    (Ok (record {
+      answer = answered.Verdicts (verdicts_on m.config.resolver_splits resolver (seen_before m.book i) entry);
+      next = record m { resolvers = slice_set m.resolvers resolver (taken + 1) };
+    }))))
+
+-- Push: a log's message is there once its entry is decided. Entries are taken in order, each once.
+unfoldable pub pushes : Machine → ℕ → ℕ → Result Transition Refusal
+pushes m i log = found (slice_get m.book i) (λ (entry : Entry). found (slice_get m.logs log) (λ (taken : ℕ).
+    refused_where (not (is_set m.decided i)) Unknown
+    (in_turn taken i entry
+    (Ok (record {
+      answer = answered.Done;
+      next = record m { logs = slice_set m.logs log (taken + 1) };
+    })))))
+
+-- Pull: the shard applies the next messages that its log has, at most as many as the limit.
+unfoldable pub pulls : Machine → ℕ → ℕ → Result Transition Refusal
+pulls m shard limit = found (slice_get m.shards shard) (λ (progress : ShardProgress). found (slice_get m.logs (shard % length m.logs)) (λ (has : ℕ).
+    let applied = max progress.applied (min has (progress.applied + limit)) in
+    Ok (record {
+      answer = answered.Version (last_version (take applied m.book));
+      next = record m { shards = slice_set m.shards shard (record progress { applied = applied }) };
+    })))

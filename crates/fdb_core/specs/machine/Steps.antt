@@ -1,0 +1,36 @@
+-- What the machine does at each step.
+use Rattle.std.specs.Prelude.{Result, Ok, Err}
+use Rattle.fdb_keys.specs.declared.refusal.Refusal.{Refusal}
+use Rattle.fdb_core.specs.declared.step.Step.{Step}
+use Rattle.fdb_core.specs.declared.step.Step.TheVariants as step
+use Rattle.fdb_core.specs.declared.step.Answered.{Answered}
+use Rattle.fdb_core.specs.machine.Machine.{Machine, Transition}
+use Rattle.fdb_core.specs.machine.ClientSteps.{asks, grants, gets, writes, submits}
+use Rattle.fdb_core.specs.machine.CommitProxySteps.{seals, receives_verdicts, decides, receives_acknowledgement, reports, answers}
+use Rattle.fdb_core.specs.machine.RoleSteps.{resolves, pushes, pulls}
+
+abbrev pub next : Machine → Step → Result Transition Refusal
+next m (step.Ask session proxy) = asks m session proxy
+next m (step.Grant proxy) = grants m proxy
+next m (step.Get session key snapshot) = gets m session key snapshot
+next m (step.Write session mutation) = writes m session mutation
+next m (step.Submit session proxy) = submits m session proxy
+next m (step.Seal proxy advance) = seals m proxy advance
+next m (step.Resolve entry resolver) = resolves m entry resolver
+next m (step.Verdict entry resolver) = receives_verdicts m entry resolver
+next m (step.Decide proxy) = decides m proxy
+next m (step.Push entry log) = pushes m entry log
+next m (step.Logged entry log) = receives_acknowledgement m entry log
+next m (step.Report proxy) = reports m proxy
+next m (step.Answer proxy) = answers m proxy
+next m (step.Pull shard limit) = pulls m shard limit
+
+-- what a turn answers
+abbrev pub answer_of : Result Transition Refusal → Result Answered Refusal
+answer_of (Ok transition) = Ok transition.answer
+answer_of (Err refusal) = Err refusal
+
+-- the machine behind a turn; a refused step changes nothing
+abbrev pub after : Machine → Result Transition Refusal → Machine
+after m (Ok transition) = transition.next
+after m (Err refusal) = m

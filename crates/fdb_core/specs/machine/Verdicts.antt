@@ -1,0 +1,60 @@
+-- What resolvers and proxies say of the places of an entry.
+use Rattle.std.specs.Prelude.{ℕ, suc, Bool, ◌||◌, List, [], ◌∷◌, take, if◌then◌else◌}
+use Rattle.fdb_keys.specs.Points.{Point}
+use Rattle.fdb_txn.specs.declared.entry.Entry.{Entry}
+use Rattle.fdb_txn.specs.book.Transactions.{Transaction}
+use Rattle.fdb_txn.specs.book.Book.{Stamped, Place, Seen, placed, add_moves}
+use Rattle.fdb_txn.specs.rules.Owners.{is_asked}
+use Rattle.fdb_txn.specs.rules.Admission.{is_fresh, admits, committed}
+use Rattle.fdb_resolver.specs.declared.verdict.Verdict.{Verdict}
+use Rattle.fdb_resolver.specs.declared.verdict.Verdict.TheVariants as verdict
+use Rattle.fdb_core.specs.declared.step.Outcome.{Outcome}
+use Rattle.fdb_core.specs.declared.step.Outcome.TheVariants as outcome
+
+-- what resolver i says of a place behind the earlier ones
+abbrev pub verdict_at : List Point → ℕ → List Place → Place → Verdict
+verdict_at splits i earlier place =
+    if is_fresh place then (if admits splits i earlier place then verdict.Yes else verdict.Conflict) else verdict.Old
+
+-- what becomes of place p behind the earlier ones
+abbrev pub outcome_at : List Point → List Place → Place → ℕ → Outcome
+outcome_at splits earlier place p =
+    if is_fresh place then (if committed splits earlier place then outcome.Commit place.version p else outcome.Conflict) else outcome.Old
+
+-- one after another, the places of a batch from number p on, behind the earlier ones
+module _ (splits : List Point) (version : ℕ) (moves : List Stamped) where
+  -- what resolver i says of those that it is asked about
+  abbrev pub verdicts_from : ℕ → List Transaction → List Place → ℕ → List (ℕ × Verdict)
+  verdicts_from i [] earlier p = []
+  verdicts_from i (t ∷ ts) earlier p =
+      let place = placed version moves t in
+      if is_asked splits i place then (p, verdict_at splits i earlier place) ∷ verdicts_from i ts (place ∷ earlier) (suc p)
+      else verdicts_from i ts (place ∷ earlier) (suc p)
+
+  -- whether resolver i is asked about any
+  abbrev pub asks_about : ℕ → List Transaction → Bool
+  asks_about i [] = Rattle.std.specs.Prelude.false
+  asks_about i (t ∷ ts) = is_asked splits i (placed version moves t) || asks_about i ts
+
+  -- what becomes of each
+  abbrev pub outcomes_from : List Transaction → List Place → ℕ → List Outcome
+  outcomes_from [] earlier p = []
+  outcomes_from (t ∷ ts) earlier p =
+      let place = placed version moves t in
+      outcome_at splits earlier place p ∷ outcomes_from ts (place ∷ earlier) (suc p)
+
+-- the moves through an entry, behind what was seen before it
+abbrev pub moves_through : Seen → Entry → List Stamped
+moves_through before entry = add_moves entry.version entry.moves before.moves
+
+-- resolver i's verdicts on an entry, by place
+abbrev pub verdicts_on : List Point → ℕ → Seen → Entry → List (ℕ × Verdict)
+verdicts_on splits i before entry = verdicts_from splits entry.version (moves_through before entry) i entry.batch before.places 0
+
+-- resolver i is asked about some place of the entry
+abbrev pub is_needed : List Point → ℕ → Seen → Entry → Bool
+is_needed splits i before entry = asks_about splits entry.version (moves_through before entry) i entry.batch
+
+-- what becomes of the places of an entry
+abbrev pub outcomes_on : List Point → Seen → Entry → List Outcome
+outcomes_on splits before entry = outcomes_from splits entry.version (moves_through before entry) entry.batch before.places 0

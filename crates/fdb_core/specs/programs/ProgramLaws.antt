@@ -1,0 +1,32 @@
+-- What holds of programs on maps that agree.
+use Rattle.std.specs.Prelude.{◌≡◌, ⊤, Bool, true, not, List, [], ◌∷◌}
+use Rattle.std.specs.FinMap.{get}
+use Rattle.fdb_keys.specs.Points.{Point}
+use Rattle.fdb_mutations.specs.Maps.{Map}
+use Rattle.fdb_core.specs.declared.roles.client.program.Op.{Op}
+use Rattle.fdb_core.specs.declared.roles.client.program.Op.TheVariants.{Get, Write}
+use Rattle.fdb_core.specs.declared.roles.client.program.Reply.{Reply}
+use Rattle.fdb_core.specs.programs.Programs.{exec, read_set}
+
+-- Every operation is an ordinary one but a snapshot read, which adds nothing to the read set.
+abbrev pub is_ordinary : Op → Bool
+is_ordinary (Get key snapshot) = not snapshot
+is_ordinary (Write mutation) = true
+
+-- Each list has one reply for each operation, and an ordinary operation has the same reply in both.
+abbrev pub AgreeWhereOrdinary : List Op → List Reply → List Reply → Type 0
+AgreeWhereOrdinary [] [] [] = ⊤
+AgreeWhereOrdinary (op ∷ earlier) (reply ∷ replies) (other ∷ others) =
+    (is_ordinary op ≡ true → reply ≡ other) × AgreeWhereOrdinary earlier replies others
+AgreeWhereOrdinary ops replies others = ⊥
+
+-- the maps have the same at every point that the program reads on the first one
+abbrev pub AgreeOnReads : Map → Map → List Op → Type 0
+AgreeOnReads m n ops = (x : Point) → read_set m ops x ≡ true → get m x ≡ get n x
+
+-- Programs agree: on maps that have the same at every point of a program's read set on one of them, the
+-- program's ordinary replies are the same, and so is its read set.
+abbrev pub ProgramsAgree : Type 0
+ProgramsAgree =
+    (m n : Map) (ops : List Op) → AgreeOnReads m n ops
+    → AgreeWhereOrdinary ops (exec m ops) (exec n ops) × ((x : Point) → read_set m ops x ≡ read_set n ops x)

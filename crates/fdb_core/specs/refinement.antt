@@ -1,0 +1,4 @@
+pub mod Cluster
+pub mod Invariant
+pub mod Resolving
+pub mod Roles

@@ -1,0 +1,149 @@
+-- The world's parts as the machine, and what ties the roles' own lists to it.
+use Rattle.std.specs.Prelude.{◌≡◌, ℕ, ◌<◌, ◌≤◌, Bool, true, false, List, [], ◌∷◌, take, length, Option, Some, None, slice_get, if◌then◌else◌}
+use Rattle.std.specs.List.{AllByRecursion}
+use Rattle.fdb_mutations.specs.Mutations.{mutation_fault}
+use Rattle.fdb_txn.specs.declared.entry.Entry.{Entry}
+use Rattle.fdb_txn.specs.book.Transactions.{Transaction, NamesWrites}
+use Rattle.fdb_txn.specs.book.History.{AreEntries}
+use Rattle.fdb_resolver.specs.Resolvers.{Resolver}
+use Rattle.fdb_sequencer.specs.Sequencer.{Sequencer}
+use Rattle.fdb_core.specs.declared.config.Config.{Config}
+use Rattle.fdb_core.specs.declared.cluster.Cluster.{Cluster}
+use Rattle.fdb_core.specs.declared.roles.commit_proxy.CommitProxy.{CommitProxy}
+use Rattle.fdb_core.specs.declared.roles.client.Submission.{Submission}
+use Rattle.fdb_core.specs.declared.roles.shard.ShardProgress.{ShardProgress}
+use Rattle.fdb_core.specs.declared.roles.log.Message.{Message}
+use Rattle.fdb_core.specs.declared.roles.client.program.Transcript.{Transcript}
+use Rattle.fdb_resolver.specs.declared.verdict.Verdict.{Verdict}
+use Rattle.fdb_core.specs.declared.step.Outcome.{Outcome}
+use Rattle.fdb_core.specs.machine.Machine.{Machine, is_set, last_version, seen_before}
+use Rattle.fdb_core.specs.refinement.Resolving.{NoMovesIn, ResolverAt}
+use Rattle.fdb_core.specs.programs.Programs.{program, mutations_of}
+use Rattle.fdb_core.specs.machine.CommitProxySteps.{is_idle, is_resolving}
+use Rattle.fdb_core.specs.refinement.Roles.{along, message_on, outcomes_by, body_by}
+use Rattle.fdb_core.specs.headline.Serving.{System}
+use Rattle.fdb_core.specs.machine.Verdicts.{verdicts_on, outcomes_on}
+
+-- the machine that the world's parts stand for
+abbrev pub machine_of : Cluster → Machine
+machine_of k =
+    record {
+      config = k.config;
+      book = k.book.items;
+      entry_proxies = k.entry_proxies.items;
+      decided = k.decided.items;
+      pending = [];
+      commit_proxies = k.commit_proxies.items;
+      resolvers = k.resolvers.items;
+      logs = k.logs.items;
+      shards = k.shards.items;
+      grv_proxies = k.grv_proxies.items;
+      opened = k.opened.items;
+      last_transactions = k.last_transactions.items;
+      committed = k.sequencer.committed;
+      acknowledged = k.acknowledged.items;
+    }
+
+-- what the world shows: the machine unless memory ran out, and what its one resolver, log and shard keep
+abbrev pub system_of : Bool → Cluster → System
+system_of failed k =
+    record {
+      machine = if failed then None else Some (machine_of k);
+      resolvers = k.resolver ∷ [];
+      logs = k.log.items ∷ [];
+      shards = k.shard.items ∷ [];
+    }
+
+-- each entry's version is above that of the entry before it
+abbrev pub IsRising : List Entry → Type 0
+IsRising book = (i : ℕ) (entry : Entry) → slice_get book i ≡ Some entry → last_version (take i book) < entry.version
+
+-- each transaction of the entry has a read version below the entry's
+abbrev pub ReadsBelow : Entry → Type 0
+ReadsBelow entry = AllByRecursion (λ (t : Transaction). t.read < entry.version) entry.batch
+
+-- the configurations that these roles serve: one of each role
+pub record IsPlain (config : Config) : Type 0 where
+  pub resolver_splits : config.resolver_splits ≡ []
+  pub shard_splits : config.shard_splits ≡ []
+  pub book : config.book ≤ 1048576
+
+-- the book, with what stands beside each entry
+pub record BookRefines (book : List Entry) (entry_proxies : List ℕ) (decided : List Bool) (messages : List (Option Message)) : Type 0 where
+  pub no_moves : NoMovesIn book
+  pub entries : AreEntries 1 0 book
+  pub each_has_proxy : length entry_proxies ≡ length book
+  pub each_flagged : length decided ≡ length book
+  pub each_pooled : length messages ≡ length book
+  -- a decided entry has its message in the pool
+  pub made : (i : ℕ) (message : Message) → is_set decided i ≡ true → slice_get (along (message_on []) book) i ≡ Some message
+      → slice_get messages i ≡ Some (Some message)
+
+-- the sequencer gave each entry its ticket
+pub record SequencerRefines (book : List Entry) (sequencer : Sequencer) : Type 0 where
+  pub proxies : sequencer.proxies ≡ 1
+  pub accepted : sequencer.accepted ≡ length book
+  pub last : sequencer.last ≡ last_version book
+  pub committed : sequencer.committed ≤ last_version book
+
+-- the resolver took this many entries, and sent what the rule says of them
+pub record ResolverRefines (book : List Entry) (resolvers : List ℕ) (resolver : Resolver) (verdicts : List (List (ℕ × Verdict))) : Type 0 where
+  pub taken : ℕ
+  pub one : resolvers ≡ taken ∷ []
+  pub within : taken ≤ length book
+  pub state : ResolverAt (take taken book) resolver
+  pub sent : verdicts ≡ take taken (along (verdicts_on [] 0) book)
+
+-- the log took this many entries, and the shard applied this many of them
+pub record LogRefines (book : List Entry) (logs : List ℕ) (shards : List ShardProgress) (log shard : List Message) : Type 0 where
+  pub taken : ℕ
+  pub applied : ℕ
+  pub one_log : logs ≡ taken ∷ []
+  pub one_shard : shards ≡ record { applied = applied; floor = 0 } ∷ []
+  pub within : taken ≤ length book
+  pub behind : applied ≤ taken
+  pub logged : log ≡ take taken (along (message_on []) book)
+  pub kept : shard ≡ take applied (along (message_on []) book)
+
+-- a submission that waits: its read version is at most the committed one, and its write set has all that its mutations name
+abbrev pub WaitsRefines : ℕ → Submission → Type 0
+WaitsRefines committed submission = (submission.sealed.read ≤ committed) × NamesWrites submission.sealed
+
+-- the commit proxy with its batch in flight, and the outcomes that it holds once the batch is decided
+pub record CommitProxyRefines (book : List Entry) (resolvers : List ℕ) (committed : ℕ) (commit_proxy : CommitProxy) (outcomes : List Outcome) : Type 0 where
+  pub waiting : AllByRecursion (WaitsRefines committed) commit_proxy.waiting
+  pub in_book : is_idle commit_proxy.stage ≡ false → commit_proxy.entry < length book
+  pub aligned : (entry : Entry) → is_idle commit_proxy.stage ≡ false → slice_get book commit_proxy.entry ≡ Some entry → length commit_proxy.in_flight ≡ length entry.batch
+  pub verdicts_received : is_idle commit_proxy.stage ≡ false → length commit_proxy.verdicts_received ≡ 1
+  pub delivered : (taken : ℕ) → is_idle commit_proxy.stage ≡ false → is_set commit_proxy.verdicts_received 0 ≡ true → slice_get resolvers 0 ≡ Some taken → commit_proxy.entry < taken
+  pub decision : (entry : Entry) → is_idle commit_proxy.stage ≡ false → is_resolving commit_proxy.stage ≡ false → slice_get book commit_proxy.entry ≡ Some entry
+      → outcomes ≡ outcomes_on [] (seen_before book commit_proxy.entry) entry
+
+pub record CommitProxiesRefine (book : List Entry) (resolvers : List ℕ) (committed : ℕ) (commit_proxies : List CommitProxy) (outcomes : List Outcome) : Type 0 where
+  pub commit_proxy : CommitProxy
+  pub one : commit_proxies ≡ commit_proxy ∷ []
+  pub ok : CommitProxyRefines book resolvers committed commit_proxy outcomes
+
+-- an open transaction reads at most at the committed version, and its mutations are legal
+pub record OpenRefines (committed : ℕ) (transcript : Transcript) : Type 0 where
+  pub below : transcript.read_version ≤ committed
+  pub legal : AllByRecursion (λ mutation. mutation_fault mutation ≡ None) (mutations_of (program transcript.ops))
+
+-- the outcomes and the message of entry i, by the verdicts on it where they were heard, else by none
+abbrev pub IsDecision : List Entry → List (List (ℕ × Verdict)) → ℕ → Bool → List Outcome × Message → Type 0
+IsDecision book verdicts i is_received decision =
+    (entry : Entry) (sent : List (ℕ × Verdict)) → slice_get book i ≡ Some entry → (is_received ≡ true → slice_get verdicts i ≡ Some sent) →
+    let said = if is_received then sent else [] in
+    (decision.0 ≡ outcomes_by entry.version said (length entry.batch))
+    × (decision.1 ≡ record { version = entry.version; body = body_by entry.batch decision.0 })
+
+-- what holds of the world's parts between two steps
+pub record Refines (k : Cluster) : Type 0 where
+  pub plain : IsPlain k.config
+  pub room : length k.book.items ≤ k.config.book
+  pub sequencer : SequencerRefines k.book.items k.sequencer
+  pub book : BookRefines k.book.items k.entry_proxies.items k.decided.items k.messages.items
+  pub resolver : ResolverRefines k.book.items k.resolvers.items k.resolver k.verdicts.items
+  pub log : LogRefines k.book.items k.logs.items k.shards.items k.log.items k.shard.items
+  pub commit_proxies : CommitProxiesRefine k.book.items k.resolvers.items k.sequencer.committed k.commit_proxies.items k.outcomes
+  pub opened : AllByRecursion (OpenRefines k.sequencer.committed) k.opened.items

@@ -1,0 +1,110 @@
+// The parts of a world: the machine's bookkeeping, and what the roles keep for themselves.
+ghost use Rattle.std.specs.Prelude.{◌≡◌, ◌≤◌, [], ◌∷◌, IfOk};
+ghost use Rattle.fdb_core.specs.machine.Worlds.{start};
+ghost use Rattle.fdb_core.specs.refinement.Cluster.{machine_of, Refines};
+
+use crate::config::Config;
+use crate::roles::client::program::Transcript;
+use crate::roles::client::{LastTransaction, Placed};
+use crate::roles::commit_proxy::{CommitProxy, Stage};
+use crate::roles::log::Message;
+use crate::roles::resolver::first_resolver;
+use crate::roles::sequencer::first_sequencer;
+use crate::roles::shard::ShardProgress;
+use crate::step::Outcome;
+use fdb_keys::Items;
+use fdb_resolver::{ResolverCore, Verdict};
+use fdb_sequencer::SequencerCore;
+use fdb_txn::Entry;
+use std::alloc::{AllocError, Global};
+
+#[derive(Drop)]
+pub(crate) struct Cluster {
+    pub(crate) alloc: Global,
+    pub(crate) config: Config,
+    pub(crate) book: Vec<Entry>,
+    // For each entry the number of its proxy, and whether it is decided.
+    pub(crate) entry_proxies: Vec<u32>,
+    pub(crate) decided: Vec<bool>,
+    pub(crate) commit_proxies: Vec<CommitProxy>,
+    // How many entries each resolver and each log took.
+    pub(crate) resolvers: Vec<u32>,
+    pub(crate) logs: Vec<u32>,
+    pub(crate) shards: Vec<ShardProgress>,
+    pub(crate) grv_proxies: Vec<Items<u32>>,
+    pub(crate) opened: Vec<Transcript>,
+    pub(crate) last_transactions: Vec<LastTransaction>,
+    pub(crate) acknowledged: Vec<Placed>,
+    // It gives the versions, and keeps the greatest one that was reported.
+    pub(crate) sequencer: SequencerCore,
+    // The one resolver, and what it sent for each entry that it took.
+    pub(crate) resolver: ResolverCore,
+    pub(crate) verdicts: Vec<Items<(u32, Verdict)>>,
+    // What the one commit proxy decided of its batch, and the message of each entry once it is decided.
+    pub(crate) outcomes: Items<Outcome>,
+    pub(crate) messages: Vec<Option<Message>>,
+    // What the one log took, and what the one shard applied.
+    pub(crate) log: Vec<Message>,
+    pub(crate) shard: Vec<Message>,
+}
+
+impl Cluster {
+    /// The parts before the first step, with one of each role.
+    pub(crate) fn new(alloc: Global, config: Config) -> Result<Self, AllocError>
+        requires proxies { config.proxies ≡ 1 }
+        requires logs { config.logs ≡ 1 }
+        requires resolver_splits { config.resolver_splits ≡ [] }
+        requires shard_splits { config.shard_splits ≡ [] }
+        requires book { config.book ≤ 1048576 }
+        ensures machine { IfOk result (λ cluster. machine_of cluster ≡ start config) }
+        ensures refines { IfOk result Refines }
+    {
+        let commit_proxy = CommitProxy {
+            waiting: Items::new(alloc),
+            in_flight: Items::new(alloc),
+            stage: Stage::Idle,
+            entry: 0,
+            verdicts_received: Items::new(alloc),
+            acknowledgements_received: Items::new(alloc),
+        };
+        let progress = ShardProgress {
+            applied: 0,
+            floor: 0,
+        };
+        let commit_proxies = one(alloc, commit_proxy)?;
+        let resolvers = one(alloc, 0)?;
+        let logs = one(alloc, 0)?;
+        let shards = one(alloc, progress)?;
+        let grv_proxies = one(alloc, Items::new(alloc))?;
+        Ok(Cluster {
+            alloc,
+            config,
+            book: Vec::new(alloc),
+            entry_proxies: Vec::new(alloc),
+            decided: Vec::new(alloc),
+            commit_proxies,
+            resolvers,
+            logs,
+            shards,
+            grv_proxies,
+            opened: Vec::new(alloc),
+            last_transactions: Vec::new(alloc),
+            sequencer: first_sequencer(alloc),
+            acknowledged: Vec::new(alloc),
+            resolver: first_resolver(alloc),
+            verdicts: Vec::new(alloc),
+            outcomes: Items::new(alloc),
+            messages: Vec::new(alloc),
+            log: Vec::new(alloc),
+            shard: Vec::new(alloc),
+        })
+    }
+}
+
+fn one<T: Drop>(alloc: Global, item: T) -> Result<Vec<T>, AllocError>
+    ensures { IfOk result (λ list. list.items ≡ item ∷ []) }
+{
+    let mut list = Vec::new(alloc);
+    list.push(item)?;
+    Ok(list)
+}

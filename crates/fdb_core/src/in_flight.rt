@@ -1,0 +1,40 @@
+// The batches that the commit proxies have in flight.
+ghost use Rattle.std.specs.Prelude.{◌≡◌};
+ghost use Rattle.fdb_core.specs.machine.InFlight.{in_flight_at};
+ghost use Rattle.fdb_core.specs.refinement.Cluster.{machine_of, Refines};
+
+use crate::cluster::Cluster;
+use crate::roles::commit_proxy::Stage;
+use fdb_keys::Refusal;
+
+/// A batch in flight at a commit proxy, with those whose part in it the proxy waits for.
+#[derive(Clone, Copy, Debug, PartialEq, Eq)]
+pub struct InFlight {
+    /// The number of the batch's entry.
+    pub entry: u32,
+    /// How many resolvers there are.
+    pub resolvers: u32,
+    /// How many logs there are.
+    pub logs: u32,
+}
+
+impl Cluster {
+    pub(crate) fn in_flight(&self, proxy: u32) -> Result<InFlight, Refusal>
+        requires { Refines self.now }
+        ensures { result ≡ in_flight_at (machine_of self.now) proxy }
+    {
+        let at = proxy as usize;
+        if at >= self.commit_proxies.len() {
+            return Err(Refusal::Unknown);
+        }
+        let commit_proxy = &self.commit_proxies[at];
+        if commit_proxy.stage == Stage::Idle {
+            return Err(Refusal::WrongState);
+        }
+        Ok(InFlight {
+            entry: commit_proxy.entry,
+            resolvers: self.resolvers.len() as u32,
+            logs: self.logs.len() as u32,
+        })
+    }
+}

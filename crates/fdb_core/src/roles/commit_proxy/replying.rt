@@ -1,0 +1,62 @@
+// What the clients of a batch are told.
+ghost use Rattle.std.specs.Prelude.{◌≡◌, [], ◌∷◌, ◌++◌, length, IfOk, OnOk};
+ghost use Rattle.fdb_core.specs.machine.CommitProxySteps.{placed_from, replies_from};
+
+use crate::roles::client::Placed;
+use crate::roles::client::program::Transcript;
+use crate::step::Outcome;
+use fdb_keys::Items;
+use fdb_txn::Spot;
+use std::alloc::{AllocError, Global};
+
+/// What each client is told, with its session.
+pub(crate) fn reply_all(
+    alloc: Global,
+    transcripts: &[Transcript],
+    outcomes: &[Outcome],
+) -> Result<Items<(u32, Outcome)>, AllocError>
+    requires { length transcripts.now ≡ length outcomes.now }
+    ensures { IfOk result (λ told. told ≡ replies_from transcripts.now outcomes.now) }
+{
+    let mut told = Items::new(alloc);
+    for (transcript, outcome) in transcripts.iter().zip(outcomes) {
+        told.push((transcript.id.session, *outcome))?;
+    }
+    Ok(told)
+}
+
+fn place(
+    placed: &mut Vec<Placed>,
+    index: u32,
+    transcript: &Transcript,
+    outcome: &Outcome,
+) -> Result<(), AllocError>
+    ensures { OnOk result (placed.new.items ≡ placed.old.items ++ placed_from index (transcript.now ∷ []) (outcome.now ∷ [])) }
+{
+    if let Outcome::Commit { version, place } = outcome {
+        let spot = Spot::Entry {
+            index,
+            place: *place,
+            version: *version,
+        };
+        let transcript = transcript.clone()?;
+        placed.push(Placed { spot, transcript })?;
+    }
+    Ok(())
+}
+
+/// Acknowledges those of the batch that are committed, each at its spot.
+pub(crate) fn place_all(
+    placed: &mut Vec<Placed>,
+    index: u32,
+    transcripts: &[Transcript],
+    outcomes: &[Outcome],
+) -> Result<(), AllocError>
+    requires { length transcripts.now ≡ length outcomes.now }
+    ensures { OnOk result (placed.new.items ≡ placed.old.items ++ placed_from index transcripts.now outcomes.now) }
+{
+    for (transcript, outcome) in transcripts.iter().zip(outcomes) {
+        place(placed, index, transcript, outcome)?;
+    }
+    Ok(())
+}

@@ -1,0 +1,112 @@
+// The one resolver, which owns every key, takes its part of an entry.
+ghost use Rattle.std.specs.Prelude.{◌≡◌, ◌^◌, ◌<◌, ◌++◌, length, List, [], ◌∷◌, None, IfOk, OnOk, if◌then◌else◌};
+ghost use Rattle.std.specs.List.{list_any};
+ghost use Rattle.std.specs.Slice.Iter.{iter_rest};
+ghost use Rattle.fdb_keys.specs.Answers.{Answers};
+ghost use Rattle.fdb_txn.specs.declared.entry.Entry.{Entry};
+ghost use Rattle.fdb_txn.specs.rules.Admission.{has_points};
+ghost use Rattle.fdb_txn.specs.book.Book.{seen_of};
+ghost use Rattle.fdb_core.specs.refinement.Resolving.{is_judged, item_of, items_from, ResolverAt, IsNext};
+ghost use Rattle.fdb_core.specs.machine.Verdicts.{verdicts_on};
+
+use fdb_keys::{Items, RangeSet, Refusal};
+use fdb_resolver::{Item, Part, ResolverCore, Verdict};
+use fdb_txn::{Entry, Sealed};
+use std::alloc::{AllocError, Global};
+
+fn has_points(set: &RangeSet) -> bool
+    ensures { result ≡ has_points set.now }
+{
+    for range in set.iter() {
+        if !range.is_empty() {
+            return true;
+        }
+    }
+    false
+}
+
+fn is_judged(txn: &Sealed) -> bool
+    ensures { result ≡ is_judged txn.now }
+{
+    has_points(txn.writes()) || has_points(txn.reads())
+}
+
+/// Whether a transaction of the batch has a point in its sets, so that the resolver is asked about it.
+pub(crate) fn are_any_judged(batch: &[Sealed]) -> bool
+    ensures { result ≡ list_any is_judged batch.now }
+{
+    for txn in batch {
+        if is_judged(txn) {
+            return true;
+        }
+    }
+    false
+}
+
+fn item_of(place: u32, txn: &Sealed) -> Result<Item, AllocError>
+    ensures { IfOk result (λ item. item ≡ item_of place txn.now) }
+{
+    let reads = txn.reads().clone()?;
+    let writes = txn.writes().clone()?;
+    Ok(Item {
+        place,
+        read_version: txn.read_version(),
+        has_reads: has_points(txn.reads()),
+        reads,
+        writes,
+    })
+}
+
+fn add_item(items: &mut Items<Item>, place: u32, txn: &Sealed) -> Result<(), AllocError>
+    ensures { OnOk result (items.new ≡ items.old ++ items_from (txn.now ∷ []) place) }
+{
+    if is_judged(txn) {
+        items.push(item_of(place, txn)?)?;
+    }
+    Ok(())
+}
+
+fn items_of(alloc: Global, batch: &[Sealed]) -> Result<Items<Item>, AllocError>
+    requires { length batch.now < 2 ^ 32 }
+    ensures { IfOk result (λ items. items ≡ items_from batch.now 0) }
+{
+    let mut items = Items::new(alloc);
+    for (place, txn) in batch.iter().enumerate() {
+        add_item(&mut items, place as u32, txn)?;
+    }
+    Ok(items)
+}
+
+/// The one resolver before its first entry.
+pub(crate) fn first_resolver(alloc: Global) -> ResolverCore
+    ensures { ResolverAt [] result }
+{
+    ResolverCore::new(alloc, 0)
+}
+
+/// Takes the entry, and says of each place with a point in its sets what the rule says of it. Refused where
+/// its version isn't above that of the entry before it, as the resolver refuses it, and as `NoMemory`.
+pub(crate) fn judge_entry(
+    alloc: Global,
+    resolver: &mut ResolverCore,
+    index: u32,
+    entry: &Entry,
+) -> Result<Items<(u32, Verdict)>, Refusal>
+    ensures verdicts { (before : List Entry) → IsNext before resolver.old entry.now
+        → Answers result None (λ verdicts. verdicts ≡ verdicts_on [] 0 (seen_of before) entry.now) }
+    ensures state { (before : List Entry) → IsNext before resolver.old entry.now → OnOk result (ResolverAt (before ++ entry.now ∷ []) resolver.new) }
+{
+    if entry.version <= entry.prev {
+        return Err(Refusal::Chain);
+    }
+    let items = items_of(alloc, entry.batch.as_slice())?;
+    let part = Part {
+        resolver: 0,
+        index,
+        version: entry.version,
+        prev: entry.prev,
+        items,
+    };
+    let said = resolver.take(&part)?;
+    Ok(said.answers)
+}

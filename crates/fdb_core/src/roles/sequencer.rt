@@ -1,0 +1,38 @@
+// The sequencer takes what the world gives it, which it never refuses.
+ghost use Rattle.std.specs.Prelude.{◌≡◌, ◌≤◌, None};
+ghost use Rattle.fdb_sequencer.specs.Sequencer.{accept_fault, accepting, fresh, reporting};
+
+use fdb_sequencer::{SequencerCore, Ticket};
+use std::alloc::Global;
+
+/// The sequencer of one proxy and one resolver, before its first ticket.
+pub(crate) fn first_sequencer(alloc: Global) -> SequencerCore
+    ensures { result ≡ fresh 1 1 0 }
+{
+    match SequencerCore::new(alloc, 1, 1, 0) {
+        Ok(sequencer) => sequencer,
+        Err(_) => unreachable!(),
+    }
+}
+
+/// Accepts the ticket, which was planned just before.
+pub(crate) fn issue(sequencer: &mut SequencerCore, ticket: &Ticket)
+    requires { accept_fault sequencer.old ticket.now ≡ None }
+    ensures { sequencer.new ≡ accepting sequencer.old ticket.now }
+{
+    match sequencer.accept(ticket) {
+        Ok(()) => (),
+        Err(_) => unreachable!(),
+    }
+}
+
+/// Reports the version of an entry.
+pub(crate) fn take_report(sequencer: &mut SequencerCore, version: u64)
+    requires { version ≤ sequencer.old.last }
+    ensures { sequencer.new ≡ reporting sequencer.old version }
+{
+    match sequencer.report(version) {
+        Ok(()) => (),
+        Err(_) => unreachable!(),
+    }
+}

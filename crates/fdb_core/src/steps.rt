@@ -1,0 +1,47 @@
+// Each step by its kind.
+mod client;
+mod commit_proxy;
+mod grv_proxy;
+mod log;
+mod resolver;
+mod shard;
+
+ghost use Rattle.std.specs.Prelude.{◌≡◌, IfOk, OnOk};
+ghost use Rattle.fdb_core.specs.refinement.Cluster.{machine_of, Refines};
+ghost use Rattle.fdb_core.specs.machine.Steps.{next, answer_of, after};
+
+use crate::cluster::Cluster;
+use crate::step::{Answered, Step};
+use fdb_keys::Refusal;
+use std::alloc::AllocError;
+
+impl Cluster {
+    /// Takes the step.
+    pub(crate) fn step(&mut self, step: &Step) -> Result<Result<Answered, Refusal>, AllocError>
+        requires { Refines self.old }
+        ensures answer { IfOk result (λ answer. answer ≡ answer_of (next (machine_of self.old) step.now)) }
+        ensures after { OnOk result (machine_of self.new ≡ after (machine_of self.old) (next (machine_of self.old) step.now)) }
+        ensures refines { OnOk result (Refines self.new) }
+    {
+        match step {
+            Step::Ask { session, proxy } => self.ask(*session, *proxy),
+            Step::Grant { proxy } => self.grant(*proxy),
+            Step::Get {
+                session,
+                key,
+                snapshot,
+            } => self.get(*session, key, *snapshot),
+            Step::Write { session, mutation } => self.write(*session, mutation),
+            Step::Submit { session, proxy } => self.submit(*session, *proxy),
+            Step::Seal { proxy, advance } => self.seal(*proxy, *advance),
+            Step::Resolve { entry, resolver } => self.resolve(*entry, *resolver),
+            Step::Verdict { entry, resolver } => self.receive_verdicts(*entry, *resolver),
+            Step::Decide { proxy } => self.decide(*proxy),
+            Step::Push { entry, log } => self.push(*entry, *log),
+            Step::Logged { entry, log } => self.receive_acknowledgement(*entry, *log),
+            Step::Report { proxy } => self.report(*proxy),
+            Step::Answer { proxy } => self.answer(*proxy),
+            Step::Pull { shard, limit } => self.pull(*shard, *limit),
+        }
+    }
+}

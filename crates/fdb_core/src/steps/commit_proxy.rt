@@ -1,0 +1,280 @@
+// The steps of the commit proxies.
+ghost use Rattle.std.specs.Prelude.{◌≡◌, ◌<◌, true, length, IfOk, OnOk};
+ghost use Rattle.fdb_core.specs.refinement.Cluster.{machine_of, IsDecision, Refines};
+ghost use Rattle.fdb_core.specs.machine.CommitProxySteps.{seals, receives_verdicts, decides, receives_acknowledgement, reports, answers};
+ghost use Rattle.fdb_core.specs.machine.Steps.{answer_of, after};
+
+use crate::cluster::Cluster;
+use crate::roles::commit_proxy::batching::take_batch;
+use crate::roles::commit_proxy::deciding::{committed_body, decide_batch};
+use crate::roles::commit_proxy::flags::{first_unset, is_set, set, unset};
+use crate::roles::commit_proxy::replying::{place_all, reply_all};
+use crate::roles::commit_proxy::{CommitProxy, Stage};
+use crate::roles::log::Message;
+use crate::roles::resolver::are_any_judged;
+use crate::roles::sequencer::{issue, take_report};
+use crate::step::{Answered, Outcome};
+use fdb_keys::{Items, Refusal};
+use fdb_sequencer::Ticket;
+use fdb_txn::{Batch, Entry};
+use std::alloc::AllocError;
+use std::mem;
+
+impl Cluster {
+    #[tactic(auto, unfolding(crate::specs::machine::CommitProxySteps::seals))]
+    pub(crate) fn seal(
+        &mut self,
+        proxy: u32,
+        advance: u64,
+    ) -> Result<Result<Answered, Refusal>, AllocError>
+        requires { Refines self.old }
+        ensures answer { IfOk result (λ answer. answer ≡ answer_of (seals (machine_of self.old) proxy advance)) }
+        ensures after { OnOk result (machine_of self.new ≡ after (machine_of self.old) (seals (machine_of self.old) proxy advance)) }
+        ensures refines { OnOk result (Refines self.new) }
+    {
+        let at = proxy as usize;
+        if at >= self.commit_proxies.len() {
+            return Ok(Err(Refusal::Unknown));
+        }
+        if self.commit_proxies[at].stage != Stage::Idle {
+            return Ok(Err(Refusal::WrongState));
+        }
+        let ticket = match self.sequencer.plan(proxy, advance) {
+            Ok(ticket) => ticket,
+            Err(why) => return Ok(Err(why)),
+        };
+        if self.config.book as usize <= self.book.len() {
+            return Ok(Err(Refusal::BookFull));
+        }
+        let verdicts_received = unset(self.alloc, self.resolvers.len())?;
+        let acknowledgements_received = unset(self.alloc, self.logs.len())?;
+        let waiting = mem::replace(&mut self.commit_proxies[at].waiting, Items::new(self.alloc));
+        let taken = take_batch(self.alloc, waiting)?;
+        let places = taken.batch.len() as u32;
+        issue(&mut self.sequencer, &ticket);
+        let Ticket {
+            index,
+            version,
+            prev,
+            pending: moves,
+            ..
+        } = ticket;
+        let entry = Entry {
+            version,
+            prev,
+            moves,
+            batch: Batch::new(taken.batch),
+        };
+        self.book.push(entry)?;
+        self.entry_proxies.push(proxy)?;
+        self.decided.push(false)?;
+        self.messages.push(None)?;
+        self.commit_proxies[at] = CommitProxy {
+            waiting: taken.rest,
+            in_flight: taken.transcripts,
+            stage: Stage::Resolving,
+            entry: index,
+            verdicts_received,
+            acknowledgements_received,
+        };
+        Ok(Ok(Answered::Issued {
+            index,
+            version,
+            prev,
+            places,
+        }))
+    }
+
+    #[tactic(auto, unfolding(crate::specs::machine::CommitProxySteps::receives_verdicts))]
+    pub(crate) fn receive_verdicts(
+        &mut self,
+        entry: u32,
+        resolver: u32,
+    ) -> Result<Result<Answered, Refusal>, AllocError>
+        requires { Refines self.old }
+        ensures answer { IfOk result (λ answer. answer ≡ answer_of (receives_verdicts (machine_of self.old) entry resolver)) }
+        ensures after { OnOk result (machine_of self.new ≡ after (machine_of self.old) (receives_verdicts (machine_of self.old) entry resolver)) }
+        ensures refines { OnOk result (Refines self.new) }
+    {
+        let from = resolver as usize;
+        if from >= self.resolvers.len() {
+            return Ok(Err(Refusal::Unknown));
+        }
+        if self.resolvers[from] <= entry {
+            return Ok(Err(Refusal::Unknown));
+        }
+        let i = entry as usize;
+        if i >= self.entry_proxies.len() {
+            return Ok(Err(Refusal::Unknown));
+        }
+        let at = self.entry_proxies[i] as usize;
+        if at >= self.commit_proxies.len() {
+            return Ok(Err(Refusal::Unknown));
+        }
+        let commit_proxy = &mut self.commit_proxies[at];
+        if commit_proxy.stage != Stage::Resolving || commit_proxy.entry != entry {
+            return Ok(Err(Refusal::Stale));
+        }
+        if is_set(commit_proxy.verdicts_received.as_slice(), from) {
+            return Ok(Err(Refusal::Stale));
+        }
+        set(&mut commit_proxy.verdicts_received, from);
+        Ok(Ok(Answered::Done))
+    }
+
+    #[tactic(auto, unfolding(crate::specs::machine::CommitProxySteps::decides))]
+    pub(crate) fn decide(&mut self, proxy: u32) -> Result<Result<Answered, Refusal>, AllocError>
+        requires { Refines self.old }
+        ensures answer { IfOk result (λ answer. answer ≡ answer_of (decides (machine_of self.old) proxy)) }
+        ensures after { OnOk result (machine_of self.new ≡ after (machine_of self.old) (decides (machine_of self.old) proxy)) }
+        ensures refines { OnOk result (Refines self.new) }
+    {
+        let at = proxy as usize;
+        if at >= self.commit_proxies.len() {
+            return Ok(Err(Refusal::Unknown));
+        }
+        if self.commit_proxies[at].stage != Stage::Resolving {
+            return Ok(Err(Refusal::WrongState));
+        }
+        let i = self.commit_proxies[at].entry as usize;
+        if i >= self.book.len() {
+            return Ok(Err(Refusal::Unknown));
+        }
+        let is_received = is_set(self.commit_proxies[at].verdicts_received.as_slice(), 0);
+        if !is_received && are_any_judged(self.book[i].batch.as_slice()) {
+            return Ok(Err(Refusal::NotYet(0)));
+        }
+        let (outcomes, message) = self.decision(i, is_received)?;
+        let answer = outcomes.clone()?;
+        self.messages[i] = Some(message);
+        self.decided[i] = true;
+        self.outcomes = outcomes;
+        let commit_proxy = &mut self.commit_proxies[at];
+        commit_proxy.stage = Stage::Logging;
+        Ok(Ok(Answered::Decided(answer)))
+    }
+
+    // The outcomes of an entry's places and its message, by the verdicts that were heard.
+    fn decision(&self, i: usize, is_received: bool) -> Result<(Items<Outcome>, Message), AllocError>
+        requires within { i < length self.now.book.items }
+        requires verdicts_received { is_received ≡ true → i < length self.now.verdicts.items }
+        ensures { IfOk result (IsDecision self.now.book.items self.now.verdicts.items i is_received) }
+    {
+        let entry = &self.book[i];
+        let batch = entry.batch.as_slice();
+        let said = if is_received {
+            self.verdicts[i].as_slice()
+        } else {
+            &[]
+        };
+        let outcomes = decide_batch(self.alloc, entry.version, said, batch.len())?;
+        let body = committed_body(self.alloc, batch, outcomes.as_slice())?;
+        let message = Message {
+            version: entry.version,
+            body,
+        };
+        Ok((outcomes, message))
+    }
+
+    #[tactic(auto, unfolding(crate::specs::machine::CommitProxySteps::receives_acknowledgement))]
+    pub(crate) fn receive_acknowledgement(
+        &mut self,
+        entry: u32,
+        log: u32,
+    ) -> Result<Result<Answered, Refusal>, AllocError>
+        requires { Refines self.old }
+        ensures answer { IfOk result (λ answer. answer ≡ answer_of (receives_acknowledgement (machine_of self.old) entry log)) }
+        ensures after { OnOk result (machine_of self.new ≡ after (machine_of self.old) (receives_acknowledgement (machine_of self.old) entry log)) }
+        ensures refines { OnOk result (Refines self.new) }
+    {
+        let from = log as usize;
+        if from >= self.logs.len() {
+            return Ok(Err(Refusal::Unknown));
+        }
+        if self.logs[from] <= entry {
+            return Ok(Err(Refusal::Unknown));
+        }
+        let i = entry as usize;
+        if i >= self.entry_proxies.len() {
+            return Ok(Err(Refusal::Unknown));
+        }
+        let at = self.entry_proxies[i] as usize;
+        if at >= self.commit_proxies.len() {
+            return Ok(Err(Refusal::Unknown));
+        }
+        let commit_proxy = &mut self.commit_proxies[at];
+        if commit_proxy.stage != Stage::Logging || commit_proxy.entry != entry {
+            return Ok(Err(Refusal::Stale));
+        }
+        if is_set(commit_proxy.acknowledgements_received.as_slice(), from) {
+            return Ok(Err(Refusal::Stale));
+        }
+        set(&mut commit_proxy.acknowledgements_received, from);
+        Ok(Ok(Answered::Done))
+    }
+
+    #[tactic(auto, unfolding(crate::specs::machine::CommitProxySteps::reports))]
+    pub(crate) fn report(&mut self, proxy: u32) -> Result<Result<Answered, Refusal>, AllocError>
+        requires { Refines self.old }
+        ensures answer { IfOk result (λ answer. answer ≡ answer_of (reports (machine_of self.old) proxy)) }
+        ensures after { OnOk result (machine_of self.new ≡ after (machine_of self.old) (reports (machine_of self.old) proxy)) }
+        ensures refines { OnOk result (Refines self.new) }
+    {
+        let at = proxy as usize;
+        if at >= self.commit_proxies.len() {
+            return Ok(Err(Refusal::Unknown));
+        }
+        if self.commit_proxies[at].stage != Stage::Logging {
+            return Ok(Err(Refusal::WrongState));
+        }
+        let i = self.commit_proxies[at].entry as usize;
+        if i >= self.book.len() {
+            return Ok(Err(Refusal::Unknown));
+        }
+        if let Some(missing) = first_unset(
+            self.commit_proxies[at].acknowledgements_received.as_slice(),
+        ) {
+            return Ok(Err(Refusal::NotYet(missing as u64)));
+        }
+        take_report(&mut self.sequencer, self.book[i].version);
+        let commit_proxy = &mut self.commit_proxies[at];
+        commit_proxy.stage = Stage::Reported;
+        Ok(Ok(Answered::Version(self.sequencer.committed())))
+    }
+
+    #[tactic(auto, unfolding(crate::specs::machine::CommitProxySteps::answers))]
+    pub(crate) fn answer(&mut self, proxy: u32) -> Result<Result<Answered, Refusal>, AllocError>
+        requires { Refines self.old }
+        ensures answer { IfOk result (λ answer. answer ≡ answer_of (answers (machine_of self.old) proxy)) }
+        ensures after { OnOk result (machine_of self.new ≡ after (machine_of self.old) (answers (machine_of self.old) proxy)) }
+        ensures refines { OnOk result (Refines self.new) }
+    {
+        let at = proxy as usize;
+        if at >= self.commit_proxies.len() {
+            return Ok(Err(Refusal::Unknown));
+        }
+        let commit_proxy = &mut self.commit_proxies[at];
+        if commit_proxy.stage == Stage::Idle {
+            return Ok(Err(Refusal::WrongState));
+        }
+        let i = commit_proxy.entry as usize;
+        if i >= self.book.len() {
+            return Ok(Err(Refusal::Unknown));
+        }
+        if commit_proxy.stage != Stage::Reported {
+            return Ok(Err(Refusal::NotYet(self.book[i].version)));
+        }
+        let transcripts = commit_proxy.in_flight.as_slice();
+        let outcomes = self.outcomes.as_slice();
+        let told = reply_all(self.alloc, transcripts, outcomes)?;
+        place_all(
+            &mut self.acknowledged,
+            commit_proxy.entry,
+            transcripts,
+            outcomes,
+        )?;
+        commit_proxy.in_flight = Items::new(self.alloc);
+        commit_proxy.stage = Stage::Idle;
+        Ok(Ok(Answered::Answers(told)))
+    }
+}

@@ -1,0 +1,49 @@
+// A shard applies what its log has.
+ghost use Rattle.std.specs.Prelude.{◌≡◌, IfOk, OnOk};
+ghost use Rattle.fdb_core.specs.refinement.Cluster.{machine_of, Refines};
+ghost use Rattle.fdb_core.specs.machine.RoleSteps.{pulls};
+ghost use Rattle.fdb_core.specs.machine.Steps.{answer_of, after};
+
+use crate::book::last_version;
+use crate::cluster::Cluster;
+use crate::roles::log::copy_range;
+use crate::roles::shard::ShardProgress;
+use crate::step::Answered;
+use fdb_keys::Refusal;
+use std::alloc::AllocError;
+
+impl Cluster {
+    #[tactic(auto, unfolding(crate::specs::machine::RoleSteps::pulls))]
+    pub(crate) fn pull(
+        &mut self,
+        shard: u32,
+        limit: u32,
+    ) -> Result<Result<Answered, Refusal>, AllocError>
+        requires { Refines self.old }
+        ensures answer { IfOk result (λ answer. answer ≡ answer_of (pulls (machine_of self.old) shard limit)) }
+        ensures after { OnOk result (machine_of self.new ≡ after (machine_of self.old) (pulls (machine_of self.old) shard limit)) }
+        ensures refines { OnOk result (Refines self.new) }
+    {
+        let of = shard as usize;
+        if of >= self.shards.len() {
+            return Ok(Err(Refusal::Unknown));
+        }
+        let from = of % self.logs.len();
+        let progress = self.shards[of];
+        let has = self.logs[from];
+        let applied = progress
+            .applied
+            .max(has.min(progress.applied.saturating_add(limit)));
+        copy_range(
+            &mut self.shard,
+            &self.log,
+            progress.applied as usize,
+            applied as usize,
+        )?;
+        self.shards[of] = ShardProgress {
+            applied,
+            floor: progress.floor,
+        };
+        Ok(Ok(Answered::Version(last_version(&self.book, applied as usize))))
+    }
+}

@@ -1,0 +1,164 @@
+-- The places of a book, and one entry more.
+use Rattle.std.proofs.Common.{◌≡◌, ◌∙◌, sym, ap, refl, ℕ, ◌<◌, ◌≤◌, le_refl, le_trans, le_of_lt, subst, append_assoc, List, [], ◌∷◌, ◌++◌, fold, arith}
+use Rattle.std.specs.List.{AllByRecursion}
+use Rattle.std.proofs.lemmas.Bool.{cond-true, cond-false, le-leb, lt-leb}
+use Rattle.std.proofs.lemmas.List.Sums.{fold-append}
+use Rattle.fdb_txn.specs.declared.entry.Move.{Move}
+use Rattle.fdb_txn.specs.declared.entry.Entry.{Entry}
+use Rattle.fdb_txn.specs.book.Transactions.{Transaction, NamesWrites}
+use Rattle.fdb_txn.specs.book.Book.{Stamped, Place, Seen, nothing, add_moves, placed, add_places, add_entry, seen_of}
+use Rattle.fdb_txn.specs.book.History.{IsHistory, AreEntries}
+use Rattle.fdb_txn.specs.rules.SerialMap.{serial_map, up_to}
+use Rattle.fdb_txn.specs.laws.SerialMapLaws.{PlacesAreHistory, EarlierPlacesStay, EarlierMapsStay, EntriesGoOn}
+
+-- what holds of each item of two lists holds of each of both together
+pub all-append : {A : Type 0} (P : A → Type 0) (xs ys : List A) → AllByRecursion P xs → AllByRecursion P ys → AllByRecursion P (xs ++ ys)
+all-append P [] ys all others = others
+all-append P (x ∷ xs) ys all others = (all.0, all-append P xs ys all.1 others)
+
+-- what follows of each item holds of each
+pub all-weaken : {A : Type 0} (P Q : A → Type 0) → ((x : A) → P x → Q x) → (xs : List A) → AllByRecursion P xs → AllByRecursion Q xs
+all-weaken P Q weaker [] all = tt
+all-weaken P Q weaker (x ∷ xs) all = (weaker x all.0, all-weaken P Q weaker xs all.1)
+
+-- the move is of a version up to this one and goes to a resolver that exists
+abbrev IsMoveThrough : ℕ → ℕ → Stamped → Type 0
+IsMoveThrough resolvers version move = (move.version ≤ version) × (move.target < resolvers)
+
+-- a place of this version and with these moves would follow the earlier one
+abbrev IsBehind : ℕ → List Stamped → Place → Type 0
+IsBehind version moves earlier =
+    (earlier.version ≤ version)
+    × ((newer : List Stamped) × (moves ≡ newer ++ earlier.moves) × AllByRecursion (λ (move : Stamped). earlier.version < move.version) newer)
+
+-- the transaction may stand at a place of this version
+abbrev MayStandAt : ℕ → Transaction → Type 0
+MayStandAt version t = (t.read < version) × NamesWrites t
+
+-- the moves of an entry stand before the older ones and have its version
+abbrev HasNewer : ℕ → ℕ → List Stamped → List Stamped → Type 0
+HasNewer resolvers version moves older =
+    (newer : List Stamped) × (moves ≡ newer ++ older)
+    × AllByRecursion (λ (move : Stamped). (move.version ≡ version) × (move.target < resolvers)) newer
+
+add_moves-newer : (resolvers version : ℕ) (moves : List Move) (older : List Stamped) → AllByRecursion (λ (move : Move). move.to < resolvers) moves
+    → HasNewer resolvers version (add_moves version moves older) older
+add_moves-newer resolvers version [] older exist = ([], refl, tt)
+add_moves-newer resolvers version (move ∷ moves) older exist =
+    let rest : HasNewer resolvers version (add_moves version moves (stamped ∷ older)) (stamped ∷ older) =
+    add_moves-newer resolvers version moves (stamped ∷ older) exist.1 in (
+      rest.0 ++ stamped ∷ [],
+      rest.1 ∙ sym (append_assoc rest.0 (stamped ∷ []) older),
+      all-append _ rest.0 (stamped ∷ []) rest.2 ((refl, exist.0), tt),
+    )
+  where
+    stamped : Stamped
+    stamped = record { version = version; range = move.range; target = move.to }
+
+-- moves through a version, with newer ones of a greater version, are moves through that
+moves-through : (resolvers last version : ℕ) (moves older : List Stamped) → last ≤ version → HasNewer resolvers version moves older
+    → AllByRecursion (IsMoveThrough resolvers last) older → AllByRecursion (IsMoveThrough resolvers version) moves
+moves-through resolvers last version moves older later newer through =
+    subst (AllByRecursion (IsMoveThrough resolvers version)) (sym newer.1)
+    (all-append (IsMoveThrough resolvers version) newer.0 older
+    (all-weaken _ (IsMoveThrough resolvers version) (λ (move : Stamped) made. (omega (arith, made.0), made.1)) newer.0 newer.2)
+    (all-weaken (IsMoveThrough resolvers last) (IsMoveThrough resolvers version)
+    (λ (move : Stamped) was. (le_trans was.0 later, was.1)) older through))
+
+-- newer moves of a greater version come before the moves of an earlier place, too
+behind-newer : (resolvers last version : ℕ) (moves older : List Stamped) → last < version → HasNewer resolvers version moves older
+    → (place : Place) → IsBehind last older place → IsBehind version moves place
+behind-newer resolvers last version moves older later newer place behind = (
+  le_trans behind.0 (le_of_lt later),
+  (
+    newer.0 ++ behind.1.0,
+    newer.1 ∙ ap (λ (rest : List Stamped). newer.0 ++ rest) behind.1.1 ∙ sym (append_assoc newer.0 behind.1.0 place.moves),
+    all-append (λ (move : Stamped). place.version < move.version) newer.0 behind.1.0
+        (all-weaken _ (λ (move : Stamped). place.version < move.version) (λ (move : Stamped) made. omega (arith, made.0, behind.0)) newer.0 newer.2)
+        behind.1.2,
+  ),
+)
+
+-- the places of an entry go on a history that they follow
+history-add_places : (resolvers version : ℕ) (moves : List Stamped) (batch : List Transaction) (earlier : List Place)
+    → AllByRecursion (IsMoveThrough resolvers version) moves → AllByRecursion (MayStandAt version) batch
+    → IsHistory resolvers earlier → AllByRecursion (IsBehind version moves) earlier
+    → IsHistory resolvers (add_places version moves batch earlier) × AllByRecursion (IsBehind version moves) (add_places version moves batch earlier)
+history-add_places resolvers version moves [] earlier through may history behind = (history, behind)
+history-add_places resolvers version moves (t ∷ ts) earlier through may history behind =
+    history-add_places resolvers version moves ts (placed version moves t ∷ earlier) through may.1
+    ((may.0.0, may.0.1, through), behind, history)
+    ((le_refl version, ([], refl, tt)), behind)
+
+-- the same as `places_are_history`, behind what was seen before
+history-behind : (resolvers last : ℕ) (seen : Seen) (book : List Entry)
+    → AllByRecursion (IsMoveThrough resolvers last) seen.moves → IsHistory resolvers seen.places → AllByRecursion (IsBehind last seen.moves) seen.places
+    → AreEntries resolvers last book → IsHistory resolvers (fold add_entry seen book).places
+history-behind resolvers last seen [] through history behind entries = history
+history-behind resolvers last seen (entry ∷ book) through history behind entries =
+    let newer : HasNewer resolvers entry.version moves seen.moves = add_moves-newer resolvers entry.version entry.moves seen.moves entries.2 in
+    let now : AllByRecursion (IsMoveThrough resolvers entry.version) moves =
+    moves-through resolvers last entry.version moves seen.moves (le_of_lt entries.0) newer through in
+    let both = history-add_places resolvers entry.version moves entry.batch seen.places now entries.3 history
+    (all-weaken (IsBehind last seen.moves) (IsBehind entry.version moves) (behind-newer resolvers last entry.version moves seen.moves entries.0 newer)
+    seen.places behind) in
+    history-behind resolvers entry.version (add_entry seen entry) book now both.0 both.1 entries.4
+  where
+    moves : List Stamped
+    moves = add_moves entry.version entry.moves seen.moves
+
+-- the places of a book are a history
+pub places_are_history : PlacesAreHistory
+places_are_history resolvers book entries = history-behind resolvers 0 nothing book tt tt tt entries
+
+-- the places of an entry stand before the earlier ones and have its version
+pub add_places-newer : (version : ℕ) (moves : List Stamped) (batch : List Transaction) (earlier : List Place)
+    → (newer : List Place) × (add_places version moves batch earlier ≡ newer ++ earlier) × AllByRecursion (λ (place : Place). place.version ≡ version) newer
+add_places-newer version moves [] earlier = ([], refl, tt)
+add_places-newer version moves (t ∷ ts) earlier =
+    let place = placed version moves t in
+    let rest = add_places-newer version moves ts (place ∷ earlier) in
+    (rest.0 ++ place ∷ [], rest.1 ∙ sym (append_assoc rest.0 (place ∷ []) earlier), all-append _ rest.0 (place ∷ []) rest.2 (refl, tt))
+
+-- what was seen of a book with one more entry
+pub seen_of-push : (book : List Entry) (entry : Entry) → seen_of (book ++ entry ∷ []) ≡ add_entry (seen_of book) entry
+seen_of-push book entry = fold-append add_entry nothing book (entry ∷ [])
+
+-- with one more entry the earlier places stay, behind new ones of its version
+pub earlier_places_stay : EarlierPlacesStay
+earlier_places_stay book entry =
+    let added =
+    add_places-newer entry.version (add_moves entry.version entry.moves (seen_of book).moves) entry.batch (seen_of book).places in
+    (added.0, ap (λ (seen : Seen). seen.places) (seen_of-push book entry) ∙ added.1, added.2)
+
+-- no place has a version above v
+abbrev pub AtMost : ℕ → List Place → Type 0
+AtMost v places = AllByRecursion (λ (place : Place). place.version ≤ v) places
+
+-- places of versions at most v all stay
+pub up_to-all : (v : ℕ) (places : List Place) → AtMost v places → up_to v places ≡ places
+up_to-all v [] at_most = refl
+up_to-all v (place ∷ places) at_most =
+    cond-true _ (place ∷ up_to v places) (up_to v places) (le-leb place.version v at_most.0)
+    ∙ ap (λ (rest : List Place). place ∷ rest) (up_to-all v places at_most.1)
+
+-- places of a version above v are left out
+pub up_to-above : (v version : ℕ) (newer earlier : List Place) → v < version → AllByRecursion (λ (place : Place). place.version ≡ version) newer
+    → up_to v (newer ++ earlier) ≡ up_to v earlier
+up_to-above v version [] earlier above all = refl
+up_to-above v version (place ∷ newer) earlier above all =
+    cond-false _ (place ∷ up_to v (newer ++ earlier)) (up_to v (newer ++ earlier)) (lt-leb place.version v (omega (arith, all.0)))
+    ∙ up_to-above v version newer earlier above all.1
+
+-- with one more entry the maps below its version stay
+pub earlier_maps_stay : EarlierMapsStay
+earlier_maps_stay splits book entry v above =
+    let stay = earlier_places_stay book entry in
+    ap (λ (places : List Place). serial_map splits (up_to v places)) stay.1
+    ∙ ap (serial_map splits) (up_to-above v entry.version stay.0 (seen_of book).places above stay.2)
+
+-- entries stay entries with one more that may stand behind them
+pub entries_go_on : EntriesGoOn
+entries_go_on resolvers last [] entry entries more = more
+entries_go_on resolvers last (first ∷ book) entry entries more =
+    (entries.0, entries.1, entries.2, entries.3, entries_go_on resolvers first.version book entry entries.4 more)

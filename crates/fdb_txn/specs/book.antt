@@ -1,0 +1,4 @@
+pub mod Book
+pub mod History
+pub mod Places
+pub mod Transactions

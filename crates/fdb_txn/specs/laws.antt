@@ -1,0 +1,4 @@
+pub mod AdmissionLaws
+pub mod Examples
+pub mod ResolverLaws
+pub mod SerialMapLaws

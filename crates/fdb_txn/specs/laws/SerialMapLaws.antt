@@ -1,0 +1,47 @@
+-- What holds of a book's places, of the run, and of a longer book.
+use Rattle.std.specs.Prelude.{◌≡◌, ◌<◌, ℕ, suc, true, List, [], ◌∷◌, ◌++◌, fold, length}
+use Rattle.std.specs.List.{AllByRecursion}
+use Rattle.std.specs.FinMap.{get}
+use Rattle.fdb_keys.specs.Points.{Point}
+use Rattle.fdb_keys.specs.Ranges.{in_set}
+use Rattle.fdb_txn.specs.declared.entry.Entry.{Entry}
+use Rattle.fdb_txn.specs.book.Book.{Place, seen_of}
+use Rattle.fdb_txn.specs.rules.Admission.{committed}
+use Rattle.fdb_txn.specs.book.History.{IsHistory, AreEntries}
+use Rattle.fdb_txn.specs.rules.SerialMap.{serial_map, serial_map_at}
+
+-- the places of a book are a history
+abbrev pub PlacesAreHistory : Type 0
+PlacesAreHistory = (resolvers : ℕ) (book : List Entry) → AreEntries resolvers 0 book → IsHistory resolvers (seen_of book).places
+
+-- Reads stand: what a committed transaction read at its read version stands there still where it commits. At
+-- every point of its read set, the map at its read version is the same as the map right before its place.
+abbrev pub ReadsStand : Type 0
+ReadsStand =
+    (splits : List Point) (earlier : List Place) (place : Place) → IsHistory (suc (length splits)) (place ∷ earlier)
+    → committed splits earlier place ≡ true
+    → (x : Point) → in_set place.transaction.reads x ≡ true
+    → get (serial_map_at splits place.transaction.read (place ∷ earlier)) x ≡ get (serial_map splits earlier) x
+
+-- with one more entry the earlier places stay as they were, behind new ones of the entry's version
+abbrev pub EarlierPlacesStay : Type 0
+EarlierPlacesStay =
+    (book : List Entry) (entry : Entry)
+    → (newer : List Place) × ((seen_of (book ++ entry ∷ [])).places ≡ newer ++ (seen_of book).places)
+    × AllByRecursion (λ (place : Place). place.version ≡ entry.version) newer
+
+-- and so does the map at each version below the entry's
+abbrev pub EarlierMapsStay : Type 0
+EarlierMapsStay =
+    (splits : List Point) (book : List Entry) (entry : Entry) (v : ℕ) → v < entry.version
+    → serial_map_at splits v (seen_of (book ++ entry ∷ [])).places ≡ serial_map_at splits v (seen_of book).places
+
+-- the version of the last entry, else that behind which the first one would come
+abbrev pub version_after : ℕ → List Entry → ℕ
+version_after last book = fold (λ (before : ℕ) (entry : Entry). entry.version) last book
+
+-- entries stay entries with one more that may stand behind the last of them
+abbrev pub EntriesGoOn : Type 0
+EntriesGoOn =
+    (resolvers last : ℕ) (book : List Entry) (entry : Entry) → AreEntries resolvers last book
+    → AreEntries resolvers (version_after last book) (entry ∷ []) → AreEntries resolvers last (book ++ entry ∷ [])

@@ -1,0 +1,5 @@
+pub mod Admission
+pub mod Messages
+pub mod Owners
+pub mod Resolvers
+pub mod SerialMap

@@ -1,0 +1,75 @@
+-- What logs send a shard of each entry, and what the messages leave at a point.
+use Rattle.std.specs.Prelude.{◌≡◌, ◌↔◌, ℕ, Bool, true, nat_le, List, [], ◌∷◌, ◌++◌, fold, filter, Option, None, if◌then◌else◌}
+use Rattle.std.specs.FinMap.{get}
+use Rattle.fdb_keys.specs.Points.{Point}
+use Rattle.fdb_keys.specs.Ranges.{Range, in_range, ranges_meet}
+use Rattle.fdb_mutations.specs.declared.mutation.Mutation.{Mutation}
+use Rattle.fdb_mutations.specs.Mutations.{names, named_range, new_value}
+use Rattle.fdb_txn.specs.declared.entry.Entry.{Entry}
+use Rattle.fdb_txn.specs.book.Transactions.{Transaction}
+use Rattle.fdb_txn.specs.book.Book.{Stamped, Place, Seen, nothing, add_moves, placed, add_entry, seen_of}
+use Rattle.fdb_txn.specs.rules.Admission.{committed}
+use Rattle.fdb_txn.specs.book.History.{AreEntries}
+use Rattle.fdb_txn.specs.rules.SerialMap.{serial_map_at}
+
+-- the mutation names a point of the range
+abbrev pub meets_range : Range → Mutation → Bool
+meets_range range mutation = ranges_meet range (named_range mutation)
+
+-- mutations under the version of their entry
+pub record Message : Type 0 where
+  pub version : ℕ
+  pub body : List Mutation
+
+-- the mutations of those transactions of a batch that are committed, in order
+abbrev pub committed_from : List Point → ℕ → List Stamped → List Transaction → List Place → List Mutation
+committed_from splits version moves [] earlier = []
+committed_from splits version moves (t ∷ ts) earlier =
+    (if committed splits earlier (placed version moves t) then t.mutations else [])
+    ++ committed_from splits version moves ts (placed version moves t ∷ earlier)
+
+-- the message of an entry for the shard that holds the range: the mutations of the entry's committed
+-- transactions that meet the range, in order
+abbrev pub message_for : List Point → Range → Seen → Entry → Message
+message_for splits range before entry =
+    let moves = add_moves entry.version entry.moves before.moves in
+    record {
+      version = entry.version;
+      body = filter (meets_range range) (committed_from splits entry.version moves entry.batch before.places);
+    }
+
+-- the messages of entries behind what was seen before them, the first one first
+abbrev pub messages_after : List Point → Range → Seen → List Entry → List Message
+messages_after splits range before [] = []
+messages_after splits range before (entry ∷ book) =
+    message_for splits range before entry ∷ messages_after splits range (add_entry before entry) book
+
+-- the messages of a book
+abbrev pub messages_for : List Point → Range → List Entry → List Message
+messages_for splits range book = messages_after splits range nothing book
+
+-- what stands at a point after a mutation, by what stood there
+abbrev pub value_after : Point → Option (List ℕ) → Mutation → Option (List ℕ)
+value_after x value mutation = if names mutation x then new_value mutation value else value
+
+-- what stands at a point after a message, if it is of version at most v
+abbrev pub value_with : ℕ → Point → Option (List ℕ) → Message → Option (List ℕ)
+value_with v x value message = if nat_le message.version v then fold (value_after x) value message.body else value
+
+-- what stands at a point after the messages of version at most v, from nothing
+abbrev pub value_in : ℕ → Point → List Message → Option (List ℕ)
+value_in v x messages = fold (value_with v x) None messages
+
+-- a mutation meets a range exactly where it names some point of it
+abbrev pub MeetsAtSomePoint : Type 0
+MeetsAtSomePoint =
+    (range : Range) (mutation : Mutation)
+    → (meets_range range mutation ≡ true) ↔ ((x : Point) × (in_range range x ≡ true) × (names mutation x ≡ true))
+
+-- A shard holds the run: at each point of its range and each version, its messages leave what stands there on
+-- the run's map at that version.
+abbrev pub ShardsHoldTheRun : Type 0
+ShardsHoldTheRun =
+    (resolvers : ℕ) (splits : List Point) (range : Range) (book : List Entry) → AreEntries resolvers 0 book
+    → (v : ℕ) (x : Point) → in_range range x ≡ true
+    → value_in v x (messages_for splits range book) ≡ get (serial_map_at splits v (seen_of book).places) x
