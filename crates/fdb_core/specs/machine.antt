@@ -3,6 +3,7 @@ pub mod CommitProxySteps
 pub mod InFlight
 pub mod Machine
 pub mod RoleSteps
+pub mod Roles
 pub mod Steps
 pub mod Verdicts
 pub mod Worlds

@@ -6,7 +6,7 @@ ghost use Rattle.fdb_core.specs.refinement.Cluster.{machine_of, Refines};
 use crate::config::Config;
 use crate::roles::client::program::Transcript;
 use crate::roles::client::{LastTransaction, Placed};
-use crate::roles::commit_proxy::{CommitProxy, Stage};
+use crate::roles::commit_proxy::CommitProxy;
 use crate::roles::log::Message;
 use crate::roles::resolver::first_resolver;
 use crate::roles::sequencer::first_sequencer;
@@ -59,22 +59,10 @@ impl Cluster {
         ensures machine { IfOk result (λ cluster. machine_of cluster ≡ start config) }
         ensures refines { IfOk result Refines }
     {
-        let commit_proxy = CommitProxy {
-            waiting: Items::new(alloc),
-            in_flight: Items::new(alloc),
-            stage: Stage::Idle,
-            entry: 0,
-            verdicts_received: Items::new(alloc),
-            acknowledgements_received: Items::new(alloc),
-        };
-        let progress = ShardProgress {
-            applied: 0,
-            floor: 0,
-        };
-        let commit_proxies = one(alloc, commit_proxy)?;
+        let commit_proxies = one(alloc, CommitProxy::new(alloc))?;
         let resolvers = one(alloc, 0)?;
         let logs = one(alloc, 0)?;
-        let shards = one(alloc, progress)?;
+        let shards = one(alloc, ShardProgress::new())?;
         let grv_proxies = one(alloc, Items::new(alloc))?;
         Ok(Cluster {
             alloc,

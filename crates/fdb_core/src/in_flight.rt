@@ -4,7 +4,6 @@ ghost use Rattle.fdb_core.specs.machine.InFlight.{in_flight_at};
 ghost use Rattle.fdb_core.specs.refinement.Cluster.{machine_of, Refines};
 
 use crate::cluster::Cluster;
-use crate::roles::commit_proxy::Stage;
 use fdb_keys::Refusal;
 
 /// A batch in flight at a commit proxy, with those whose part in it the proxy waits for.
@@ -28,11 +27,11 @@ impl Cluster {
             return Err(Refusal::Unknown);
         }
         let commit_proxy = &self.commit_proxies[at];
-        if commit_proxy.stage == Stage::Idle {
+        if commit_proxy.is_idle() {
             return Err(Refusal::WrongState);
         }
         Ok(InFlight {
-            entry: commit_proxy.entry,
+            entry: commit_proxy.entry(),
             resolvers: self.resolvers.len() as u32,
             logs: self.logs.len() as u32,
         })

@@ -5,7 +5,7 @@ use Rattle.std.specs.List.{slice_get, list_any}
 use Rattle.fdb_keys.specs.declared.refusal.Refusal.{Refusal}
 use Rattle.fdb_keys.specs.declared.refusal.Refusal.TheVariants.{TransactionTooOld, FutureVersion, Exhausted}
 use Rattle.fdb_txn.specs.rules.Owners.{first_owner}
-use Rattle.fdb_core.specs.declared.roles.shard.ShardProgress.{ShardProgress}
+use Rattle.fdb_core.specs.machine.Roles.{ShardProgress}
 use Rattle.fdb_core.specs.declared.roles.client.program.Transcript.{Transcript}
 use Rattle.fdb_core.specs.machine.ClientSteps.{grants, gets, read_fault, shard_fault, has_no_number, version_of_shard}
 use Rattle.fdb_core.specs.machine.Machine.{Machine, Transition, refused_by, is_of}

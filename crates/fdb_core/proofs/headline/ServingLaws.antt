@@ -9,7 +9,7 @@ use Rattle.fdb_txn.specs.rules.Resolvers.{IsStateOf}
 use Rattle.fdb_txn.specs.rules.SerialMap.{serial_map_at}
 use Rattle.fdb_core.specs.declared.cluster.Cluster.{Cluster}
 use Rattle.fdb_core.specs.declared.roles.log.Message.{Message}
-use Rattle.fdb_core.specs.declared.roles.shard.ShardProgress.{ShardProgress}
+use Rattle.fdb_core.specs.machine.Roles.{ShardProgress}
 use Rattle.fdb_core.specs.refinement.Cluster.{machine_of, system_of, Refines}
 use Rattle.fdb_core.specs.machine.Machine.{Machine, last_version, seen_before}
 use Rattle.fdb_core.specs.refinement.Roles.{along, message_on, value_in}

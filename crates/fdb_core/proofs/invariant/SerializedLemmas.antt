@@ -16,7 +16,7 @@ use Rattle.fdb_txn.specs.book.History.{IsHistory, AreEntries}
 use Rattle.fdb_txn.specs.rules.SerialMap.{serial_map, up_to, serial_map_at}
 use Rattle.fdb_txn.proofs.book.HistoryLemmas.{all-append, all-weaken, add_places-newer, places_are_history, earlier_maps_stay}
 use Rattle.fdb_txn.proofs.rules.SerialMapLemmas.{reads_stand}
-use Rattle.fdb_core.specs.declared.roles.commit_proxy.CommitProxy.{CommitProxy}
+use Rattle.fdb_core.specs.machine.Roles.{CommitProxy}
 use Rattle.fdb_core.specs.declared.roles.client.Placed.{Placed}
 use Rattle.fdb_core.specs.declared.roles.client.program.Op.{Op}
 use Rattle.fdb_core.specs.declared.roles.client.program.Reply.{Reply}

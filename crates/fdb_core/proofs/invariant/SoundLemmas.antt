@@ -18,11 +18,7 @@ use Rattle.fdb_txn.specs.rules.SerialMap.{serial_map_at}
 use Rattle.fdb_txn.specs.laws.SerialMapLaws.{version_after}
 use Rattle.fdb_txn.specs.book.Transactions.{Transaction, NamesWrites, with_named, some_names}
 use Rattle.fdb_txn.proofs.book.HistoryLemmas.{earlier_maps_stay}
-use Rattle.fdb_core.specs.declared.roles.client.LastTransaction.{LastTransaction}
-use Rattle.fdb_core.specs.declared.roles.commit_proxy.CommitProxy.{CommitProxy}
-use Rattle.fdb_core.specs.declared.roles.commit_proxy.Stage.{Stage}
-use Rattle.fdb_core.specs.declared.roles.commit_proxy.Stage.TheVariants.{Idle, Resolving, Logging, Reported}
-use Rattle.fdb_core.specs.declared.roles.client.Submission.{Submission}
+use Rattle.fdb_core.specs.machine.Roles.{LastTransaction, CommitProxy, Stage, Idle, Resolving, Logging, Reported, Submission}
 use Rattle.fdb_core.specs.declared.roles.client.program.Op.{Op}
 use Rattle.fdb_core.specs.declared.roles.client.program.Reply.{Reply}
 use Rattle.fdb_core.specs.declared.roles.client.program.Transcript.{Transcript}

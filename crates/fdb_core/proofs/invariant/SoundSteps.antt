@@ -9,12 +9,8 @@ use Rattle.fdb_txn.specs.declared.entry.Entry.{Entry}
 use Rattle.fdb_txn.proofs.book.HistoryLemmas.{all-append, entries_go_on}
 use Rattle.fdb_sequencer.specs.Limits.{version_limit}
 use Rattle.fdb_sequencer.specs.Sequencer.{next_version}
-use Rattle.fdb_core.specs.declared.roles.client.LastTransaction.{LastTransaction}
-use Rattle.fdb_core.specs.declared.roles.commit_proxy.CommitProxy.{CommitProxy}
+use Rattle.fdb_core.specs.machine.Roles.{LastTransaction, CommitProxy, ShardProgress, Idle, Logging, Reported, Submission}
 use Rattle.fdb_core.specs.declared.roles.client.Placed.{Placed}
-use Rattle.fdb_core.specs.declared.roles.shard.ShardProgress.{ShardProgress}
-use Rattle.fdb_core.specs.declared.roles.commit_proxy.Stage.TheVariants.{Idle, Logging, Reported}
-use Rattle.fdb_core.specs.declared.roles.client.Submission.{Submission}
 use Rattle.fdb_core.specs.declared.roles.client.program.Op.TheVariants as op
 use Rattle.fdb_core.specs.declared.roles.client.program.Reply.TheVariants as reply
 use Rattle.fdb_core.specs.declared.roles.client.program.Transcript.{Transcript}

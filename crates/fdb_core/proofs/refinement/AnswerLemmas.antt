@@ -3,9 +3,7 @@ use Rattle.std.proofs.Common.{◌≡◌, ◌∙◌, sym, ap, refl, length, ℕ, 
 use Rattle.std.specs.List.{slice_get, slice_set}
 use Rattle.fdb_txn.specs.declared.entry.Entry.{Entry}
 use Rattle.fdb_core.specs.declared.cluster.Cluster.{Cluster}
-use Rattle.fdb_core.specs.declared.roles.commit_proxy.CommitProxy.{CommitProxy}
-use Rattle.fdb_core.specs.declared.roles.commit_proxy.Stage.{Stage}
-use Rattle.fdb_core.specs.declared.roles.commit_proxy.Stage.TheVariants.{Idle, Resolving, Logging, Reported}
+use Rattle.fdb_core.specs.machine.Roles.{CommitProxy, Stage, Idle, Resolving, Logging, Reported}
 use Rattle.fdb_core.specs.declared.step.Answered.TheVariants as answered
 use Rattle.fdb_core.specs.declared.step.Outcome.{Outcome}
 use Rattle.fdb_core.specs.refinement.Cluster.{machine_of, CommitProxyRefines, Refines}
@@ -17,7 +15,7 @@ use Rattle.fdb_core.proofs.refinement.CommitProxyTies.{commit_proxy-at}
 
 -- what a commit proxy finds whose version was reported
 pub record Answering (k : Cluster) (proxy : ℕ) (commit_proxy : CommitProxy) (entry : Entry) : Type 0 where
-  pub lane_there : slice_get k.commit_proxies.items proxy ≡ Some commit_proxy
+  pub proxy_there : slice_get k.commit_proxies.items proxy ≡ Some commit_proxy
   pub reported : is_reported commit_proxy.stage ≡ true
   pub entry_there : slice_get k.book.items commit_proxy.entry ≡ Some entry
 
@@ -31,7 +29,7 @@ only_reported Reported reported = (refl, refl)
 -- the batch whose clients are answered
 module _ (k : Cluster) (proxy : ℕ) (commit_proxy : CommitProxy) (entry : Entry) (refines : Refines k) (found : Answering k proxy commit_proxy entry) where
   ok : CommitProxyRefines k.book.items k.resolvers.items k.sequencer.committed commit_proxy k.outcomes
-  ok = commit_proxy-at k.book.items k.resolvers.items k.sequencer.committed k.commit_proxies.items k.outcomes proxy commit_proxy refines.commit_proxies found.lane_there
+  ok = commit_proxy-at k.book.items k.resolvers.items k.sequencer.committed k.commit_proxies.items k.outcomes proxy commit_proxy refines.commit_proxies found.proxy_there
 
   -- the outcomes that are kept are what became of the places
   kept : k.outcomes ≡ outcomes_on [] (seen_before k.book.items commit_proxy.entry) entry
@@ -54,4 +52,4 @@ module _ (k : Cluster) (proxy : ℕ) (commit_proxy : CommitProxy) (entry : Entry
     };
   })
   unfolding answers
-  answers-transition = rw (found.lane_there, (only_reported commit_proxy.stage found.reported).0, found.entry_there, found.reported, refines.plain.resolver_splits, kept) refl
+  answers-transition = rw (found.proxy_there, (only_reported commit_proxy.stage found.reported).0, found.entry_there, found.reported, refines.plain.resolver_splits, kept) refl

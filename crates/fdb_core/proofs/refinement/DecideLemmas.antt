@@ -10,9 +10,7 @@ use Rattle.fdb_mutations.specs.declared.mutation.Mutation.{Mutation}
 use Rattle.fdb_txn.specs.declared.entry.Entry.{Entry}
 use Rattle.fdb_txn.specs.book.Book.{Seen}
 use Rattle.fdb_core.specs.declared.cluster.Cluster.{Cluster}
-use Rattle.fdb_core.specs.declared.roles.commit_proxy.CommitProxy.{CommitProxy}
-use Rattle.fdb_core.specs.declared.roles.commit_proxy.Stage.{Stage}
-use Rattle.fdb_core.specs.declared.roles.commit_proxy.Stage.TheVariants.{Idle, Resolving, Logging, Reported}
+use Rattle.fdb_core.specs.machine.Roles.{CommitProxy, Stage, Idle, Resolving, Logging, Reported}
 use Rattle.fdb_core.specs.declared.roles.log.Message.{Message}
 use Rattle.fdb_resolver.specs.declared.verdict.Verdict.{Verdict}
 use Rattle.fdb_core.specs.declared.step.Outcome.{Outcome}
@@ -78,7 +76,7 @@ length-outcomes_by version verdicts (suc place) =
 
 -- what a commit proxy finds that goes on to decide
 pub record Deciding (k : Cluster) (proxy : ℕ) (commit_proxy : CommitProxy) (entry : Entry) : Type 0 where
-  pub lane_there : slice_get k.commit_proxies.items proxy ≡ Some commit_proxy
+  pub proxy_there : slice_get k.commit_proxies.items proxy ≡ Some commit_proxy
   pub resolving : is_resolving commit_proxy.stage ≡ true
   pub entry_there : slice_get k.book.items commit_proxy.entry ≡ Some entry
 
@@ -123,7 +121,7 @@ module _ (k : Cluster) (proxy : ℕ) (commit_proxy : CommitProxy) (entry : Entry
   below = all-at ReadsBelow k.book.items commit_proxy.entry entry (entries-below 1 0 k.book.items refines.book.entries) found.entry_there
 
   ok : CommitProxyRefines k.book.items k.resolvers.items k.sequencer.committed commit_proxy k.outcomes
-  ok = commit_proxy-at k.book.items k.resolvers.items k.sequencer.committed k.commit_proxies.items k.outcomes proxy commit_proxy refines.commit_proxies found.lane_there
+  ok = commit_proxy-at k.book.items k.resolvers.items k.sequencer.committed k.commit_proxies.items k.outcomes proxy commit_proxy refines.commit_proxies found.proxy_there
 
   not_idle : is_idle commit_proxy.stage ≡ false
   not_idle = busy commit_proxy.stage found.resolving
@@ -140,7 +138,7 @@ module _ (k : Cluster) (proxy : ℕ) (commit_proxy : CommitProxy) (entry : Entry
   pub decides-waits : is_set commit_proxy.verdicts_received 0 ≡ false → is_any_judged entry ≡ true → decides (machine_of k) proxy ≡ Err (NotYet 0)
   unfolding decides
   decides-waits not_received judged =
-      rw (found.lane_there, found.resolving, found.entry_there, refines.plain.resolver_splits, missing false not_received, judged) refl
+      rw (found.proxy_there, found.resolving, found.entry_there, refines.plain.resolver_splits, missing false not_received, judged) refl
 
   -- nothing is missing
   pub decides-transition : (is_received : Bool) → is_set commit_proxy.verdicts_received 0 ≡ is_received → (is_any_judged entry && not is_received) ≡ false
@@ -153,7 +151,7 @@ module _ (k : Cluster) (proxy : ℕ) (commit_proxy : CommitProxy) (entry : Entry
       })
   unfolding decides
   decides-transition is_received is none =
-      rw (found.lane_there, found.resolving, found.entry_there, refines.plain.resolver_splits, missing is_received is, none) refl
+      rw (found.proxy_there, found.resolving, found.entry_there, refines.plain.resolver_splits, missing is_received is, none) refl
 
   -- a flag that is set tells that the resolver took the entry
   taken : is_set commit_proxy.verdicts_received 0 ≡ true → commit_proxy.entry < refines.resolver.taken
@@ -248,6 +246,6 @@ module _ (k : Cluster) (proxy : ℕ) (commit_proxy : CommitProxy) (entry : Entry
         resolver = refines.resolver;
         log = refines.log;
         commit_proxies = commit_proxies-set k.book.items k.book.items k.resolvers.items k.resolvers.items k.sequencer.committed k.sequencer.committed k.outcomes outcomes k.commit_proxies.items proxy commit_proxy
-            (record commit_proxy { stage = Logging }) refines.commit_proxies found.lane_there (commit_proxy-decided outcomes are);
+            (record commit_proxy { stage = Logging }) refines.commit_proxies found.proxy_there (commit_proxy-decided outcomes are);
         opened = refines.opened;
       }

@@ -9,8 +9,7 @@ use Rattle.fdb_txn.specs.declared.entry.Entry.{Entry}
 use Rattle.fdb_txn.specs.book.Book.{add_entry, seen_of}
 use Rattle.fdb_txn.specs.book.History.{AreEntries}
 use Rattle.fdb_resolver.specs.Resolvers.{Resolver}
-use Rattle.fdb_core.specs.declared.roles.commit_proxy.CommitProxy.{CommitProxy}
-use Rattle.fdb_core.specs.declared.roles.shard.ShardProgress.{ShardProgress}
+use Rattle.fdb_core.specs.machine.Roles.{CommitProxy, ShardProgress}
 use Rattle.fdb_core.specs.declared.roles.log.Message.{Message}
 use Rattle.fdb_core.specs.declared.step.Outcome.{Outcome}
 use Rattle.fdb_resolver.specs.declared.verdict.Verdict.{Verdict}

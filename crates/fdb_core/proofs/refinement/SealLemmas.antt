@@ -12,10 +12,7 @@ use Rattle.fdb_txn.proofs.book.HistoryLemmas.{entries_go_on}
 use Rattle.fdb_resolver.specs.Resolvers.{Resolver}
 use Rattle.fdb_sequencer.specs.Limits.{version_limit}
 use Rattle.fdb_sequencer.specs.Sequencer.{next_version}
-use Rattle.fdb_core.specs.declared.roles.commit_proxy.CommitProxy.{CommitProxy}
-use Rattle.fdb_core.specs.declared.roles.shard.ShardProgress.{ShardProgress}
-use Rattle.fdb_core.specs.declared.roles.commit_proxy.Stage.TheVariants.{Resolving}
-use Rattle.fdb_core.specs.declared.roles.client.Submission.{Submission}
+use Rattle.fdb_core.specs.machine.Roles.{CommitProxy, ShardProgress, Resolving, Submission}
 use Rattle.fdb_core.specs.declared.roles.log.Message.{Message}
 use Rattle.fdb_core.specs.declared.roles.client.program.Transcript.{Transcript}
 use Rattle.fdb_core.specs.declared.step.Answered.TheVariants as answered
@@ -23,7 +20,7 @@ use Rattle.fdb_core.specs.declared.step.Outcome.{Outcome}
 use Rattle.fdb_resolver.specs.declared.verdict.Verdict.{Verdict}
 use Rattle.fdb_core.specs.refinement.Cluster.{BookRefines, ResolverRefines, LogRefines, WaitsRefines, CommitProxyRefines}
 use Rattle.fdb_core.specs.machine.Machine.{Machine, is_set, last_version}
-use Rattle.fdb_core.specs.machine.CommitProxySteps.{seals, is_idle}
+use Rattle.fdb_core.specs.machine.CommitProxySteps.{seals, is_idle, with_batch}
 use Rattle.fdb_core.specs.refinement.Resolving.{ResolverAt}
 use Rattle.fdb_core.specs.refinement.Roles.{along, message_on}
 use Rattle.fdb_core.specs.machine.Verdicts.{verdicts_on}
@@ -42,14 +39,7 @@ sealed_entry m advance commit_proxy = record {
 
 -- the commit proxy with its batch in flight
 abbrev pub sealed_proxy : Machine → CommitProxy → CommitProxy
-sealed_proxy m commit_proxy = record {
-  waiting = drop PLACE_LIMIT commit_proxy.waiting;
-  in_flight = map (λ (submission : Submission). submission.transcript) (take PLACE_LIMIT commit_proxy.waiting);
-  stage = Resolving;
-  entry = length m.book;
-  verdicts_received = replicate (length m.resolvers) false;
-  acknowledgements_received = replicate (length m.logs) false;
-}
+sealed_proxy m commit_proxy = with_batch commit_proxy (length m.book) (length m.resolvers) (length m.logs)
 
 -- the machine behind a seal
 abbrev pub sealed_machine : Machine → ℕ → ℕ → CommitProxy → Machine

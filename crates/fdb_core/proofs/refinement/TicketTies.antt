@@ -11,8 +11,7 @@ use Rattle.fdb_sequencer.specs.declared.ticket.Ticket.{Ticket}
 use Rattle.fdb_sequencer.specs.Limits.{ticket_limit, version_limit}
 use Rattle.fdb_sequencer.specs.Sequencer.{next_version, planned, plan_fault}
 use Rattle.fdb_core.specs.declared.cluster.Cluster.{Cluster}
-use Rattle.fdb_core.specs.declared.roles.commit_proxy.CommitProxy.{CommitProxy}
-use Rattle.fdb_core.specs.declared.roles.commit_proxy.Stage.TheVariants.{Logging, Reported}
+use Rattle.fdb_core.specs.machine.Roles.{CommitProxy, Stage, Idle, Resolving, Logging, Reported}
 use Rattle.fdb_core.specs.declared.step.Answered.TheVariants as answered
 use Rattle.fdb_core.specs.refinement.Cluster.{machine_of, Refines}
 use Rattle.fdb_core.specs.machine.Machine.{Machine, first_missing, last_version}
@@ -84,3 +83,10 @@ pub reports-transition : (m : Machine) (proxy : ℕ) (commit_proxy : CommitProxy
     })
 unfolding reports
 reports-transition m proxy commit_proxy entry there logging at none = rw (there, ap is_logging logging, at, none) refl
+
+-- a proxy whose batch is being logged is at that stage
+pub logging-is : (stage : Stage) → is_logging stage ≡ true → stage ≡ Logging
+logging-is Idle is = cc
+logging-is Resolving is = cc
+logging-is Logging is = refl
+logging-is Reported is = cc

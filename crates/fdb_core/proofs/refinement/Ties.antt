@@ -8,7 +8,7 @@ use Rattle.fdb_mutations.specs.declared.mutation.Mutation.{Mutation}
 use Rattle.fdb_mutations.specs.Mutations.{mutation_fault}
 use Rattle.fdb_core.specs.declared.roles.client.program.Op.TheVariants as op
 use Rattle.fdb_core.specs.declared.roles.client.program.Reply.{Reply}
-use Rattle.fdb_core.specs.declared.roles.client.LastTransaction.{LastTransaction}
+use Rattle.fdb_core.specs.machine.Roles.{LastTransaction}
 use Rattle.fdb_core.specs.declared.roles.client.program.Transcript.{Transcript}
 use Rattle.fdb_core.specs.machine.ClientSteps.{with_operation, without, without_at, serve, begin_next, first_of}
 use Rattle.fdb_core.specs.refinement.Cluster.{OpenRefines}

@@ -7,7 +7,7 @@ use Rattle.fdb_txn.specs.book.Book.{seen_of}
 use Rattle.fdb_txn.specs.rules.Owners.{first_owner}
 use Rattle.fdb_txn.specs.rules.SerialMap.{serial_map_at}
 use Rattle.fdb_core.specs.declared.config.Config.{Config}
-use Rattle.fdb_core.specs.declared.roles.shard.ShardProgress.{ShardProgress}
+use Rattle.fdb_core.specs.machine.Roles.{ShardProgress}
 use Rattle.fdb_core.specs.declared.roles.client.program.Transcript.{Transcript}
 use Rattle.fdb_core.specs.declared.step.Answered.{Answered}
 use Rattle.fdb_core.specs.declared.step.Answered.TheVariants as answered

@@ -8,7 +8,7 @@ use Rattle.fdb_txn.specs.rules.Owners.{window, first_owner}
 use Rattle.fdb_txn.specs.rules.Resolvers.{IsStateOf}
 use Rattle.fdb_txn.specs.rules.SerialMap.{serial_map_at}
 use Rattle.fdb_resolver.specs.Resolvers.{Resolver}
-use Rattle.fdb_core.specs.declared.roles.shard.ShardProgress.{ShardProgress}
+use Rattle.fdb_core.specs.machine.Roles.{ShardProgress}
 use Rattle.fdb_core.specs.declared.roles.log.Message.{Message}
 use Rattle.fdb_core.specs.machine.ClientSteps.{version_of_shard}
 use Rattle.fdb_core.specs.machine.Machine.{Machine, last_version, seen_before}

@@ -10,8 +10,7 @@ use Rattle.fdb_txn.specs.declared.entry.Entry.{Entry}
 use Rattle.fdb_txn.specs.book.Book.{seen_of}
 use Rattle.fdb_txn.specs.rules.Owners.{first_owner}
 use Rattle.fdb_txn.specs.rules.SerialMap.{serial_map_at}
-use Rattle.fdb_core.specs.declared.roles.shard.ShardProgress.{ShardProgress}
-use Rattle.fdb_core.specs.declared.roles.client.LastTransaction.{LastTransaction}
+use Rattle.fdb_core.specs.machine.Roles.{ShardProgress, LastTransaction}
 use Rattle.fdb_core.specs.declared.roles.client.program.Op.{Op}
 use Rattle.fdb_core.specs.declared.roles.client.program.Op.TheVariants as op
 use Rattle.fdb_core.specs.declared.roles.client.program.Reply.{Reply}

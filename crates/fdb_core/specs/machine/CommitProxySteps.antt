@@ -6,10 +6,8 @@ use Rattle.fdb_txn.specs.declared.batch.TheConstants.{PLACE_LIMIT}
 use Rattle.fdb_txn.specs.declared.spot.Spot.TheVariants as spot
 use Rattle.fdb_sequencer.specs.Limits.{version_limit}
 use Rattle.fdb_sequencer.specs.Sequencer.{next_version}
-use Rattle.fdb_core.specs.declared.roles.client.Submission.{Submission}
+use Rattle.fdb_core.specs.machine.Roles.{CommitProxy, Submission, Stage, Idle, Resolving, Logging, Reported}
 use Rattle.fdb_core.specs.declared.roles.client.Placed.{Placed}
-use Rattle.fdb_core.specs.declared.roles.commit_proxy.Stage.{Stage}
-use Rattle.fdb_core.specs.declared.roles.commit_proxy.Stage.TheVariants.{Idle, Resolving, Logging, Reported}
 use Rattle.fdb_core.specs.declared.roles.client.program.Transcript.{Transcript}
 use Rattle.fdb_core.specs.declared.step.Outcome.{Outcome}
 use Rattle.fdb_core.specs.declared.step.Outcome.TheVariants as outcome
@@ -41,6 +39,18 @@ is_reported Resolving = false
 is_reported Logging = false
 is_reported Reported = true
 
+-- the commit proxy whose first requests, at most as many as a batch may have, became the batch of the entry
+abbrev pub with_batch : CommitProxy → ℕ → ℕ → ℕ → CommitProxy
+with_batch commit_proxy entry resolvers logs =
+    record {
+      waiting = drop PLACE_LIMIT commit_proxy.waiting;
+      in_flight = map (λ (submission : Submission). submission.transcript) (take PLACE_LIMIT commit_proxy.waiting);
+      stage = Resolving;
+      entry = entry;
+      verdicts_received = replicate resolvers false;
+      acknowledgements_received = replicate logs false;
+    }
+
 -- Seal: the first of those who wait, in order, become the batch of the next entry.
 unfoldable pub seals : Machine → ℕ → ℕ → Result Transition Refusal
 seals m proxy advance = found (slice_get m.commit_proxies proxy) (λ commit_proxy.
@@ -58,14 +68,7 @@ seals m proxy advance = found (slice_get m.commit_proxies proxy) (λ commit_prox
         entry_proxies = m.entry_proxies ++ proxy ∷ [];
         decided = m.decided ++ false ∷ [];
         pending = [];
-        commit_proxies = slice_set m.commit_proxies proxy (record {
-          waiting = drop PLACE_LIMIT commit_proxy.waiting;
-          in_flight = map (λ (submission : Submission). submission.transcript) sealing;
-          stage = Resolving;
-          entry = index;
-          verdicts_received = replicate (length m.resolvers) false;
-          acknowledgements_received = replicate (length m.logs) false;
-        });
+        commit_proxies = slice_set m.commit_proxies proxy (with_batch commit_proxy index (length m.resolvers) (length m.logs));
       };
     })))))
 

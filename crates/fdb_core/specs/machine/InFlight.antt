@@ -3,7 +3,7 @@ use Rattle.std.specs.Prelude.{ℕ, length, Option, Some, None, Result, Ok, Err, 
 use Rattle.fdb_keys.specs.declared.refusal.Refusal.{Refusal}
 use Rattle.fdb_keys.specs.declared.refusal.Refusal.TheVariants.{Failed, Unknown, WrongState}
 use Rattle.fdb_core.specs.declared.in_flight.InFlight.{InFlight}
-use Rattle.fdb_core.specs.declared.roles.commit_proxy.CommitProxy.{CommitProxy}
+use Rattle.fdb_core.specs.machine.Roles.{CommitProxy}
 use Rattle.fdb_core.specs.machine.Machine.{Machine}
 use Rattle.fdb_core.specs.machine.CommitProxySteps.{is_idle}
 

@@ -7,11 +7,8 @@ use Rattle.fdb_txn.specs.declared.entry.Move.{Move}
 use Rattle.fdb_txn.specs.declared.entry.Entry.{Entry}
 use Rattle.fdb_txn.specs.book.Book.{Seen, seen_of}
 use Rattle.fdb_core.specs.declared.config.Config.{Config}
-use Rattle.fdb_core.specs.declared.roles.client.Submission.{Submission}
+use Rattle.fdb_core.specs.machine.Roles.{Submission, CommitProxy, ShardProgress, LastTransaction}
 use Rattle.fdb_core.specs.declared.roles.client.Placed.{Placed}
-use Rattle.fdb_core.specs.declared.roles.commit_proxy.CommitProxy.{CommitProxy}
-use Rattle.fdb_core.specs.declared.roles.shard.ShardProgress.{ShardProgress}
-use Rattle.fdb_core.specs.declared.roles.client.LastTransaction.{LastTransaction}
 use Rattle.fdb_core.specs.declared.roles.client.program.Transcript.{Transcript}
 use Rattle.fdb_core.specs.declared.step.Answered.{Answered}
 

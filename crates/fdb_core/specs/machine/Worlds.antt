@@ -3,8 +3,7 @@ use Rattle.std.specs.Prelude.{◌≡◌, suc, Bool, ◌&&◌, ◌==◌, nat_le, 
 use Rattle.fdb_keys.specs.declared.refusal.Refusal.{Refusal}
 use Rattle.fdb_keys.specs.declared.refusal.Refusal.TheVariants.{NoMemory, Failed, BadConfig}
 use Rattle.fdb_core.specs.declared.config.Config.{Config}
-use Rattle.fdb_core.specs.declared.roles.commit_proxy.CommitProxy.{CommitProxy}
-use Rattle.fdb_core.specs.declared.roles.commit_proxy.Stage.TheVariants.{Idle}
+use Rattle.fdb_core.specs.machine.Roles.{CommitProxy, Idle}
 use Rattle.fdb_core.specs.declared.step.Answered.{Answered}
 use Rattle.fdb_core.specs.declared.step.Step.{Step}
 use Rattle.fdb_core.specs.machine.ClientSteps.{is_nil}

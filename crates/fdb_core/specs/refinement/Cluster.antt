@@ -9,9 +9,7 @@ use Rattle.fdb_resolver.specs.Resolvers.{Resolver}
 use Rattle.fdb_sequencer.specs.Sequencer.{Sequencer}
 use Rattle.fdb_core.specs.declared.config.Config.{Config}
 use Rattle.fdb_core.specs.declared.cluster.Cluster.{Cluster}
-use Rattle.fdb_core.specs.declared.roles.commit_proxy.CommitProxy.{CommitProxy}
-use Rattle.fdb_core.specs.declared.roles.client.Submission.{Submission}
-use Rattle.fdb_core.specs.declared.roles.shard.ShardProgress.{ShardProgress}
+use Rattle.fdb_core.specs.machine.Roles.{CommitProxy, Submission, ShardProgress}
 use Rattle.fdb_core.specs.declared.roles.log.Message.{Message}
 use Rattle.fdb_core.specs.declared.roles.client.program.Transcript.{Transcript}
 use Rattle.fdb_resolver.specs.declared.verdict.Verdict.{Verdict}

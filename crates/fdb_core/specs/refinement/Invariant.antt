@@ -6,8 +6,7 @@ use Rattle.fdb_txn.specs.declared.entry.Move.{Move}
 use Rattle.fdb_txn.specs.book.Book.{seen_of}
 use Rattle.fdb_txn.specs.book.History.{AreEntries}
 use Rattle.fdb_txn.specs.rules.SerialMap.{serial_map_at}
-use Rattle.fdb_core.specs.declared.roles.commit_proxy.CommitProxy.{CommitProxy}
-use Rattle.fdb_core.specs.declared.roles.client.Submission.{Submission}
+use Rattle.fdb_core.specs.machine.Roles.{CommitProxy, Submission}
 use Rattle.fdb_core.specs.declared.roles.client.program.Transcript.{Transcript}
 use Rattle.fdb_core.specs.headline.Headline.{replies_of, IsSerialized}
 use Rattle.fdb_core.specs.machine.Machine.{Machine, last_version}

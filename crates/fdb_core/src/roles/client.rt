@@ -5,14 +5,47 @@ pub(crate) mod sessions;
 
 use crate::roles::client::program::Transcript;
 use fdb_txn::{Sealed, Spot};
+use std::marker::Model;
 
 /// A submitted transaction with what it was answered while it ran.
 #[derive(Drop)]
-pub struct Submission {
-    /// The transaction as it is judged.
-    pub sealed: Sealed,
+pub(crate) struct Submission {
+    sealed: Sealed,
+    transcript: Transcript,
+}
+
+impl Model for Submission {
+    ghost use Rattle.fdb_core.specs.machine.Roles.{Submission};
+
+    ghost Value = { Submission };
+
+    ghost view = { λ s. record { sealed = s.sealed; transcript = s.transcript } };
+}
+
+impl Submission {
+    ghost use Rattle.std.specs.Prelude.{◌≡◌};
+
+    /// What is judged of a transaction, with its operations and their replies.
+    pub(crate) fn new(sealed: Sealed, transcript: Transcript) -> Self
+        ensures { result ≡ record { sealed = sealed; transcript = transcript } }
+    {
+        Submission { sealed, transcript }
+    }
+
     /// Its operations with their replies.
-    pub transcript: Transcript,
+    pub(crate) fn transcript(&self) -> &Transcript
+        ensures { result.now ≡ self.now.transcript }
+    {
+        &self.transcript
+    }
+
+    /// What is judged of it, and its operations with their replies.
+    pub(crate) fn into_parts(self) -> (Sealed, Transcript)
+        ensures { result ≡ (self.sealed, self.transcript) }
+    {
+        let Submission { sealed, transcript } = self;
+        (sealed, transcript)
+    }
 }
 
 /// An acknowledged transaction with where it stands.
@@ -24,11 +57,44 @@ pub struct Placed {
     pub transcript: Transcript,
 }
 
-/// The last transaction that a session began.
+/// The number of the last transaction that a session began, counted from 0.
 #[derive(Clone, Copy)]
-pub struct LastTransaction {
+pub(crate) struct LastTransaction {
+    session: u32,
+    number: u64,
+}
+
+impl Model for LastTransaction {
+    ghost use Rattle.fdb_core.specs.machine.Roles.{LastTransaction};
+
+    ghost Value = { LastTransaction };
+
+    ghost view = { λ last. record { session = last.session; number = last.number } };
+
+    ghost inverse = { λ last. record { session = last.session; number = last.number } };
+}
+
+impl LastTransaction {
+    ghost use Rattle.std.specs.Prelude.{◌≡◌};
+
+    /// The session's last transaction has the number.
+    pub(crate) fn new(session: u32, number: u64) -> Self
+        ensures { result ≡ record { session = session; number = number } }
+    {
+        LastTransaction { session, number }
+    }
+
     /// The session's number.
-    pub session: u32,
-    /// The number of its last transaction, counted from 0.
-    pub number: u64,
+    pub(crate) fn session(&self) -> u32
+        ensures { result ≡ self.now.session }
+    {
+        self.session
+    }
+
+    /// The number of its last transaction.
+    pub(crate) fn number(&self) -> u64
+        ensures { result ≡ self.now.number }
+    {
+        self.number
+    }
 }

@@ -6,34 +6,216 @@ pub(crate) mod replying;
 
 use crate::roles::client::Submission;
 use crate::roles::client::program::Transcript;
+use crate::roles::commit_proxy::batching::take_batch;
+use crate::roles::commit_proxy::flags::{set, unset};
 use fdb_keys::Items;
+use fdb_txn::Sealed;
+use std::alloc::{AllocError, Global};
+use std::marker::Model;
+use std::mem;
 
-/// How far a commit proxy is with its batch.
-#[derive(Clone, Copy, PartialEq)]
-pub enum Stage {
-    /// No batch is in flight.
+// How far a commit proxy is with its batch: it has none; the batch has an entry; it is decided; its version is
+// reported.
+#[derive(Clone, Copy)]
+enum Stage {
     Idle,
-    /// The batch has an entry, and is not decided.
     Resolving,
-    /// The batch is decided, and its version is not reported.
     Logging,
-    /// The batch's version is reported, and its clients are not answered.
     Reported,
 }
 
-/// A commit proxy: those who wait there, and the batch in flight.
+/// A commit proxy: those who wait there in order, and the batch in flight with its entry, the transcripts by
+/// place, and for each resolver and each log whether its verdicts or its acknowledgement came.
 #[derive(Drop)]
-pub struct CommitProxy {
-    /// Submissions that have no entry yet, in the order in which they came.
-    pub waiting: Items<Submission>,
+pub(crate) struct CommitProxy {
+    waiting: Items<Submission>,
+    in_flight: Items<Transcript>,
+    stage: Stage,
+    entry: u32,
+    verdicts_received: Items<bool>,
+    acknowledgements_received: Items<bool>,
+}
+
+impl Model for CommitProxy {
+    ghost use Rattle.fdb_core.specs.machine.Roles.{CommitProxy};
+    ghost use Rattle.fdb_core.specs.refinement.Views.{stage_of};
+
+    ghost Value = { CommitProxy };
+
+    ghost view = { λ p. record {
+      waiting = p.waiting;
+      in_flight = p.in_flight;
+      stage = stage_of p.stage;
+      entry = p.entry;
+      verdicts_received = p.verdicts_received;
+      acknowledgements_received = p.acknowledgements_received;
+    } };
+}
+
+impl CommitProxy {
+    ghost use Rattle.std.specs.Prelude.{◌≡◌, true, [], ◌∷◌, ◌++◌, map, take, slice_set, IfOk, OnOk};
+    ghost use Rattle.fdb_txn.specs.declared.batch.TheConstants.{PLACE_LIMIT};
+    ghost use Rattle.fdb_core.specs.machine.CommitProxySteps.{is_idle, is_resolving, is_logging, is_reported, with_batch};
+    ghost use Rattle.fdb_core.specs.machine.Roles.{Idle, Logging, Reported};
+    ghost use Rattle.fdb_core.specs.machine.Worlds.{idle_proxy};
+
+    /// A commit proxy without a batch, at which nobody waits.
+    pub(crate) fn new(alloc: Global) -> Self
+        ensures { result ≡ idle_proxy }
+    {
+        CommitProxy {
+            waiting: Items::new(alloc),
+            in_flight: Items::new(alloc),
+            stage: Stage::Idle,
+            entry: 0,
+            verdicts_received: Items::new(alloc),
+            acknowledgements_received: Items::new(alloc),
+        }
+    }
+
+    /// Whether no batch is in flight.
+    pub(crate) fn is_idle(&self) -> bool
+        ensures { result ≡ is_idle self.now.stage }
+    {
+        match self.stage {
+            Stage::Idle => true,
+            _ => false,
+        }
+    }
+
+    /// Whether the batch in flight waits for verdicts.
+    pub(crate) fn is_resolving(&self) -> bool
+        ensures { result ≡ is_resolving self.now.stage }
+    {
+        match self.stage {
+            Stage::Resolving => true,
+            _ => false,
+        }
+    }
+
+    /// Whether the batch in flight is decided, and its version isn't reported.
+    pub(crate) fn is_logging(&self) -> bool
+        ensures { result ≡ is_logging self.now.stage }
+    {
+        match self.stage {
+            Stage::Logging => true,
+            _ => false,
+        }
+    }
+
+    /// Whether the version of the batch in flight is reported.
+    pub(crate) fn is_reported(&self) -> bool
+        ensures { result ≡ is_reported self.now.stage }
+    {
+        match self.stage {
+            Stage::Reported => true,
+            _ => false,
+        }
+    }
+
+    /// The number of the entry of the batch in flight.
+    pub(crate) fn entry(&self) -> u32
+        ensures { result ≡ self.now.entry }
+    {
+        self.entry
+    }
+
+    /// Those who wait for a batch, in order.
+    pub(crate) fn waiting(&self) -> &[Submission]
+        ensures { result.now ≡ self.now.waiting }
+    {
+        self.waiting.as_slice()
+    }
+
     /// The transcripts of the batch in flight, by place.
-    pub in_flight: Items<Transcript>,
-    /// How far the batch in flight is.
-    pub stage: Stage,
-    /// The entry of the batch in flight.
-    pub entry: u32,
+    pub(crate) fn in_flight(&self) -> &[Transcript]
+        ensures { result.now ≡ self.now.in_flight }
+    {
+        self.in_flight.as_slice()
+    }
+
     /// For each resolver whether its verdicts on the entry came.
-    pub verdicts_received: Items<bool>,
+    pub(crate) fn verdicts_received(&self) -> &[bool]
+        ensures { result.now ≡ self.now.verdicts_received }
+    {
+        self.verdicts_received.as_slice()
+    }
+
     /// For each log whether its acknowledgement of the entry came.
-    pub acknowledgements_received: Items<bool>,
+    pub(crate) fn acknowledgements_received(&self) -> &[bool]
+        ensures { result.now ≡ self.now.acknowledgements_received }
+    {
+        self.acknowledgements_received.as_slice()
+    }
+
+    /// One more waits for a batch.
+    pub(crate) fn submit(&mut self, submission: Submission) -> Result<(), AllocError>
+        ensures { OnOk result (self.new ≡ record self.old { waiting = self.old.waiting ++ submission ∷ [] }) }
+    {
+        self.waiting.push(submission)?;
+        Ok(())
+    }
+
+    /// The first of those who wait, at most as many as a batch may have, become the batch of the entry, of
+    /// which as many resolvers and logs are to say something. Answers what is judged of them, in order.
+    pub(crate) fn seal(
+        &mut self,
+        alloc: Global,
+        entry: u32,
+        resolvers: usize,
+        logs: usize,
+    ) -> Result<Items<Sealed>, AllocError>
+        ensures batch { IfOk result (λ batch. batch ≡ map (λ submission. submission.sealed) (take PLACE_LIMIT self.old.waiting)) }
+        ensures after { OnOk result (self.new ≡ with_batch self.old entry resolvers logs) }
+    {
+        let verdicts_received = unset(alloc, resolvers)?;
+        let acknowledgements_received = unset(alloc, logs)?;
+        let waiting = mem::replace(&mut self.waiting, Items::new(alloc));
+        let taken = take_batch(alloc, waiting)?;
+        *self = CommitProxy {
+            waiting: taken.rest,
+            in_flight: taken.transcripts,
+            stage: Stage::Resolving,
+            entry,
+            verdicts_received,
+            acknowledgements_received,
+        };
+        Ok(taken.batch)
+    }
+
+    /// Notes that the verdicts of the resolver came.
+    pub(crate) fn receive_verdicts(&mut self, resolver: usize)
+        ensures { self.new ≡ record self.old { verdicts_received = slice_set self.old.verdicts_received resolver true } }
+    {
+        set(&mut self.verdicts_received, resolver);
+    }
+
+    /// Notes that the acknowledgement of the log came.
+    pub(crate) fn receive_acknowledgement(&mut self, log: usize)
+        ensures { self.new ≡ record self.old { acknowledgements_received = slice_set self.old.acknowledgements_received log true } }
+    {
+        set(&mut self.acknowledgements_received, log);
+    }
+
+    /// The batch in flight is decided.
+    pub(crate) fn decide(&mut self)
+        ensures { self.new ≡ record self.old { stage = Logging } }
+    {
+        self.stage = Stage::Logging;
+    }
+
+    /// The version of the batch in flight is reported.
+    pub(crate) fn report(&mut self)
+        ensures { self.new ≡ record self.old { stage = Reported } }
+    {
+        self.stage = Stage::Reported;
+    }
+
+    /// The clients of the batch in flight are answered, and the proxy is idle again.
+    pub(crate) fn finish(&mut self, alloc: Global)
+        ensures { self.new ≡ record self.old { in_flight = []; stage = Idle } }
+    {
+        self.in_flight = Items::new(alloc);
+        self.stage = Stage::Idle;
+    }
 }

@@ -15,7 +15,7 @@ fn last_place(last_transactions: &[LastTransaction], session: u32) -> Option<usi
 {
     last_transactions
         .iter()
-        .position(|last| last.session == session)
+        .position(|last| last.session() == session)
 }
 
 fn last_number(last_transactions: &[LastTransaction], session: u32) -> Option<u64>
@@ -23,7 +23,7 @@ fn last_number(last_transactions: &[LastTransaction], session: u32) -> Option<u6
 {
     match last_place(last_transactions, session) {
         None => None,
-        Some(place) => Some(last_transactions[place].number),
+        Some(place) => Some(last_transactions[place].number()),
     }
 }
 
@@ -60,8 +60,8 @@ fn begin_next(last_transactions: &mut Vec<LastTransaction>, session: u32) -> Res
 {
     let number = next_number(last_transactions, session);
     match last_place(last_transactions, session) {
-        None => last_transactions.push(LastTransaction { session, number })?,
-        Some(place) => last_transactions[place] = LastTransaction { session, number },
+        None => last_transactions.push(LastTransaction::new(session, number))?,
+        Some(place) => last_transactions[place] = LastTransaction::new(session, number),
     }
     Ok(number)
 }

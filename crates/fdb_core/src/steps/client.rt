@@ -45,11 +45,11 @@ impl Cluster {
         if self.shards.is_empty() {
             return Ok(Err(Refusal::Unknown));
         }
-        let progress = self.shards[0];
-        if version < progress.floor {
+        let progress = &self.shards[0];
+        if version < progress.floor() {
             return Ok(Err(Refusal::TransactionTooOld));
         }
-        if last_version(&self.book, progress.applied as usize) < version {
+        if last_version(&self.book, progress.applied() as usize) < version {
             return Ok(Err(Refusal::FutureVersion));
         }
         let there = value_in(&self.shard, version, key);
@@ -132,9 +132,7 @@ impl Cluster {
             return Ok(Ok(Answered::ReadOnly(version)));
         }
         let commit_proxy = &mut self.commit_proxies[at];
-        commit_proxy
-            .waiting
-            .push(Submission { sealed, transcript })?;
+        commit_proxy.submit(Submission::new(sealed, transcript))?;
         Ok(Ok(Answered::Done))
     }
 }

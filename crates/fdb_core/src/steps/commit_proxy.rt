@@ -5,11 +5,9 @@ ghost use Rattle.fdb_core.specs.machine.CommitProxySteps.{seals, receives_verdic
 ghost use Rattle.fdb_core.specs.machine.Steps.{answer_of, after};
 
 use crate::cluster::Cluster;
-use crate::roles::commit_proxy::batching::take_batch;
 use crate::roles::commit_proxy::deciding::{committed_body, decide_batch};
-use crate::roles::commit_proxy::flags::{first_unset, is_set, set, unset};
+use crate::roles::commit_proxy::flags::{first_unset, is_set};
 use crate::roles::commit_proxy::replying::{place_all, reply_all};
-use crate::roles::commit_proxy::{CommitProxy, Stage};
 use crate::roles::log::Message;
 use crate::roles::resolver::are_any_judged;
 use crate::roles::sequencer::{issue, take_report};
@@ -18,7 +16,6 @@ use fdb_keys::{Items, Refusal};
 use fdb_sequencer::Ticket;
 use fdb_txn::{Batch, Entry};
 use std::alloc::AllocError;
-use std::mem;
 
 impl Cluster {
     #[tactic(auto, unfolding(crate::specs::machine::CommitProxySteps::seals))]
@@ -36,7 +33,7 @@ impl Cluster {
         if at >= self.commit_proxies.len() {
             return Ok(Err(Refusal::Unknown));
         }
-        if self.commit_proxies[at].stage != Stage::Idle {
+        if !self.commit_proxies[at].is_idle() {
             return Ok(Err(Refusal::WrongState));
         }
         let ticket = match self.sequencer.plan(proxy, advance) {
@@ -46,11 +43,10 @@ impl Cluster {
         if self.config.book as usize <= self.book.len() {
             return Ok(Err(Refusal::BookFull));
         }
-        let verdicts_received = unset(self.alloc, self.resolvers.len())?;
-        let acknowledgements_received = unset(self.alloc, self.logs.len())?;
-        let waiting = mem::replace(&mut self.commit_proxies[at].waiting, Items::new(self.alloc));
-        let taken = take_batch(self.alloc, waiting)?;
-        let places = taken.batch.len() as u32;
+        let (resolvers, logs) = (self.resolvers.len(), self.logs.len());
+        let commit_proxy = &mut self.commit_proxies[at];
+        let batch = commit_proxy.seal(self.alloc, ticket.index, resolvers, logs)?;
+        let places = batch.len() as u32;
         issue(&mut self.sequencer, &ticket);
         let Ticket {
             index,
@@ -59,24 +55,16 @@ impl Cluster {
             pending: moves,
             ..
         } = ticket;
-        let entry = Entry {
+        let batch = Batch::new(batch);
+        self.book.push(Entry {
             version,
             prev,
             moves,
-            batch: Batch::new(taken.batch),
-        };
-        self.book.push(entry)?;
+            batch,
+        })?;
         self.entry_proxies.push(proxy)?;
         self.decided.push(false)?;
         self.messages.push(None)?;
-        self.commit_proxies[at] = CommitProxy {
-            waiting: taken.rest,
-            in_flight: taken.transcripts,
-            stage: Stage::Resolving,
-            entry: index,
-            verdicts_received,
-            acknowledgements_received,
-        };
         Ok(Ok(Answered::Issued {
             index,
             version,
@@ -112,13 +100,13 @@ impl Cluster {
             return Ok(Err(Refusal::Unknown));
         }
         let commit_proxy = &mut self.commit_proxies[at];
-        if commit_proxy.stage != Stage::Resolving || commit_proxy.entry != entry {
+        if !commit_proxy.is_resolving() || commit_proxy.entry() != entry {
             return Ok(Err(Refusal::Stale));
         }
-        if is_set(commit_proxy.verdicts_received.as_slice(), from) {
+        if is_set(commit_proxy.verdicts_received(), from) {
             return Ok(Err(Refusal::Stale));
         }
-        set(&mut commit_proxy.verdicts_received, from);
+        commit_proxy.receive_verdicts(from);
         Ok(Ok(Answered::Done))
     }
 
@@ -133,14 +121,15 @@ impl Cluster {
         if at >= self.commit_proxies.len() {
             return Ok(Err(Refusal::Unknown));
         }
-        if self.commit_proxies[at].stage != Stage::Resolving {
+        let commit_proxy = &self.commit_proxies[at];
+        if !commit_proxy.is_resolving() {
             return Ok(Err(Refusal::WrongState));
         }
-        let i = self.commit_proxies[at].entry as usize;
+        let i = commit_proxy.entry() as usize;
         if i >= self.book.len() {
             return Ok(Err(Refusal::Unknown));
         }
-        let is_received = is_set(self.commit_proxies[at].verdicts_received.as_slice(), 0);
+        let is_received = is_set(commit_proxy.verdicts_received(), 0);
         if !is_received && are_any_judged(self.book[i].batch.as_slice()) {
             return Ok(Err(Refusal::NotYet(0)));
         }
@@ -150,7 +139,7 @@ impl Cluster {
         self.decided[i] = true;
         self.outcomes = outcomes;
         let commit_proxy = &mut self.commit_proxies[at];
-        commit_proxy.stage = Stage::Logging;
+        commit_proxy.decide();
         Ok(Ok(Answered::Decided(answer)))
     }
 
@@ -203,13 +192,13 @@ impl Cluster {
             return Ok(Err(Refusal::Unknown));
         }
         let commit_proxy = &mut self.commit_proxies[at];
-        if commit_proxy.stage != Stage::Logging || commit_proxy.entry != entry {
+        if !commit_proxy.is_logging() || commit_proxy.entry() != entry {
             return Ok(Err(Refusal::Stale));
         }
-        if is_set(commit_proxy.acknowledgements_received.as_slice(), from) {
+        if is_set(commit_proxy.acknowledgements_received(), from) {
             return Ok(Err(Refusal::Stale));
         }
-        set(&mut commit_proxy.acknowledgements_received, from);
+        commit_proxy.receive_acknowledgement(from);
         Ok(Ok(Answered::Done))
     }
 
@@ -224,21 +213,20 @@ impl Cluster {
         if at >= self.commit_proxies.len() {
             return Ok(Err(Refusal::Unknown));
         }
-        if self.commit_proxies[at].stage != Stage::Logging {
+        let commit_proxy = &self.commit_proxies[at];
+        if !commit_proxy.is_logging() {
             return Ok(Err(Refusal::WrongState));
         }
-        let i = self.commit_proxies[at].entry as usize;
+        let i = commit_proxy.entry() as usize;
         if i >= self.book.len() {
             return Ok(Err(Refusal::Unknown));
         }
-        if let Some(missing) = first_unset(
-            self.commit_proxies[at].acknowledgements_received.as_slice(),
-        ) {
+        if let Some(missing) = first_unset(commit_proxy.acknowledgements_received()) {
             return Ok(Err(Refusal::NotYet(missing as u64)));
         }
         take_report(&mut self.sequencer, self.book[i].version);
         let commit_proxy = &mut self.commit_proxies[at];
-        commit_proxy.stage = Stage::Reported;
+        commit_proxy.report();
         Ok(Ok(Answered::Version(self.sequencer.committed())))
     }
 
@@ -253,28 +241,28 @@ impl Cluster {
         if at >= self.commit_proxies.len() {
             return Ok(Err(Refusal::Unknown));
         }
-        let commit_proxy = &mut self.commit_proxies[at];
-        if commit_proxy.stage == Stage::Idle {
+        let commit_proxy = &self.commit_proxies[at];
+        if commit_proxy.is_idle() {
             return Ok(Err(Refusal::WrongState));
         }
-        let i = commit_proxy.entry as usize;
+        let i = commit_proxy.entry() as usize;
         if i >= self.book.len() {
             return Ok(Err(Refusal::Unknown));
         }
-        if commit_proxy.stage != Stage::Reported {
+        if !commit_proxy.is_reported() {
             return Ok(Err(Refusal::NotYet(self.book[i].version)));
         }
-        let transcripts = commit_proxy.in_flight.as_slice();
+        let transcripts = commit_proxy.in_flight();
         let outcomes = self.outcomes.as_slice();
         let told = reply_all(self.alloc, transcripts, outcomes)?;
         place_all(
             &mut self.acknowledged,
-            commit_proxy.entry,
+            commit_proxy.entry(),
             transcripts,
             outcomes,
         )?;
-        commit_proxy.in_flight = Items::new(self.alloc);
-        commit_proxy.stage = Stage::Idle;
+        let commit_proxy = &mut self.commit_proxies[at];
+        commit_proxy.finish(self.alloc);
         Ok(Ok(Answered::Answers(told)))
     }
 }

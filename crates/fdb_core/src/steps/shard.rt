@@ -29,21 +29,18 @@ impl Cluster {
             return Ok(Err(Refusal::Unknown));
         }
         let from = of % self.logs.len();
-        let progress = self.shards[of];
+        let progress = &self.shards[of];
         let has = self.logs[from];
-        let applied = progress
-            .applied
-            .max(has.min(progress.applied.saturating_add(limit)));
+        let before = progress.applied();
+        let applied = before.max(has.min(before.saturating_add(limit)));
         copy_range(
             &mut self.shard,
             &self.log,
-            progress.applied as usize,
+            before as usize,
             applied as usize,
         )?;
-        self.shards[of] = ShardProgress {
-            applied,
-            floor: progress.floor,
-        };
+        let progress = &mut self.shards[of];
+        progress.apply_to(applied);
         Ok(Ok(Answered::Version(last_version(&self.book, applied as usize))))
     }
 }

@@ -61,7 +61,7 @@ fn is_waiting(waiting: &[Submission], session: u32) -> bool
     ensures { result ≡ list_any (λ submission. is_of session submission.transcript) waiting.now }
 {
     for submission in waiting {
-        if is_of(&submission.transcript, session) {
+        if is_of(submission.transcript(), session) {
             return true;
         }
     }
@@ -83,8 +83,8 @@ fn waits_at_some_commit_proxy(commit_proxies: &[CommitProxy], session: u32) -> b
     ensures { result ≡ list_any (waits_at_commit_proxy session) commit_proxies.now }
 {
     for commit_proxy in commit_proxies {
-        if is_waiting(commit_proxy.waiting.as_slice(), session)
-            || is_in_flight(commit_proxy.in_flight.as_slice(), session)
+        if is_waiting(commit_proxy.waiting(), session)
+            || is_in_flight(commit_proxy.in_flight(), session)
         {
             return true;
         }

@@ -26,7 +26,7 @@ fn sort(
     let mut batch = Items::new(alloc);
     let mut transcripts = Items::new(alloc);
     for submission in sealing {
-        let Submission { sealed, transcript } = submission;
+        let (sealed, transcript) = submission.into_parts();
         batch.push(sealed)?;
         transcripts.push(transcript)?;
     }

@@ -1,8 +1,9 @@
-use Rattle.std.proofs.Common.{◌≡◌, ◌∙◌, refl, sym, ap, ap₂, ◌<◌, length, ℕ, true, List, ◌++◌, Some, slice_get, slice_set, Ok, rules}
-use Rattle.std.proofs.lemmas.Option.{slice_get_read}
+use Rattle.std.proofs.Common.{◌≡◌, ◌∙◌, refl, sym, ap, ap₂, ◌<◌, subst, length, get_or, ℕ, [], true, List, ◌++◌, Some, slice_get, slice_set, Ok, rules}
+use Rattle.std.proofs.lemmas.Option.{slice_get_read, slice_get_within}
 use Rattle.fdb_txn.specs.declared.entry.Entry.{Entry}
+use Rattle.fdb_core.specs.declared.cluster.Cluster.{Cluster}
 use Rattle.fdb_core.specs.declared.roles.client.Placed.{Placed}
-use Rattle.fdb_core.specs.declared.roles.commit_proxy.Stage.TheVariants.{Idle}
+use Rattle.fdb_core.specs.machine.Roles.{CommitProxy, Idle}
 use Rattle.fdb_core.specs.declared.roles.client.program.Transcript.{Transcript}
 use Rattle.fdb_core.specs.declared.step.Answered.TheVariants as answered
 use Rattle.fdb_core.specs.declared.step.Outcome.{Outcome}
@@ -10,56 +11,65 @@ use Rattle.fdb_core.specs.refinement.Cluster.{machine_of}
 use Rattle.fdb_core.specs.machine.CommitProxySteps.{is_reported, placed_from, replies_from}
 use Rattle.fdb_core.specs.machine.Steps.{answer_of, after}
 use Rattle.fdb_core.proofs.common.AllLemmas.{within-item}
+use Rattle.fdb_core.proofs.refinement.DecideLemmas.{one-item}
 use Rattle.fdb_core.proofs.refinement.AnswerLemmas.{Answering, outcome-each, answers-transition}
 use Rattle.fdb_core.proofs.cluster.Cluster.answer.Goals as goal
-use Rattle.fdb_core.proofs.cluster.Cluster.answer.Goals.{After-as_slice-outcomes}
+use Rattle.fdb_core.proofs.cluster.Cluster.answer.Goals.{After-reply_all-arg-1}
 
 -- what was found where the clients are answered
-answering : (c : After-as_slice-outcomes) → (entry : Entry) × Answering c.args.self.now c.args.proxy c.index_mut-commit_proxy.result.now entry
+answering : (c : After-reply_all-arg-1) → (entry : Entry) × Answering c.args.self.now c.args.proxy c.index-commit_proxy.result.now entry
 answering c =
     let k = c.args.self.now in
-    let commit_proxy = c.index_mut-commit_proxy.result.now in
+    let commit_proxy = c.index-commit_proxy.result.now in
     let within : c.args.proxy < length k.commit_proxies.items = search rules in
-    let lane_there : slice_get k.commit_proxies.items c.args.proxy ≡ Some commit_proxy = slice_get_read k.commit_proxies.items (length k.commit_proxies.items) c.args.proxy commit_proxy refl within c.index_mut-commit_proxy.ensures.value in
-    let inside : commit_proxy.entry < length k.book.items = search rules in
+    let proxy_there : slice_get k.commit_proxies.items c.args.proxy ≡ Some commit_proxy = slice_get_read k.commit_proxies.items (length k.commit_proxies.items) c.args.proxy commit_proxy refl within c.index-commit_proxy.ensures in
+    let in_book : c.entry-i.result < length k.book.items = search rules in
+    let inside : commit_proxy.entry < length k.book.items = subst (λ (i : ℕ). i < length k.book.items) c.entry-i.ensures in_book in
     let entry = within-item k.book.items commit_proxy.entry inside in
     let reported : is_reported commit_proxy.stage ≡ true = search rules in
-    (entry.0, record { lane_there = lane_there; reported = reported; entry_there = entry.1 })
+    (entry.0, record { proxy_there = proxy_there; reported = reported; entry_there = entry.1 })
 
 -- one outcome for each transcript
-each : (c : After-as_slice-outcomes) → length c.as_slice-transcripts.result.now ≡ length c.as_slice-outcomes.result.now
+each : (c : After-reply_all-arg-1) → length c.in_flight-transcripts.result.now ≡ length c.as_slice-outcomes.result.now
 each c =
     let found = answering c in
-    ap (λ (transcripts : List Transcript). length transcripts) c.as_slice-transcripts.ensures
-    ∙ outcome-each c.args.self.now c.args.proxy c.index_mut-commit_proxy.result.now found.0 c.requires found.1
+    ap (λ (transcripts : List Transcript). length transcripts) c.in_flight-transcripts.ensures
+    ∙ outcome-each c.args.self.now c.args.proxy c.index-commit_proxy.result.now found.0 c.requires found.1
     ∙ sym (ap (λ (outcomes : List Outcome). length outcomes) c.as_slice-outcomes.ensures)
 
 pub reply_all-requires : goal.reply_all-requires
-reply_all-requires c = each (goal.at.reply_all-requires c).After-as_slice-outcomes
+reply_all-requires c = each (goal.at.reply_all-requires c).After-reply_all-arg-1
 
 pub place_all-requires : goal.place_all-requires
-place_all-requires c = each (goal.at.place_all-requires c).After-as_slice-outcomes
+place_all-requires c = each (goal.at.place_all-requires c).After-reply_all-arg-1
 
 pub returns-clause-answer : goal.returns-clause-answer
 returns-clause-answer c =
-    let found = answering (goal.at.returns-clause-answer c).After-as_slice-outcomes in
-    let told : c.in_ok-told.told ≡ replies_from c.index_mut-commit_proxy.result.now.in_flight c.args.self.now.outcomes =
+    let found = answering (goal.at.returns-clause-answer c).After-reply_all-arg-1 in
+    let told : c.in_ok-told.told ≡ replies_from c.index-commit_proxy.result.now.in_flight c.args.self.now.outcomes =
     c.in_ok-told.ensures
-    ∙ ap₂ (λ (transcripts : List Transcript) (outcomes : List Outcome). replies_from transcripts outcomes) c.as_slice-transcripts.ensures c.as_slice-outcomes.ensures in
-    sym (ap answer_of (answers-transition c.args.self.now c.args.proxy c.index_mut-commit_proxy.result.now found.0 c.requires found.1)
-    ∙ ap (λ (said : List (ℕ × Outcome)). Ok (answered.Answers said)) (sym told))
+    ∙ ap₂ (λ (transcripts : List Transcript) (outcomes : List Outcome). replies_from transcripts outcomes) c.in_flight-transcripts.ensures c.as_slice-outcomes.ensures in
+    sym (ap answer_of (answers-transition c.args.self.now c.args.proxy c.index-commit_proxy.result.now found.0 c.requires found.1)
+    ∙ ap (λ (replies : List (ℕ × Outcome)). Ok (answered.Answers replies)) (sym told))
+
+-- the proxy whose batch is answered is the one that was read
+finished : (k : Cluster) (proxy : ℕ) (read changed new : CommitProxy) → slice_get k.commit_proxies.items proxy ≡ Some read
+    → changed ≡ get_or k.commit_proxies.items proxy changed → new ≡ record changed { in_flight = []; stage = Idle } → new ≡ record read { in_flight = []; stage = Idle }
+finished k proxy read changed new there is after =
+    after ∙ ap (λ (p : CommitProxy). record p { in_flight = []; stage = Idle })
+    (one-item k.commit_proxies.items proxy changed read (slice_get_within k.commit_proxies.items proxy read there) is there)
 
 pub returns-clause-after : goal.returns-clause-after
 returns-clause-after c =
     let k = c.args.self.now in
-    let commit_proxy = c.index_mut-commit_proxy.result.now in
-    let found = answering (goal.at.returns-clause-after c).After-as_slice-outcomes in
+    let commit_proxy = c.index-commit_proxy.result.now in
+    let found = answering (goal.at.returns-clause-after c).After-reply_all-arg-1 in
+    let new = finished k c.args.proxy commit_proxy c.index_mut-commit_proxy.result.now c.finish.new.self found.1.proxy_there c.index_mut-commit_proxy.ensures.value c.finish.ensures in
     let placed : c.place_all.new.placed.items ≡ k.acknowledged.items ++ placed_from commit_proxy.entry commit_proxy.in_flight k.outcomes =
     c.in_ok-place_all.ensures
-    ∙ ap₂ (λ (transcripts : List Transcript) (outcomes : List Outcome). k.acknowledged.items ++ placed_from commit_proxy.entry transcripts outcomes)
-    c.as_slice-transcripts.ensures c.as_slice-outcomes.ensures in
+    ∙ (λ i. k.acknowledged.items ++ placed_from (c.entry.ensures i) (c.in_flight-transcripts.ensures i) (c.as_slice-outcomes.ensures i)) in
     sym (ap (after (machine_of k)) (answers-transition k c.args.proxy commit_proxy found.0 c.requires found.1)
-    ∙ ap₂ (λ (acknowledged : List Placed) (in_flight : List Transcript). record (machine_of k) {
+    ∙ ap₂ (λ (acknowledged : List Placed) (p : CommitProxy). record (machine_of k) {
       acknowledged = acknowledged;
-      commit_proxies = slice_set k.commit_proxies.items c.args.proxy (record commit_proxy { in_flight = in_flight; stage = Idle });
-    }) (sym placed) (sym c.new.ensures))
+      commit_proxies = slice_set k.commit_proxies.items c.args.proxy p;
+    }) (sym placed) (sym new))

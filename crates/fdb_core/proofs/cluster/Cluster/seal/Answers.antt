@@ -7,44 +7,40 @@ use Rattle.fdb_txn.specs.declared.entry.Entry.{Entry}
 use Rattle.fdb_sequencer.specs.declared.ticket.Ticket.{Ticket}
 use Rattle.fdb_sequencer.specs.Limits.{version_limit}
 use Rattle.fdb_sequencer.specs.Sequencer.{Sequencer, next_version}
-use Rattle.fdb_core.specs.declared.roles.commit_proxy.CommitProxy.{CommitProxy}
-use Rattle.fdb_core.specs.declared.roles.commit_proxy.Stage.TheVariants.{Idle, Resolving}
-use Rattle.fdb_core.specs.declared.roles.client.Submission.{Submission}
+use Rattle.fdb_core.specs.machine.Roles.{CommitProxy, Idle, Resolving, Submission}
 use Rattle.fdb_core.specs.declared.step.Answered.TheVariants as answered
 use Rattle.fdb_core.specs.refinement.Cluster.{machine_of, WaitsRefines, CommitProxiesRefine}
 use Rattle.fdb_core.specs.machine.Machine.{last_version}
-use Rattle.fdb_core.specs.machine.CommitProxySteps.{seals, is_idle}
+use Rattle.fdb_core.specs.machine.CommitProxySteps.{seals, is_idle, with_batch}
 use Rattle.fdb_core.proofs.common.AllLemmas.{all-take}
 use Rattle.fdb_core.proofs.refinement.CommitProxyTies.{commit_proxies-set}
+use Rattle.fdb_core.proofs.refinement.DecideLemmas.{one-item}
 use Rattle.fdb_core.proofs.refinement.RoleTies.{last-push}
 use Rattle.fdb_core.proofs.refinement.CommitProxyTies.{commit_proxy-at}
-use Rattle.fdb_core.proofs.refinement.SealLemmas.{sealed_entry, sealed_proxy, seals-transition, length-sealed, batch-fits, set-twice, sealed-below, book-push, resolver-push, log-push, commit_proxy-seal}
+use Rattle.fdb_core.proofs.refinement.SealLemmas.{sealed_entry, sealed_proxy, seals-transition, length-sealed, batch-fits, sealed-below, book-push, resolver-push, log-push, commit_proxy-seal}
 use Rattle.fdb_core.proofs.refinement.TicketTies.{plan-refused, plan-given, seals-exhausted}
 use Rattle.fdb_core.proofs.cluster.Cluster.seal.Goals as goal
 use Rattle.fdb_core.proofs.cluster.Cluster.seal.Goals.{After-drop-ticket-2}
 
 pub overflow_cast-places : goal.overflow_cast-places
-overflow_cast-places c = let few : length c.in_ok-taken.taken.batch ≤ PLACE_LIMIT = batch-fits _ _ c.in_ok-taken.ensures.batch in omega (arith, few)
+overflow_cast-places c = let few : length c.in_ok-batch.batch ≤ PLACE_LIMIT = batch-fits _ _ c.in_ok-batch.ensures.batch in omega (arith, few)
 
-pub new-requires-2 : goal.new-requires-2
-new-requires-2 c = batch-fits _ _ c.in_ok-taken.ensures.batch
+pub new-batch-requires : goal.new-batch-requires
+new-batch-requires c = batch-fits _ _ c.in_ok-batch.ensures.batch
 
 -- the commit proxy is there, and has no batch in flight
-there : (c : After-drop-ticket-2) → slice_get c.args.self.now.commit_proxies.items c.args.proxy ≡ Some c.index_mut.result.now
+there : (c : After-drop-ticket-2) → slice_get c.args.self.now.commit_proxies.items c.args.proxy ≡ Some c.index_mut-commit_proxy.result.now
 there c =
     let inside : c.args.proxy < length c.args.self.now.commit_proxies.items = search rules in
-    slice_get_read c.args.self.now.commit_proxies.items (length c.args.self.now.commit_proxies.items) c.args.proxy c.index_mut.result.now refl inside c.index_mut.ensures.value
+    slice_get_read c.args.self.now.commit_proxies.items (length c.args.self.now.commit_proxies.items) c.args.proxy c.index_mut-commit_proxy.result.now refl inside c.index_mut-commit_proxy.ensures.value
 
-seen_as : (c : After-drop-ticket-2) → slice_get c.args.self.now.commit_proxies.items c.args.proxy ≡ Some c.index.result.now
-seen_as c =
-    let inside : c.args.proxy < length c.args.self.now.commit_proxies.items = search rules in
-    slice_get_read c.args.self.now.commit_proxies.items (length c.args.self.now.commit_proxies.items) c.args.proxy c.index.result.now refl inside c.index.ensures
-
-idle : (c : After-drop-ticket-2) → is_idle c.index_mut.result.now.stage ≡ true
+idle : (c : After-drop-ticket-2) → is_idle c.index_mut-commit_proxy.result.now.stage ≡ true
 idle c =
-    let stage : c.index.result.now.stage ≡ Idle = search rules in
-    let same : c.index.result.now ≡ c.index_mut.result.now = let a = there c in let b = seen_as c in cc in
-    ap (λ (l : CommitProxy). is_idle l.stage) (sym same) ∙ ap is_idle stage
+    let inside : c.args.proxy < length c.args.self.now.commit_proxies.items = search rules in
+    let same : c.index.result.now ≡ c.index_mut-commit_proxy.result.now =
+    one-item c.args.self.now.commit_proxies.items c.args.proxy c.index.result.now c.index_mut-commit_proxy.result.now inside c.index.ensures (there c) in
+    let is : is_idle c.index.result.now.stage ≡ true = search rules in
+    ap (λ (p : CommitProxy). is_idle p.stage) (sym same) ∙ is
 
 -- the ticket is of the machine's next entry
 given : (c : After-drop-ticket-2) → (next_version (last_version c.args.self.now.book.items) c.args.advance ≤ version_limit)
@@ -56,7 +52,7 @@ given : (c : After-drop-ticket-2) → (next_version (last_version c.args.self.no
       moves = [];
       pending = [];
     })
-given c = plan-given c.args.self.now c.requires c.args.proxy c.args.advance c.index_mut.result.now (there c) c.in-Ok.ticket c.in-Ok.ensures
+given c = plan-given c.args.self.now c.requires c.args.proxy c.args.advance c.index_mut-commit_proxy.result.now (there c) c.in-Ok.ticket c.in-Ok.ensures
 
 count : (c : After-drop-ticket-2) → c.in-Ok.ticket.index ≡ length c.args.self.now.book.items
 count c = ap (λ (ticket : Ticket). ticket.index) (given c).1
@@ -73,44 +69,31 @@ few c = (given c).0
 room : (c : After-drop-ticket-2) → length c.args.self.now.book.items < c.args.self.now.config.book
 room c = search rules
 
-taken : (c : After-drop-ticket-2) → c.replace-waiting.result ≡ c.index_mut.result.now.waiting
-taken c = search rules
-
-batch : (c : After-drop-ticket-2) → c.in_ok-taken.taken.batch ≡ map (λ (submission : Submission). submission.sealed) (take PLACE_LIMIT c.index_mut.result.now.waiting)
-batch c = c.in_ok-taken.ensures.batch ∙ ap (λ (waiting : List Submission). map (λ (submission : Submission). submission.sealed) (take PLACE_LIMIT waiting)) (taken c)
+batch : (c : After-drop-ticket-2) → c.in_ok-batch.batch ≡ map (λ (submission : Submission). submission.sealed) (take PLACE_LIMIT c.index_mut-commit_proxy.result.now.waiting)
+batch c = c.in_ok-batch.ensures.batch
 
 -- the new entry, and the commit proxy
 entry : (c : After-drop-ticket-2) → Path Entry
-    (record { version = c.in-Ok.ticket.version; prev = c.in-Ok.ticket.prev; moves = c.in-Ok.ticket.pending; batch = c.new-2.result })
-    (sealed_entry (machine_of c.args.self.now) c.args.advance c.index_mut.result.now)
+    (record { version = c.in-Ok.ticket.version; prev = c.in-Ok.ticket.prev; moves = c.in-Ok.ticket.pending; batch = c.new-batch.result })
+    (sealed_entry (machine_of c.args.self.now) c.args.advance c.index_mut-commit_proxy.result.now)
 entry c =
     let moves : c.in-Ok.ticket.pending ≡ [] = ap (λ (ticket : Ticket). ticket.pending) (given c).1 in
-    let places : c.new-2.result ≡ c.in_ok-taken.taken.batch = search rules in
+    let places : c.new-batch.result ≡ c.in_ok-batch.batch = search rules in
     λ i. record { version = version c i; prev = prev c i; moves = moves i; batch = (places ∙ batch c) i }
 
-next : (c : After-drop-ticket-2) → Path CommitProxy
-    (record { waiting = c.in_ok-taken.taken.rest; in_flight = c.in_ok-taken.taken.transcripts; stage = Resolving; entry = c.in-Ok.ticket.index; verdicts_received = c.in_ok-verdicts_received.verdicts_received; acknowledgements_received = c.in_ok-acknowledgements_received.acknowledgements_received })
-    (sealed_proxy (machine_of c.args.self.now) c.index_mut.result.now)
+next : (c : After-drop-ticket-2) → c.seal.new.self ≡ sealed_proxy (machine_of c.args.self.now) c.index_mut-commit_proxy.result.now
 next c =
-    let rest = c.in_ok-taken.ensures.rest ∙ ap (λ (waiting : List Submission). drop PLACE_LIMIT waiting) (taken c) in
-    let transcripts = c.in_ok-taken.ensures.transcripts ∙ ap (λ (waiting : List Submission). map (λ (submission : Submission). submission.transcript) (take PLACE_LIMIT waiting)) (taken c) in
-    let resolvers : c.len-3.result ≡ length c.args.self.now.resolvers.items = search rules in
-    let logs : c.len-4.result ≡ length c.args.self.now.logs.items = search rules in
-    let verdicts_received = c.in_ok-verdicts_received.ensures ∙ ap (λ (n : ℕ). replicate n false) resolvers in
-    let acknowledgements_received = c.in_ok-acknowledgements_received.ensures ∙ ap (λ (n : ℕ). replicate n false) logs in
-    λ i. record { waiting = rest i; in_flight = transcripts i; stage = Resolving; entry = count c i; verdicts_received = verdicts_received i; acknowledgements_received = acknowledgements_received i }
+    let resolvers : c.len-resolvers.result ≡ length c.args.self.now.resolvers.items = search rules in
+    let logs : c.len-logs.result ≡ length c.args.self.now.logs.items = search rules in
+    c.in_ok-batch.ensures.after ∙ (λ i. with_batch c.index_mut-commit_proxy.result.now (count c i) (resolvers i) (logs i))
 
 -- the lists as the machine has them then
-book_then : (c : After-drop-ticket-2) → c.push.new.self.items ≡ c.args.self.now.book.items ++ sealed_entry (machine_of c.args.self.now) c.args.advance c.index_mut.result.now ∷ []
+book_then : (c : After-drop-ticket-2) → c.push.new.self.items ≡ c.args.self.now.book.items ++ sealed_entry (machine_of c.args.self.now) c.args.advance c.index_mut-commit_proxy.result.now ∷ []
 book_then c = c.in_ok-push.ensures.items ∙ ap (λ (e : Entry). c.args.self.now.book.items ++ e ∷ []) (entry c)
 
-lanes_then : (c : After-drop-ticket-2)
-    → slice_set (slice_set c.args.self.now.commit_proxies.items c.args.proxy (record c.index_mut.result.now { waiting = c.replace-waiting.new.dest })) c.args.proxy
-    (record { waiting = c.in_ok-taken.taken.rest; in_flight = c.in_ok-taken.taken.transcripts; stage = Resolving; entry = c.in-Ok.ticket.index; verdicts_received = c.in_ok-verdicts_received.verdicts_received; acknowledgements_received = c.in_ok-acknowledgements_received.acknowledgements_received })
-    ≡ slice_set c.args.self.now.commit_proxies.items c.args.proxy (sealed_proxy (machine_of c.args.self.now) c.index_mut.result.now)
-lanes_then c =
-    set-twice c.args.self.now.commit_proxies.items c.args.proxy (record c.index_mut.result.now { waiting = c.replace-waiting.new.dest }) _
-    ∙ ap (λ (commit_proxy : CommitProxy). slice_set c.args.self.now.commit_proxies.items c.args.proxy commit_proxy) (next c)
+proxies_then : (c : After-drop-ticket-2) → slice_set c.args.self.now.commit_proxies.items c.args.proxy c.seal.new.self
+    ≡ slice_set c.args.self.now.commit_proxies.items c.args.proxy (sealed_proxy (machine_of c.args.self.now) c.index_mut-commit_proxy.result.now)
+proxies_then c = ap (λ (p : CommitProxy). slice_set c.args.self.now.commit_proxies.items c.args.proxy p) (next c)
 
 -- where there is no ticket, there is no version left
 exhausted : (c : goal.In-Err) → (c.in-Err.why ≡ Exhausted) × (seals (machine_of c.args.self.now) c.args.proxy c.args.advance ≡ Err Exhausted)
@@ -119,9 +102,9 @@ exhausted c =
     let commit_proxy = c.index.result.now in
     let inside : c.args.proxy < length k.commit_proxies.items = search rules in
     let at : slice_get k.commit_proxies.items c.args.proxy ≡ Some commit_proxy = slice_get_read k.commit_proxies.items (length k.commit_proxies.items) c.args.proxy commit_proxy refl inside c.index.ensures in
-    let stage : commit_proxy.stage ≡ Idle = search rules in
+    let is : is_idle commit_proxy.stage ≡ true = search rules in
     let refused = plan-refused k c.requires c.args.proxy c.args.advance commit_proxy at c.in-Err.why _ c.in-Err.ensures in
-    (refused.0, seals-exhausted k c.args.proxy c.args.advance commit_proxy at (ap is_idle stage) refused.1)
+    (refused.0, seals-exhausted k c.args.proxy c.args.advance commit_proxy at is refused.1)
 
 pub returns-in-Err-clause-answer : goal.returns-in-Err-clause-answer
 returns-in-Err-clause-answer c =
@@ -132,18 +115,18 @@ returns-in-Err-clause-after c = let refused = exhausted c in rw (refused.1) refl
 
 pub returns-clause-answer : goal.returns-clause-answer
 returns-clause-answer c =
-    let places : c.len-places.result ≡ length (take PLACE_LIMIT c.index_mut.result.now.waiting) = c.len-places.ensures ∙ length-sealed c.index_mut.result.now.waiting c.in_ok-taken.taken.batch (batch c) in
-    rw (seals-transition (machine_of c.args.self.now) c.args.proxy c.args.advance c.index_mut.result.now (there c) (idle c) (few c) (room c))
+    let places : c.len-places.result ≡ length (take PLACE_LIMIT c.index_mut-commit_proxy.result.now.waiting) = c.len-places.ensures ∙ length-sealed c.index_mut-commit_proxy.result.now.waiting c.in_ok-batch.batch (batch c) in
+    rw (seals-transition (machine_of c.args.self.now) c.args.proxy c.args.advance c.index_mut-commit_proxy.result.now (there c) (idle c) (few c) (room c))
     (λ i. Ok (answered.Issued (count c i) (version c i) (prev c i) (places i)))
 
 pub returns-clause-after : goal.returns-clause-after
 returns-clause-after c =
-    rw (seals-transition (machine_of c.args.self.now) c.args.proxy c.args.advance c.index_mut.result.now (there c) (idle c) (few c) (room c))
+    rw (seals-transition (machine_of c.args.self.now) c.args.proxy c.args.advance c.index_mut-commit_proxy.result.now (there c) (idle c) (few c) (room c))
     (λ i. record (machine_of c.args.self.now) {
       book = book_then c i;
       entry_proxies = c.in_ok-push-2.ensures.items i;
       decided = c.in_ok-push-3.ensures.items i;
-      commit_proxies = lanes_then c i;
+      commit_proxies = proxies_then c i;
       committed = ap (λ (s : Sequencer). s.committed) c.issue.ensures i;
     })
 
@@ -152,7 +135,7 @@ returns-clause-refines c =
     let k = c.args.self.now in
     let before = c.requires in
     let m = machine_of k in
-    let commit_proxy = c.index_mut.result.now in
+    let commit_proxy = c.index_mut-commit_proxy.result.now in
     let e = sealed_entry m c.args.advance commit_proxy in
     let above : last_version k.book.items < e.version = omega arith in
     let ok = commit_proxy-at k.book.items k.resolvers.items k.sequencer.committed k.commit_proxies.items k.outcomes c.args.proxy commit_proxy before.commit_proxies (there c) in
@@ -176,7 +159,7 @@ returns-clause-refines c =
       resolver = rw (book_then c) (resolver-push k.book.items e k.resolvers.items k.resolver k.verdicts.items before.resolver);
       log = rw (book_then c) (log-push k.book.items e k.logs.items k.shards.items k.log.items k.shard.items before.log);
       commit_proxies = rw (c.issue.ensures, book_then c)
-          (subst (λ (commit_proxies : List CommitProxy). CommitProxiesRefine (k.book.items ++ e ∷ []) k.resolvers.items k.sequencer.committed commit_proxies k.outcomes) (sym (lanes_then c))
+          (subst (λ (commit_proxies : List CommitProxy). CommitProxiesRefine (k.book.items ++ e ∷ []) k.resolvers.items k.sequencer.committed commit_proxies k.outcomes) (sym (proxies_then c))
           (commit_proxies-set k.book.items (k.book.items ++ e ∷ []) k.resolvers.items k.resolvers.items k.sequencer.committed k.sequencer.committed k.outcomes k.outcomes k.commit_proxies.items c.args.proxy commit_proxy (sealed_proxy m commit_proxy)
           before.commit_proxies (there c)
           (commit_proxy-seal k.book.items e k.resolvers.items k.sequencer.committed commit_proxy k.outcomes PLACE_LIMIT (sealed_proxy m commit_proxy).in_flight (sealed_proxy m commit_proxy).acknowledgements_received one aligned)));

@@ -1,7 +1,7 @@
 use Rattle.std.proofs.Common.{◌≡◌, refl, sym, ap, subst, ◌<◌, length, Some, slice_get, arith, rules}
 use Rattle.std.proofs.lemmas.Option.{slice_get_read}
 use Rattle.fdb_txn.specs.book.Transactions.{Transaction, NamesWrites}
-use Rattle.fdb_core.specs.declared.roles.client.Submission.{Submission}
+use Rattle.fdb_core.specs.machine.Roles.{Submission}
 use Rattle.fdb_core.specs.refinement.Cluster.{OpenRefines, WaitsRefines}
 use Rattle.fdb_core.proofs.common.AllLemmas.{all-at, all-remove}
 use Rattle.fdb_core.proofs.refinement.CommitProxyTies.{commit_proxies-set, commit_proxy-submit}
@@ -22,7 +22,7 @@ returns-clause-refines c =
     let read : c.in_ok-sealed.sealed.read ≡ transcript.read_version = ap (λ (t : Transaction). t.read) c.in_ok-sealed.ensures in
     let waits : WaitsRefines k.sequencer.committed submission = (omega (arith, ok.below, read), subst NamesWrites (sym c.in_ok-sealed.ensures) (commit_request_of-names transcript)) in
     let inside : c.args.proxy < length k.commit_proxies.items = search rules in
-    let lane_there : slice_get k.commit_proxies.items c.args.proxy ≡ Some commit_proxy = slice_get_read k.commit_proxies.items (length k.commit_proxies.items) c.args.proxy commit_proxy refl inside c.index_mut-commit_proxy.ensures.value in
+    let proxy_there : slice_get k.commit_proxies.items c.args.proxy ≡ Some commit_proxy = slice_get_read k.commit_proxies.items (length k.commit_proxies.items) c.args.proxy commit_proxy refl inside c.index_mut-commit_proxy.ensures.value in
     record {
       plain = before.plain;
       room = before.room;
@@ -30,8 +30,8 @@ returns-clause-refines c =
       book = before.book;
       resolver = before.resolver;
       log = before.log;
-      commit_proxies = rw c.in_ok-push-2.ensures.ok
+      commit_proxies = rw c.in_ok-submit.ensures
           (commit_proxies-set k.book.items k.book.items k.resolvers.items k.resolvers.items k.sequencer.committed k.sequencer.committed k.outcomes k.outcomes k.commit_proxies.items c.args.proxy commit_proxy _
-          before.commit_proxies lane_there (commit_proxy-submit k.book.items k.resolvers.items k.sequencer.committed k.outcomes commit_proxy submission waits));
+          before.commit_proxies proxy_there (commit_proxy-submit k.book.items k.resolvers.items k.sequencer.committed k.outcomes commit_proxy c.new.result (subst (WaitsRefines k.sequencer.committed) (sym c.new.ensures) waits)));
       opened = rw c.remove-transcript.ensures.items (all-remove (OpenRefines k.sequencer.committed) k.opened.items place before.opened);
     }

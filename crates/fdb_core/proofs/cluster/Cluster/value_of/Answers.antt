@@ -1,11 +1,11 @@
-use Rattle.std.proofs.Common.{◌≡◌, ◌∙◌, refl, ap, ◌≤◌, true, false, List, [], take, fold, get_or, None, slice_get, arith, rules}
+use Rattle.std.proofs.Common.{◌≡◌, ◌∙◌, refl, ap, ◌≤◌, ℕ, true, false, List, [], take, fold, get_or, None, slice_get, arith, rules}
 use Rattle.std.specs.FinMap.{get}
 use Rattle.std.proofs.lemmas.Bool.{le-ltb}
 use Rattle.fdb_txn.specs.declared.entry.Entry.{Entry}
 use Rattle.fdb_txn.specs.book.Book.{seen_of}
 use Rattle.fdb_txn.specs.rules.Owners.{first_owner}
 use Rattle.fdb_txn.specs.rules.SerialMap.{serial_map_at}
-use Rattle.fdb_core.specs.declared.roles.shard.ShardProgress.{ShardProgress}
+use Rattle.fdb_core.specs.machine.Roles.{ShardProgress}
 use Rattle.fdb_core.specs.machine.ClientSteps.{shard_fault}
 use Rattle.fdb_core.specs.refinement.Cluster.{machine_of}
 use Rattle.fdb_core.specs.machine.Machine.{last_version}
@@ -33,7 +33,7 @@ returns c =
     c.index-progress.ensures ∙ ap (λ (reaches : List ShardProgress). get_or reaches 0 c.index-progress.result.now) log.one_shard in
     let reached : transcript.read_version ≤ last_version (take log.applied k.book.items) =
     let known : c.last_version.result ≡ last_version (take log.applied k.book.items) =
-    c.last_version.ensures ∙ ap (λ (r : ShardProgress). last_version (take r.applied c.deref.result.now)) progress
+    c.last_version.ensures ∙ ap (λ (n : ℕ). last_version (take n c.deref.result.now)) (c.applied.ensures ∙ ap (λ (r : ShardProgress). r.applied) progress)
     ∙ ap (λ (book : List Entry). last_version (take log.applied book)) c.deref.ensures.value in
     omega (arith, known, c.if-last_version-version.false) in
     let served : shard_fault k.book.items transcript.read_version (slice_get k.shards.items (first_owner k.config.shard_splits c.args.key.now)) ≡ None =

@@ -1,6 +1,6 @@
 use Rattle.std.proofs.Common.{◌≡◌, drop}
 use Rattle.std.specs.List.{list_any}
-use Rattle.fdb_core.specs.declared.roles.client.Submission.{Submission}
+use Rattle.fdb_core.specs.machine.Roles.{Submission}
 use Rattle.fdb_core.specs.machine.Machine.{is_of}
 use Rattle.fdb_core.proofs.roles.client.sessions.is_waiting.Given as goal
 

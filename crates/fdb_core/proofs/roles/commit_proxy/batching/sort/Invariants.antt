@@ -1,6 +1,6 @@
 use Rattle.std.proofs.Common.{◌≡◌, ◌++◌, map}
 use Rattle.std.specs.Vec.Iter.{into_iter_items}
-use Rattle.fdb_core.specs.declared.roles.client.Submission.{Submission}
+use Rattle.fdb_core.specs.machine.Roles.{Submission}
 use Rattle.fdb_core.proofs.roles.commit_proxy.batching.sort.Given as goal
 
 abbrev pub invariant-loop-submission : goal.invariant-loop-submission
