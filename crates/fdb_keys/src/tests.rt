@@ -106,6 +106,7 @@ fn range_of_one_key_ends_right_behind_it(rt: HostRuntime) -> Result<(), Fail> {
 fn touching_ranges_are_joined(rt: HostRuntime) -> Result<(), Fail> {
     let set = keys_to_d(rt.alloc())?;
     assert!(rt; is_one_range(&set, b"a", b"d"));
+    assert!(rt; !set.is_empty());
     Ok(())
 }
 
