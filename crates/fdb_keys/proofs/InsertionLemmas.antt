@@ -1,8 +1,7 @@
 -- A sorted list of ranges into which a range was inserted is sorted, and holds the points of both.
-use Rattle.std.proofs.Common.{◌≡◌, ◌∙◌, sym, ap, refl, subst, Bool, true, false, not, ◌&&◌, ◌||◌, cond, List, [], ◌∷◌, ◌⊎◌, inl, inr, ⊎_elim, ℕ, ◌≤◌, ◌++◌, length, drop, append_assoc}
+use Rattle.std.proofs.Common.{◌≡◌, ◌∙◌, sym, ap, refl, Bool, true, false, not, ◌&&◌, ◌||◌, List, [], ◌∷◌, ◌⊎◌, inl, inr, ⊎_elim}
 use Rattle.std.proofs.lemmas.Bool.{cases_Bool, and_parts, and_from, or_cases, or_left, or_right, cond-true, cond-false, both_ways, not-true, not_from_false, false_from_ne_true}
 use Rattle.std.proofs.lemmas.Bool.Decides.{same_from_decides}
-use Rattle.std.proofs.lemmas.List.{drop_all}
 use Rattle.std.proofs.Math.Bool.{or_assoc, or_comm}
 use Rattle.fdb_keys.specs.Points.{Point, point_lt}
 use Rattle.fdb_keys.specs.Ranges.{Range, in_range, in_set, begins_behind, is_apart, is_empty_range}
@@ -151,7 +150,7 @@ in_inserted carried (range ∷ ranges) x =
     (cases_Bool (point_lt carried.end range.begin)))
     (cases_Bool (point_lt range.end carried.begin))
 
-apart_parts : (range : Range) (ranges : List Range) → is_apart (range ∷ ranges) ≡ true
+pub apart_parts : (range : Range) (ranges : List Range) → is_apart (range ∷ ranges) ≡ true
     → (point_lt range.begin range.end ≡ true) × (begins_behind range.end ranges ≡ true) × (is_apart ranges ≡ true)
 apart_parts range ranges apart =
     let parts : (point_lt range.begin range.end && begins_behind range.end ranges ≡ true) × (is_apart ranges ≡ true) = and_parts _ _ apart in
@@ -164,7 +163,7 @@ apart_from range ranges some behind apart =
     and_from (point_lt range.begin range.end && begins_behind range.end ranges) (is_apart ranges)
     (and_from (point_lt range.begin range.end) (begins_behind range.end ranges) some behind) apart
 
-begins_behind-sooner : (x y : Point) (ranges : List Range) → point_lt x y ≡ true → begins_behind y ranges ≡ true → begins_behind x ranges ≡ true
+pub begins_behind-sooner : (x y : Point) (ranges : List Range) → point_lt x y ≡ true → begins_behind y ranges ≡ true → begins_behind x ranges ≡ true
 begins_behind-sooner x y [] sooner behind = refl
 begins_behind-sooner x y (range ∷ ranges) sooner behind = lt_chain x y range.begin sooner behind
 
@@ -254,13 +253,3 @@ joined_is_legal a b legal_a legal_b =
     (and_from (is_bound (lesser_point a.begin b.begin)) (is_bound (greater_point a.end b.end))
     (is_bound-lesser a.begin b.begin bounds_a.0 bounds_b.0) (is_bound-greater a.end b.end bounds_a.1 bounds_b.1))
     (not_from_false _ ordered)
-
--- a step along the list that puts a range down
-pub put_down : (sorted before : List Range) (range : Range) (rest after : List Range) → sorted ≡ before ++ range ∷ [] → after ≡ range ∷ rest → sorted ++ rest ≡ before ++ after
-put_down sorted before range rest after put is =
-    ap (λ (l : List Range). l ++ rest) put ∙ append_assoc before (range ∷ []) rest ∙ ap (λ (l : List Range). before ++ l) (sym is)
-
--- at the end of the list what was carried is put down
-pub inserted_at_end : (carried : Range) (ranges : List Range) (index : ℕ) → length ranges ≤ index → inserted carried (drop index ranges) ≡ carried ∷ []
-unfolding inserted
-inserted_at_end carried ranges index all = ap (inserted carried) (drop_all index ranges all)

@@ -1,4 +1,5 @@
 pub mod InsertionLemmas
+pub mod PlaceLemmas
 pub mod PointOrder
 pub mod RangesLemmas
 pub mod SingleLemmas

@@ -1,5 +1,5 @@
 -- Points are in a strict total order.
-use Rattle.std.proofs.Common.{◌≡◌, Bool, true, false, ⊎_elim}
+use Rattle.std.proofs.Common.{◌≡◌, true, false, ⊎_elim}
 use Rattle.std.specs.Cmp.{IsStrictWeakOrder}
 use Rattle.std.proofs.lemmas.Cmp.{nat_list_cmp_total}
 use Rattle.std.proofs.lemmas.List.MinMax.{ranks_by}

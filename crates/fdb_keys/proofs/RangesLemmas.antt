@@ -1,5 +1,5 @@
 -- Ranges that meet have a point in common, and the other way round.
-use Rattle.std.proofs.Common.{◌≡◌, Bool, true, false, not, ◌&&◌, ⊎_elim}
+use Rattle.std.proofs.Common.{◌≡◌, true, false, not, ◌&&◌, ⊎_elim}
 use Rattle.std.proofs.lemmas.Bool.{cases_Bool, and_parts, and_from, not-true, not_from_false}
 use Rattle.fdb_keys.specs.Points.{Point, point_lt}
 use Rattle.fdb_keys.specs.Ranges.{Range, in_range, ranges_meet}

@@ -1,6 +1,6 @@
 -- The range of a key holds that key alone.
-use Rattle.std.proofs.Common.{◌≡◌, ◌∙◌, sym, ap, refl, ℕ, zero, suc, ◌<◌, Bool, true, false, not, ◌&&◌, nat_eq, List, [], ◌∷◌, ◌++◌, Ordering, Less, Equal, Greater, inl, inr, ⊎_elim, subst, arith}
-use Rattle.std.specs.Ordering.{nat_cmp, is_lt, ordering_then, MatchOrdering}
+use Rattle.std.proofs.Common.{◌≡◌, ◌∙◌, sym, ap, refl, ℕ, zero, suc, ◌<◌, true, false, not, ◌&&◌, nat_eq, List, [], ◌∷◌, ◌++◌, Less, Greater, ⊎_elim, subst, arith}
+use Rattle.std.specs.Ordering.{nat_cmp, is_lt, ordering_then}
 use Rattle.std.specs.Cmp.Lexicographic.{slice_cmp, pointwise}
 use Rattle.std.specs.Cmp.{nat_cmp_is}
 use Rattle.std.proofs.lemmas.Cmp.{nat_cmp_total, tied_itself}

@@ -1,4 +1,4 @@
-ghost use Rattle.std.specs.Prelude.{◌≡◌, ◌==◌, ◌<◌, [], ◌∷◌, ◌++◌, length, slice_set, OnOk, OnErr, IfErr};
+ghost use Rattle.std.specs.Prelude.{◌≡◌, ◌==◌, ◌<◌, ◌≤◌, [], ◌∷◌, ◌++◌, take, drop, length, slice_set, OnOk, OnErr, IfErr};
 ghost use Rattle.std.specs.List.{AllZip};
 ghost use Rattle.std.specs.Cmp.Lexicographic.{pointwise, lists_per};
 ghost use Rattle.std.proofs.lemmas.Cmp.{lists_equiv};
@@ -65,11 +65,6 @@ impl<T> Items<T> {
         self.list.is_empty()
     }
 
-    // The allocator that the list was made with.
-    pub(crate) fn allocator(&self) -> Global {
-        *self.list.allocator()
-    }
-
     /// Puts the item in the place of the one with the index. It takes no memory.
     pub fn set(&mut self, index: usize, item: T)
     where
@@ -78,6 +73,20 @@ impl<T> Items<T> {
         ensures { self.new ≡ slice_set self.old index item }
     {
         self.list[index] = item;
+    }
+
+    // Puts the item in the place of those from `start` up to but not including `end`. Where memory runs out,
+    // nothing changes.
+    pub(crate) fn replace(&mut self, start: usize, end: usize, item: T) -> Result<(), AllocError>
+    where
+        T: Drop,
+        requires order { start ≤ end }
+        requires within { end ≤ length self.old }
+        ensures ok { OnOk result (self.new ≡ take start self.old ++ item ∷ drop end self.old) }
+        ensures err { OnErr result (self.new ≡ self.old) }
+    {
+        let _replaced = self.list.splice(start..end, Some(item))?;
+        Ok(())
     }
 
     /// Adds an item at the end. Where memory runs out, the error hands it back and nothing changes.

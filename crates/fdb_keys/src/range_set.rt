@@ -1,4 +1,4 @@
-use crate::insertion::insert;
+use crate::insertion::{Joined, join};
 use crate::items::Items;
 use crate::key_range::KeyRange;
 use crate::refusal::Refusal;
@@ -26,7 +26,7 @@ impl Model for RangeSet {
 }
 
 impl RangeSet {
-    ghost use Rattle.std.specs.Prelude.{◌≡◌, ◌||◌, [], IsTrue, None, OnOk, OnErr};
+    ghost use Rattle.std.specs.Prelude.{◌≡◌, ◌==◌, ◌||◌, [], length, IsTrue, None, OnOk, OnErr};
     ghost use Rattle.std.specs.Slice.Iter.{iter_rest};
     ghost use Rattle.fdb_keys.specs.Answers.{Answers};
     ghost use Rattle.fdb_keys.specs.Insertion.{with_range};
@@ -42,6 +42,13 @@ impl RangeSet {
         }
     }
 
+    /// Whether the set has no range.
+    pub fn is_empty(&self) -> bool
+        ensures { result ≡ (length self.now == 0) }
+    {
+        self.ranges.is_empty()
+    }
+
     /// Adds the keys of the range. An empty range adds nothing. Refused only as `NoMemory`, and then
     /// nothing changes.
     pub fn add(&mut self, range: &KeyRange) -> Result<(), Refusal>
@@ -52,8 +59,8 @@ impl RangeSet {
         if range.is_empty() {
             return Ok(());
         }
-        let ranges = insert(self.ranges.allocator(), range, self.ranges.as_slice())?;
-        self.ranges = Items::from_vec(ranges);
+        let Joined { start, end, range } = join(self.ranges.as_slice(), range)?;
+        self.ranges.replace(start, end, range)?;
         Ok(())
     }
 

@@ -106,6 +106,7 @@ fn range_of_one_key_ends_right_behind_it(rt: HostRuntime) -> Result<(), Fail> {
 fn touching_ranges_are_joined(rt: HostRuntime) -> Result<(), Fail> {
     let set = keys_to_d(rt.alloc())?;
     assert!(rt; is_one_range(&set, b"a", b"d"));
+    assert!(rt; !set.is_empty());
     Ok(())
 }
 
@@ -151,7 +152,7 @@ fn refusals_have_codes_and_texts(rt: HostRuntime) -> Result<(), Fail> {
     assert_eq!(rt; why.code(), 9002);
     assert_eq!(rt;
         text.as_str(),
-        "something that comes before this, numbered 5, has not come yet"
+        "something that comes before this has not come yet: 5"
     );
     Ok(())
 }

@@ -12,7 +12,7 @@ pub enum Verdict {
 }
 
 /// What a resolver says of a part.
-#[derive(Clone, Debug, Drop, PartialEq, Eq)]
+#[derive(Debug, Drop)]
 pub struct Verdicts {
     /// The number of the resolver.
     pub resolver: u32,

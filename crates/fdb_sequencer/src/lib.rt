@@ -3,12 +3,12 @@
 #![tactic(auto)]
 
 pub mod laws;
-mod limits;
 mod sequencer_core;
 #[cfg(test)]
 mod tests;
 mod ticket;
 
-pub use limits::{GREATEST_ADVANCE, PROXY_LIMIT, RESOLVER_LIMIT, TICKET_LIMIT, VERSION_LIMIT};
-pub use sequencer_core::SequencerCore;
+pub use sequencer_core::{
+    GREATEST_ADVANCE, PROXY_LIMIT, RESOLVER_LIMIT, SequencerCore, TICKET_LIMIT, VERSION_LIMIT,
+};
 pub use ticket::Ticket;

@@ -1,7 +1,4 @@
-use Rattle.std.proofs.Common.{◌≡◌, ◌&&◌, not, true, rules}
-use Rattle.fdb_keys.specs.Points.{Point, point_lt}
-use Rattle.fdb_keys.specs.Ranges.{Range}
-use Rattle.fdb_keys.specs.Texts.{is_bound}
+use Rattle.std.proofs.Common.{◌≡◌, rules}
 use Rattle.fdb_keys.specs.Insertion.{lesser_point, greater_point}
 use Rattle.fdb_keys.proofs.InsertionLemmas.{joined_is_legal}
 use Rattle.fdb_keys.proofs.key_range.KeyRange.joined.Goals as goal
