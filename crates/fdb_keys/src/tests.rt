@@ -152,7 +152,7 @@ fn refusals_have_codes_and_texts(rt: HostRuntime) -> Result<(), Fail> {
     assert_eq!(rt; why.code(), 9002);
     assert_eq!(rt;
         text.as_str(),
-        "something that comes before this has not come yet: 5"
+        "something that comes before this, numbered 5, has not come yet"
     );
     Ok(())
 }
