@@ -5,3 +5,4 @@ pub mod RealTimeLaws
 pub mod SerializedLemmas
 pub mod SoundLemmas
 pub mod SoundSteps
+pub mod Steps

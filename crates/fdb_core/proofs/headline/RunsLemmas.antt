@@ -1,4 +1,4 @@
--- Runs of steps, one step longer.
+-- Runs of steps, one step longer, and where memory ran out.
 use Rattle.std.proofs.Common.{◌≡◌, List, [], ◌∷◌, ◌++◌, Option, Some, None, Result, Ok, Err, subst}
 use Rattle.fdb_keys.specs.declared.refusal.Refusal.{Refusal}
 use Rattle.fdb_keys.specs.Answers.{Answers}
@@ -15,6 +15,14 @@ run-push old mid new [] [] step answer ran taken =
 run-push old mid new [] (a ∷ others) step answer ran taken = absurd ran
 run-push old mid new (s ∷ ss) [] step answer ran taken = absurd ran
 run-push old mid new (s ∷ ss) (a ∷ others) step answer ran taken = (ran.0, ran.1, run-push ran.0 mid new ss others step answer ran.2 taken)
+
+-- where memory ran out, no machine comes back
+pub run-none : (steps : List Step) (answers : List (Result Answered Refusal)) (new : Option Machine) → IsRun None steps answers new → new ≡ None
+run-none [] [] new ran = ran
+run-none [] (answer ∷ answers) new ran = absurd ran
+run-none (step ∷ steps) [] new ran = absurd ran
+run-none (step ∷ steps) (answer ∷ answers) new ran =
+    run-none steps answers new (subst (λ (mid : Option Machine). IsRun mid steps answers new) ran.1.1 ran.2)
 
 -- a call that gave something had no fault
 pub answers-fault : {T : Type 0} (fault : Option Refusal) (given : T) (P : T → Type 0) → Answers (Ok given) fault P → (fault ≡ None) × P given

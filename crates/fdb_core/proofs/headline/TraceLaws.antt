@@ -9,7 +9,7 @@ use Rattle.fdb_core.specs.machine.Machine.{Machine, Transition}
 use Rattle.fdb_core.specs.machine.Steps.{next, answer_of, after}
 use Rattle.fdb_core.specs.headline.Traces.{after_step, after_steps, machine_of_trace, IsTraceOf, TracesDetermineTheMachine}
 use Rattle.fdb_core.specs.machine.Worlds.{start, IsRun}
-use Rattle.fdb_core.proofs.invariant.CommittedLaws.{run-none}
+use Rattle.fdb_core.proofs.headline.RunsLemmas.{run-none}
 
 -- what every step keeps holds after any step with any answer
 kept-after_step : (P : Machine → Type 0) → ((m : Machine) (taken : Step) → P m → P (after m (next m taken)))
