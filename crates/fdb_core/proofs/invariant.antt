@@ -4,5 +4,5 @@ pub mod OnceLemmas
 pub mod RealTimeLaws
 pub mod SerializedLemmas
 pub mod SoundLemmas
-pub mod SoundSteps
+pub mod SoundLaws
 pub mod Steps

@@ -62,6 +62,10 @@ logging-busy Resolving logging = refl
 logging-busy Logging logging = refl
 logging-busy Reported logging = refl
 
+-- the last version of a book with one more entry
+pub last_version-push : (book : List Entry) (entry : Entry) → last_version (book ++ entry ∷ []) ≡ entry.version
+last_version-push book entry = fold-append (λ (last : ℕ) (one : Entry). one.version) 0 book (entry ∷ [])
+
 module _ (P : Transcript → Type 0) where
   -- what holds of the open transactions holds of those but the session's
   pub all-without : (session : ℕ) (opened : List Transcript) → AllByRecursion P opened → AllByRecursion P (without session opened)
@@ -143,10 +147,6 @@ found-front [] ys i x there = cc
 found-front (y ∷ xs) ys zero x there = there
 found-front (y ∷ xs) ys (suc i) x there = found-front xs ys i x there
 
--- the last version of a book with one more entry
-pub last_version-push : (book : List Entry) (entry : Entry) → last_version (book ++ entry ∷ []) ≡ entry.version
-last_version-push book entry = fold-append (λ (last : ℕ) (one : Entry). one.version) 0 book (entry ∷ [])
-
 -- no entry has a version above that of the last one
 last-above : (resolvers last : ℕ) (book : List Entry) → AreEntries resolvers last book → last ≤ version_after last book
 last-above resolvers last [] entries = le_refl last
@@ -173,12 +173,12 @@ told-entry m after entry transcript same_config longer above raised told = (
       ∙ earlier_maps_stay m.config.resolver_splits m.book entry transcript.read_version (omega (arith, told.0, above)))),
 )
 
--- what keeps transcripts told and entries found keeps commit proxies sound
-pub commit_proxy-kept : (m after : Machine) → ((transcript : Transcript) → IsReplied m transcript → IsReplied after transcript)
+-- what keeps transcripts told and entries found, and lowers nothing, keeps commit proxies sound
+pub commit_proxy-kept : (m after : Machine) → m.committed ≤ after.committed → ((transcript : Transcript) → IsReplied m transcript → IsReplied after transcript)
     → ((i : ℕ) (entry : Entry) → slice_get m.book i ≡ Some entry → slice_get after.book i ≡ Some entry)
     → (commit_proxy : CommitProxy) → CommitProxyIsSound m commit_proxy → CommitProxyIsSound after commit_proxy
-commit_proxy-kept m after told found commit_proxy sound = (
+commit_proxy-kept m after raised told found commit_proxy sound = (
   all-weaken (Waits m) (Waits after) (λ (submission : Submission) waits. (waits.0, told submission.transcript waits.1)) commit_proxy.waiting sound.0,
   all-weaken (IsReplied m) (IsReplied after) told commit_proxy.in_flight sound.1,
-  λ busy. let there = sound.2 busy in (there.0, found commit_proxy.entry there.0 there.1, there.2),
+  λ busy. let there = sound.2 busy in (there.0, found commit_proxy.entry there.0 there.1, there.2, λ reported. le_trans (there.3 reported) raised),
 )
