@@ -1,8 +1,9 @@
 pub mod CommittedLaws
+pub mod LastNumbers
 pub mod OnceLaws
 pub mod OnceLemmas
 pub mod RealTimeLaws
 pub mod SerializedLemmas
-pub mod SoundLemmas
 pub mod SoundLaws
+pub mod SoundLemmas
 pub mod Steps
