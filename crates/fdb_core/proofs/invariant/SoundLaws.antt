@@ -170,7 +170,7 @@ sound_steps = record {
   asked = λ m session proxy there at free sound.
       same_book m sound (all-without (IsReplied m) session m.opened sound.opened) sound.commit_proxies sound.acknowledged sound.reported;
   granted = λ m proxy there at left sound.
-      same_book m sound (all-served (IsReplied m) m.committed (λ last_transactions session. (le_refl m.committed, refl)) there m.last_transactions m.opened sound.opened)
+      same_book m sound (all-served (λ last_transactions. IsReplied m) m.committed (λ last_transactions session transcript told. told) (λ last_transactions session. (le_refl m.committed, refl)) there m.last_transactions m.opened sound.opened)
       sound.commit_proxies sound.acknowledged sound.reported;
   operated = λ m i transcript operation there sound.
       same_book m sound (all-set (IsReplied m) m.opened i _ sound.opened (told-push m transcript operation _ refl (opened-at m sound i transcript there)))

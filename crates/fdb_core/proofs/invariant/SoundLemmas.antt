@@ -37,48 +37,28 @@ use Rattle.fdb_txn.proofs.book.HistoryLemmas.{all-weaken}
 use Rattle.fdb_core.proofs.programs.ReadSetLemmas.{in_with_range}
 use Rattle.fdb_core.proofs.programs.ProgramLaws.{program-push}
 
--- what is accepted behind a test failed it
-pub refused_where-failed : (test : Bool) (refusal : Refusal) (next : Result Transition Refusal) (transition : Transition) → refused_where test refusal next ≡ Ok transition
-    → test ≡ false
-refused_where-failed true refusal next transition accepted = cc
-refused_where-failed false refusal next transition accepted = refl
+-- what holds of the open transactions holds of those but the session's
+pub all-without : (P : Transcript → Type 0) (session : ℕ) (opened : List Transcript) → AllByRecursion P opened → AllByRecursion P (without session opened)
+all-without P session opened all =
+    elim (position (is_of session) opened) as (λ there. AllByRecursion P (without_at opened there)) [ None ↦ all | Some i ↦ all-remove P opened i all ]
 
--- what is accepted of two branches is of the one that the test picks
-pub if-picked : (test : Bool) (one other : Result Transition Refusal) (transition : Transition) → (if test then one else other) ≡ Ok transition
-    → ((test ≡ true) × (one ≡ Ok transition)) ⊎ (other ≡ Ok transition)
-if-picked true one other transition accepted = inl (refl, accepted)
-if-picked false one other transition accepted = inr accepted
+-- what holds of transactions at their begin, and stays so when sessions begin more, holds still when sessions are served
+module _ (P : List LastTransaction → Transcript → Type 0) (version : ℕ)
+    (more : (last_transactions : List LastTransaction) (session : ℕ) (transcript : Transcript) → P last_transactions transcript → P (begin_next last_transactions session) transcript) where
+  pub served-more : (sessions : List ℕ) (last_transactions : List LastTransaction) (opened : List Transcript) (transcript : Transcript)
+      → P last_transactions transcript → P (fold (serve version) (last_transactions, opened) sessions).0 transcript
+  served-more [] last_transactions opened transcript holds = holds
+  served-more (session ∷ sessions) last_transactions opened transcript holds =
+      served-more sessions (begin_next last_transactions session) (opened ++ first_of last_transactions version session ∷ []) transcript (more last_transactions session transcript holds)
 
--- a proxy whose batch is being resolved or logged isn't idle
-pub resolving-busy : (stage : Stage) → not (is_resolving stage) ≡ false → is_idle stage ≡ false
-resolving-busy Idle resolving = cc
-resolving-busy Resolving resolving = refl
-resolving-busy Logging resolving = refl
-resolving-busy Reported resolving = refl
-
-pub logging-busy : (stage : Stage) → not (is_logging stage) ≡ false → is_idle stage ≡ false
-logging-busy Idle logging = cc
-logging-busy Resolving logging = refl
-logging-busy Logging logging = refl
-logging-busy Reported logging = refl
-
--- the last version of a book with one more entry
-pub last_version-push : (book : List Entry) (entry : Entry) → last_version (book ++ entry ∷ []) ≡ entry.version
-last_version-push book entry = fold-append (λ (last : ℕ) (one : Entry). one.version) 0 book (entry ∷ [])
-
-module _ (P : Transcript → Type 0) where
-  -- what holds of the open transactions holds of those but the session's
-  pub all-without : (session : ℕ) (opened : List Transcript) → AllByRecursion P opened → AllByRecursion P (without session opened)
-  all-without session opened all =
-      elim (position (is_of session) opened) as (λ there. AllByRecursion P (without_at opened there)) [ None ↦ all | Some i ↦ all-remove P opened i all ]
-
-  -- what holds of transactions at their begin holds still with more of them
-  pub all-served : (version : ℕ) → ((last_transactions : List LastTransaction) (session : ℕ) → P (first_of last_transactions version session))
-      → (sessions : List ℕ) (last_transactions : List LastTransaction) (opened : List Transcript)
-      → AllByRecursion P opened → AllByRecursion P (fold (serve version) (last_transactions, opened) sessions).1
-  all-served version first [] last_transactions opened all = all
-  all-served version first (session ∷ sessions) last_transactions opened all =
-      all-served version first sessions (begin_next last_transactions session) (opened ++ first_of last_transactions version session ∷ []) (all-push P opened _ all (first last_transactions session))
+  pub all-served : ((last_transactions : List LastTransaction) (session : ℕ) → P (begin_next last_transactions session) (first_of last_transactions version session))
+      → (sessions : List ℕ) (last_transactions : List LastTransaction) (opened : List Transcript) → AllByRecursion (P last_transactions) opened
+      → AllByRecursion (P (fold (serve version) (last_transactions, opened) sessions).0) (fold (serve version) (last_transactions, opened) sessions).1
+  all-served first [] last_transactions opened all = all
+  all-served first (session ∷ sessions) last_transactions opened all =
+      all-served first sessions (begin_next last_transactions session) (opened ++ first_of last_transactions version session ∷ [])
+      (all-push (P (begin_next last_transactions session)) opened (first_of last_transactions version session)
+      (all-weaken (P last_transactions) (P (begin_next last_transactions session)) (more last_transactions session) opened all) (first last_transactions session))
 
 -- the reply to one more operation is the newest
 pub replies_of-push : (ops : List (Op × Reply)) (done : Op × Reply) → replies_of (ops ++ done ∷ []) ≡ done.1 ∷ replies_of ops
