@@ -1,23 +1,21 @@
 -- After every trace the machine is sound, and so every acknowledged transaction stands at its spot.
-use Rattle.std.proofs.Common.{◌≡◌, refl, arith, List, [], ◌∷◌, ◌++◌, Option, Some, None, Result, Ok, Err}
+use Rattle.std.proofs.Common.{List, [], ◌∷◌, ◌++◌, Option, Some, None, Result}
 use Rattle.std.specs.Prelude.{IfSome}
 use Rattle.fdb_keys.specs.declared.refusal.Refusal.{Refusal}
 use Rattle.fdb_core.specs.declared.config.Config.{Config}
 use Rattle.fdb_core.specs.declared.step.Answered.{Answered}
 use Rattle.fdb_core.specs.declared.step.Step.{Step}
-use Rattle.fdb_core.specs.declared.step.Step.TheVariants as step
 use Rattle.fdb_core.specs.headline.Headline.{AcknowledgedAreSerialized, IsStrictlySerializable}
-use Rattle.fdb_core.specs.machine.Machine.{Machine, Transition}
-use Rattle.fdb_core.specs.refinement.Invariant.{Invariant, CommitProxyIsSound}
+use Rattle.fdb_core.specs.machine.Machine.{Machine}
+use Rattle.fdb_core.specs.refinement.Invariant.{Invariant}
 use Rattle.fdb_core.specs.machine.Steps.{next, after}
 use Rattle.fdb_core.specs.headline.Serving.{System, AllServe, RolesKeep}
-use Rattle.fdb_core.specs.headline.Traces.{machine_of_trace, IsTraceOf}
-use Rattle.fdb_core.specs.machine.Worlds.{start, idle_proxy, IsStep}
+use Rattle.fdb_core.specs.headline.Traces.{IsTraceOf}
+use Rattle.fdb_core.specs.machine.Worlds.{start, IsStep}
 use Rattle.fdb_core.proofs.invariant.OnceLaws.{no_id_twice}
 use Rattle.fdb_core.proofs.invariant.RealTimeLaws.{real_time}
 use Rattle.fdb_core.proofs.headline.RunsLemmas.{run-push}
-use Rattle.fdb_core.proofs.headline.TraceLaws.{kept-after_steps, shows}
-use Rattle.fdb_core.proofs.common.AllLemmas.{all-replicate}
+use Rattle.fdb_core.proofs.headline.TraceLaws.{shows}
 use Rattle.fdb_core.proofs.invariant.SoundLaws.{sound_steps, sound-trace}
 use Rattle.fdb_core.proofs.invariant.Steps.{kept-next}
 

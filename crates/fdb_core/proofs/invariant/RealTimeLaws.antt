@@ -1,5 +1,5 @@
 -- Real time: who begins after another transaction was acknowledged reads at that one's version or a greater one.
-use Rattle.std.proofs.Common.{◌≡◌, ◌≢◌, ◌∙◌, ◌<◌, ◌≤◌, le_refl, le_trans, sym, subst, arith, ⊎_elim, inl, inr, ◌⊎◌, ℕ, ◌+◌, min, max, Bool, true, false, List, [], ◌∷◌, take, drop, Some, Result}
+use Rattle.std.proofs.Common.{◌≡◌, ◌≢◌, ◌∙◌, ◌≤◌, le_refl, le_trans, sym, subst, arith, ⊎_elim, inl, inr, ◌⊎◌, ℕ, ◌+◌, min, true, false, List, [], ◌∷◌, take, drop, Some, Result}
 use Rattle.std.specs.Prelude.{◌==◌}
 use Rattle.std.specs.List.{AllByRecursion, slice_get, slice_set}
 use Rattle.std.proofs.lemmas.Bool.Decides.{eqb_tells}

@@ -24,7 +24,7 @@ use Rattle.fdb_core.specs.declared.roles.client.program.Transcript.{Transcript}
 use Rattle.fdb_core.specs.declared.step.Outcome.{Outcome}
 use Rattle.fdb_core.specs.declared.step.Outcome.TheVariants as outcome
 use Rattle.fdb_core.specs.machine.ClientSteps.{is_nil}
-use Rattle.fdb_core.specs.headline.Headline.{replies_of, AnsweredOn, IsSerializedAt, IsSerializedAtSpot, IsSerialized}
+use Rattle.fdb_core.specs.headline.Headline.{replies_of, AnsweredOn, IsSerializedAtSpot, IsSerialized}
 use Rattle.fdb_core.specs.machine.Machine.{Machine, last_version, seen_before}
 use Rattle.fdb_core.specs.programs.ProgramLaws.{AgreeWhereOrdinary}
 use Rattle.fdb_core.specs.programs.Programs.{program, exec, mutations_of, commit_request_of}

@@ -1,5 +1,5 @@
 -- Every step leaves a sound machine sound.
-use Rattle.std.proofs.Common.{◌≡◌, ◌∙◌, refl, sym, ap, subst, arith, ◌<◌, ◌≤◌, le_refl, le_trans, ℕ, suc, max, Bool, true, false, List, [], ◌∷◌, ◌++◌, take, map, length, Some, Result}
+use Rattle.std.proofs.Common.{◌≡◌, refl, ap, subst, arith, ◌<◌, ◌≤◌, le_refl, le_trans, ℕ, suc, max, Bool, true, false, List, [], ◌∷◌, take, map, length, Some, Result}
 use Rattle.std.specs.List.{AllByRecursion, slice_get, slice_set}
 use Rattle.fdb_keys.specs.declared.refusal.Refusal.{Refusal}
 use Rattle.fdb_txn.specs.declared.batch.TheConstants.{PLACE_LIMIT}

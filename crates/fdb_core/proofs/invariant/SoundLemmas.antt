@@ -1,8 +1,7 @@
 -- What it takes to keep the machine sound: tests that accepted steps passed, transcripts, the book, and parts that change.
-use Rattle.std.proofs.Common.{◌≡◌, ◌∙◌, refl, sym, ap, ap₂, subst, arith, ◌<◌, ◌≤◌, le_refl, le_trans, ℕ, zero, suc, Bool, true, false, not, ◌||◌, if◌then◌else◌, List, [], ◌∷◌, ◌++◌, fold, map, Some, None, Result, Ok, position, ◌⊎◌, inl, inr}
+use Rattle.std.proofs.Common.{◌≡◌, ◌∙◌, refl, sym, ap, ap₂, subst, arith, ◌<◌, ◌≤◌, le_refl, le_trans, ℕ, zero, suc, Bool, true, false, ◌||◌, List, [], ◌∷◌, ◌++◌, fold, map, Some, None, position}
 use Rattle.std.specs.List.{AllByRecursion, slice_get}
 use Rattle.std.proofs.lemmas.List.Sums.{fold-append}
-use Rattle.fdb_keys.specs.declared.refusal.Refusal.{Refusal}
 use Rattle.fdb_keys.specs.Insertion.{with_range}
 use Rattle.fdb_keys.specs.Points.{Point}
 use Rattle.fdb_keys.specs.Ranges.{Range, in_range, in_set}
@@ -20,17 +19,14 @@ use Rattle.fdb_txn.specs.book.Transactions.{Transaction, NamesWrites, with_named
 use Rattle.fdb_txn.proofs.book.HistoryLemmas.{earlier_maps_stay}
 use Rattle.fdb_core.specs.declared.roles.client.LastTransaction.{LastTransaction}
 use Rattle.fdb_core.specs.declared.roles.commit_proxy.CommitProxy.{CommitProxy}
-use Rattle.fdb_core.specs.declared.roles.commit_proxy.Stage.{Stage}
-use Rattle.fdb_core.specs.declared.roles.commit_proxy.Stage.TheVariants.{Idle, Resolving, Logging, Reported}
 use Rattle.fdb_core.specs.declared.roles.client.Submission.{Submission}
 use Rattle.fdb_core.specs.declared.roles.client.program.Op.{Op}
 use Rattle.fdb_core.specs.declared.roles.client.program.Reply.{Reply}
 use Rattle.fdb_core.specs.declared.roles.client.program.Transcript.{Transcript}
 use Rattle.fdb_core.specs.machine.ClientSteps.{without, without_at, serve, begin_next, first_of}
 use Rattle.fdb_core.specs.headline.Headline.{replies_of}
-use Rattle.fdb_core.specs.machine.Machine.{Machine, Transition, refused_where, last_version, is_of}
+use Rattle.fdb_core.specs.machine.Machine.{Machine, is_of}
 use Rattle.fdb_core.specs.programs.Programs.{program, copy, reply_on, exec, commit_request_of, mutations_of}
-use Rattle.fdb_core.specs.machine.CommitProxySteps.{is_idle, is_resolving, is_logging}
 use Rattle.fdb_core.specs.refinement.Invariant.{IsReplied, Waits, CommitProxyIsSound}
 use Rattle.fdb_core.proofs.common.AllLemmas.{all-push, all-remove, all-map}
 use Rattle.fdb_txn.proofs.book.HistoryLemmas.{all-weaken}

@@ -1,5 +1,5 @@
 -- The walk over the steps of all kinds: what accepted steps change, and what they keep.
-use Rattle.std.proofs.Common.{◌≡◌, refl, ap, ℕ, ◌+◌, ◌%◌, min, max, Bool, true, false, not, ◌&&◌, ◌||◌, List, [], ◌∷◌, ◌++◌, length, fold, Some, None, Result, Ok, Err}
+use Rattle.std.proofs.Common.{◌≡◌, refl, ap, ℕ, ◌+◌, ◌%◌, min, max, Bool, true, false, not, ◌&&◌, ◌||◌, List, [], ◌∷◌, ◌++◌, length, fold, Some, Result, Ok, Err}
 use Rattle.std.specs.Prelude.{◌==◌, nat_lt, nat_le}
 use Rattle.std.specs.List.{slice_get, slice_set, list_any, remove}
 use Rattle.std.proofs.lemmas.Bool.{and_parts, or_parts, not-false}
@@ -28,7 +28,7 @@ use Rattle.fdb_core.specs.machine.ClientSteps.{asks, grants, gets, writes, submi
 use Rattle.fdb_core.specs.machine.CommitProxySteps.{seals, receives_verdicts, decides, receives_acknowledgement, reports, answers, is_idle, is_resolving, is_logging, is_reported, placed_from}
 use Rattle.fdb_core.specs.machine.Machine.{Machine, Transition, is_busy, is_set, first_missing, last_version, seen_before}
 use Rattle.fdb_core.specs.machine.RoleSteps.{resolves, pushes, pulls}
-use Rattle.fdb_core.specs.machine.Steps.{next, answer_of, after}
+use Rattle.fdb_core.specs.machine.Steps.{next, after}
 use Rattle.fdb_core.specs.machine.Verdicts.{is_needed, outcomes_on}
 use Rattle.fdb_core.specs.programs.Programs.{program, copy, reply_on, commit_request_of}
 use Rattle.fdb_core.proofs.headline.TraceLaws.{kept-after_steps}
