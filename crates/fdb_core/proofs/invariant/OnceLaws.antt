@@ -1,10 +1,10 @@
 -- Each transaction stands in the book at most once: how often there is one of a name, kept by every step.
-use Rattle.std.proofs.Common.{◌≡◌, ◌≢◌, ◌∙◌, ◌<◌, ◌≤◌, refl, sym, ap, subst, arith, ⊎_elim, inl, inr, ◌⊎◌, ℕ, ◌+◌, min, true, false, cond, List, [], ◌∷◌, ◌++◌, take, fold, replicate, Option, Some, None, position, sum_by}
+use Rattle.std.proofs.Common.{◌≡◌, ◌≢◌, ◌∙◌, ◌<◌, ◌≤◌, refl, sym, ap, subst, arith, ⊎_elim, ◌⊎◌, ℕ, ◌+◌, min, Bool, true, false, cond, List, [], ◌∷◌, ◌++◌, take, drop, map, fold, replicate, Option, Some, None, position, sum_by}
 use Rattle.std.specs.Prelude.{◌==◌, nat_le, unwrap_or}
-use Rattle.std.specs.List.{slice_get, slice_set, list_any, count_by}
+use Rattle.std.specs.List.{AllByRecursion, slice_get, slice_set, list_any, count_by}
 use Rattle.std.proofs.lemmas.List.Sums.{sum_by-cons, sum_by_push, sum_by-take-drop}
 use Rattle.std.proofs.lemmas.List.Folds.{sum_by-replicate}
-use Rattle.std.proofs.lemmas.Bool.{or_parts}
+use Rattle.std.proofs.lemmas.Bool.{or_parts, cond_both, eq-eqb, eqb-true, eqb-false, ne_eqb, leb-true, le-leb}
 use Rattle.std.proofs.lemmas.Bool.Decides.{eqb_tells}
 use Rattle.fdb_txn.specs.declared.batch.TheConstants.{PLACE_LIMIT}
 use Rattle.fdb_txn.specs.declared.entry.Entry.{Entry}
@@ -21,8 +21,9 @@ use Rattle.fdb_core.specs.machine.ClientSteps.{last_number, begin_next, next_num
 use Rattle.fdb_core.specs.machine.Machine.{Machine, is_of, waits_at_grv_proxy, waits_at_commit_proxy}
 use Rattle.fdb_core.specs.machine.Worlds.{start, idle_proxy}
 use Rattle.fdb_core.specs.programs.Programs.{commit_request_of}
+use Rattle.fdb_core.proofs.common.AllLemmas.{all-at, all-set, all-replicate}
+use Rattle.fdb_core.proofs.common.SumLemmas.{sum-set, sum-remove, sum-remove-le, sum-made, count-none, none-at}
 use Rattle.fdb_core.proofs.invariant.LastNumbers.{last-next, last-others, next-within}
-use Rattle.fdb_core.proofs.invariant.OnceLemmas.{sum-set, sum-remove, sum-remove-le, sum-at-le, sum-made, counts-none, counts-up, counts-first}
 use Rattle.fdb_core.proofs.invariant.Steps.{KeptBySteps, kept-by_trace}
 use Rattle.fdb_core.proofs.refinement.SealLemmas.{sealed_entry, sealed_proxy}
 
@@ -31,17 +32,32 @@ abbrev up_to : ℕ → Option ℕ → ℕ
 up_to number None = 0
 up_to number (Some last) = cond (nat_le number last) 1 0
 
--- there is a next number where not all are used up
-more-left : (last greatest : ℕ) → last ≤ greatest → last == greatest ≡ false → last < min (last + 1) greatest
-more-left last greatest within left =
-    ⊎_elim (λ (is : (last == greatest ≡ true) × (last ≡ greatest)). let no : true ≡ false = sym is.0 ∙ left in cc)
-    (λ (is : (last == greatest ≡ false) × (last ≢ greatest)). omega (arith, within, is.1)) (eqb_tells last greatest)
+-- it is 1 at most
+up_to-one : (number : ℕ) (last : Option ℕ) → up_to number last ≤ 1
+up_to-one number None = omega arith
+up_to-one number (Some last) = cond_both (nat_le number last) 1 0 (λ n. n ≤ 1) (λ _. omega arith) (λ _. omega arith)
+
+-- a number is one of those up to an equal one
+counts-equal : (number next : ℕ) → cond (next == number) 1 0 ≤ cond (nat_le number next) 1 0
+counts-equal number next =
+    cond_both (next == number) 1 0 (λ n. n ≤ cond (nat_le number next) 1 0)
+    (λ same. rw (le-leb number next (omega (arith, eqb-true next number same))) (omega arith)) (λ _. omega arith)
 
 -- the next number is none of those up to the last one
-next-counts : (number : ℕ) (last : Option ℕ) → unwrap_or last 0 ≤ greatest_number → has_used_up last ≡ false
+counts-next : (number : ℕ) (last : Option ℕ) → unwrap_or last 0 ≤ greatest_number → has_used_up last ≡ false
     → up_to number last + cond (next_number last == number) 1 0 ≤ up_to number (Some (next_number last))
-next-counts number None within left = omega (arith, counts-first number)
-next-counts number (Some last) within left = counts-up number last (next_number (Some last)) (more-left last greatest_number within left)
+counts-next number None within left = omega (arith, counts-equal number 0)
+counts-next number (Some last) within left = up number last (next_number (Some last)) (more last greatest_number within (eqb-false last greatest_number left))
+  where
+    more : (last greatest : ℕ) → last ≤ greatest → (last ≡ greatest → ⊥) → last < min (last + 1) greatest
+    more last greatest within left = omega (arith, within, left)
+
+    up : (number last next : ℕ) → last < next → cond (nat_le number last) 1 0 + cond (next == number) 1 0 ≤ cond (nat_le number next) 1 0
+    up number last next above =
+        cond_both (nat_le number last) 1 0 (λ n. n + cond (next == number) 1 0 ≤ cond (nat_le number next) 1 0)
+        (λ below. let at_most = leb-true number last below in
+        rw (ne_eqb next number (λ same. omega (arith, at_most, above, same)), le-leb number next (omega (arith, at_most, above))) (omega arith))
+        (λ _. omega (arith, counts-equal number next))
 
 module _ (id : TxnId) where
   -- how often there is a transaction of the name: 1 or 0 for one transaction, then at a proxy, at all of them, and among the open ones
@@ -57,12 +73,12 @@ module _ (id : TxnId) where
   abbrev times_opened : List Transcript → ℕ
   times_opened opened = sum_by (λ (transcript : Transcript). once_for transcript.id) opened
 
-  -- how often the session asks
+  -- how often the session asks at a read-version proxy
   abbrev asks_in : List ℕ → ℕ
   asks_in there = count_by (λ (asker : ℕ). asker == id.session) there
 
-  abbrev times_asking : List (List ℕ) → ℕ
-  times_asking grv_proxies = sum_by asks_in grv_proxies
+  abbrev AsksOnce : List ℕ → Type 0
+  AsksOnce there = asks_in there ≤ 1
 
   -- 1 where the transaction has begun, else 0
   abbrev times_begun : List LastTransaction → ℕ
@@ -73,52 +89,17 @@ module _ (id : TxnId) where
   Within last_transactions = unwrap_or (last_number id.session last_transactions) 0 ≤ greatest_number
 
 -- In the book, at the proxies and among the open ones there is one transaction of the name at most, and none before it has
--- begun; its session asks once at most.
+-- begun; at each read-version proxy its session asks once at most.
 record Once (id : TxnId) (book : List Entry) (commit_proxies : List CommitProxy) (opened : List Transcript) (grv_proxies : List (List ℕ)) (last_transactions : List LastTransaction) : Type 0 where
   within : Within id last_transactions
-  asks_once : times_asking id grv_proxies ≤ 1
+  asks_once : AllByRecursion (AsksOnce id) grv_proxies
   stands : times_in_book id book + times_waiting id commit_proxies + times_opened id opened ≤ times_begun id last_transactions
 
 abbrev IsOnce : TxnId → Machine → Type 0
 IsOnce id m = Once id m.book m.commit_proxies m.opened m.grv_proxies m.last_transactions
 
--- it is 1 at most
-up_to-one : (number : ℕ) (last : Option ℕ) → up_to number last ≤ 1
-up_to-one number None = omega arith
-up_to-one number (Some last) = elim (nat_le number last) as (λ b. cond b 1 0 ≤ 1) [ true ↦ omega arith | false ↦ omega arith ]
-
 module _ (id : TxnId) where
-  -- one more transaction, of the session or of another one
-  next-here : (last_transactions : List LastTransaction) (session : ℕ) → session ≡ id.session
-      → last_number id.session (begin_next last_transactions session) ≡ Some (next_number (last_number id.session last_transactions))
-  next-here last_transactions session same =
-      subst (λ (s : ℕ). last_number s (begin_next last_transactions session) ≡ Some (next_number (last_number s last_transactions))) same (last-next last_transactions session)
-
-  next-elsewhere : (last_transactions : List LastTransaction) (session : ℕ) → session ≢ id.session
-      → last_number id.session (begin_next last_transactions session) ≡ last_number id.session last_transactions
-  next-elsewhere last_transactions session differs = last-others last_transactions session id.session (λ same. differs (sym same))
-
-  within-next : (last_transactions : List LastTransaction) (session : ℕ) → Within id last_transactions → Within id (begin_next last_transactions session)
-  within-next last_transactions session within = ⊎_elim
-      (λ (is : (session == id.session ≡ true) × (session ≡ id.session)).
-      rw (next-here last_transactions session is.1) (next-within (last_number id.session last_transactions)))
-      (λ (is : (session == id.session ≡ false) × (session ≢ id.session)). rw (next-elsewhere last_transactions session is.1) within)
-      (eqb_tells session id.session)
-
-  first-here : (last_transactions : List LastTransaction) (version session : ℕ) → session == id.session ≡ true → session ≡ id.session
-      → once_for id (first_of last_transactions version session).id ≡ cond (next_number (last_number id.session last_transactions) == id.number) 1 0
-  first-here last_transactions version session test same =
-      rw test (ap (λ (s : ℕ). cond (next_number (last_number s last_transactions) == id.number) 1 0) same)
-
-  first-elsewhere : (last_transactions : List LastTransaction) (version session : ℕ) → session == id.session ≡ false → once_for id (first_of last_transactions version session).id ≡ 0
-  first-elsewhere last_transactions version session test = rw test refl
-
-  -- how often the session asks, by the first one who does
-  asks-here : (session : ℕ) (sessions : List ℕ) → session == id.session ≡ true → asks_in id (session ∷ sessions) ≡ 1 + asks_in id sessions
-  asks-here session sessions test =
-      let one : cond {A = ℕ} (session == id.session) 1 0 ≡ 1 = rw test refl in
-      omega (arith, one, sum_by-cons (λ (asker : ℕ). cond (asker == id.session) 1 0) session sessions)
-
+  -- one who asks and isn't the session doesn't count
   asks-elsewhere : (session : ℕ) (sessions : List ℕ) → session == id.session ≡ false → asks_in id (session ∷ sessions) ≡ asks_in id sessions
   asks-elsewhere session sessions test =
       let none : cond {A = ℕ} (session == id.session) 1 0 ≡ 0 = rw test refl in
@@ -126,73 +107,71 @@ module _ (id : TxnId) where
 
   -- where the session asks it has a number left
   abbrev Able : List LastTransaction → List ℕ → Type 0
-  Able last_transactions sessions = (asks_in id sessions ≡ 0) ⊎ (has_no_number last_transactions id.session ≡ false)
+  Able last_transactions sessions = 0 < asks_in id sessions → has_no_number last_transactions id.session ≡ false
 
   able : (last_transactions : List LastTransaction) (sessions : List ℕ) → list_any (has_no_number last_transactions) sessions ≡ false → Able last_transactions sessions
-  able last_transactions [] free = inl refl
-  able last_transactions (session ∷ sessions) free =
+  able last_transactions [] free some = absurd (omega (arith, some))
+  able last_transactions (session ∷ sessions) free some =
       let parts = or_parts (has_no_number last_transactions session) (list_any (has_no_number last_transactions) sessions) free in
       ⊎_elim
-      (λ (is : (session == id.session ≡ true) × (session ≡ id.session)). inr (subst (λ (s : ℕ). has_no_number last_transactions s ≡ false) is.1 parts.0))
-      (λ (is : (session == id.session ≡ false) × (session ≢ id.session)). ⊎_elim
-      (λ (none : asks_in id sessions ≡ 0). inl (asks-elsewhere session sessions is.0 ∙ none))
-      (λ (free : has_no_number last_transactions id.session ≡ false). inr free) (able last_transactions sessions parts.1))
+      (λ (is : (session == id.session ≡ true) × (session ≡ id.session)). subst (λ (s : ℕ). has_no_number last_transactions s ≡ false) is.1 parts.0)
+      (λ (is : (session == id.session ≡ false) × (session ≢ id.session)). able last_transactions sessions parts.1 (omega (arith, some, asks-elsewhere session sessions is.0)))
       (eqb_tells session id.session)
 
-  -- of a name there is one at most, and those who ask begin another one
+  -- of the name there is one at most, and those who ask begin another one
   abbrev Ready : ℕ → List ℕ → List LastTransaction → List Transcript → Type 0
   Ready elsewhere sessions last_transactions opened =
-      Within id last_transactions × (asks_in id sessions ≤ 1) × Able last_transactions sessions × (elsewhere + times_opened id opened ≤ times_begun id last_transactions)
+      Within id last_transactions × AsksOnce id sessions × Able last_transactions sessions × (elsewhere + times_opened id opened ≤ times_begun id last_transactions)
 
-  -- what a session begins counts once
-  ready-next : (version elsewhere session : ℕ) (sessions : List ℕ) (last_transactions : List LastTransaction) (opened : List Transcript)
-      → Ready elsewhere (session ∷ sessions) last_transactions opened
+  -- it stays so when one of them begins: the session itself
+  ready-here : (version elsewhere : ℕ) (sessions : List ℕ) (last_transactions : List LastTransaction) (opened : List Transcript)
+      → Ready elsewhere (id.session ∷ sessions) last_transactions opened
+      → Ready elsewhere sessions (begin_next last_transactions id.session) (opened ++ first_of last_transactions version id.session ∷ [])
+  ready-here version elsewhere sessions last_transactions opened ready =
+      let last = last_number id.session last_transactions in
+      let first = first_of last_transactions version id.session in
+      let itself : id.session == id.session ≡ true = eq-eqb id.session id.session refl in
+      let asks : asks_in id (id.session ∷ sessions) ≡ 1 + asks_in id sessions
+      = sum_by-cons (λ (asker : ℕ). cond (asker == id.session) 1 0) id.session sessions ∙ rw itself refl in
+      let none : asks_in id sessions ≡ 0 = omega (arith, asks, ready.1) in
+      let now = last-next last_transactions id.session in
+      let counts = counts-next id.number last ready.0 (ready.2 (omega (arith, asks))) in
+      let one : once_for id first.id ≡ cond (next_number last == id.number) 1 0 = rw itself refl in
+      let begun : times_begun id (begin_next last_transactions id.session) ≡ up_to id.number (Some (next_number last)) = ap (up_to id.number) now in (
+        rw now (next-within last),
+        omega (arith, none),
+        λ some. absurd (omega (arith, some, none)),
+        omega (arith, ready.3, sum_by_push (λ (transcript : Transcript). once_for id transcript.id) opened first, one, counts, begun),
+      )
+
+  -- or another one
+  ready-elsewhere : (version elsewhere session : ℕ) (sessions : List ℕ) (last_transactions : List LastTransaction) (opened : List Transcript)
+      → (session == id.session ≡ false) × (session ≢ id.session) → Ready elsewhere (session ∷ sessions) last_transactions opened
       → Ready elsewhere sessions (begin_next last_transactions session) (opened ++ first_of last_transactions version session ∷ [])
-  ready-next version elsewhere session sessions last_transactions opened ready = ⊎_elim here there (eqb_tells session id.session)
-    where
-      first : Transcript
-      first = first_of last_transactions version session
+  ready-elsewhere version elsewhere session sessions last_transactions opened is ready =
+      let first = first_of last_transactions version session in
+      let asks = asks-elsewhere session sessions is.0 in
+      let now = last-others last_transactions session id.session (λ same. is.1 (sym same)) in
+      let none : once_for id first.id ≡ 0 = rw is.0 refl in
+      let begun : times_begun id (begin_next last_transactions session) ≡ times_begun id last_transactions = ap (up_to id.number) now in (
+        rw now ready.0,
+        omega (arith, asks, ready.1),
+        λ some. ap has_used_up now ∙ ready.2 (omega (arith, some, asks)),
+        omega (arith, ready.3, sum_by_push (λ (transcript : Transcript). once_for id transcript.id) opened first, none, begun),
+      )
 
-      more : times_opened id (opened ++ first ∷ []) ≡ times_opened id opened + once_for id first.id
-      more = sum_by_push (λ (transcript : Transcript). once_for id transcript.id) opened first
-
-      here : (session == id.session ≡ true) × (session ≡ id.session) → Ready elsewhere sessions (begin_next last_transactions session) (opened ++ first ∷ [])
-      here is =
-          let asked = asks-here session sessions is.0 in
-          let none : asks_in id sessions ≡ 0 = omega (arith, asked, ready.1) in
-          let left : has_no_number last_transactions id.session ≡ false = ⊎_elim
-          (λ (zero : asks_in id (session ∷ sessions) ≡ 0). absurd (omega (arith, asked, zero)))
-          (λ (left : has_no_number last_transactions id.session ≡ false). left) ready.2 in
-          let counts = next-counts id.number (last_number id.session last_transactions) ready.0 left in
-          let last : times_begun id (begin_next last_transactions session) ≡ up_to id.number (Some (next_number (last_number id.session last_transactions)))
-          = ap (up_to id.number) (next-here last_transactions session is.1) in (
-            within-next last_transactions session ready.0,
-            omega (arith, none),
-            inl none,
-            omega (arith, ready.3, more, first-here last_transactions version session is.0 is.1, counts, last),
-          )
-
-      there : (session == id.session ≡ false) × (session ≢ id.session) → Ready elsewhere sessions (begin_next last_transactions session) (opened ++ first ∷ [])
-      there is =
-          let asked = asks-elsewhere session sessions is.0 in
-          let last = next-elsewhere last_transactions session is.1 in
-          let count : times_begun id (begin_next last_transactions session) ≡ times_begun id last_transactions = ap (up_to id.number) last in
-          let still : Able (begin_next last_transactions session) sessions = ⊎_elim
-          (λ (none : asks_in id (session ∷ sessions) ≡ 0). inl (sym asked ∙ none))
-          (λ (left : has_no_number last_transactions id.session ≡ false). inr (ap has_used_up last ∙ left)) ready.2 in (
-            within-next last_transactions session ready.0,
-            omega (arith, asked, ready.1),
-            still,
-            omega (arith, ready.3, more, first-elsewhere last_transactions version session is.0, count),
-          )
-
-  -- and so does what each of them begins
+  -- and so when all of them do
   served-once : (version elsewhere : ℕ) (sessions : List ℕ) (last_transactions : List LastTransaction) (opened : List Transcript) → Ready elsewhere sessions last_transactions opened
       → Ready elsewhere [] (fold (serve version) (last_transactions, opened) sessions).0 (fold (serve version) (last_transactions, opened) sessions).1
   served-once version elsewhere [] last_transactions opened ready = ready
   served-once version elsewhere (session ∷ sessions) last_transactions opened ready =
-      served-once version elsewhere sessions (begin_next last_transactions session) (opened ++ first_of last_transactions version session ∷ [])
-      (ready-next version elsewhere session sessions last_transactions opened ready)
+      served-once version elsewhere sessions (begin_next last_transactions session) (opened ++ first_of last_transactions version session ∷ []) (⊎_elim
+      (λ (is : (session == id.session ≡ true) × (session ≡ id.session)).
+      subst (λ (s : ℕ). Ready elsewhere (s ∷ sessions) last_transactions opened
+      → Ready elsewhere sessions (begin_next last_transactions s) (opened ++ first_of last_transactions version s ∷ []))
+      (sym is.1) (ready-here version elsewhere sessions last_transactions opened) ready)
+      (λ (is : (session == id.session ≡ false) × (session ≢ id.session)). ready-elsewhere version elsewhere session sessions last_transactions opened is ready)
+      (eqb_tells session id.session))
 
   -- where those who ask and the last transactions stay, the counts are kept
   still : (m : Machine) → IsOnce id m → {book : List Entry} {commit_proxies : List CommitProxy} {opened : List Transcript}
@@ -236,28 +215,19 @@ module _ (id : TxnId) where
       [ None ↦ omega arith | Some i ↦ sum-remove-le (λ (t : Transcript). once_for id t.id) opened i ]
 
   -- one who doesn't ask goes on to ask once
-  asks-more : (grv_proxies : List (List ℕ)) (proxy session : ℕ) (there : List ℕ) → slice_get grv_proxies proxy ≡ Some there → list_any (waits_at_grv_proxy session) grv_proxies ≡ false
-      → times_asking id grv_proxies ≤ 1 → times_asking id (slice_set grv_proxies proxy (there ++ session ∷ [])) ≤ 1
-  asks-more grv_proxies proxy session there on_there free once = ⊎_elim here elsewhere (eqb_tells session id.session)
-    where
-      set : times_asking id (slice_set grv_proxies proxy (there ++ session ∷ [])) + asks_in id there ≡ times_asking id grv_proxies + asks_in id (there ++ session ∷ [])
-      set = sum-set (asks_in id) grv_proxies proxy there (there ++ session ∷ []) on_there
-
-      more : asks_in id (there ++ session ∷ []) ≡ asks_in id there + cond (session == id.session) 1 0
-      more = sum_by_push (λ (asker : ℕ). cond (asker == id.session) 1 0) there session
-
-      here : (session == id.session ≡ true) × (session ≡ id.session) → times_asking id (slice_set grv_proxies proxy (there ++ session ∷ [])) ≤ 1
-      here is =
-          let none : times_asking id grv_proxies ≡ 0
-          = subst (λ (s : ℕ). sum_by (λ (xs : List ℕ). count_by (λ (asker : ℕ). asker == s) xs) grv_proxies ≡ 0) is.1
-          (counts-none (λ (asker : ℕ). asker == session) grv_proxies free) in
-          let one : cond {A = ℕ} (session == id.session) 1 0 ≡ 1 = rw is.0 refl in
-          omega (arith, set, more, none, one)
-
-      elsewhere : (session == id.session ≡ false) × (session ≢ id.session) → times_asking id (slice_set grv_proxies proxy (there ++ session ∷ [])) ≤ 1
-      elsewhere is =
-          let none : cond {A = ℕ} (session == id.session) 1 0 ≡ 0 = rw is.0 refl in
-          omega (arith, set, more, once, none)
+  asks-more : (session : ℕ) (there : List ℕ) → waits_at_grv_proxy session there ≡ false → AsksOnce id there → AsksOnce id (there ++ session ∷ [])
+  asks-more session there free once =
+      let more : asks_in id (there ++ session ∷ []) ≡ asks_in id there + cond (session == id.session) 1 0
+      = sum_by_push (λ (asker : ℕ). cond (asker == id.session) 1 0) there session in
+      ⊎_elim
+      (λ (is : (session == id.session ≡ true) × (session ≡ id.session)).
+      let none : asks_in id there ≡ 0 = subst (λ (s : ℕ). count_by (λ (asker : ℕ). asker == s) there ≡ 0) is.1 (count-none (λ (asker : ℕ). asker == session) there free) in
+      let one : cond {A = ℕ} (session == id.session) 1 0 ≡ 1 = rw is.0 refl in
+      omega (arith, more, none, one))
+      (λ (is : (session == id.session ≡ false) × (session ≢ id.session)).
+      let zero : cond {A = ℕ} (session == id.session) 1 0 ≡ 0 = rw is.0 refl in
+      omega (arith, more, once, zero))
+      (eqb_tells session id.session)
 
   -- every step keeps it
   once_steps : KeptBySteps (IsOnce id)
@@ -267,18 +237,14 @@ module _ (id : TxnId) where
         let parts = or_parts (list_any (waits_at_grv_proxy session) m.grv_proxies) (list_any (waits_at_commit_proxy session) m.commit_proxies) free in
         record {
           within = once.within;
-          asks_once = asks-more m.grv_proxies proxy session there at parts.0 once.asks_once;
+          asks_once = all-set (AsksOnce id) m.grv_proxies proxy _ once.asks_once
+              (asks-more session there (none-at (waits_at_grv_proxy session) m.grv_proxies proxy there parts.0 at) (all-at (AsksOnce id) m.grv_proxies proxy there once.asks_once at));
           stands = omega (arith, once.stands, without-le session m.opened);
         };
     granted = λ m proxy there at left once.
-        let one : asks_in id there ≤ 1 = omega (arith, sum-at-le (asks_in id) m.grv_proxies proxy there at, once.asks_once) in
-        let served = served-once m.committed (times_in_book id m.book + times_waiting id m.commit_proxies) there m.last_transactions m.opened (once.within, one, able m.last_transactions there left, once.stands) in
-        let none : asks_in id [] ≡ 0 = refl in
-        record {
-          within = served.0;
-          asks_once = omega (arith, once.asks_once, none, sum-set (asks_in id) m.grv_proxies proxy there [] at);
-          stands = served.3;
-        };
+        let asks = all-at (AsksOnce id) m.grv_proxies proxy there once.asks_once at in
+        let served = served-once m.committed (times_in_book id m.book + times_waiting id m.commit_proxies) there m.last_transactions m.opened (once.within, asks, able m.last_transactions there left, once.stands) in
+        record { within = served.0; asks_once = all-set (AsksOnce id) m.grv_proxies proxy [] once.asks_once served.1; stands = served.3 };
     operated = λ m i transcript operation there once. with-transcript m i transcript _ once there refl;
     read_only = λ m i transcript there empty once.
         still m once (omega (arith, once.stands, sum-remove (λ (t : Transcript). once_for id t.id) m.opened i transcript there));
@@ -302,11 +268,9 @@ module _ (id : TxnId) where
   once-start config =
       let no_lanes : times_waiting id (replicate config.proxies idle_proxy) ≡ 0
       = omega (arith, sum_by-replicate (waiting_in id) config.proxies idle_proxy) in
-      let no_asking : times_asking id (replicate config.proxies []) ≡ 0
-      = omega (arith, sum_by-replicate (asks_in id) config.proxies []) in
       record {
         within = omega arith;
-        asks_once = omega (arith, no_asking);
+        asks_once = all-replicate (AsksOnce id) [] config.proxies (omega arith);
         stands = omega (arith, no_lanes);
       }
 
