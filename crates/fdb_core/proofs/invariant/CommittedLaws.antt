@@ -8,8 +8,8 @@ use Rattle.fdb_core.specs.headline.Promises.{CommittedIsGreatestReported, report
 use Rattle.fdb_core.specs.machine.Machine.{Machine, Transition}
 use Rattle.fdb_core.specs.machine.Steps.{next, answer_of, after}
 use Rattle.fdb_core.specs.machine.Worlds.{start, IsRun}
-use Rattle.fdb_core.proofs.headline.RunsLemmas.{run-none}
-use Rattle.fdb_core.proofs.invariant.Steps.{HoldsOfSteps, holds-next}
+use Rattle.fdb_core.proofs.headline.RunsLemmas.{run-next}
+use Rattle.fdb_core.proofs.invariant.Steps.{HoldsOfSteps, holds-after}
 use Rattle.fdb_core.proofs.machine.AcceptedTransitions.{IfAccepted}
 
 -- the committed version is raised to what the step reports
@@ -40,16 +40,7 @@ raise = record {
 
 -- and so does any step
 raises-next : (m : Machine) (taken : Step) → Raises m (reported taken (answer_of (next m taken))) (after m (next m taken))
-raises-next m taken = by_result (next m taken) (holds-next Raises raise m taken)
-  where
-    none : (taken : Step) (refusal : Refusal) → reported taken (Err refusal) ≡ 0
-    none (step.Report proxy) refusal = refl
-    none taken refusal = refl
-
-    by_result : (result : Result Transition Refusal) → IfAccepted (λ transition. Raises m (reported taken (Ok transition.answer)) transition.next) result
-        → Raises m (reported taken (answer_of result)) (after m result)
-    by_result (Ok transition) raises = raises
-    by_result (Err refusal) raises = max-zero m.committed ∙ ap (max m.committed) (sym (none taken refusal))
+raises-next = holds-after Raises raise (λ m. max-zero m.committed)
 
 -- two raises one after the other are one
 max-step : (now then old one others answered : ℕ) → now ≡ max then others → then ≡ max old one → answered ≡ one → now ≡ max old (max answered others)
@@ -61,13 +52,9 @@ committed-run : (old new : Machine) (steps : List Step) (given : List (Result An
 committed-run old new [] [] ran = let same : new ≡ old = cc in ap (λ (m : Machine). m.committed) same ∙ max-zero old.committed
 committed-run old new [] (answer ∷ given) ran = absurd ran
 committed-run old new (taken ∷ steps) [] ran = absurd ran
-committed-run old new (taken ∷ steps) (answer ∷ given) ran = ⊎_elim
-    (λ went. let others : IsRun (Some (after old (next old taken))) steps given (Some new)
-    = subst (λ (mid : Option Machine). IsRun mid steps given (Some new)) went.1 ran.2 in
-    max-step _ _ _ _ _ _ (committed-run (after old (next old taken)) new steps given others) (raises-next old taken) (ap (reported taken) went.0))
-    (λ failed. let none : Some new ≡ None
-    = run-none steps given (Some new) (subst (λ (mid : Option Machine). IsRun mid steps given (Some new)) failed.1 ran.2) in cc)
-    ran.1
+committed-run old new (taken ∷ steps) (answer ∷ given) ran =
+    let went = run-next old new taken answer steps given ran in
+    max-step _ _ _ _ _ _ (committed-run (after old (next old taken)) new steps given went.1) (raises-next old taken) (ap (reported taken) went.0)
 
 -- over every run the committed version is the greatest one that was reported
 pub committed_is_greatest_reported : CommittedIsGreatestReported

@@ -73,25 +73,18 @@ place-stays seen [] entry (suc n) p there at = cc
 place-stays seen (first ∷ book) entry zero p there at = at
 place-stays seen (first ∷ book) entry (suc n) p there at = place-stays (add_entry seen first) book entry n p there at
 
--- the same as `stands_with_entry`, of a spot
-spot-stays : (m : Machine) (after : Machine) (entry : Entry) (transcript : Transcript) (at : Spot)
-    → after.config ≡ m.config → after.book ≡ m.book ++ entry ∷ [] → last_version m.book < entry.version
-    → IsSerializedAtSpot m transcript at → IsSerializedAtSpot after transcript at
-spot-stays m after entry transcript (spot.Entry n p version) same longer above stands =
-    rw (same, longer) (stands.0, place-stays nothing m.book entry n p stands.0 stands.1, stands.2, stands.3, stands.4, stands.5)
-spot-stays m after entry transcript (spot.ReadOnly version) same longer above stands =
-    let below : version < entry.version = omega (arith, stands.1) in
-    rw (same, longer) (
+-- one more entry leaves everyone at his spot
+pub spot-stays : (m : Machine) (entry : Entry) (transcript : Transcript) (at : Spot) → last_version m.book < entry.version
+    → IsSerializedAtSpot m transcript at → IsSerializedAtSpot (record m { book = m.book ++ entry ∷ [] }) transcript at
+spot-stays m entry transcript (spot.Entry n p version) above stands =
+    (stands.0, place-stays nothing m.book entry n p stands.0 stands.1, stands.2, stands.3, stands.4, stands.5)
+spot-stays m entry transcript (spot.ReadOnly version) above stands =
+    let below : version < entry.version = omega (arith, stands.1) in (
       stands.0,
       rw (last-push m.book entry) (le_of_lt below),
       stands.2,
       subst (λ (now : Map). AnsweredOn now transcript) (sym (earlier_maps_stay m.config.resolver_splits m.book entry version below)) stands.3,
     )
-
--- one more entry leaves everyone where he stands
-pub serialized_with_entry : (m : Machine) (after : Machine) (entry : Entry) (placed : Placed)
-    → after.config ≡ m.config → after.book ≡ m.book ++ entry ∷ [] → last_version m.book < entry.version → IsSerialized m placed → IsSerialized after placed
-serialized_with_entry m after entry placed same longer above stands = spot-stays m after entry placed.transcript placed.spot same longer above stands
 
 -- the places are the earlier ones behind newer ones of at least the version
 abbrev Extends : ℕ → List Place → List Place → Type 0

@@ -24,7 +24,7 @@ use Rattle.fdb_core.specs.machine.Worlds.{start, idle_proxy}
 use Rattle.fdb_core.specs.programs.Programs.{commit_request_of}
 use Rattle.fdb_core.specs.refinement.Invariant.{IsReplied, IsReported, Waits, CommitProxyIsSound, Invariant}
 use Rattle.fdb_core.proofs.common.AllLemmas.{all-at, all-set, all-remove, all-push, all-drop, all-take, all-map, all-replicate}
-use Rattle.fdb_core.proofs.invariant.SerializedLemmas.{Stands, serialized_with_entry, batch_serialized, read_only_serialized}
+use Rattle.fdb_core.proofs.invariant.SerializedLemmas.{Stands, spot-stays, batch_serialized, read_only_serialized}
 use Rattle.fdb_core.proofs.invariant.SoundLemmas.{all-without, all-served, told-push, sealed-batch, sealed-in_flight, version-within, found-front, told-entry, commit_proxy-kept}
 use Rattle.fdb_core.proofs.invariant.Steps.{KeptBySteps, kept-by_trace}
 use Rattle.fdb_core.proofs.refinement.RoleTies.{last-push}
@@ -86,13 +86,13 @@ sound-sealed m proxy advance commit_proxy sound at = record {
   committed = let last = last-push m.book entry in omega (arith, above, sound.committed, last);
   opened = all-weaken (IsReplied m) (IsReplied after) told m.opened sound.opened;
   commit_proxies = all-set (CommitProxyIsSound after) m.commit_proxies proxy (sealed_proxy m commit_proxy)
-      (all-weaken (CommitProxyIsSound m) (CommitProxyIsSound after) (commit_proxy-kept m after (le_refl m.committed) told (λ i other there. found-front m.book (entry ∷ []) i other there)) m.commit_proxies sound.commit_proxies) (
-        all-drop (Waits after) PLACE_LIMIT commit_proxy.waiting was.0,
+      (all-weaken (CommitProxyIsSound m) (CommitProxyIsSound after) kept m.commit_proxies sound.commit_proxies) (
+        all-drop (Waits after) PLACE_LIMIT commit_proxy.waiting now.0,
         all-map (Waits after) (IsReplied after) (λ (submission : Submission). submission.transcript) (λ submission waiting. waiting.1) sealing
-            (all-take (Waits after) PLACE_LIMIT commit_proxy.waiting was.0),
+            (all-take (Waits after) PLACE_LIMIT commit_proxy.waiting now.0),
         λ _. (entry, last-at m.book entry, sealed-in_flight m sealing waits, λ reported. cc),
       );
-  acknowledged = all-weaken (IsSerialized m) (IsSerialized after) (λ placed stands. serialized_with_entry m after entry placed refl refl above stands) m.acknowledged sound.acknowledged;
+  acknowledged = all-weaken (IsSerialized m) (IsSerialized after) (λ placed. spot-stays m entry placed.transcript placed.spot above) m.acknowledged sound.acknowledged;
   reported = sound.reported;
 }
   where
@@ -105,20 +105,20 @@ sound-sealed m proxy advance commit_proxy sound at = record {
     sealing : List Submission
     sealing = take PLACE_LIMIT commit_proxy.waiting
 
-    above : last_version m.book < next_version (last_version m.book) advance
-    above = rises (last_version m.book)
-      where
-        rises : (prev : ℕ) → prev < next_version prev advance
-        rises prev = omega arith
+    above : last_version m.book < entry.version
+    above = omega arith
 
     told : (transcript : Transcript) → IsReplied m transcript → IsReplied after transcript
-    told transcript = told-entry m after entry transcript refl refl (omega (arith, above, sound.committed)) (le_refl m.committed)
+    told transcript = told-entry m entry transcript (omega (arith, above, sound.committed))
+
+    kept : (other : CommitProxy) → CommitProxyIsSound m other → CommitProxyIsSound after other
+    kept = commit_proxy-kept m after (le_refl m.committed) told (λ i other there. found-front m.book (entry ∷ []) i other there)
 
     waits : AllByRecursion (Waits m) sealing
-    waits = all-take (Waits m) PLACE_LIMIT commit_proxy.waiting (all-at (CommitProxyIsSound m) m.commit_proxies proxy commit_proxy sound.commit_proxies at).0
+    waits = all-take (Waits m) PLACE_LIMIT commit_proxy.waiting (commit_proxy-at m sound proxy commit_proxy at).0
 
-    was : CommitProxyIsSound after commit_proxy
-    was = commit_proxy-kept m after (le_refl m.committed) told (λ i other there. found-front m.book (entry ∷ []) i other there) commit_proxy (all-at (CommitProxyIsSound m) m.commit_proxies proxy commit_proxy sound.commit_proxies at)
+    now : CommitProxyIsSound after commit_proxy
+    now = kept commit_proxy (commit_proxy-at m sound proxy commit_proxy at)
 
 -- a proxy that is done logging reports its batch
 sound-reported : (m : Machine) (proxy : ℕ) (commit_proxy : CommitProxy) (entry : Entry) → Invariant m
@@ -127,11 +127,11 @@ sound-reported : (m : Machine) (proxy : ℕ) (commit_proxy : CommitProxy) (entry
 sound-reported m proxy commit_proxy entry sound at busy there = record {
   entries = sound.entries;
   pending = sound.pending;
-  committed = at_most sound.committed (version-within (suc (length m.config.resolver_splits)) 0 m.book commit_proxy.entry entry sound.entries there);
+  committed = omega (arith, sound.committed, version-within (suc (length m.config.resolver_splits)) 0 m.book commit_proxy.entry entry sound.entries there);
   opened = all-weaken (IsReplied m) (IsReplied raised) told m.opened sound.opened;
   commit_proxies = all-set (CommitProxyIsSound raised) m.commit_proxies proxy (record commit_proxy { stage = Reported })
       (all-weaken (CommitProxyIsSound m) (CommitProxyIsSound raised) kept m.commit_proxies sound.commit_proxies)
-      (was.0, was.1, λ _. (entry, there, (in_flight-at m commit_proxy entry before busy there).0, λ _. other m.committed entry.version));
+      (now.0, now.1, λ _. (entry, there, (in_flight-at m commit_proxy entry was busy there).0, λ _. omega arith));
   acknowledged = sound.acknowledged;
   reported = all-weaken (IsReported m) (IsReported raised) (λ placed is. (le_trans is.0 up, is.1)) m.acknowledged sound.reported;
 }
@@ -139,17 +139,8 @@ sound-reported m proxy commit_proxy entry sound at busy there = record {
     raised : Machine
     raised = record m { committed = max m.committed entry.version }
 
-    at_most : {a b c : ℕ} → a ≤ c → b ≤ c → max a b ≤ c
-    at_most {a} {b} {c} one other = omega (arith, one, other)
-
-    other : (a b : ℕ) → b ≤ max a b
-    other a b = omega arith
-
     up : m.committed ≤ max m.committed entry.version
-    up = first m.committed entry.version
-      where
-        first : (a b : ℕ) → a ≤ max a b
-        first a b = omega arith
+    up = omega arith
 
     told : (transcript : Transcript) → IsReplied m transcript → IsReplied raised transcript
     told transcript was = (le_trans was.0 up, was.1)
@@ -157,11 +148,11 @@ sound-reported m proxy commit_proxy entry sound at busy there = record {
     kept : (other : CommitProxy) → CommitProxyIsSound m other → CommitProxyIsSound raised other
     kept = commit_proxy-kept m raised up told (λ i entry at. at)
 
-    before : CommitProxyIsSound m commit_proxy
-    before = commit_proxy-at m sound proxy commit_proxy at
+    was : CommitProxyIsSound m commit_proxy
+    was = commit_proxy-at m sound proxy commit_proxy at
 
-    was : CommitProxyIsSound raised commit_proxy
-    was = kept commit_proxy before
+    now : CommitProxyIsSound raised commit_proxy
+    now = kept commit_proxy was
 
 -- every step keeps a machine sound
 pub sound_steps : KeptBySteps Invariant

@@ -139,14 +139,12 @@ version-within resolvers last (first ∷ book) zero entry entries there =
 version-within resolvers last (first ∷ book) (suc i) entry entries there = version-within resolvers first.version book i entry entries.4 there
 
 -- with one more entry of a version above the committed one each transcript stays told
-pub told-entry : (m after : Machine) (entry : Entry) (transcript : Transcript) → after.config ≡ m.config → after.book ≡ m.book ++ entry ∷ []
-    → m.committed < entry.version → m.committed ≤ after.committed → IsReplied m transcript → IsReplied after transcript
-told-entry m after entry transcript same_config longer above raised told = (
-  le_trans told.0 raised,
-  told.1 ∙ ap (λ (there : Map). exec there (program transcript.ops)) (sym (
-      ap (λ (splits : List Point). serial_map_at splits transcript.read_version (seen_of after.book).places) (ap (λ c. c.resolver_splits) same_config)
-      ∙ ap (λ (book : List Entry). serial_map_at m.config.resolver_splits transcript.read_version (seen_of book).places) longer
-      ∙ earlier_maps_stay m.config.resolver_splits m.book entry transcript.read_version (omega (arith, told.0, above)))),
+pub told-entry : (m : Machine) (entry : Entry) (transcript : Transcript) → m.committed < entry.version → IsReplied m transcript
+    → IsReplied (record m { book = m.book ++ entry ∷ [] }) transcript
+told-entry m entry transcript above told = (
+  told.0,
+  told.1 ∙ ap (λ (there : Map). exec there (program transcript.ops))
+      (sym (earlier_maps_stay m.config.resolver_splits m.book entry transcript.read_version (omega (arith, told.0, above)))),
 )
 
 -- what keeps transcripts told and entries found, and lowers nothing, keeps commit proxies sound

@@ -1,5 +1,5 @@
 -- The walk over the steps of all kinds: what accepted steps change, and what they keep.
-use Rattle.std.proofs.Common.{◌≡◌, refl, ap, ℕ, ◌+◌, ◌%◌, min, max, Bool, true, false, not, ◌&&◌, ◌||◌, List, [], ◌∷◌, ◌++◌, length, fold, Some, Result, Ok, Err}
+use Rattle.std.proofs.Common.{◌≡◌, refl, ap, subst, ℕ, ◌+◌, ◌%◌, min, max, Bool, true, false, not, ◌&&◌, ◌||◌, List, [], ◌∷◌, ◌++◌, length, fold, Some, Result, Ok, Err}
 use Rattle.std.specs.Prelude.{◌==◌, nat_lt, nat_le}
 use Rattle.std.specs.List.{slice_get, slice_set, list_any, remove}
 use Rattle.std.proofs.lemmas.Bool.{and_parts, or_parts, not-false}
@@ -28,7 +28,7 @@ use Rattle.fdb_core.specs.machine.ClientSteps.{asks, grants, gets, writes, submi
 use Rattle.fdb_core.specs.machine.CommitProxySteps.{seals, receives_verdicts, decides, receives_acknowledgement, reports, answers, is_idle, is_resolving, is_logging, is_reported, placed_from}
 use Rattle.fdb_core.specs.machine.Machine.{Machine, Transition, is_busy, is_set, first_missing, last_version, seen_before}
 use Rattle.fdb_core.specs.machine.RoleSteps.{resolves, pushes, pulls}
-use Rattle.fdb_core.specs.machine.Steps.{next, after}
+use Rattle.fdb_core.specs.machine.Steps.{next, answer_of, after}
 use Rattle.fdb_core.specs.machine.Verdicts.{is_needed, outcomes_on}
 use Rattle.fdb_core.specs.programs.Programs.{program, copy, reply_on, commit_request_of}
 use Rattle.fdb_core.proofs.headline.TraceLaws.{kept-after_steps}
@@ -99,30 +99,13 @@ pub record HoldsOfSteps (R : Machine → ℕ → Machine → Type 0) : Type 0 wh
         commit_proxies = slice_set m.commit_proxies proxy (record commit_proxy { in_flight = []; stage = Idle });
       })
 
--- stages by their tests
-idle-is : (stage : Stage) → is_idle stage ≡ true → stage ≡ Idle
-idle-is Idle test = refl
-idle-is Resolving test = cc
-idle-is Logging test = cc
-idle-is Reported test = cc
-
-resolving-is : (stage : Stage) → is_resolving stage ≡ true → stage ≡ Resolving
-resolving-is Idle test = cc
-resolving-is Resolving test = refl
-resolving-is Logging test = cc
-resolving-is Reported test = cc
-
-logging-is : (stage : Stage) → is_logging stage ≡ true → stage ≡ Logging
-logging-is Idle test = cc
-logging-is Resolving test = cc
-logging-is Logging test = refl
-logging-is Reported test = cc
-
-reported-is : (stage : Stage) → is_reported stage ≡ true → stage ≡ Reported
-reported-is Idle test = cc
-reported-is Resolving test = cc
-reported-is Logging test = cc
-reported-is Reported test = refl
+-- a stage by its tests
+stage-is : (stage : Stage)
+    → (is_idle stage ≡ true → stage ≡ Idle) × (is_resolving stage ≡ true → stage ≡ Resolving) × (is_logging stage ≡ true → stage ≡ Logging) × (is_reported stage ≡ true → stage ≡ Reported)
+stage-is Idle = (λ is. refl, λ is. cc, λ is. cc, λ is. cc)
+stage-is Resolving = (λ is. cc, λ is. refl, λ is. cc, λ is. cc)
+stage-is Logging = (λ is. cc, λ is. cc, λ is. refl, λ is. cc)
+stage-is Reported = (λ is. cc, λ is. cc, λ is. cc, λ is. refl)
 
 -- what is awaited by the stage: the test that refuses failed
 awaits : (stage same doubled : Bool) → (not (stage && same) || doubled) ≡ false → stage ≡ true
@@ -134,7 +117,7 @@ module _ (R : Machine → ℕ → Machine → Type 0) (holds : HoldsOfSteps R) w
   Leads m taken transition = R m (reported taken (Ok transition.answer)) transition.next
 
   -- it holds of every accepted step
-  pub holds-next : (m : Machine) (taken : Step) → IfAccepted (Leads m taken) (next m taken)
+  holds-next : (m : Machine) (taken : Step) → IfAccepted (Leads m taken) (next m taken)
   unfolding asks grants gets writes submits seals resolves receives_verdicts decides pushes receives_acknowledgement reports answers pulls
   holds-next m (step.Ask session proxy) =
       past-found _ (slice_get m.grv_proxies proxy) _ (λ there at.
@@ -156,7 +139,7 @@ module _ (R : Machine → ℕ → Machine → Type 0) (holds : HoldsOfSteps R) w
       past-found _ (slice_get m.commit_proxies proxy) _ (λ commit_proxy at.
       past-test _ (not (is_idle commit_proxy.stage)) _ _ (λ idle.
       past-test _ (nat_lt version_limit (next_version (last_version m.book) advance)) _ _ (λ _.
-      past-test _ (nat_le m.config.book (length m.book)) _ _ (λ _. holds.sealed m proxy advance commit_proxy at (idle-is commit_proxy.stage (not-false _ idle))))))
+      past-test _ (nat_le m.config.book (length m.book)) _ _ (λ _. holds.sealed m proxy advance commit_proxy at ((stage-is commit_proxy.stage).0 (not-false _ idle))))))
   holds-next m (step.Resolve i resolver) =
       past-found _ (slice_get m.book i) _ (λ entry _. past-found _ (slice_get m.resolvers resolver) _ (λ taken _.
       past-turn _ taken i entry _ (holds.roles m (slice_set m.resolvers resolver (taken + 1)) m.logs m.shards)))
@@ -164,14 +147,14 @@ module _ (R : Machine → ℕ → Machine → Type 0) (holds : HoldsOfSteps R) w
       past-found _ (slice_get m.resolvers resolver) _ (λ taken _. past-test _ (nat_le taken i) _ _ (λ _.
       past-found _ (slice_get m.entry_proxies i) _ (λ proxy _. past-found _ (slice_get m.commit_proxies proxy) _ (λ commit_proxy at.
       past-test _ (not (is_resolving commit_proxy.stage && (commit_proxy.entry == i)) || is_set commit_proxy.verdicts_received resolver) _ _ (λ awaited.
-      let stage = resolving-is commit_proxy.stage (awaits _ _ _ awaited) in
+      let stage = (stage-is commit_proxy.stage).1 (awaits _ _ _ awaited) in
       holds.went_on m proxy commit_proxy commit_proxy.stage m.decided _ _ at (ap is_idle stage) (ap is_idle stage) (ap is_reported stage))))))
   holds-next m (step.Decide proxy) =
       past-found _ (slice_get m.commit_proxies proxy) _ (λ commit_proxy at.
       past-test _ (not (is_resolving commit_proxy.stage)) _ _ (λ resolving.
       past-found _ (slice_get m.book commit_proxy.entry) _ (λ entry _.
       past-wait _ (first_missing (λ resolver. is_needed m.config.resolver_splits resolver (seen_before m.book commit_proxy.entry) entry) 0 commit_proxy.verdicts_received) _ (λ _.
-      holds.went_on m proxy commit_proxy Logging _ _ _ at (ap is_idle (resolving-is commit_proxy.stage (not-false _ resolving))) refl refl))))
+      holds.went_on m proxy commit_proxy Logging _ _ _ at (ap is_idle ((stage-is commit_proxy.stage).1 (not-false _ resolving))) refl refl))))
   holds-next m (step.Push i log) =
       past-found _ (slice_get m.book i) _ (λ entry _. past-found _ (slice_get m.logs log) _ (λ taken _.
       past-test _ (not (is_set m.decided i)) _ _ (λ _. past-turn _ taken i entry _ (holds.roles m m.resolvers (slice_set m.logs log (taken + 1)) m.shards))))
@@ -179,36 +162,44 @@ module _ (R : Machine → ℕ → Machine → Type 0) (holds : HoldsOfSteps R) w
       past-found _ (slice_get m.logs log) _ (λ taken _. past-test _ (nat_le taken i) _ _ (λ _.
       past-found _ (slice_get m.entry_proxies i) _ (λ proxy _. past-found _ (slice_get m.commit_proxies proxy) _ (λ commit_proxy at.
       past-test _ (not (is_logging commit_proxy.stage && (commit_proxy.entry == i)) || is_set commit_proxy.acknowledgements_received log) _ _ (λ awaited.
-      let stage = logging-is commit_proxy.stage (awaits _ _ _ awaited) in
+      let stage = (stage-is commit_proxy.stage).2 (awaits _ _ _ awaited) in
       holds.went_on m proxy commit_proxy commit_proxy.stage m.decided _ _ at (ap is_idle stage) (ap is_idle stage) (ap is_reported stage))))))
   holds-next m (step.Report proxy) =
       past-found _ (slice_get m.commit_proxies proxy) _ (λ commit_proxy at.
       past-test _ (not (is_logging commit_proxy.stage)) _ _ (λ logging.
       past-found _ (slice_get m.book commit_proxy.entry) _ (λ entry there.
       past-wait _ (first_missing (λ log. true) 0 commit_proxy.acknowledgements_received) _ (λ _.
-      holds.reported_version m proxy commit_proxy entry at (logging-is commit_proxy.stage (not-false _ logging)) there))))
+      holds.reported_version m proxy commit_proxy entry at ((stage-is commit_proxy.stage).2 (not-false _ logging)) there))))
   holds-next m (step.Answer proxy) =
       past-found _ (slice_get m.commit_proxies proxy) _ (λ commit_proxy at.
       past-test _ (is_idle commit_proxy.stage) _ _ (λ _.
       past-found _ (slice_get m.book commit_proxy.entry) _ (λ entry there.
       past-test _ (not (is_reported commit_proxy.stage)) _ _ (λ is_reported.
-      holds.told m proxy commit_proxy entry at (reported-is commit_proxy.stage (not-false _ is_reported)) there))))
+      holds.told m proxy commit_proxy entry at ((stage-is commit_proxy.stage).3 (not-false _ is_reported)) there))))
   holds-next m (step.Pull shard limit) =
       past-found _ (slice_get m.shards shard) _ (λ progress _. past-found _ (slice_get m.logs (shard % length m.logs)) _ (λ has _.
       holds.roles m m.resolvers m.logs (slice_set m.shards shard (record progress { applied = max progress.applied (min has (progress.applied + limit)) }))))
 
--- What accepted steps keep.
+  -- and of every step, where it holds between a machine and itself, since a refused step leaves the machine as it is
+  pub holds-after : ((m : Machine) → R m 0 m) → (m : Machine) (taken : Step) → R m (reported taken (answer_of (next m taken))) (after m (next m taken))
+  holds-after itself m taken = by_result (next m taken) (holds-next m taken)
+    where
+      none : (taken : Step) (refusal : Refusal) → 0 ≡ reported taken (Err refusal)
+      none (step.Report proxy) refusal = refl
+      none taken refusal = refl
+
+      by_result : (result : Result Transition Refusal) → IfAccepted (Leads m taken) result → R m (reported taken (answer_of result)) (after m result)
+      by_result (Ok transition) leads = leads
+      by_result (Err refusal) leads = subst (λ (version : ℕ). R m version m) (none taken refusal) (itself m)
+
+-- What steps keep.
 abbrev pub KeptBySteps : (Machine → Type 0) → Type 0
 KeptBySteps P = HoldsOfSteps (λ m version after. P m → P after)
 
 module _ (P : Machine → Type 0) (keep : KeptBySteps P) where
   -- every step keeps it, refused ones too
   pub kept-next : (m : Machine) (taken : Step) → P m → P (after m (next m taken))
-  kept-next m taken = by_result (next m taken) (holds-next (λ m version after. P m → P after) keep m taken)
-    where
-      by_result : (result : Result Transition Refusal) → IfAccepted (λ transition. P m → P transition.next) result → P m → P (after m result)
-      by_result (Ok transition) keeps = keeps
-      by_result (Err refusal) keeps = λ holds. holds
+  kept-next = holds-after (λ m version after. P m → P after) keep (λ m holds. holds)
 
   -- and every trace
   pub kept-by_trace : (m : Machine) (steps : List Step) (given : List (Result Answered Refusal)) → P m → P (after_steps m steps given)
