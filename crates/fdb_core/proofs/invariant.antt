@@ -1,8 +1,6 @@
 pub mod CommittedLaws
-pub mod LastNumbers
 pub mod OnceLaws
 pub mod RealTimeLaws
 pub mod SerializedLemmas
 pub mod SoundLaws
 pub mod SoundLemmas
-pub mod Steps

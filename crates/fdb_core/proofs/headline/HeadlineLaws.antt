@@ -17,7 +17,7 @@ use Rattle.fdb_core.proofs.invariant.RealTimeLaws.{real_time}
 use Rattle.fdb_core.proofs.headline.RunsLemmas.{run-push}
 use Rattle.fdb_core.proofs.headline.TraceLaws.{shows}
 use Rattle.fdb_core.proofs.invariant.SoundLaws.{sound_steps, sound-trace}
-use Rattle.fdb_core.proofs.invariant.Steps.{kept-next}
+use Rattle.fdb_core.proofs.machine.Steps.{kept-next}
 
 -- every step leaves a sound machine sound
 pub sound-after : (m : Machine) (taken : Step) → Invariant m → Invariant (after m (next m taken))

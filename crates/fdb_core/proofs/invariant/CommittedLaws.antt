@@ -9,7 +9,7 @@ use Rattle.fdb_core.specs.machine.Machine.{Machine, Transition}
 use Rattle.fdb_core.specs.machine.Steps.{next, answer_of, after}
 use Rattle.fdb_core.specs.machine.Worlds.{start, IsRun}
 use Rattle.fdb_core.proofs.headline.RunsLemmas.{run-next}
-use Rattle.fdb_core.proofs.invariant.Steps.{HoldsOfSteps, holds-after}
+use Rattle.fdb_core.proofs.machine.Steps.{HoldsOfSteps, holds-after}
 use Rattle.fdb_core.proofs.machine.AcceptedTransitions.{IfAccepted}
 
 -- the committed version is raised to what the step reports
@@ -29,7 +29,7 @@ raise = record {
   operated = λ m i transcript operation there. max-zero m.committed;
   read_only = λ m i transcript there empty. max-zero m.committed;
   submitted = λ m proxy commit_proxy i transcript at there writes. max-zero m.committed;
-  sealed = λ m proxy advance commit_proxy at idle. max-zero m.committed;
+  sealed = λ m proxy advance commit_proxy at idle few room. max-zero m.committed;
   went_on = λ m proxy commit_proxy stage decided verdicts acknowledgements at busy goes_on unreported. max-zero m.committed;
   reported_version = λ m proxy commit_proxy entry at logging there. twice m.committed entry.version;
   told = λ m proxy commit_proxy entry at reported there. max-zero m.committed;

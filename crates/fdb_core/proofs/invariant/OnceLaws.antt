@@ -23,8 +23,8 @@ use Rattle.fdb_core.specs.machine.Worlds.{start, idle_proxy}
 use Rattle.fdb_core.specs.programs.Programs.{commit_request_of}
 use Rattle.fdb_core.proofs.common.AllLemmas.{all-at, all-set, all-replicate}
 use Rattle.fdb_core.proofs.common.SumLemmas.{sum-set, sum-remove, sum-remove-le, sum-made, count-none, none-at}
-use Rattle.fdb_core.proofs.invariant.LastNumbers.{last-next, last-others, next-within}
-use Rattle.fdb_core.proofs.invariant.Steps.{KeptBySteps, kept-by_trace}
+use Rattle.fdb_core.proofs.machine.LastNumbers.{last-next, last-others, next-within}
+use Rattle.fdb_core.proofs.machine.Steps.{KeptBySteps, kept-by_trace}
 use Rattle.fdb_core.proofs.refinement.SealLemmas.{sealed_entry, sealed_proxy}
 
 -- 1 where the number is one of those up to the last one, else 0
@@ -257,7 +257,7 @@ module _ (id : TxnId) where
           sum-set (waiting_in id) m.commit_proxies proxy commit_proxy (record commit_proxy { waiting = commit_proxy.waiting ++ waits ∷ [] }) at,
           sum_by_push (λ (s : Submission). once_for id s.sealed.id) commit_proxy.waiting waits,
         ));
-    sealed = λ m proxy advance commit_proxy at idle once. sealed-once m proxy advance commit_proxy once at;
+    sealed = λ m proxy advance commit_proxy at idle few room once. sealed-once m proxy advance commit_proxy once at;
     went_on = λ m proxy commit_proxy stage decided verdicts acknowledgements at busy goes_on unreported once. with-commit_proxy m proxy commit_proxy _ once at refl;
     reported_version = λ m proxy commit_proxy entry at logging there once. with-commit_proxy m proxy commit_proxy _ once at refl;
     told = λ m proxy commit_proxy entry at reported there once. with-commit_proxy m proxy commit_proxy _ once at refl;

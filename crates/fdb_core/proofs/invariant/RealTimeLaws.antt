@@ -28,37 +28,28 @@ use Rattle.fdb_core.specs.machine.Worlds.{start, idle_proxy}
 use Rattle.fdb_core.specs.refinement.Invariant.{Invariant, IsReported}
 use Rattle.fdb_core.proofs.common.AllLemmas.{all-push, all-remove, all-set, all-at, all-drop, all-take, all-map, all-replicate}
 use Rattle.fdb_core.proofs.headline.TraceLaws.{after_steps-parts}
-use Rattle.fdb_core.proofs.invariant.LastNumbers.{last-next, last-others, next-within}
+use Rattle.fdb_core.proofs.machine.LastNumbers.{last-next, last-others, next-within}
 use Rattle.fdb_core.proofs.invariant.SoundLaws.{sound_steps, sound-trace}
 use Rattle.fdb_core.proofs.invariant.SoundLemmas.{all-without, served-more, all-served}
-use Rattle.fdb_core.proofs.invariant.Steps.{KeptBySteps, kept-by_trace}
+use Rattle.fdb_core.proofs.machine.Steps.{KeptBySteps, kept-by_trace}
 
 -- the name's number is one that there is, and its session has begun it
 abbrev Begins : List LastTransaction → TxnId → Type 0
 Begins last_transactions id = (id.number ≤ greatest_number) × ((last : ℕ) × (last_number id.session last_transactions ≡ Some last) × (id.number ≤ last))
 
--- the next number is no less than a number up to the last one, and is one that there is
-next-above : (number last greatest : ℕ) → number ≤ greatest → number ≤ last → number ≤ min (last + 1) greatest
-next-above number last greatest within below = omega arith
-
 -- what has begun stays so
 begins-more : (last_transactions : List LastTransaction) (session : ℕ) (id : TxnId) → Begins last_transactions id → Begins (begin_next last_transactions session) id
-begins-more last_transactions session id begins = ⊎_elim same other (eqb_tells id.session session)
+begins-more last_transactions session id begins = ⊎_elim
+    (λ (is : (id.session == session ≡ true) × (id.session ≡ session)).
+    let next = next_number (last_number id.session last_transactions) in
+    let there = subst (λ (s : ℕ). last_number id.session (begin_next last_transactions s) ≡ Some next) is.1 (last-next last_transactions id.session) in
+    (begins.0, (next, there, rw begins.1.1 (next-above id.number begins.1.0 greatest_number begins.0 begins.1.2))))
+    (λ (is : (id.session == session ≡ false) × (id.session ≢ session)).
+    (begins.0, (begins.1.0, last-others last_transactions session id.session is.1 ∙ begins.1.1, begins.1.2)))
+    (eqb_tells id.session session)
   where
-    same : (id.session == session ≡ true) × (id.session ≡ session) → Begins (begin_next last_transactions session) id
-    same is =
-        let there : last_number id.session (begin_next last_transactions session) ≡ Some (next_number (last_number id.session last_transactions))
-        = subst (λ (s : ℕ). last_number s (begin_next last_transactions session) ≡ Some (next_number (last_number s last_transactions))) (sym is.1) (last-next last_transactions session) in (
-          begins.0,
-          (
-            next_number (last_number id.session last_transactions),
-            there,
-            rw begins.1.1 (next-above id.number begins.1.0 greatest_number begins.0 begins.1.2),
-          ),
-        )
-
-    other : (id.session == session ≡ false) × (id.session ≢ session) → Begins (begin_next last_transactions session) id
-    other is = (begins.0, (begins.1.0, last-others last_transactions session id.session is.1 ∙ begins.1.1, begins.1.2))
+    next-above : (number last greatest : ℕ) → number ≤ greatest → number ≤ last → number ≤ min (last + 1) greatest
+    next-above number last greatest within below = omega arith
 
 -- a transaction that a session begins has begun
 begins-new : (last_transactions : List LastTransaction) (session version : ℕ) → Begins (begin_next last_transactions session) (first_of last_transactions version session).id
@@ -131,7 +122,7 @@ module _ (P : List LastTransaction → TxnId → ℕ → Type 0) (low : ℕ) whe
     submitted = λ m proxy commit_proxy i transcript at there writes kept.
         let proxies = set-proxy m proxy commit_proxy _ kept at (λ was. (all-push _ commit_proxy.waiting _ was.0 (opened-has m i transcript kept there), was.1)) in
         (kept.0, (all-remove (Has m.last_transactions) m.opened i kept.1.0, proxies, kept.1.2));
-    sealed = λ m proxy advance commit_proxy at idle kept.
+    sealed = λ m proxy advance commit_proxy at idle few room kept.
         let proxies = set-proxy m proxy commit_proxy _ kept at (λ was. (
           all-drop _ PLACE_LIMIT commit_proxy.waiting was.0,
           all-map _ (Has m.last_transactions) (λ (submission : Submission). submission.transcript) (λ submission has. has) _ (all-take _ PLACE_LIMIT commit_proxy.waiting was.0),

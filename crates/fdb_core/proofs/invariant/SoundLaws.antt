@@ -26,7 +26,7 @@ use Rattle.fdb_core.specs.refinement.Invariant.{IsReplied, IsReported, Waits, Co
 use Rattle.fdb_core.proofs.common.AllLemmas.{all-at, all-set, all-remove, all-push, all-drop, all-take, all-map, all-replicate}
 use Rattle.fdb_core.proofs.invariant.SerializedLemmas.{Stands, spot-stays, batch_serialized, read_only_serialized}
 use Rattle.fdb_core.proofs.invariant.SoundLemmas.{all-without, all-served, told-push, sealed-batch, sealed-in_flight, version-within, found-front, told-entry, commit_proxy-kept}
-use Rattle.fdb_core.proofs.invariant.Steps.{KeptBySteps, kept-by_trace}
+use Rattle.fdb_core.proofs.machine.Steps.{KeptBySteps, kept-by_trace}
 use Rattle.fdb_core.proofs.refinement.RoleTies.{last-push}
 use Rattle.fdb_core.proofs.refinement.SealLemmas.{last-at, sealed_entry, sealed_proxy, sealed_machine}
 
@@ -175,7 +175,7 @@ sound_steps = record {
       let was = commit_proxy-at m sound proxy commit_proxy at in
       let waiting = all-push (Waits m) commit_proxy.waiting (record { sealed = commit_request_of transcript; transcript = transcript }) was.0 (refl, opened-at m sound i transcript there) in
       same_book m sound (all-remove (IsReplied m) m.opened i sound.opened) (with-commit_proxy m sound proxy _ (waiting, was.1, was.2)) sound.acknowledged sound.reported;
-  sealed = λ m proxy advance commit_proxy at idle sound. sound-sealed m proxy advance commit_proxy sound at;
+  sealed = λ m proxy advance commit_proxy at idle few room sound. sound-sealed m proxy advance commit_proxy sound at;
   went_on = λ m proxy commit_proxy stage decided verdicts acknowledgements at busy goes_on unreported sound.
       let was = commit_proxy-at m sound proxy commit_proxy at in
       let flies = was.2 busy in

@@ -1,8 +1,8 @@
 -- The walk over the steps of all kinds: what accepted steps change, and what they keep.
-use Rattle.std.proofs.Common.{◌≡◌, refl, ap, subst, ℕ, ◌+◌, ◌%◌, min, max, Bool, true, false, not, ◌&&◌, ◌||◌, List, [], ◌∷◌, ◌++◌, length, fold, Some, Result, Ok, Err}
+use Rattle.std.proofs.Common.{◌≡◌, ◌<◌, ◌≤◌, refl, ap, subst, ℕ, ◌+◌, ◌%◌, min, max, Bool, true, false, not, ◌&&◌, ◌||◌, List, [], ◌∷◌, ◌++◌, length, fold, Some, Result, Ok, Err}
 use Rattle.std.specs.Prelude.{◌==◌, nat_lt, nat_le}
 use Rattle.std.specs.List.{slice_get, slice_set, list_any, remove}
-use Rattle.std.proofs.lemmas.Bool.{and_parts, or_parts, not-false}
+use Rattle.std.proofs.lemmas.Bool.{and_parts, or_parts, not-false, ltb-false, leb-false}
 use Rattle.fdb_keys.specs.declared.refusal.Refusal.{Refusal}
 use Rattle.fdb_mutations.specs.Mutations.{mutation_fault}
 use Rattle.fdb_txn.specs.declared.entry.Entry.{Entry}
@@ -69,9 +69,9 @@ pub record HoldsOfSteps (R : Machine → ℕ → Machine → Type 0) : Type 0 wh
         opened = remove m.opened i;
         commit_proxies = slice_set m.commit_proxies proxy (record commit_proxy { waiting = commit_proxy.waiting ++ submission ∷ [] });
       })
-  -- a proxy made those who wait the batch of the next entry (Seal)
+  -- a proxy made those who wait the batch of the next entry, where a version and a place in the book are left (Seal)
   pub sealed : (m : Machine) (proxy advance : ℕ) (commit_proxy : CommitProxy) → slice_get m.commit_proxies proxy ≡ Some commit_proxy → commit_proxy.stage ≡ Idle
-      → R m 0 (sealed_machine m proxy advance commit_proxy)
+      → next_version (last_version m.book) advance ≤ version_limit → length m.book < m.config.book → R m 0 (sealed_machine m proxy advance commit_proxy)
   -- a proxy went on with its batch, which isn't reported (Verdict, Decide, Logged)
   pub went_on : (m : Machine) (proxy : ℕ) (commit_proxy : CommitProxy) (stage : Stage) (decided verdicts_received acknowledgements_received : List Bool)
       → slice_get m.commit_proxies proxy ≡ Some commit_proxy → is_idle commit_proxy.stage ≡ false → is_idle stage ≡ false → is_reported stage ≡ false
@@ -138,8 +138,9 @@ module _ (R : Machine → ℕ → Machine → Type 0) (holds : HoldsOfSteps R) w
   holds-next m (step.Seal proxy advance) =
       past-found _ (slice_get m.commit_proxies proxy) _ (λ commit_proxy at.
       past-test _ (not (is_idle commit_proxy.stage)) _ _ (λ idle.
-      past-test _ (nat_lt version_limit (next_version (last_version m.book) advance)) _ _ (λ _.
-      past-test _ (nat_le m.config.book (length m.book)) _ _ (λ _. holds.sealed m proxy advance commit_proxy at ((stage-is commit_proxy.stage).0 (not-false _ idle))))))
+      past-test _ (nat_lt version_limit (next_version (last_version m.book) advance)) _ _ (λ few.
+      past-test _ (nat_le m.config.book (length m.book)) _ _ (λ room.
+      holds.sealed m proxy advance commit_proxy at ((stage-is commit_proxy.stage).0 (not-false _ idle)) (ltb-false _ _ few) (leb-false _ _ room)))))
   holds-next m (step.Resolve i resolver) =
       past-found _ (slice_get m.book i) _ (λ entry _. past-found _ (slice_get m.resolvers resolver) _ (λ taken _.
       past-turn _ taken i entry _ (holds.roles m (slice_set m.resolvers resolver (taken + 1)) m.logs m.shards)))
