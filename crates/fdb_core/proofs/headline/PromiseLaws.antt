@@ -30,7 +30,9 @@ grants_committed m proxy transition accepted =
     past-test Told (list_any (has_no_number m.last_transactions) there) Exhausted _ (λ _. (there, at, refl))))
   where
     Told : Transition → Type 0
-    Told given = (there : List ℕ) × (slice_get m.grv_proxies proxy ≡ Some there) × (given.answer ≡ answered.Granted (map (λ (session : ℕ). (session, m.committed)) there))
+    Told given =
+        (there : List ℕ) × (slice_get m.grv_proxies proxy ≡ Some there)
+        × (given.answer ≡ answered.Granted (map (λ (session : ℕ). (session, m.committed)) there))
 
 -- a read answers from the map at the read version
 pub gets_from_the_run : GetsFromTheRun

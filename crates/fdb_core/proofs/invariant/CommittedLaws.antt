@@ -1,16 +1,14 @@
 -- The committed version over a run: only reports raise it, each to what it answers.
-use Rattle.std.proofs.Common.{◌≡◌, ◌∙◌, refl, sym, ap, subst, arith, ⊎_elim, ℕ, max, List, [], ◌∷◌, Option, Some, None, Result, Ok, Err}
+use Rattle.std.proofs.Common.{◌≡◌, ◌∙◌, ap, arith, ℕ, max, List, [], ◌∷◌, Some, Result}
 use Rattle.fdb_keys.specs.declared.refusal.Refusal.{Refusal}
 use Rattle.fdb_core.specs.declared.step.Answered.{Answered}
 use Rattle.fdb_core.specs.declared.step.Step.{Step}
-use Rattle.fdb_core.specs.declared.step.Step.TheVariants as step
 use Rattle.fdb_core.specs.headline.Promises.{CommittedIsGreatestReported, reported, greatest_reported}
-use Rattle.fdb_core.specs.machine.Machine.{Machine, Transition}
+use Rattle.fdb_core.specs.machine.Machine.{Machine}
 use Rattle.fdb_core.specs.machine.Steps.{next, answer_of, after}
 use Rattle.fdb_core.specs.machine.Worlds.{start, IsRun}
 use Rattle.fdb_core.proofs.headline.RunsLemmas.{run-next}
 use Rattle.fdb_core.proofs.machine.Steps.{HoldsOfSteps, holds-after}
-use Rattle.fdb_core.proofs.machine.AcceptedTransitions.{IfAccepted}
 
 -- the committed version is raised to what the step reports
 abbrev Raises : Machine → ℕ → Machine → Type 0

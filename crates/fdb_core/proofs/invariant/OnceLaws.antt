@@ -1,5 +1,5 @@
 -- Each transaction stands in the book at most once: how often there is one of a name, kept by every step.
-use Rattle.std.proofs.Common.{◌≡◌, ◌≢◌, ◌∙◌, ◌<◌, ◌≤◌, refl, sym, ap, subst, arith, ⊎_elim, ◌⊎◌, ℕ, ◌+◌, min, Bool, true, false, cond, List, [], ◌∷◌, ◌++◌, take, drop, map, fold, replicate, Option, Some, None, position, sum_by}
+use Rattle.std.proofs.Common.{◌≡◌, ◌≢◌, ◌∙◌, ◌<◌, ◌≤◌, refl, sym, ap, subst, arith, ⊎_elim, ℕ, ◌+◌, min, true, false, cond, List, [], ◌∷◌, ◌++◌, take, fold, replicate, Option, Some, None, position, sum_by}
 use Rattle.std.specs.Prelude.{◌==◌, nat_le, unwrap_or}
 use Rattle.std.specs.List.{AllByRecursion, slice_get, slice_set, list_any, count_by}
 use Rattle.std.proofs.lemmas.List.Sums.{sum_by-cons, sum_by_push, sum_by-take-drop}
@@ -25,7 +25,7 @@ use Rattle.fdb_core.proofs.common.AllLemmas.{all-at, all-set, all-replicate}
 use Rattle.fdb_core.proofs.common.SumLemmas.{sum-set, sum-remove, sum-remove-le, sum-made, count-none, none-at}
 use Rattle.fdb_core.proofs.machine.LastNumbers.{last-next, last-others, next-within}
 use Rattle.fdb_core.proofs.machine.Steps.{KeptBySteps, kept-by_trace}
-use Rattle.fdb_core.proofs.refinement.SealLemmas.{sealed_entry, sealed_proxy}
+use Rattle.fdb_core.proofs.refinement.SealLemmas.{sealed_entry, sealed_proxy, sealed_machine}
 
 -- 1 where the number is one of those up to the last one, else 0
 abbrev up_to : ℕ → Option ℕ → ℕ
@@ -90,7 +90,8 @@ module _ (id : TxnId) where
 
 -- In the book, at the proxies and among the open ones there is one transaction of the name at most, and none before it has
 -- begun; at each read-version proxy its session asks once at most.
-record Once (id : TxnId) (book : List Entry) (commit_proxies : List CommitProxy) (opened : List Transcript) (grv_proxies : List (List ℕ)) (last_transactions : List LastTransaction) : Type 0 where
+record Once (id : TxnId) (book : List Entry) (commit_proxies : List CommitProxy) (opened : List Transcript) (grv_proxies : List (List ℕ))
+    (last_transactions : List LastTransaction) : Type 0 where
   within : Within id last_transactions
   asks_once : AllByRecursion (AsksOnce id) grv_proxies
   stands : times_in_book id book + times_waiting id commit_proxies + times_opened id opened ≤ times_begun id last_transactions
@@ -109,19 +110,22 @@ module _ (id : TxnId) where
   abbrev Able : List LastTransaction → List ℕ → Type 0
   Able last_transactions sessions = 0 < asks_in id sessions → has_no_number last_transactions id.session ≡ false
 
-  able : (last_transactions : List LastTransaction) (sessions : List ℕ) → list_any (has_no_number last_transactions) sessions ≡ false → Able last_transactions sessions
+  able : (last_transactions : List LastTransaction) (sessions : List ℕ) → list_any (has_no_number last_transactions) sessions ≡ false
+      → Able last_transactions sessions
   able last_transactions [] free some = absurd (omega (arith, some))
   able last_transactions (session ∷ sessions) free some =
       let parts = or_parts (has_no_number last_transactions session) (list_any (has_no_number last_transactions) sessions) free in
       ⊎_elim
       (λ (is : (session == id.session ≡ true) × (session ≡ id.session)). subst (λ (s : ℕ). has_no_number last_transactions s ≡ false) is.1 parts.0)
-      (λ (is : (session == id.session ≡ false) × (session ≢ id.session)). able last_transactions sessions parts.1 (omega (arith, some, asks-elsewhere session sessions is.0)))
+      (λ (is : (session == id.session ≡ false) × (session ≢ id.session)).
+      able last_transactions sessions parts.1 (omega (arith, some, asks-elsewhere session sessions is.0)))
       (eqb_tells session id.session)
 
   -- of the name there is one at most, and those who ask begin another one
   abbrev Ready : ℕ → List ℕ → List LastTransaction → List Transcript → Type 0
   Ready elsewhere sessions last_transactions opened =
-      Within id last_transactions × AsksOnce id sessions × Able last_transactions sessions × (elsewhere + times_opened id opened ≤ times_begun id last_transactions)
+      Within id last_transactions × AsksOnce id sessions × Able last_transactions sessions
+      × (elsewhere + times_opened id opened ≤ times_begun id last_transactions)
 
   -- it stays so when one of them begins: the session itself
   ready-here : (version elsewhere : ℕ) (sessions : List ℕ) (last_transactions : List LastTransaction) (opened : List Transcript)
@@ -161,7 +165,8 @@ module _ (id : TxnId) where
       )
 
   -- and so when all of them do
-  served-once : (version elsewhere : ℕ) (sessions : List ℕ) (last_transactions : List LastTransaction) (opened : List Transcript) → Ready elsewhere sessions last_transactions opened
+  served-once : (version elsewhere : ℕ) (sessions : List ℕ) (last_transactions : List LastTransaction) (opened : List Transcript)
+      → Ready elsewhere sessions last_transactions opened
       → Ready elsewhere [] (fold (serve version) (last_transactions, opened) sessions).0 (fold (serve version) (last_transactions, opened) sessions).1
   served-once version elsewhere [] last_transactions opened ready = ready
   served-once version elsewhere (session ∷ sessions) last_transactions opened ready =
@@ -180,7 +185,8 @@ module _ (id : TxnId) where
   still m once stands = record { within = once.within; asks_once = once.asks_once; stands = stands }
 
   -- a proxy goes on with those who wait there
-  with-commit_proxy : (m : Machine) (proxy : ℕ) (commit_proxy new : CommitProxy) → IsOnce id m → slice_get m.commit_proxies proxy ≡ Some commit_proxy → waiting_in id new ≡ waiting_in id commit_proxy
+  with-commit_proxy : (m : Machine) (proxy : ℕ) (commit_proxy new : CommitProxy) → IsOnce id m
+      → slice_get m.commit_proxies proxy ≡ Some commit_proxy → waiting_in id new ≡ waiting_in id commit_proxy
       → Once id m.book (slice_set m.commit_proxies proxy new) m.opened m.grv_proxies m.last_transactions
   with-commit_proxy m proxy commit_proxy new once at same =
       still m once (omega (arith, once.stands, sum-set (waiting_in id) m.commit_proxies proxy commit_proxy new at, same))
@@ -193,7 +199,7 @@ module _ (id : TxnId) where
 
   -- those who leave a proxy stand in the new entry
   sealed-once : (m : Machine) (proxy advance : ℕ) (commit_proxy : CommitProxy) → IsOnce id m → slice_get m.commit_proxies proxy ≡ Some commit_proxy
-      → Once id (m.book ++ sealed_entry m advance commit_proxy ∷ []) (slice_set m.commit_proxies proxy (sealed_proxy m commit_proxy)) m.opened m.grv_proxies m.last_transactions
+      → IsOnce id (sealed_machine m proxy advance commit_proxy)
   sealed-once m proxy advance commit_proxy once at =
       let weight : Submission → ℕ = λ s. once_for id s.sealed.id in
       let entry = sealed_entry m advance commit_proxy in
@@ -221,7 +227,8 @@ module _ (id : TxnId) where
       = sum_by_push (λ (asker : ℕ). cond (asker == id.session) 1 0) there session in
       ⊎_elim
       (λ (is : (session == id.session ≡ true) × (session ≡ id.session)).
-      let none : asks_in id there ≡ 0 = subst (λ (s : ℕ). count_by (λ (asker : ℕ). asker == s) there ≡ 0) is.1 (count-none (λ (asker : ℕ). asker == session) there free) in
+      let none : asks_in id there ≡ 0
+      = subst (λ (s : ℕ). count_by (λ (asker : ℕ). asker == s) there ≡ 0) is.1 (count-none (λ (asker : ℕ). asker == session) there free) in
       let one : cond {A = ℕ} (session == id.session) 1 0 ≡ 1 = rw is.0 refl in
       omega (arith, more, none, one))
       (λ (is : (session == id.session ≡ false) × (session ≢ id.session)).
@@ -235,15 +242,18 @@ module _ (id : TxnId) where
     roles = λ m resolvers logs shards once. once;
     asked = λ m session proxy there at free once.
         let parts = or_parts (list_any (waits_at_grv_proxy session) m.grv_proxies) (list_any (waits_at_commit_proxy session) m.commit_proxies) free in
+        let waits = none-at (waits_at_grv_proxy session) m.grv_proxies proxy there parts.0 at in
+        let asks = all-at (AsksOnce id) m.grv_proxies proxy there once.asks_once at in
         record {
           within = once.within;
-          asks_once = all-set (AsksOnce id) m.grv_proxies proxy _ once.asks_once
-              (asks-more session there (none-at (waits_at_grv_proxy session) m.grv_proxies proxy there parts.0 at) (all-at (AsksOnce id) m.grv_proxies proxy there once.asks_once at));
+          asks_once = all-set (AsksOnce id) m.grv_proxies proxy _ once.asks_once (asks-more session there waits asks);
           stands = omega (arith, once.stands, without-le session m.opened);
         };
     granted = λ m proxy there at left once.
         let asks = all-at (AsksOnce id) m.grv_proxies proxy there once.asks_once at in
-        let served = served-once m.committed (times_in_book id m.book + times_waiting id m.commit_proxies) there m.last_transactions m.opened (once.within, asks, able m.last_transactions there left, once.stands) in
+        let elsewhere = times_in_book id m.book + times_waiting id m.commit_proxies in
+        let served = served-once m.committed elsewhere there m.last_transactions m.opened
+        (once.within, asks, able m.last_transactions there left, once.stands) in
         record { within = served.0; asks_once = all-set (AsksOnce id) m.grv_proxies proxy [] once.asks_once served.1; stands = served.3 };
     operated = λ m i transcript operation there once. with-transcript m i transcript _ once there refl;
     read_only = λ m i transcript there empty once.
@@ -258,7 +268,8 @@ module _ (id : TxnId) where
           sum_by_push (λ (s : Submission). once_for id s.sealed.id) commit_proxy.waiting waits,
         ));
     sealed = λ m proxy advance commit_proxy at idle few room once. sealed-once m proxy advance commit_proxy once at;
-    went_on = λ m proxy commit_proxy stage decided verdicts acknowledgements at busy goes_on unreported once. with-commit_proxy m proxy commit_proxy _ once at refl;
+    went_on = λ m proxy commit_proxy stage decided verdicts acknowledgements at busy goes_on unreported once.
+        with-commit_proxy m proxy commit_proxy _ once at refl;
     reported_version = λ m proxy commit_proxy entry at logging there once. with-commit_proxy m proxy commit_proxy _ once at refl;
     told = λ m proxy commit_proxy entry at reported there once. with-commit_proxy m proxy commit_proxy _ once at refl;
   }

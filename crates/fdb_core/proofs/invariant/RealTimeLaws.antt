@@ -1,5 +1,5 @@
 -- Real time: who begins after another transaction was acknowledged reads at that one's version or a greater one.
-use Rattle.std.proofs.Common.{◌≡◌, ◌≢◌, ◌∙◌, ◌≤◌, le_refl, le_trans, sym, subst, arith, ⊎_elim, inl, inr, ◌⊎◌, ℕ, ◌+◌, min, true, false, List, [], ◌∷◌, take, drop, Some, Result}
+use Rattle.std.proofs.Common.{◌≡◌, ◌≢◌, ◌∙◌, ◌≤◌, le_refl, le_trans, subst, arith, ⊎_elim, inl, inr, ◌⊎◌, ℕ, ◌+◌, min, true, false, List, [], ◌∷◌, take, drop, Some, Result}
 use Rattle.std.specs.Prelude.{◌==◌}
 use Rattle.std.specs.List.{AllByRecursion, slice_get, slice_set}
 use Rattle.std.proofs.lemmas.Bool.Decides.{eqb_tells}
@@ -38,7 +38,8 @@ abbrev Begins : List LastTransaction → TxnId → Type 0
 Begins last_transactions id = (id.number ≤ greatest_number) × ((last : ℕ) × (last_number id.session last_transactions ≡ Some last) × (id.number ≤ last))
 
 -- what has begun stays so
-begins-more : (last_transactions : List LastTransaction) (session : ℕ) (id : TxnId) → Begins last_transactions id → Begins (begin_next last_transactions session) id
+begins-more : (last_transactions : List LastTransaction) (session : ℕ) (id : TxnId) → Begins last_transactions id
+    → Begins (begin_next last_transactions session) id
 begins-more last_transactions session id begins = ⊎_elim
     (λ (is : (id.session == session ≡ true) × (id.session ≡ session)).
     let next = next_number (last_number id.session last_transactions) in
@@ -52,9 +53,11 @@ begins-more last_transactions session id begins = ⊎_elim
     next-above number last greatest within below = omega arith
 
 -- a transaction that a session begins has begun
-begins-new : (last_transactions : List LastTransaction) (session version : ℕ) → Begins (begin_next last_transactions session) (first_of last_transactions version session).id
+begins-new : (last_transactions : List LastTransaction) (session version : ℕ)
+    → Begins (begin_next last_transactions session) (first_of last_transactions version session).id
 begins-new last_transactions session version =
-    (next-within (last_number session last_transactions), (next_number (last_number session last_transactions), last-next last_transactions session, omega arith))
+    let last = last_number session last_transactions in
+    (next-within last, (next_number last, last-next last_transactions session, omega arith))
 
 -- what holds of each transaction that a commit proxy has
 abbrev AllAtProxy : (Transcript → Type 0) → CommitProxy → Type 0
@@ -66,13 +69,14 @@ All Q opened commit_proxies acknowledged =
     AllByRecursion Q opened × AllByRecursion (AllAtProxy Q) commit_proxies × AllByRecursion (λ (placed : Placed). Q placed.transcript) acknowledged
 
 -- the same of what is weaker
-all-more : (Q R : Transcript → Type 0) (opened : List Transcript) (commit_proxies : List CommitProxy) (acknowledged : List Placed) → ((t : Transcript) → Q t → R t)
-    → All Q opened commit_proxies acknowledged → All R opened commit_proxies acknowledged
+all-more : (Q R : Transcript → Type 0) (opened : List Transcript) (commit_proxies : List CommitProxy) (acknowledged : List Placed)
+    → ((t : Transcript) → Q t → R t) → All Q opened commit_proxies acknowledged → All R opened commit_proxies acknowledged
 all-more Q R opened commit_proxies acknowledged more all = (
   all-weaken Q R more opened all.0,
-  all-weaken (AllAtProxy Q) (AllAtProxy R)
-      (λ (proxy : CommitProxy) has. (all-weaken _ _ (λ (submission : Submission). more submission.transcript) proxy.waiting has.0, all-weaken Q R more proxy.in_flight has.1))
-      commit_proxies all.1,
+  all-weaken (AllAtProxy Q) (AllAtProxy R) (λ (proxy : CommitProxy) has. (
+    all-weaken _ _ (λ (submission : Submission). more submission.transcript) proxy.waiting has.0,
+    all-weaken Q R more proxy.in_flight has.1,
+  )) commit_proxies all.1,
   all-weaken _ _ (λ (placed : Placed). more placed.transcript) acknowledged all.2,
 )
 
@@ -93,49 +97,58 @@ module _ (P : List LastTransaction → TxnId → ℕ → Type 0) (low : ℕ) whe
   abbrev Kept : Machine → Type 0
   Kept m = (low ≤ m.committed) × All (Has m.last_transactions) m.opened m.commit_proxies m.acknowledged
 
-  -- one commit proxy in the place of another
-  set-proxy : (m : Machine) (proxy : ℕ) (commit_proxy new : CommitProxy) → Kept m → slice_get m.commit_proxies proxy ≡ Some commit_proxy
-      → (AllAtProxy (Has m.last_transactions) commit_proxy → AllAtProxy (Has m.last_transactions) new)
-      → AllByRecursion (AllAtProxy (Has m.last_transactions)) (slice_set m.commit_proxies proxy new)
-  set-proxy m proxy commit_proxy new kept at goes =
-      all-set (AllAtProxy (Has m.last_transactions)) m.commit_proxies proxy new kept.1.1 (goes (all-at (AllAtProxy (Has m.last_transactions)) m.commit_proxies proxy commit_proxy kept.1.1 at))
+  module _ (m : Machine) (kept : Kept m) where
+    -- an open transaction has the property
+    opened-has : (i : ℕ) (transcript : Transcript) → slice_get m.opened i ≡ Some transcript → Has m.last_transactions transcript
+    opened-has i transcript = all-at (Has m.last_transactions) m.opened i transcript kept.1.0
 
-  -- an open transaction has the property
-  opened-has : (m : Machine) (i : ℕ) (transcript : Transcript) → Kept m → slice_get m.opened i ≡ Some transcript → Has m.last_transactions transcript
-  opened-has m i transcript kept = all-at (Has m.last_transactions) m.opened i transcript kept.1.0
+    -- and so have those at a commit proxy
+    proxy-has : (proxy : ℕ) (commit_proxy : CommitProxy) → slice_get m.commit_proxies proxy ≡ Some commit_proxy → AllAtProxy (Has m.last_transactions) commit_proxy
+    proxy-has proxy commit_proxy = all-at (AllAtProxy (Has m.last_transactions)) m.commit_proxies proxy commit_proxy kept.1.1
+
+    -- where a commit proxy of transactions that have it stands in the place of another, all have it
+    set-proxy : (proxy : ℕ) (new : CommitProxy) → AllAtProxy (Has m.last_transactions) new → AllByRecursion (AllAtProxy (Has m.last_transactions)) (slice_set m.commit_proxies proxy new)
+    set-proxy proxy new = all-set (AllAtProxy (Has m.last_transactions)) m.commit_proxies proxy new kept.1.1
 
   -- Where more that begins takes nothing from the property, and what begins at a version from the bound on has it,
   -- every step keeps it.
-  kept_steps : ((last_transactions : List LastTransaction) (session : ℕ) (transcript : Transcript) → Has last_transactions transcript → Has (begin_next last_transactions session) transcript)
-      → ((last_transactions : List LastTransaction) (session version : ℕ) → low ≤ version → Has (begin_next last_transactions session) (first_of last_transactions version session))
+  kept_steps : ((last_transactions : List LastTransaction) (session : ℕ) (t : Transcript) → Has last_transactions t → Has (begin_next last_transactions session) t)
+      → ((last_transactions : List LastTransaction) (session version : ℕ) → low ≤ version
+      → Has (begin_next last_transactions session) (first_of last_transactions version session))
       → KeptBySteps Kept
   kept_steps more new = record {
     roles = λ m resolvers logs shards kept. kept;
     asked = λ m session proxy there at free kept. (kept.0, (all-without (Has m.last_transactions) session m.opened kept.1.0, kept.1.1, kept.1.2));
     granted = λ m proxy there at left kept.
-        let others = all-more (Has m.last_transactions) _ [] m.commit_proxies m.acknowledged (served-more Has m.committed more there m.last_transactions m.opened) (tt, kept.1.1, kept.1.2) in
-        (kept.0, (all-served Has m.committed more (λ last_transactions session. new last_transactions session m.committed kept.0) there m.last_transactions m.opened kept.1.0, others.1, others.2));
+        let later = served-more Has m.committed more there m.last_transactions m.opened in
+        let opened = all-served Has m.committed more (λ last_transactions session. new last_transactions session m.committed kept.0) there m.last_transactions m.opened kept.1.0 in
+        let others = all-more (Has m.last_transactions) _ [] m.commit_proxies m.acknowledged later (tt, kept.1.1, kept.1.2) in
+        (kept.0, (opened, others.1, others.2));
     operated = λ m i transcript operation there kept.
-        (kept.0, (all-set (Has m.last_transactions) m.opened i _ kept.1.0 (opened-has m i transcript kept there), kept.1.1, kept.1.2));
+        (kept.0, (all-set (Has m.last_transactions) m.opened i _ kept.1.0 (opened-has m kept i transcript there), kept.1.1, kept.1.2));
     read_only = λ m i transcript there empty kept.
-        (kept.0, (all-remove (Has m.last_transactions) m.opened i kept.1.0, kept.1.1, all-push _ m.acknowledged _ kept.1.2 (opened-has m i transcript kept there)));
+        let placed = all-push _ m.acknowledged _ kept.1.2 (opened-has m kept i transcript there) in
+        (kept.0, (all-remove (Has m.last_transactions) m.opened i kept.1.0, kept.1.1, placed));
     submitted = λ m proxy commit_proxy i transcript at there writes kept.
-        let proxies = set-proxy m proxy commit_proxy _ kept at (λ was. (all-push _ commit_proxy.waiting _ was.0 (opened-has m i transcript kept there), was.1)) in
+        let was = proxy-has m kept proxy commit_proxy at in
+        let proxies = set-proxy m kept proxy _ (all-push _ commit_proxy.waiting _ was.0 (opened-has m kept i transcript there), was.1) in
         (kept.0, (all-remove (Has m.last_transactions) m.opened i kept.1.0, proxies, kept.1.2));
     sealed = λ m proxy advance commit_proxy at idle few room kept.
-        let proxies = set-proxy m proxy commit_proxy _ kept at (λ was. (
-          all-drop _ PLACE_LIMIT commit_proxy.waiting was.0,
-          all-map _ (Has m.last_transactions) (λ (submission : Submission). submission.transcript) (λ submission has. has) _ (all-take _ PLACE_LIMIT commit_proxy.waiting was.0),
-        )) in
+        let waiting = (proxy-has m kept proxy commit_proxy at).0 in
+        let proxies = set-proxy m kept proxy _ (
+          all-drop _ PLACE_LIMIT commit_proxy.waiting waiting,
+          all-map _ (Has m.last_transactions) (λ (submission : Submission). submission.transcript) (λ submission has. has) _
+              (all-take _ PLACE_LIMIT commit_proxy.waiting waiting),
+        ) in
         (kept.0, (kept.1.0, proxies, kept.1.2));
     went_on = λ m proxy commit_proxy stage decided verdicts acknowledgements at busy goes_on unreported kept.
-        (kept.0, (kept.1.0, set-proxy m proxy commit_proxy _ kept at (λ was. was), kept.1.2));
+        (kept.0, (kept.1.0, set-proxy m kept proxy _ (proxy-has m kept proxy commit_proxy at), kept.1.2));
     reported_version = λ m proxy commit_proxy entry at logging there kept.
-        (omega (arith, kept.0), (kept.1.0, set-proxy m proxy commit_proxy _ kept at (λ was. was), kept.1.2));
+        (omega (arith, kept.0), (kept.1.0, set-proxy m kept proxy _ (proxy-has m kept proxy commit_proxy at), kept.1.2));
     told = λ m proxy commit_proxy entry at reported there kept.
-        let was = all-at (AllAtProxy (Has m.last_transactions)) m.commit_proxies proxy commit_proxy kept.1.1 at in
+        let was = proxy-has m kept proxy commit_proxy at in
         let placed = all-placed (Has m.last_transactions) commit_proxy.entry commit_proxy.in_flight _ was.1 in
-        (kept.0, (kept.1.0, set-proxy m proxy commit_proxy _ kept at (λ was. (was.0, tt)), all-append _ m.acknowledged _ kept.1.2 placed));
+        (kept.0, (kept.1.0, set-proxy m kept proxy _ (was.0, tt), all-append _ m.acknowledged _ kept.1.2 placed));
   }
 
 -- whatever there is has begun
@@ -155,24 +168,31 @@ stands-behind v read (spot.Entry entry place version) below is = omega (arith, i
 stands-behind v read (spot.ReadOnly version) below is = omega (arith, is, below)
 
 -- behind a machine and those after it
-behind-earlier : (m : Machine) (steps : List Step) (given : List (Result Answered Refusal)) → Invariant m → Kept HasBegunThere 0 m → AreAfterEarlier m (after_steps m steps given)
+behind-earlier : (m : Machine) (steps : List Step) (given : List (Result Answered Refusal)) → Invariant m → Kept HasBegunThere 0 m
+    → AreAfterEarlier m (after_steps m steps given)
 behind-earlier m steps given sound begun i j one other at_one at_other fresh =
     let later = after_steps m steps given in
-    let later_sound : Invariant later = kept-by_trace Invariant sound_steps m steps given sound in
+    let now : Kept (HadBegun m) m.committed m = (
+      le_refl m.committed,
+      all-more (Has HasBegunThere 0 m.last_transactions) (Has (HadBegun m) m.committed m.last_transactions) m.opened m.commit_proxies m.acknowledged
+          (λ t begins. inl begins.1) begun.1,
+    ) in
     let had = kept-by_trace (Kept (HadBegun m) m.committed)
-    (kept_steps (HadBegun m) m.committed (λ last_transactions session transcript had. had) (λ last_transactions session version above. inr above)) m steps given
-    (le_refl m.committed, all-more (Has HasBegunThere 0 m.last_transactions) (Has (HadBegun m) m.committed m.last_transactions) m.opened m.commit_proxies m.acknowledged (λ t begins. inl begins.1) begun.1) in
-    let reported = (all-at (IsReported m) m.acknowledged i one sound.reported at_one).0 in
+    (kept_steps (HadBegun m) m.committed (λ last_transactions session t had. had) (λ last_transactions session version above. inr above)) m steps given now in
     let reads : m.committed ≤ other.transcript.read_version
     = ⊎_elim (λ has. absurd (fresh has)) (λ above. above) (all-at _ later.acknowledged j other had.1.2 at_other) in
-    let behind : spot_version one.spot ≤ other.transcript.read_version = le_trans reported reads in
-    (behind, stands-behind (spot_version one.spot) other.transcript.read_version other.spot behind (all-at (IsReported later) later.acknowledged j other later_sound.reported at_other).1)
+    let behind : spot_version one.spot ≤ other.transcript.read_version
+    = le_trans (all-at (IsReported m) m.acknowledged i one sound.reported at_one).0 reads in
+    let later_sound : Invariant later = kept-by_trace Invariant sound_steps m steps given sound in
+    let stands = (all-at (IsReported later) later.acknowledged j other later_sound.reported at_other).1 in
+    (behind, stands-behind (spot_version one.spot) other.transcript.read_version other.spot behind stands)
 
 pub real_time : RealTime
 real_time config steps given n =
     let m = machine_of_trace config (take n steps) (take n given) in
     let begun : Kept HasBegunThere 0 m = kept-by_trace (Kept HasBegunThere 0)
-    (kept_steps HasBegunThere 0 (λ last_transactions session transcript. begins-more last_transactions session transcript.id)
-    (λ last_transactions session version above. begins-new last_transactions session version)) (start config) (take n steps) (take n given) (begun-start config) in
+    (kept_steps HasBegunThere 0 (λ last_transactions session t. begins-more last_transactions session t.id)
+    (λ last_transactions session version above. begins-new last_transactions session version))
+    (start config) (take n steps) (take n given) (begun-start config) in
     subst (AreAfterEarlier m) (after_steps-parts n (start config) steps given)
     (behind-earlier m (drop n steps) (drop n given) (sound-trace config (take n steps) (take n given)) begun)

@@ -218,11 +218,12 @@ module _ (m : Machine) (n version : ℕ) (moves : List Stamped) (reported : vers
 
 -- those of a reported batch that are committed stand at their places
 pub batch_serialized : (m : Machine) (commit_proxy : CommitProxy) (entry : Entry) → AreEntries (suc (length m.config.resolver_splits)) 0 m.book
-    → AllByRecursion (IsReplied m) commit_proxy.in_flight → slice_get m.book commit_proxy.entry ≡ Some entry → entry.batch ≡ map commit_request_of commit_proxy.in_flight
-    → entry.version ≤ m.committed
+    → AllByRecursion (IsReplied m) commit_proxy.in_flight → slice_get m.book commit_proxy.entry ≡ Some entry
+    → entry.batch ≡ map commit_request_of commit_proxy.in_flight → entry.version ≤ m.committed
     → AllByRecursion (Stands m) (placed_from commit_proxy.entry commit_proxy.in_flight (outcomes_on m.config.resolver_splits (seen_before m.book commit_proxy.entry) entry))
 batch_serialized m commit_proxy entry entries told there batch reported =
-    subst (λ (ts : List Transaction). AllByRecursion (Stands m) (placed_from commit_proxy.entry commit_proxy.in_flight (outcomes_from m.config.resolver_splits entry.version moves ts before.places 0)))
+    subst (λ (ts : List Transaction). AllByRecursion (Stands m)
+    (placed_from commit_proxy.entry commit_proxy.in_flight (outcomes_from m.config.resolver_splits entry.version moves ts before.places 0)))
     (sym batch)
     (stands-from m commit_proxy.entry entry.version moves reported (places_are_history (suc (length m.config.resolver_splits)) m.book entries)
     commit_proxy.in_flight before.places 0 told

@@ -1,11 +1,10 @@
 -- Every step leaves a sound machine sound.
-use Rattle.std.proofs.Common.{◌≡◌, refl, ap, subst, arith, ◌<◌, ◌≤◌, le_refl, le_trans, ℕ, suc, max, Bool, true, false, List, [], ◌∷◌, take, map, length, Some, Result}
+use Rattle.std.proofs.Common.{◌≡◌, refl, sym, ◌∙◌, ap, subst, arith, ◌<◌, ◌≤◌, le_refl, le_trans, ℕ, suc, max, Bool, true, false, List, [], ◌∷◌, take, map, length, Some, Result}
 use Rattle.std.specs.List.{AllByRecursion, slice_get, slice_set}
 use Rattle.fdb_keys.specs.declared.refusal.Refusal.{Refusal}
 use Rattle.fdb_txn.specs.declared.batch.TheConstants.{PLACE_LIMIT}
 use Rattle.fdb_txn.specs.declared.entry.Entry.{Entry}
 use Rattle.fdb_txn.proofs.book.HistoryLemmas.{all-append, all-weaken, entries_go_on}
-use Rattle.fdb_sequencer.specs.Sequencer.{next_version}
 use Rattle.fdb_core.specs.declared.config.Config.{Config}
 use Rattle.fdb_core.specs.declared.roles.client.LastTransaction.{LastTransaction}
 use Rattle.fdb_core.specs.declared.roles.client.Placed.{Placed}
@@ -32,8 +31,8 @@ use Rattle.fdb_core.proofs.refinement.SealLemmas.{last-at, sealed_entry, sealed_
 
 module _ (m : Machine) (sound : Invariant m) where
   -- where the book, what is pending and the committed version stay, a machine is sound by its transactions
-  same_book : {decided : List Bool} {resolvers logs : List ℕ} {shards : List ShardProgress} {grv_proxies : List (List ℕ)} {last_transactions : List LastTransaction}
-      {opened : List Transcript} {commit_proxies : List CommitProxy} {acknowledged : List Placed}
+  same_book : {decided : List Bool} {resolvers logs : List ℕ} {shards : List ShardProgress} {grv_proxies : List (List ℕ)}
+      {last_transactions : List LastTransaction} {opened : List Transcript} {commit_proxies : List CommitProxy} {acknowledged : List Placed}
       → AllByRecursion (IsReplied m) opened → AllByRecursion (CommitProxyIsSound m) commit_proxies
       → AllByRecursion (IsSerialized m) acknowledged → AllByRecursion (IsReported m) acknowledged
       → Invariant (record m {
@@ -65,7 +64,8 @@ module _ (m : Machine) (sound : Invariant m) where
   commit_proxy-at proxy commit_proxy = all-at (CommitProxyIsSound m) m.commit_proxies proxy commit_proxy sound.commit_proxies
 
   -- with one commit proxy in the place of another
-  with-commit_proxy : (proxy : ℕ) (commit_proxy : CommitProxy) → CommitProxyIsSound m commit_proxy → AllByRecursion (CommitProxyIsSound m) (slice_set m.commit_proxies proxy commit_proxy)
+  with-commit_proxy : (proxy : ℕ) (commit_proxy : CommitProxy) → CommitProxyIsSound m commit_proxy
+      → AllByRecursion (CommitProxyIsSound m) (slice_set m.commit_proxies proxy commit_proxy)
   with-commit_proxy proxy commit_proxy = all-set (CommitProxyIsSound m) m.commit_proxies proxy commit_proxy sound.commit_proxies
 
 -- the entry of a batch in flight
@@ -75,10 +75,11 @@ in_flight-at : (m : Machine) (commit_proxy : CommitProxy) (entry : Entry) → Co
 in_flight-at m commit_proxy entry sound busy there =
     let flies = sound.2 busy in
     let same : flies.0 ≡ entry = cc (there, flies.1) in
-    subst (λ (e : Entry). (e.batch ≡ map commit_request_of commit_proxy.in_flight) × (is_reported commit_proxy.stage ≡ true → e.version ≤ m.committed)) same (flies.2, flies.3)
+    (ap (λ (e : Entry). e.batch) (sym same) ∙ flies.2, λ reported. subst (λ (e : Entry). e.version ≤ m.committed) same (flies.3 reported))
 
 -- the batch of a new entry is that of those who waited first at an idle proxy
-sound-sealed : (m : Machine) (proxy advance : ℕ) (commit_proxy : CommitProxy) → Invariant m → slice_get m.commit_proxies proxy ≡ Some commit_proxy → Invariant (sealed_machine m proxy advance commit_proxy)
+sound-sealed : (m : Machine) (proxy advance : ℕ) (commit_proxy : CommitProxy) → Invariant m → slice_get m.commit_proxies proxy ≡ Some commit_proxy
+    → Invariant (sealed_machine m proxy advance commit_proxy)
 sound-sealed m proxy advance commit_proxy sound at = record {
   entries = entries_go_on (suc (length m.config.resolver_splits)) 0 m.book entry sound.entries
       (above, refl, sound.pending, sealed-batch m entry.version sealing (omega (arith, above, sound.committed)) waits, tt);
@@ -92,7 +93,8 @@ sound-sealed m proxy advance commit_proxy sound at = record {
             (all-take (Waits after) PLACE_LIMIT commit_proxy.waiting now.0),
         λ _. (entry, last-at m.book entry, sealed-in_flight m sealing waits, λ reported. cc),
       );
-  acknowledged = all-weaken (IsSerialized m) (IsSerialized after) (λ placed. spot-stays m entry placed.transcript placed.spot above) m.acknowledged sound.acknowledged;
+  acknowledged = all-weaken (IsSerialized m) (IsSerialized after) (λ placed. spot-stays m entry placed.transcript placed.spot above)
+      m.acknowledged sound.acknowledged;
   reported = sound.reported;
 }
   where
@@ -123,7 +125,10 @@ sound-sealed m proxy advance commit_proxy sound at = record {
 -- a proxy that is done logging reports its batch
 sound-reported : (m : Machine) (proxy : ℕ) (commit_proxy : CommitProxy) (entry : Entry) → Invariant m
     → slice_get m.commit_proxies proxy ≡ Some commit_proxy → is_idle commit_proxy.stage ≡ false → slice_get m.book commit_proxy.entry ≡ Some entry
-    → Invariant (record m { committed = max m.committed entry.version; commit_proxies = slice_set m.commit_proxies proxy (record commit_proxy { stage = Reported }) })
+    → Invariant (record m {
+      committed = max m.committed entry.version;
+      commit_proxies = slice_set m.commit_proxies proxy (record commit_proxy { stage = Reported });
+    })
 sound-reported m proxy commit_proxy entry sound at busy there = record {
   entries = sound.entries;
   pending = sound.pending;
@@ -161,8 +166,8 @@ sound_steps = record {
   asked = λ m session proxy there at free sound.
       same_book m sound (all-without (IsReplied m) session m.opened sound.opened) sound.commit_proxies sound.acknowledged sound.reported;
   granted = λ m proxy there at left sound.
-      same_book m sound (all-served (λ last_transactions. IsReplied m) m.committed (λ last_transactions session transcript told. told) (λ last_transactions session. (le_refl m.committed, refl)) there m.last_transactions m.opened sound.opened)
-      sound.commit_proxies sound.acknowledged sound.reported;
+      let first = all-served (λ last_transactions. IsReplied m) m.committed (λ last_transactions session t told. told) (λ last_transactions session. (le_refl m.committed, refl)) in
+      same_book m sound (first there m.last_transactions m.opened sound.opened) sound.commit_proxies sound.acknowledged sound.reported;
   operated = λ m i transcript operation there sound.
       same_book m sound (all-set (IsReplied m) m.opened i _ sound.opened (told-push m transcript operation _ refl (opened-at m sound i transcript there)))
       sound.commit_proxies sound.acknowledged sound.reported;
@@ -173,13 +178,16 @@ sound_steps = record {
       (all-push (IsReported m) m.acknowledged _ sound.reported (told.0, le_refl transcript.read_version));
   submitted = λ m proxy commit_proxy i transcript at there writes sound.
       let was = commit_proxy-at m sound proxy commit_proxy at in
-      let waiting = all-push (Waits m) commit_proxy.waiting (record { sealed = commit_request_of transcript; transcript = transcript }) was.0 (refl, opened-at m sound i transcript there) in
-      same_book m sound (all-remove (IsReplied m) m.opened i sound.opened) (with-commit_proxy m sound proxy _ (waiting, was.1, was.2)) sound.acknowledged sound.reported;
+      let waits : Submission = record { sealed = commit_request_of transcript; transcript = transcript } in
+      let waiting = all-push (Waits m) commit_proxy.waiting waits was.0 (refl, opened-at m sound i transcript there) in
+      same_book m sound (all-remove (IsReplied m) m.opened i sound.opened) (with-commit_proxy m sound proxy _ (waiting, was.1, was.2))
+      sound.acknowledged sound.reported;
   sealed = λ m proxy advance commit_proxy at idle few room sound. sound-sealed m proxy advance commit_proxy sound at;
   went_on = λ m proxy commit_proxy stage decided verdicts acknowledgements at busy goes_on unreported sound.
       let was = commit_proxy-at m sound proxy commit_proxy at in
       let flies = was.2 busy in
-      same_book m sound sound.opened (with-commit_proxy m sound proxy _ (was.0, was.1, λ _. (flies.0, flies.1, flies.2, λ reported. cc))) sound.acknowledged sound.reported;
+      same_book m sound sound.opened (with-commit_proxy m sound proxy _ (was.0, was.1, λ _. (flies.0, flies.1, flies.2, λ reported. cc)))
+      sound.acknowledged sound.reported;
   reported_version = λ m proxy commit_proxy entry at logging there sound. sound-reported m proxy commit_proxy entry sound at (ap is_idle logging) there;
   told = λ m proxy commit_proxy entry at reported there sound.
       let was = commit_proxy-at m sound proxy commit_proxy at in

@@ -40,21 +40,24 @@ all-without P session opened all =
 
 -- what holds of transactions at their begin, and stays so when sessions begin more, holds still when sessions are served
 module _ (P : List LastTransaction → Transcript → Type 0) (version : ℕ)
-    (more : (last_transactions : List LastTransaction) (session : ℕ) (transcript : Transcript) → P last_transactions transcript → P (begin_next last_transactions session) transcript) where
-  pub served-more : (sessions : List ℕ) (last_transactions : List LastTransaction) (opened : List Transcript) (transcript : Transcript)
-      → P last_transactions transcript → P (fold (serve version) (last_transactions, opened) sessions).0 transcript
-  served-more [] last_transactions opened transcript holds = holds
-  served-more (session ∷ sessions) last_transactions opened transcript holds =
-      served-more sessions (begin_next last_transactions session) (opened ++ first_of last_transactions version session ∷ []) transcript (more last_transactions session transcript holds)
+    (more : (last_transactions : List LastTransaction) (session : ℕ) (t : Transcript) → P last_transactions t → P (begin_next last_transactions session) t) where
+  pub served-more : (sessions : List ℕ) (last_transactions : List LastTransaction) (opened : List Transcript) (t : Transcript)
+      → P last_transactions t → P (fold (serve version) (last_transactions, opened) sessions).0 t
+  served-more [] last_transactions opened t holds = holds
+  served-more (session ∷ sessions) last_transactions opened t holds =
+      served-more sessions (begin_next last_transactions session) (opened ++ first_of last_transactions version session ∷ []) t
+      (more last_transactions session t holds)
 
-  pub all-served : ((last_transactions : List LastTransaction) (session : ℕ) → P (begin_next last_transactions session) (first_of last_transactions version session))
+  pub all-served : ((last_transactions : List LastTransaction) (session : ℕ)
+      → P (begin_next last_transactions session) (first_of last_transactions version session))
       → (sessions : List ℕ) (last_transactions : List LastTransaction) (opened : List Transcript) → AllByRecursion (P last_transactions) opened
       → AllByRecursion (P (fold (serve version) (last_transactions, opened) sessions).0) (fold (serve version) (last_transactions, opened) sessions).1
   all-served first [] last_transactions opened all = all
   all-served first (session ∷ sessions) last_transactions opened all =
       all-served first sessions (begin_next last_transactions session) (opened ++ first_of last_transactions version session ∷ [])
       (all-push (P (begin_next last_transactions session)) opened (first_of last_transactions version session)
-      (all-weaken (P last_transactions) (P (begin_next last_transactions session)) (more last_transactions session) opened all) (first last_transactions session))
+      (all-weaken (P last_transactions) (P (begin_next last_transactions session)) (more last_transactions session) opened all)
+      (first last_transactions session))
 
 -- the reply to one more operation is the newest
 pub replies_of-push : (ops : List (Op × Reply)) (done : Op × Reply) → replies_of (ops ++ done ∷ []) ≡ done.1 ∷ replies_of ops

@@ -14,17 +14,20 @@ IfAccepted Q (Ok transition) = Q transition
 IfAccepted Q (Err refusal) = ⊤
 
 -- so it holds of what a step is known to go on to
-pub of-accepted : (Q : Transition → Type 0) (result : Result Transition Refusal) (transition : Transition) → result ≡ Ok transition → IfAccepted Q result → Q transition
+pub of-accepted : (Q : Transition → Type 0) (result : Result Transition Refusal) (transition : Transition) → result ≡ Ok transition
+    → IfAccepted Q result → Q transition
 of-accepted Q result transition accepted holds = subst (IfAccepted Q) accepted holds
 
 module _ (Q : Transition → Type 0) where
   -- behind a number it holds if it does behind what has it
-  pub past-found : {A : Type 0} (x : Option A) (next : A → Result Transition Refusal) → ((a : A) → x ≡ Some a → IfAccepted Q (next a)) → IfAccepted Q (found x next)
+  pub past-found : {A : Type 0} (x : Option A) (next : A → Result Transition Refusal) → ((a : A) → x ≡ Some a → IfAccepted Q (next a))
+      → IfAccepted Q (found x next)
   past-found None next holds = tt
   past-found (Some a) next holds = holds a refl
 
   -- behind a test, if it does where that fails
-  pub past-test : (test : Bool) (refusal : Refusal) (next : Result Transition Refusal) → (test ≡ false → IfAccepted Q next) → IfAccepted Q (refused_where test refusal next)
+  pub past-test : (test : Bool) (refusal : Refusal) (next : Result Transition Refusal) → (test ≡ false → IfAccepted Q next)
+      → IfAccepted Q (refused_where test refusal next)
   past-test true refusal next holds = tt
   past-test false refusal next holds = holds refl
 
@@ -54,7 +57,8 @@ module _ (Q : Transition → Type 0) where
       → IfAccepted Q (with_opened session opened next)
   past-opened session opened next holds = at_place (position (is_of session) opened) refl
     where
-      at_transcript : (i : ℕ) → position (is_of session) opened ≡ Some i → (there : Option Transcript) → slice_get opened i ≡ there → IfAccepted Q (with_opened session opened next)
+      at_transcript : (i : ℕ) → position (is_of session) opened ≡ Some i → (there : Option Transcript) → slice_get opened i ≡ there
+          → IfAccepted Q (with_opened session opened next)
       at_transcript i at None there = rw (at, there) tt
       at_transcript i at (Some transcript) there = rw (at, there) (holds i transcript at there)
 

@@ -28,7 +28,8 @@ abbrev number_of : Option LastTransaction → Option ℕ
 number_of there = option_map (λ (last : LastTransaction). last.number) there
 
 -- its number, by its place
-last-absent : (session : ℕ) (last_transactions : List LastTransaction) → position (is_by session) last_transactions ≡ None → last_number session last_transactions ≡ None
+last-absent : (session : ℕ) (last_transactions : List LastTransaction) → position (is_by session) last_transactions ≡ None
+    → last_number session last_transactions ≡ None
 last-absent session last_transactions at = rw at refl
 
 last-there : (session : ℕ) (last_transactions : List LastTransaction) (i : ℕ) (there : Option LastTransaction)
@@ -37,7 +38,8 @@ last-there session last_transactions i None at there = rw (at, there) refl
 last-there session last_transactions i (Some last) at there = rw (at, there) refl
 
 -- it is that of the first one that is the session's
-last-found : (session : ℕ) (last_transactions : List LastTransaction) → last_number session last_transactions ≡ number_of (find (is_by session) last_transactions)
+last-found : (session : ℕ) (last_transactions : List LastTransaction)
+    → last_number session last_transactions ≡ number_of (find (is_by session) last_transactions)
 last-found session last_transactions = ⊎_elim
     (λ none. last-absent session last_transactions none.0 ∙ ap number_of (sym none.1))
     (λ there. last-there session last_transactions _ _ there.0 refl ∙ ap number_of (sym (find_at (is_by session) last_transactions)))
@@ -49,11 +51,14 @@ module _ (last_transactions : List LastTransaction) (session : ℕ) where
   next_one = record { session = session; number = next_number (last_number session last_transactions) }
 
   begin-first : position (is_by session) last_transactions ≡ None → begin_next last_transactions session ≡ last_transactions ++ next_one ∷ []
-  begin-first at = rw at (ap (λ (last : Option ℕ). last_transactions ++ record { session = session; number = next_number last } ∷ []) (last-absent session last_transactions at))
+  begin-first at =
+      rw at (ap (λ (last : Option ℕ). last_transactions ++ record { session = session; number = next_number last } ∷ [])
+      (last-absent session last_transactions at))
 
   begin-again : (i : ℕ) → position (is_by session) last_transactions ≡ Some i → begin_next last_transactions session ≡ slice_set last_transactions i next_one
   begin-again i at =
-      rw at (ap (λ (last : Option ℕ). slice_set last_transactions i (record { session = session; number = next_number last })) (last-there session last_transactions i _ at refl))
+      rw at (ap (λ (last : Option ℕ). slice_set last_transactions i (record { session = session; number = next_number last }))
+      (last-there session last_transactions i _ at refl))
 
   -- one more transaction: its session's last number is the next one
   pub last-next : last_number session (begin_next last_transactions session) ≡ Some (next_number (last_number session last_transactions))
@@ -68,10 +73,12 @@ module _ (last_transactions : List LastTransaction) (session : ℕ) where
   pub last-others : (other : ℕ) → other ≢ session → last_number other (begin_next last_transactions session) ≡ last_number other last_transactions
   last-others other differs =
       last-found other (begin_next last_transactions session) ∙ ap number_of (⊎_elim
-      (λ none. ap (find (is_by other)) (begin-first none.0) ∙ find-append (is_by other) last_transactions (next_one ∷ []) ∙ rw apart (or_none (find (is_by other) last_transactions)))
-      (λ there. let passes = position-Some (is_by session) last_transactions (position_or_len (is_by session) last_transactions) next_one there.0 in
+      (λ none. ap (find (is_by other)) (begin-first none.0) ∙ find-append (is_by other) last_transactions (next_one ∷ [])
+      ∙ rw apart (or_none (find (is_by other) last_transactions)))
+      (λ there. let at = position_or_len (is_by session) last_transactions in
+      let passes = position-Some (is_by session) last_transactions at next_one there.0 in
       ap (find (is_by other)) (begin-again _ there.0)
-      ∙ find_past (is_by other) last_transactions (position_or_len (is_by session) last_transactions) next_one next_one (rw (eqb-true _ _ passes.1) apart) apart)
+      ∙ find_past (is_by other) last_transactions at next_one next_one (rw (eqb-true _ _ passes.1) apart) apart)
       (find-place (is_by session) last_transactions)) ∙ sym (last-found other last_transactions)
     where
       apart : session == other ≡ false

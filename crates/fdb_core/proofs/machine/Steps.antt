@@ -45,10 +45,12 @@ pub record HoldsOfSteps (R : Machine → ℕ → Machine → Type 0) : Type 0 wh
   -- resolvers, logs and shards went on (Resolve, Push, Pull)
   pub roles : (m : Machine) (resolvers logs : List ℕ) (shards : List ShardProgress) → R m 0 (record m { resolvers = resolvers; logs = logs; shards = shards })
   -- a session that waited nowhere asks (Ask)
-  pub asked : (m : Machine) (session proxy : ℕ) (there : List ℕ) → slice_get m.grv_proxies proxy ≡ Some there → is_busy session m.grv_proxies m.commit_proxies ≡ false
+  pub asked : (m : Machine) (session proxy : ℕ) (there : List ℕ) → slice_get m.grv_proxies proxy ≡ Some there
+      → is_busy session m.grv_proxies m.commit_proxies ≡ false
       → R m 0 (record m { opened = without session m.opened; grv_proxies = slice_set m.grv_proxies proxy (there ++ session ∷ []) })
   -- those who ask are served, each of whom has a number left (Grant)
-  pub granted : (m : Machine) (proxy : ℕ) (there : List ℕ) → slice_get m.grv_proxies proxy ≡ Some there → list_any (has_no_number m.last_transactions) there ≡ false
+  pub granted : (m : Machine) (proxy : ℕ) (there : List ℕ) → slice_get m.grv_proxies proxy ≡ Some there
+      → list_any (has_no_number m.last_transactions) there ≡ false
       → let served = fold (serve m.committed) (m.last_transactions, m.opened) there in
       R m 0 (record m { last_transactions = served.0; opened = served.1; grv_proxies = slice_set m.grv_proxies proxy [] })
   -- an operation went to an open transaction, with its reply (Get, Write)
@@ -101,7 +103,8 @@ pub record HoldsOfSteps (R : Machine → ℕ → Machine → Type 0) : Type 0 wh
 
 -- a stage by its tests
 stage-is : (stage : Stage)
-    → (is_idle stage ≡ true → stage ≡ Idle) × (is_resolving stage ≡ true → stage ≡ Resolving) × (is_logging stage ≡ true → stage ≡ Logging) × (is_reported stage ≡ true → stage ≡ Reported)
+    → (is_idle stage ≡ true → stage ≡ Idle) × (is_resolving stage ≡ true → stage ≡ Resolving)
+    × (is_logging stage ≡ true → stage ≡ Logging) × (is_reported stage ≡ true → stage ≡ Reported)
 stage-is Idle = (λ is. refl, λ is. cc, λ is. cc, λ is. cc)
 stage-is Resolving = (λ is. cc, λ is. refl, λ is. cc, λ is. cc)
 stage-is Logging = (λ is. cc, λ is. cc, λ is. refl, λ is. cc)
@@ -154,7 +157,8 @@ module _ (R : Machine → ℕ → Machine → Type 0) (holds : HoldsOfSteps R) w
       past-found _ (slice_get m.commit_proxies proxy) _ (λ commit_proxy at.
       past-test _ (not (is_resolving commit_proxy.stage)) _ _ (λ resolving.
       past-found _ (slice_get m.book commit_proxy.entry) _ (λ entry _.
-      past-wait _ (first_missing (λ resolver. is_needed m.config.resolver_splits resolver (seen_before m.book commit_proxy.entry) entry) 0 commit_proxy.verdicts_received) _ (λ _.
+      let before = seen_before m.book commit_proxy.entry in
+      past-wait _ (first_missing (λ resolver. is_needed m.config.resolver_splits resolver before entry) 0 commit_proxy.verdicts_received) _ (λ _.
       holds.went_on m proxy commit_proxy Logging _ _ _ at (ap is_idle ((stage-is commit_proxy.stage).1 (not-false _ resolving))) refl refl))))
   holds-next m (step.Push i log) =
       past-found _ (slice_get m.book i) _ (λ entry _. past-found _ (slice_get m.logs log) _ (λ taken _.
