@@ -1,1 +1,2 @@
 pub mod AllLemmas
+pub mod SumLemmas

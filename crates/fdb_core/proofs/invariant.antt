@@ -1,7 +1,6 @@
 pub mod CommittedLaws
 pub mod OnceLaws
-pub mod OnceLemmas
 pub mod RealTimeLaws
 pub mod SerializedLemmas
+pub mod SoundLaws
 pub mod SoundLemmas
-pub mod SoundSteps

@@ -1,2 +1,4 @@
 pub mod AcceptedTransitions
+pub mod LastNumbers
+pub mod Steps
 pub mod Transitions

@@ -1,18 +1,22 @@
 -- What follows from the answer of one step.
-use Rattle.std.proofs.Common.{◌≡◌, ◌∙◌, sym, ap, refl, ℕ, Bool, true, false, List, Option, Some, None, Ok, Err, position, if◌then◌else◌}
+use Rattle.std.proofs.Common.{◌≡◌, ◌∙◌, sym, ap, refl, ℕ, Bool, true, false, List, Option, Some, None, Ok, Err, position, map, if◌then◌else◌}
 use Rattle.std.specs.Prelude.{◌↔◌, nat_lt}
 use Rattle.std.specs.List.{slice_get, list_any}
+use Rattle.std.specs.FinMap.{get}
 use Rattle.fdb_keys.specs.declared.refusal.Refusal.{Refusal}
 use Rattle.fdb_keys.specs.declared.refusal.Refusal.TheVariants.{TransactionTooOld, FutureVersion, Exhausted}
+use Rattle.fdb_txn.specs.book.Book.{seen_of}
 use Rattle.fdb_txn.specs.rules.Owners.{first_owner}
+use Rattle.fdb_txn.specs.rules.SerialMap.{serial_map_at}
 use Rattle.fdb_core.specs.machine.Roles.{ShardProgress}
 use Rattle.fdb_core.specs.declared.roles.client.program.Transcript.{Transcript}
+use Rattle.fdb_core.specs.declared.step.Answered.TheVariants as answered
 use Rattle.fdb_core.specs.machine.ClientSteps.{grants, gets, read_fault, shard_fault, has_no_number, version_of_shard}
 use Rattle.fdb_core.specs.machine.Machine.{Machine, Transition, refused_by, is_of}
-use Rattle.fdb_core.specs.programs.Programs.{program, decided}
+use Rattle.fdb_core.specs.programs.Programs.{program, copy, decided}
 use Rattle.fdb_core.specs.headline.Promises.{RefusalsChangeNothing, GrantsCommitted, GetsFromTheRun, GetsRefused}
 use Rattle.fdb_core.specs.machine.Steps.{after}
-use Rattle.fdb_core.proofs.machine.AcceptedTransitions.{found-accepted, refused_where-accepted, refused_by-accepted, with_opened-accepted, answer-of}
+use Rattle.fdb_core.proofs.machine.AcceptedTransitions.{of-accepted, past-found, past-test, past-fault, past-opened}
 
 -- a refused step changes nothing
 pub refusals_change_nothing : RefusalsChangeNothing
@@ -22,20 +26,25 @@ refusals_change_nothing m step refusal refused = ap (after m) refused
 pub grants_committed : GrantsCommitted
 unfolding grants
 grants_committed m proxy transition accepted =
-    found-accepted (slice_get m.grv_proxies proxy) _ transition accepted (λ there at on_there.
-    (there, at, answer-of _ _ transition (refused_where-accepted (list_any (has_no_number m.last_transactions) there) Exhausted _ transition on_there)))
+    of-accepted Told (grants m proxy) transition accepted (past-found Told (slice_get m.grv_proxies proxy) _ (λ there at.
+    past-test Told (list_any (has_no_number m.last_transactions) there) Exhausted _ (λ _. (there, at, refl))))
+  where
+    Told : Transition → Type 0
+    Told given =
+        (there : List ℕ) × (slice_get m.grv_proxies proxy ≡ Some there)
+        × (given.answer ≡ answered.Granted (map (λ (session : ℕ). (session, m.committed)) there))
 
 -- a read answers from the map at the read version
 pub gets_from_the_run : GetsFromTheRun
 unfolding gets
 gets_from_the_run m session key snapshot transition accepted =
-    with_opened-accepted session m.opened _ transition accepted (λ i transcript at there on_transcript. (
-      i,
-      transcript,
-      at,
-      there,
-      answer-of _ _ transition (refused_by-accepted (read_fault m (program transcript.ops) transcript.read_version key) _ transition on_transcript),
-    ))
+    of-accepted Read (gets m session key snapshot) transition accepted (past-opened Read session m.opened _ (λ i transcript at there.
+    past-fault Read (read_fault m (program transcript.ops) transcript.read_version key) _ (λ _. (i, transcript, at, there, refl))))
+  where
+    Read : Transition → Type 0
+    Read given =
+        (i : ℕ) × (transcript : Transcript) × (position (is_of session) m.opened ≡ Some i) × (slice_get m.opened i ≡ Some transcript)
+        × (given.answer ≡ answered.Value (get (copy (serial_map_at m.config.resolver_splits transcript.read_version (seen_of m.book).places) (program transcript.ops)) key))
 
 -- why a read of an open transaction is refused
 gets-refused : (m : Machine) (session : ℕ) (key : List ℕ) (snapshot : Bool) (i : ℕ) (transcript : Transcript) (why : Refusal)

@@ -1,5 +1,5 @@
 -- Traces: what every step keeps holds after any of them, and they tell the machine.
-use Rattle.std.proofs.Common.{◌≡◌, ◌∙◌, sym, ap, refl, subst, ⊎_elim, ℕ, zero, suc, List, [], ◌∷◌, take, drop, Option, Some, None, Result, Ok, Err}
+use Rattle.std.proofs.Common.{◌≡◌, ◌∙◌, sym, ap, refl, ℕ, zero, suc, List, [], ◌∷◌, take, drop, Option, Some, None, Result, Ok, Err}
 use Rattle.std.specs.Prelude.{IfSome}
 use Rattle.fdb_keys.specs.declared.refusal.Refusal.{Refusal}
 use Rattle.fdb_core.specs.declared.config.Config.{Config}
@@ -9,7 +9,7 @@ use Rattle.fdb_core.specs.machine.Machine.{Machine, Transition}
 use Rattle.fdb_core.specs.machine.Steps.{next, answer_of, after}
 use Rattle.fdb_core.specs.headline.Traces.{after_step, after_steps, machine_of_trace, IsTraceOf, TracesDetermineTheMachine}
 use Rattle.fdb_core.specs.machine.Worlds.{start, IsRun}
-use Rattle.fdb_core.proofs.invariant.CommittedLaws.{run-none}
+use Rattle.fdb_core.proofs.headline.RunsLemmas.{run-next}
 
 -- what every step keeps holds after any step with any answer
 kept-after_step : (P : Machine → Type 0) → ((m : Machine) (taken : Step) → P m → P (after m (next m taken)))
@@ -48,15 +48,11 @@ run-after_steps : (m new : Machine) (steps : List Step) (given : List (Result An
 run-after_steps m new [] [] ran = cc
 run-after_steps m new [] (answer ∷ given) ran = absurd ran
 run-after_steps m new (taken ∷ steps) [] ran = absurd ran
-run-after_steps m new (taken ∷ steps) (answer ∷ given) ran = ⊎_elim
-    (λ went. let others : IsRun (Some (after m (next m taken))) steps given (Some new)
-    = subst (λ (mid : Option Machine). IsRun mid steps given (Some new)) went.1 ran.2 in
-    run-after_steps (after m (next m taken)) new steps given others
+run-after_steps m new (taken ∷ steps) (answer ∷ given) ran =
+    let went = run-next m new taken answer steps given ran in
+    run-after_steps (after m (next m taken)) new steps given went.1
     ∙ ap (λ (mid : Machine). after_steps mid steps given)
-    (sym (ap (after_step m taken) went.0 ∙ after_step-answered m taken (next m taken) refl)))
-    (λ failed. let none : Some new ≡ None
-    = run-none steps given (Some new) (subst (λ (mid : Option Machine). IsRun mid steps given (Some new)) failed.1 ran.2) in cc)
-    ran.1
+    (sym (ap (after_step m taken) went.0 ∙ after_step-answered m taken (next m taken) refl))
 
 pub traces_tell : TracesDetermineTheMachine
 traces_tell config steps given m stands = run-after_steps (start config) m steps given stands

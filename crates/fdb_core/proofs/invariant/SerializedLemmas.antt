@@ -24,16 +24,20 @@ use Rattle.fdb_core.specs.declared.roles.client.program.Transcript.{Transcript}
 use Rattle.fdb_core.specs.declared.step.Outcome.{Outcome}
 use Rattle.fdb_core.specs.declared.step.Outcome.TheVariants as outcome
 use Rattle.fdb_core.specs.machine.ClientSteps.{is_nil}
-use Rattle.fdb_core.specs.headline.Headline.{replies_of, AnsweredOn, IsSerializedAt, IsSerializedAtSpot, IsSerialized}
+use Rattle.fdb_core.specs.headline.Headline.{replies_of, AnsweredOn, IsSerializedAtSpot, IsSerialized}
 use Rattle.fdb_core.specs.machine.Machine.{Machine, last_version, seen_before}
 use Rattle.fdb_core.specs.programs.ProgramLaws.{AgreeWhereOrdinary}
 use Rattle.fdb_core.specs.programs.Programs.{program, exec, mutations_of, commit_request_of}
 use Rattle.fdb_core.specs.machine.CommitProxySteps.{placed_from}
-use Rattle.fdb_core.specs.refinement.Invariant.{IsReplied}
+use Rattle.fdb_core.specs.refinement.Invariant.{IsReplied, IsReported}
 use Rattle.fdb_core.specs.machine.Verdicts.{moves_through, outcomes_from, outcomes_on}
 use Rattle.fdb_core.proofs.programs.ProgramsAgree.{programs_agree}
 use Rattle.fdb_core.proofs.programs.ReadSetLemmas.{in_read_ranges}
 use Rattle.fdb_core.proofs.refinement.RoleTies.{last-push}
+
+-- a transaction stands at its spot, which is reported
+abbrev pub Stands : Machine → Placed → Type 0
+Stands m placed = IsSerialized m placed × IsReported m placed
 
 -- the replies on a map agree with themselves
 agree-itself : (map : Map) (ops : List Op) → AgreeWhereOrdinary ops (exec map ops) (exec map ops)
@@ -45,7 +49,7 @@ nil-is : {A : Type 0} (xs : List A) → is_nil xs ≡ true → xs ≡ []
 nil-is [] none = refl
 nil-is (x ∷ xs) none = let counted : length (x ∷ xs) ≡ 0 = eqb-true (length (x ∷ xs)) 0 none in absurd (omega (arith, counted))
 
--- a told transaction that writes nothing stands at its read version
+-- an answered transaction that writes nothing stands at its read version
 pub read_only_serialized : (m : Machine) (transcript : Transcript) → m.committed ≤ last_version m.book → IsReplied m transcript
     → is_nil (commit_request_of transcript).mutations && is_nil (commit_request_of transcript).writes ≡ true
     → IsSerialized m (record { spot = spot.ReadOnly transcript.read_version; transcript = transcript })
@@ -69,25 +73,18 @@ place-stays seen [] entry (suc n) p there at = cc
 place-stays seen (first ∷ book) entry zero p there at = at
 place-stays seen (first ∷ book) entry (suc n) p there at = place-stays (add_entry seen first) book entry n p there at
 
--- the same as `stands_with_entry`, of a spot
-spot-stays : (m : Machine) (after : Machine) (entry : Entry) (transcript : Transcript) (at : Spot)
-    → after.config ≡ m.config → after.book ≡ m.book ++ entry ∷ [] → last_version m.book < entry.version
-    → IsSerializedAtSpot m transcript at → IsSerializedAtSpot after transcript at
-spot-stays m after entry transcript (spot.Entry n p version) same longer above stands =
-    rw (same, longer) (stands.0, place-stays nothing m.book entry n p stands.0 stands.1, stands.2, stands.3, stands.4, stands.5)
-spot-stays m after entry transcript (spot.ReadOnly version) same longer above stands =
-    let below : version < entry.version = omega (arith, stands.1) in
-    rw (same, longer) (
+-- one more entry leaves everyone at his spot
+pub spot-stays : (m : Machine) (entry : Entry) (transcript : Transcript) (at : Spot) → last_version m.book < entry.version
+    → IsSerializedAtSpot m transcript at → IsSerializedAtSpot (record m { book = m.book ++ entry ∷ [] }) transcript at
+spot-stays m entry transcript (spot.Entry n p version) above stands =
+    (stands.0, place-stays nothing m.book entry n p stands.0 stands.1, stands.2, stands.3, stands.4, stands.5)
+spot-stays m entry transcript (spot.ReadOnly version) above stands =
+    let below : version < entry.version = omega (arith, stands.1) in (
       stands.0,
       rw (last-push m.book entry) (le_of_lt below),
       stands.2,
       subst (λ (now : Map). AnsweredOn now transcript) (sym (earlier_maps_stay m.config.resolver_splits m.book entry version below)) stands.3,
     )
-
--- one more entry leaves everyone where he stands
-pub serialized_with_entry : (m : Machine) (after : Machine) (entry : Entry) (placed : Placed)
-    → after.config ≡ m.config → after.book ≡ m.book ++ entry ∷ [] → last_version m.book < entry.version → IsSerialized m placed → IsSerialized after placed
-serialized_with_entry m after entry placed same longer above stands = spot-stays m after entry placed.transcript placed.spot same longer above stands
 
 -- the places are the earlier ones behind newer ones of at least the version
 abbrev Extends : ℕ → List Place → List Place → Type 0
@@ -173,33 +170,37 @@ answered-there splits transcript version moves earlier history commits answered 
 
 -- one transaction more of a batch stands, if it is committed, and so do the others
 first-stands : (m : Machine) (n p version : ℕ) (transcript : Transcript) (transcripts : List Transcript) (outcomes : List Outcome) (fresh commits : Bool)
-    → (commits ≡ true → IsSerializedAt m transcript n p version)
-    → AllByRecursion (IsSerialized m) (placed_from n transcripts outcomes)
-    → AllByRecursion (IsSerialized m) (placed_from n (transcript ∷ transcripts)
+    → (commits ≡ true → Stands m (record { spot = spot.Entry n p version; transcript = transcript }))
+    → AllByRecursion (Stands m) (placed_from n transcripts outcomes)
+    → AllByRecursion (Stands m) (placed_from n (transcript ∷ transcripts)
     ((if fresh then (if commits then outcome.Commit version p else outcome.Conflict) else outcome.Old) ∷ outcomes))
 first-stands m n p version transcript transcripts outcomes false commits here others = others
 first-stands m n p version transcript transcripts outcomes true false here others = others
 first-stands m n p version transcript transcripts outcomes true true here others = (here refl, others)
 
 -- a batch, transaction by transaction
-module _ (m : Machine) (n version : ℕ) (moves : List Stamped) (history : IsHistory (suc (length m.config.resolver_splits)) (seen_of m.book).places) where
+module _ (m : Machine) (n version : ℕ) (moves : List Stamped) (reported : version ≤ m.committed)
+    (history : IsHistory (suc (length m.config.resolver_splits)) (seen_of m.book).places) where
   -- those that are committed stand, from place p on
   stands-from : (transcripts : List Transcript) (earlier : List Place) (p : ℕ) → AllByRecursion (IsReplied m) transcripts
       → Extends version (seen_of m.book).places (add_places version moves (map commit_request_of transcripts) earlier)
       → ((q : ℕ) → place_at m.book n (p + q) ≡ place_in version moves (map commit_request_of transcripts) earlier q)
-      → AllByRecursion (IsSerialized m) (placed_from n transcripts (outcomes_from m.config.resolver_splits version moves (map commit_request_of transcripts) earlier p))
+      → AllByRecursion (Stands m) (placed_from n transcripts (outcomes_from m.config.resolver_splits version moves (map commit_request_of transcripts) earlier p))
   stands-from [] earlier p told extends at = tt
   stands-from (transcript ∷ transcripts) earlier p told extends at =
       first-stands m n p version transcript transcripts _ (is_fresh place) (committed m.config.resolver_splits earlier place)
       (λ commits. (
-        (place, earlier),
-        ap (place_at m.book n) (sym (add-zero p)) ∙ at zero,
-        refl,
-        refl,
-        commits,
-        answered-there m.config.resolver_splits transcript version moves earlier here commits
-            (told.0.1 ∙ ap (λ (read : Map). exec read (program transcript.ops))
-            (map-extends m.config.resolver_splits transcript.read_version version (seen_of m.book).places (place ∷ earlier) here.0.0 through)),
+        (
+          (place, earlier),
+          ap (place_at m.book n) (sym (add-zero p)) ∙ at zero,
+          refl,
+          refl,
+          commits,
+          answered-there m.config.resolver_splits transcript version moves earlier here commits
+              (told.0.1 ∙ ap (λ (read : Map). exec read (program transcript.ops))
+              (map-extends m.config.resolver_splits transcript.read_version version (seen_of m.book).places (place ∷ earlier) here.0.0 through)),
+        ),
+        (reported, here.0.0),
       ))
       (stands-from transcripts (place ∷ earlier) (suc p) told.1 extends
       (λ q. ap (place_at m.book n) (suc-add p q ∙ sym (add-suc p q)) ∙ at (suc q)))
@@ -215,14 +216,16 @@ module _ (m : Machine) (n version : ℕ) (moves : List Stamped) (history : IsHis
       here = history-earlier (suc (length m.config.resolver_splits)) through.0 (place ∷ earlier)
           (subst (IsHistory (suc (length m.config.resolver_splits))) through.1 history)
 
--- those of a batch in flight that are committed stand at their places
-pub batch_serialized : (m : Machine) (commit_proxy : CommitProxy) (entry : Entry) → AreEntries (suc (length m.config.resolver_splits)) 0 m.book → m.committed ≤ last_version m.book
-    → AllByRecursion (IsReplied m) commit_proxy.in_flight → slice_get m.book commit_proxy.entry ≡ Some entry → entry.batch ≡ map commit_request_of commit_proxy.in_flight
-    → AllByRecursion (IsSerialized m) (placed_from commit_proxy.entry commit_proxy.in_flight (outcomes_on m.config.resolver_splits (seen_before m.book commit_proxy.entry) entry))
-batch_serialized m commit_proxy entry entries reached told there batch =
-    subst (λ (ts : List Transaction). AllByRecursion (IsSerialized m) (placed_from commit_proxy.entry commit_proxy.in_flight (outcomes_from m.config.resolver_splits entry.version moves ts before.places 0)))
+-- those of a reported batch that are committed stand at their places
+pub batch_serialized : (m : Machine) (commit_proxy : CommitProxy) (entry : Entry) → AreEntries (suc (length m.config.resolver_splits)) 0 m.book
+    → AllByRecursion (IsReplied m) commit_proxy.in_flight → slice_get m.book commit_proxy.entry ≡ Some entry
+    → entry.batch ≡ map commit_request_of commit_proxy.in_flight → entry.version ≤ m.committed
+    → AllByRecursion (Stands m) (placed_from commit_proxy.entry commit_proxy.in_flight (outcomes_on m.config.resolver_splits (seen_before m.book commit_proxy.entry) entry))
+batch_serialized m commit_proxy entry entries told there batch reported =
+    subst (λ (ts : List Transaction). AllByRecursion (Stands m)
+    (placed_from commit_proxy.entry commit_proxy.in_flight (outcomes_from m.config.resolver_splits entry.version moves ts before.places 0)))
     (sym batch)
-    (stands-from m commit_proxy.entry entry.version moves (places_are_history (suc (length m.config.resolver_splits)) m.book entries)
+    (stands-from m commit_proxy.entry entry.version moves reported (places_are_history (suc (length m.config.resolver_splits)) m.book entries)
     commit_proxy.in_flight before.places 0 told
     (subst (λ (ts : List Transaction). Extends entry.version (seen_of m.book).places (add_places entry.version moves ts before.places)) batch
     (extends-through (suc (length m.config.resolver_splits)) 0 nothing m.book commit_proxy.entry entry entries there))

@@ -1,8 +1,7 @@
 -- What it takes to keep the machine sound: tests that accepted steps passed, transcripts, the book, and parts that change.
-use Rattle.std.proofs.Common.{◌≡◌, ◌∙◌, refl, sym, ap, ap₂, subst, arith, ◌<◌, ◌≤◌, le_refl, le_trans, ℕ, zero, suc, Bool, true, false, not, ◌||◌, if◌then◌else◌, List, [], ◌∷◌, ◌++◌, fold, map, Some, None, Result, Ok, position, ◌⊎◌, inl, inr}
+use Rattle.std.proofs.Common.{◌≡◌, ◌∙◌, refl, sym, ap, ap₂, subst, arith, ◌<◌, ◌≤◌, le_refl, le_trans, ℕ, zero, suc, Bool, true, false, ◌||◌, List, [], ◌∷◌, ◌++◌, fold, map, Some, None, position}
 use Rattle.std.specs.List.{AllByRecursion, slice_get}
 use Rattle.std.proofs.lemmas.List.Sums.{fold-append}
-use Rattle.fdb_keys.specs.declared.refusal.Refusal.{Refusal}
 use Rattle.fdb_keys.specs.Insertion.{with_range}
 use Rattle.fdb_keys.specs.Points.{Point}
 use Rattle.fdb_keys.specs.Ranges.{Range, in_range, in_set}
@@ -18,59 +17,45 @@ use Rattle.fdb_txn.specs.rules.SerialMap.{serial_map_at}
 use Rattle.fdb_txn.specs.laws.SerialMapLaws.{version_after}
 use Rattle.fdb_txn.specs.book.Transactions.{Transaction, NamesWrites, with_named, some_names}
 use Rattle.fdb_txn.proofs.book.HistoryLemmas.{earlier_maps_stay}
-use Rattle.fdb_core.specs.machine.Roles.{LastTransaction, CommitProxy, Stage, Idle, Resolving, Logging, Reported, Submission}
+use Rattle.fdb_core.specs.machine.Roles.{LastTransaction, CommitProxy, Submission}
 use Rattle.fdb_core.specs.declared.roles.client.program.Op.{Op}
 use Rattle.fdb_core.specs.declared.roles.client.program.Reply.{Reply}
 use Rattle.fdb_core.specs.declared.roles.client.program.Transcript.{Transcript}
 use Rattle.fdb_core.specs.machine.ClientSteps.{without, without_at, serve, begin_next, first_of}
 use Rattle.fdb_core.specs.headline.Headline.{replies_of}
-use Rattle.fdb_core.specs.machine.Machine.{Machine, Transition, refused_where, last_version, is_of}
+use Rattle.fdb_core.specs.machine.Machine.{Machine, is_of}
 use Rattle.fdb_core.specs.programs.Programs.{program, copy, reply_on, exec, commit_request_of, mutations_of}
-use Rattle.fdb_core.specs.machine.CommitProxySteps.{is_idle, is_resolving, is_logging}
 use Rattle.fdb_core.specs.refinement.Invariant.{IsReplied, Waits, CommitProxyIsSound}
 use Rattle.fdb_core.proofs.common.AllLemmas.{all-push, all-remove, all-map}
 use Rattle.fdb_txn.proofs.book.HistoryLemmas.{all-weaken}
 use Rattle.fdb_core.proofs.programs.ReadSetLemmas.{in_with_range}
 use Rattle.fdb_core.proofs.programs.ProgramLaws.{program-push}
 
--- what is accepted behind a test failed it
-pub refused_where-failed : (test : Bool) (refusal : Refusal) (next : Result Transition Refusal) (transition : Transition) → refused_where test refusal next ≡ Ok transition
-    → test ≡ false
-refused_where-failed true refusal next transition accepted = cc
-refused_where-failed false refusal next transition accepted = refl
+-- what holds of the open transactions holds of those but the session's
+pub all-without : (P : Transcript → Type 0) (session : ℕ) (opened : List Transcript) → AllByRecursion P opened → AllByRecursion P (without session opened)
+all-without P session opened all =
+    elim (position (is_of session) opened) as (λ there. AllByRecursion P (without_at opened there)) [ None ↦ all | Some i ↦ all-remove P opened i all ]
 
--- what is accepted of two branches is of the one that the test picks
-pub if-picked : (test : Bool) (one other : Result Transition Refusal) (transition : Transition) → (if test then one else other) ≡ Ok transition
-    → ((test ≡ true) × (one ≡ Ok transition)) ⊎ (other ≡ Ok transition)
-if-picked true one other transition accepted = inl (refl, accepted)
-if-picked false one other transition accepted = inr accepted
+-- what holds of transactions at their begin, and stays so when sessions begin more, holds still when sessions are served
+module _ (P : List LastTransaction → Transcript → Type 0) (version : ℕ)
+    (more : (last_transactions : List LastTransaction) (session : ℕ) (t : Transcript) → P last_transactions t → P (begin_next last_transactions session) t) where
+  pub served-more : (sessions : List ℕ) (last_transactions : List LastTransaction) (opened : List Transcript) (t : Transcript)
+      → P last_transactions t → P (fold (serve version) (last_transactions, opened) sessions).0 t
+  served-more [] last_transactions opened t holds = holds
+  served-more (session ∷ sessions) last_transactions opened t holds =
+      served-more sessions (begin_next last_transactions session) (opened ++ first_of last_transactions version session ∷ []) t
+      (more last_transactions session t holds)
 
--- a proxy whose batch is being resolved or logged isn't idle
-pub resolving-busy : (stage : Stage) → not (is_resolving stage) ≡ false → is_idle stage ≡ false
-resolving-busy Idle resolving = cc
-resolving-busy Resolving resolving = refl
-resolving-busy Logging resolving = refl
-resolving-busy Reported resolving = refl
-
-pub logging-busy : (stage : Stage) → not (is_logging stage) ≡ false → is_idle stage ≡ false
-logging-busy Idle logging = cc
-logging-busy Resolving logging = refl
-logging-busy Logging logging = refl
-logging-busy Reported logging = refl
-
-module _ (P : Transcript → Type 0) where
-  -- what holds of the open transactions holds of those but the session's
-  pub all-without : (session : ℕ) (opened : List Transcript) → AllByRecursion P opened → AllByRecursion P (without session opened)
-  all-without session opened all =
-      elim (position (is_of session) opened) as (λ there. AllByRecursion P (without_at opened there)) [ None ↦ all | Some i ↦ all-remove P opened i all ]
-
-  -- what holds of transactions at their begin holds still with more of them
-  pub all-served : (version : ℕ) → ((last_transactions : List LastTransaction) (session : ℕ) → P (first_of last_transactions version session))
-      → (sessions : List ℕ) (last_transactions : List LastTransaction) (opened : List Transcript)
-      → AllByRecursion P opened → AllByRecursion P (fold (serve version) (last_transactions, opened) sessions).1
-  all-served version first [] last_transactions opened all = all
-  all-served version first (session ∷ sessions) last_transactions opened all =
-      all-served version first sessions (begin_next last_transactions session) (opened ++ first_of last_transactions version session ∷ []) (all-push P opened _ all (first last_transactions session))
+  pub all-served : ((last_transactions : List LastTransaction) (session : ℕ)
+      → P (begin_next last_transactions session) (first_of last_transactions version session))
+      → (sessions : List ℕ) (last_transactions : List LastTransaction) (opened : List Transcript) → AllByRecursion (P last_transactions) opened
+      → AllByRecursion (P (fold (serve version) (last_transactions, opened) sessions).0) (fold (serve version) (last_transactions, opened) sessions).1
+  all-served first [] last_transactions opened all = all
+  all-served first (session ∷ sessions) last_transactions opened all =
+      all-served first sessions (begin_next last_transactions session) (opened ++ first_of last_transactions version session ∷ [])
+      (all-push (P (begin_next last_transactions session)) opened (first_of last_transactions version session)
+      (all-weaken (P last_transactions) (P (begin_next last_transactions session)) (more last_transactions session) opened all)
+      (first last_transactions session))
 
 -- the reply to one more operation is the newest
 pub replies_of-push : (ops : List (Op × Reply)) (done : Op × Reply) → replies_of (ops ++ done ∷ []) ≡ done.1 ∷ replies_of ops
@@ -139,10 +124,6 @@ found-front [] ys i x there = cc
 found-front (y ∷ xs) ys zero x there = there
 found-front (y ∷ xs) ys (suc i) x there = found-front xs ys i x there
 
--- the last version of a book with one more entry
-pub last_version-push : (book : List Entry) (entry : Entry) → last_version (book ++ entry ∷ []) ≡ entry.version
-last_version-push book entry = fold-append (λ (last : ℕ) (one : Entry). one.version) 0 book (entry ∷ [])
-
 -- no entry has a version above that of the last one
 last-above : (resolvers last : ℕ) (book : List Entry) → AreEntries resolvers last book → last ≤ version_after last book
 last-above resolvers last [] entries = le_refl last
@@ -159,22 +140,20 @@ version-within resolvers last (first ∷ book) zero entry entries there =
 version-within resolvers last (first ∷ book) (suc i) entry entries there = version-within resolvers first.version book i entry entries.4 there
 
 -- with one more entry of a version above the committed one each transcript stays told
-pub told-entry : (m after : Machine) (entry : Entry) (transcript : Transcript) → after.config ≡ m.config → after.book ≡ m.book ++ entry ∷ []
-    → m.committed < entry.version → m.committed ≤ after.committed → IsReplied m transcript → IsReplied after transcript
-told-entry m after entry transcript same_config longer above raised told = (
-  le_trans told.0 raised,
-  told.1 ∙ ap (λ (there : Map). exec there (program transcript.ops)) (sym (
-      ap (λ (splits : List Point). serial_map_at splits transcript.read_version (seen_of after.book).places) (ap (λ c. c.resolver_splits) same_config)
-      ∙ ap (λ (book : List Entry). serial_map_at m.config.resolver_splits transcript.read_version (seen_of book).places) longer
-      ∙ earlier_maps_stay m.config.resolver_splits m.book entry transcript.read_version (omega (arith, told.0, above)))),
+pub told-entry : (m : Machine) (entry : Entry) (transcript : Transcript) → m.committed < entry.version → IsReplied m transcript
+    → IsReplied (record m { book = m.book ++ entry ∷ [] }) transcript
+told-entry m entry transcript above told = (
+  told.0,
+  told.1 ∙ ap (λ (there : Map). exec there (program transcript.ops))
+      (sym (earlier_maps_stay m.config.resolver_splits m.book entry transcript.read_version (omega (arith, told.0, above)))),
 )
 
--- what keeps transcripts told and entries found keeps commit proxies sound
-pub commit_proxy-kept : (m after : Machine) → ((transcript : Transcript) → IsReplied m transcript → IsReplied after transcript)
+-- what keeps transcripts told and entries found, and lowers nothing, keeps commit proxies sound
+pub commit_proxy-kept : (m after : Machine) → m.committed ≤ after.committed → ((transcript : Transcript) → IsReplied m transcript → IsReplied after transcript)
     → ((i : ℕ) (entry : Entry) → slice_get m.book i ≡ Some entry → slice_get after.book i ≡ Some entry)
     → (commit_proxy : CommitProxy) → CommitProxyIsSound m commit_proxy → CommitProxyIsSound after commit_proxy
-commit_proxy-kept m after told found commit_proxy sound = (
+commit_proxy-kept m after raised told found commit_proxy sound = (
   all-weaken (Waits m) (Waits after) (λ (submission : Submission) waits. (waits.0, told submission.transcript waits.1)) commit_proxy.waiting sound.0,
   all-weaken (IsReplied m) (IsReplied after) told commit_proxy.in_flight sound.1,
-  λ busy. let there = sound.2 busy in (there.0, found commit_proxy.entry there.0 there.1, there.2),
+  λ busy. let there = sound.2 busy in (there.0, found commit_proxy.entry there.0 there.1, there.2, λ reported. le_trans (there.3 reported) raised),
 )

@@ -1,5 +1,5 @@
 -- What holds of the machine between any two steps.
-use Rattle.std.specs.Prelude.{◌≡◌, ◌<◌, ◌≤◌, suc, false, length, map, Some, slice_get}
+use Rattle.std.specs.Prelude.{◌≡◌, ◌<◌, ◌≤◌, suc, true, false, length, map, Some, slice_get}
 use Rattle.std.specs.List.{AllByRecursion}
 use Rattle.fdb_txn.specs.declared.entry.Entry.{Entry}
 use Rattle.fdb_txn.specs.declared.entry.Move.{Move}
@@ -7,11 +7,13 @@ use Rattle.fdb_txn.specs.book.Book.{seen_of}
 use Rattle.fdb_txn.specs.book.History.{AreEntries}
 use Rattle.fdb_txn.specs.rules.SerialMap.{serial_map_at}
 use Rattle.fdb_core.specs.machine.Roles.{CommitProxy, Submission}
+use Rattle.fdb_core.specs.declared.roles.client.Placed.{Placed}
 use Rattle.fdb_core.specs.declared.roles.client.program.Transcript.{Transcript}
 use Rattle.fdb_core.specs.headline.Headline.{replies_of, IsSerialized}
+use Rattle.fdb_core.specs.headline.RealTime.{spot_version, IsAfterVersion}
 use Rattle.fdb_core.specs.machine.Machine.{Machine, last_version}
 use Rattle.fdb_core.specs.programs.Programs.{program, exec, commit_request_of}
-use Rattle.fdb_core.specs.machine.CommitProxySteps.{is_idle}
+use Rattle.fdb_core.specs.machine.CommitProxySteps.{is_idle, is_reported}
 
 -- The transcript reads at most at the committed version, and was answered as its program is on the map at its
 -- read version.
@@ -24,14 +26,20 @@ IsReplied m transcript =
 abbrev pub Waits : Machine → Submission → Type 0
 Waits m submission = (submission.sealed ≡ commit_request_of submission.transcript) × IsReplied m submission.transcript
 
--- a batch in flight is that of the entry, in the same order
+-- A batch in flight is that of the entry, in the same order; once it is reported, the committed version is at least
+-- the entry's.
 abbrev pub IsInFlight : Machine → CommitProxy → Type 0
 IsInFlight m commit_proxy =
     is_idle commit_proxy.stage ≡ false
     → (entry : Entry) × (slice_get m.book commit_proxy.entry ≡ Some entry) × (entry.batch ≡ map commit_request_of commit_proxy.in_flight)
+    × (is_reported commit_proxy.stage ≡ true → entry.version ≤ m.committed)
 
 abbrev pub CommitProxyIsSound : Machine → CommitProxy → Type 0
 CommitProxyIsSound m commit_proxy = AllByRecursion (Waits m) commit_proxy.waiting × AllByRecursion (IsReplied m) commit_proxy.in_flight × IsInFlight m commit_proxy
+
+-- an acknowledged transaction stands at a spot of at most the committed version, behind the version that it read at
+abbrev pub IsReported : Machine → Placed → Type 0
+IsReported m placed = (spot_version placed.spot ≤ m.committed) × IsAfterVersion placed.transcript.read_version placed.spot
 
 pub record Invariant (m : Machine) : Type 0 where
   pub entries : AreEntries (suc (length m.config.resolver_splits)) 0 m.book
@@ -40,3 +48,4 @@ pub record Invariant (m : Machine) : Type 0 where
   pub opened : AllByRecursion (IsReplied m) m.opened
   pub commit_proxies : AllByRecursion (CommitProxyIsSound m) m.commit_proxies
   pub acknowledged : AllByRecursion (IsSerialized m) m.acknowledged
+  pub reported : AllByRecursion (IsReported m) m.acknowledged
