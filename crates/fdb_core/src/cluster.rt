@@ -8,12 +8,11 @@ use crate::roles::client::program::Transcript;
 use crate::roles::client::{LastTransaction, Placed};
 use crate::roles::commit_proxy::CommitProxy;
 use crate::roles::log::Message;
-use crate::roles::resolver::first_resolver;
+use crate::roles::resolver::ResolverRole;
 use crate::roles::sequencer::first_sequencer;
 use crate::roles::shard::ShardProgress;
 use crate::step::Outcome;
 use fdb_keys::Items;
-use fdb_resolver::{ResolverCore, Verdict};
 use fdb_sequencer::SequencerCore;
 use fdb_txn::Entry;
 use std::alloc::{AllocError, Global};
@@ -27,8 +26,8 @@ pub(crate) struct Cluster {
     pub(crate) entry_proxies: Vec<u32>,
     pub(crate) decided: Vec<bool>,
     pub(crate) commit_proxies: Vec<CommitProxy>,
-    // How many entries each resolver and each log took.
-    pub(crate) resolvers: Vec<u32>,
+    pub(crate) resolvers: Vec<ResolverRole>,
+    // How many entries each log took.
     pub(crate) logs: Vec<u32>,
     pub(crate) shards: Vec<ShardProgress>,
     pub(crate) grv_proxies: Vec<Items<u32>>,
@@ -37,9 +36,6 @@ pub(crate) struct Cluster {
     pub(crate) acknowledged: Vec<Placed>,
     // It gives the versions, and keeps the greatest one that was reported.
     pub(crate) sequencer: SequencerCore,
-    // The one resolver, and what it sent for each entry that it took.
-    pub(crate) resolver: ResolverCore,
-    pub(crate) verdicts: Vec<Items<(u32, Verdict)>>,
     // What the one commit proxy decided of its batch, and the message of each entry once it is decided.
     pub(crate) outcomes: Items<Outcome>,
     pub(crate) messages: Vec<Option<Message>>,
@@ -60,7 +56,7 @@ impl Cluster {
         ensures refines { IfOk result Refines }
     {
         let commit_proxies = one(alloc, CommitProxy::new(alloc))?;
-        let resolvers = one(alloc, 0)?;
+        let resolvers = one(alloc, ResolverRole::new(alloc))?;
         let logs = one(alloc, 0)?;
         let shards = one(alloc, ShardProgress::new())?;
         let grv_proxies = one(alloc, Items::new(alloc))?;
@@ -79,8 +75,6 @@ impl Cluster {
             last_transactions: Vec::new(alloc),
             sequencer: first_sequencer(alloc),
             acknowledged: Vec::new(alloc),
-            resolver: first_resolver(alloc),
-            verdicts: Vec::new(alloc),
             outcomes: Items::new(alloc),
             messages: Vec::new(alloc),
             log: Vec::new(alloc),

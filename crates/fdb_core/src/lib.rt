@@ -13,6 +13,7 @@ mod step;
 mod steps;
 mod world;
 
+pub use check::compare::is_answered_on;
 pub use config::Config;
 pub use fdb_resolver::Verdict;
 pub use in_flight::InFlight;

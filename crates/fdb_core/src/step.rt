@@ -4,7 +4,7 @@ use fdb_mutations::Mutation;
 use fdb_resolver::Verdict;
 
 /// One step of a client or of a role. Roles, entries and sessions are named by their numbers, from 0.
-#[derive(Clone, Debug, Drop, PartialEq, Eq)]
+#[derive(Debug, Drop, PartialEq, Eq)]
 pub enum Step {
     /// The session asks a read-version proxy for a transaction. One that is open is dropped.
     Ask {

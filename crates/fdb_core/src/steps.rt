@@ -11,6 +11,7 @@ ghost use Rattle.fdb_core.specs.refinement.Cluster.{machine_of, Refines};
 ghost use Rattle.fdb_core.specs.machine.Steps.{next, answer_of, after};
 
 use crate::cluster::Cluster;
+use crate::roles::commit_proxy::Sender;
 use crate::step::{Answered, Step};
 use fdb_keys::Refusal;
 use std::alloc::AllocError;
@@ -35,10 +36,10 @@ impl Cluster {
             Step::Submit { session, proxy } => self.submit(*session, *proxy),
             Step::Seal { proxy, advance } => self.seal(*proxy, *advance),
             Step::Resolve { entry, resolver } => self.resolve(*entry, *resolver),
-            Step::Verdict { entry, resolver } => self.receive_verdicts(*entry, *resolver),
+            Step::Verdict { entry, resolver } => self.receive(*entry, Sender::Resolver(*resolver)),
             Step::Decide { proxy } => self.decide(*proxy),
             Step::Push { entry, log } => self.push(*entry, *log),
-            Step::Logged { entry, log } => self.receive_acknowledgement(*entry, *log),
+            Step::Logged { entry, log } => self.receive(*entry, Sender::Log(*log)),
             Step::Report { proxy } => self.report(*proxy),
             Step::Answer { proxy } => self.answer(*proxy),
             Step::Pull { shard, limit } => self.pull(*shard, *limit),

@@ -10,8 +10,7 @@ use Rattle.fdb_core.specs.declared.roles.client.program.Reply.TheVariants.{Value
 use Rattle.fdb_core.specs.check.Comparing.{IsAnswered}
 use Rattle.fdb_core.specs.headline.Headline.{replies_of}
 use Rattle.fdb_core.specs.programs.ProgramLaws.{AgreeWhereOrdinary}
-use Rattle.fdb_core.specs.programs.Programs.{program, exec}
-use Rattle.fdb_core.specs.refinement.Roles.{value_after_op}
+use Rattle.fdb_core.specs.programs.Programs.{program, exec, value_after_op}
 use Rattle.fdb_core.proofs.programs.ProgramLaws.{get-copy, program-push}
 use Rattle.fdb_core.proofs.refinement.RoleTies.{take-next}
 use Rattle.fdb_core.proofs.invariant.SoundLemmas.{replies_of-push}

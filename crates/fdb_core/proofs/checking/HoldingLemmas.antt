@@ -15,14 +15,12 @@ use Rattle.fdb_txn.specs.declared.entry.Entry.{Entry}
 use Rattle.fdb_txn.specs.book.Transactions.{Transaction, some_names}
 use Rattle.fdb_txn.specs.book.Book.{Stamped, Place, Seen, nothing, placed, add_entry, seen_of}
 use Rattle.fdb_txn.specs.rules.Admission.{committed}
-use Rattle.fdb_txn.specs.rules.Messages.{committed_from, value_after}
+use Rattle.fdb_txn.specs.rules.Messages.{committed_from, value_after, Message, value_in, value_with}
 use Rattle.fdb_txn.specs.rules.SerialMap.{serial_map, serial_map_at}
 use Rattle.fdb_txn.proofs.rules.MessagesLemmas.{get-effects, serial_map-add_places}
-use Rattle.fdb_core.specs.declared.roles.log.Message.{Message}
 use Rattle.fdb_core.specs.check.Checking.{IsPlainBook}
 use Rattle.fdb_core.specs.check.Holding.{AreAlike, messages_name, batch_names, entries_name, HoldsTheRun}
 use Rattle.fdb_core.specs.machine.Machine.{last_version, seen_before}
-use Rattle.fdb_core.specs.refinement.Roles.{value_in}
 use Rattle.fdb_core.specs.machine.Verdicts.{moves_through}
 use Rattle.fdb_core.proofs.refinement.RoleTies.{take-next}
 use Rattle.fdb_core.proofs.refinement.RunLaws.{entries-rising, map-between}
@@ -79,10 +77,6 @@ unnamed-value x value (mutation ∷ mutations) unnamed =
     let parts = or_parts (names mutation x) (some_names mutations x) unnamed in
     ap (λ (now : Option (List ℕ)). fold (value_after x) now mutations) (cond-false (names mutation x) (new_value mutation value) value parts.0)
     ∙ unnamed-value x value mutations parts.1
-
--- what stands at a point after a message
-abbrev value_with : ℕ → Point → Option (List ℕ) → Message → Option (List ℕ)
-value_with v x value message = if nat_le message.version v then fold (value_after x) value message.body else value
 
 unnamed-messages : (v : ℕ) (x : Point) (value : Option (List ℕ)) (messages : List Message) → messages_name messages x ≡ false → fold (value_with v x) value messages ≡ value
 unnamed-messages v x value [] unnamed = refl

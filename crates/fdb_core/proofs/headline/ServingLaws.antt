@@ -1,5 +1,5 @@
 -- What the one resolver, the log and the shard keep is what the book says of them.
-use Rattle.std.proofs.Common.{◌≡◌, ◌∙◌, sym, ap, refl, subst, ℕ, zero, suc, ◌-◌, false, List, [], ◌∷◌, take, slice_get, Some}
+use Rattle.std.proofs.Common.{◌≡◌, ◌∙◌, sym, ap, refl, subst, ℕ, zero, suc, ◌-◌, false, List, [], ◌∷◌, map, take, slice_get, Some}
 use Rattle.std.specs.FinMap.{get}
 use Rattle.fdb_keys.specs.Points.{Point}
 use Rattle.fdb_interval.specs.Versions.{version_at}
@@ -8,13 +8,15 @@ use Rattle.fdb_txn.specs.rules.Owners.{window}
 use Rattle.fdb_txn.specs.rules.Resolvers.{IsStateOf}
 use Rattle.fdb_txn.specs.rules.SerialMap.{serial_map_at}
 use Rattle.fdb_core.specs.declared.cluster.Cluster.{Cluster}
-use Rattle.fdb_core.specs.declared.roles.log.Message.{Message}
+use Rattle.fdb_txn.specs.rules.Messages.{Message, value_in}
 use Rattle.fdb_core.specs.machine.Roles.{ShardProgress}
 use Rattle.fdb_core.specs.refinement.Cluster.{machine_of, system_of, Refines}
 use Rattle.fdb_core.specs.machine.Machine.{Machine, last_version, seen_before}
-use Rattle.fdb_core.specs.refinement.Roles.{along, message_on, value_in}
+use Rattle.fdb_core.specs.refinement.Roles.{along, message_on}
 use Rattle.fdb_core.specs.headline.Serving.{EachKeeps, ResolverKeeps, LogKeeps, ShardServes, RolesKeep}
 use Rattle.fdb_core.proofs.refinement.RunLaws.{entries-rising, take-along, value-of-serial_map}
+use Rattle.fdb_core.specs.declared.roles.resolver.ResolverRole.{ResolverRole}
+use Rattle.fdb_core.specs.refinement.Resolving.{taken_by}
 
 -- of one role alone
 each-one : {A B : Type 0} (P : ℕ → A → B → Type 0) (a : A) (b : B) → P 0 a b → EachKeeps P (a ∷ []) (b ∷ [])
@@ -34,16 +36,17 @@ roles_keep k refines = (resolver, log, shard)
     m : Machine
     m = machine_of k
 
-    resolver : EachKeeps (ResolverKeeps m) m.resolvers (k.resolver ∷ [])
+    resolver : EachKeeps (ResolverKeeps m) m.resolvers (map (λ (role : ResolverRole). role.core) k.resolvers.items)
     resolver =
-        let ok = refines.resolver in
-        let keeps : ResolverKeeps m 0 ok.taken k.resolver = (
+        let role = refines.resolvers.role in
+        let ok = refines.resolvers.ok in
+        let keeps : ResolverKeeps m 0 role.taken role.core = (
           ok.state.last,
-          subst (λ (splits : List Point). IsStateOf splits 0 (seen_before k.book.items ok.taken).places
-              (last_version (take ok.taken k.book.items) - window) (version_at k.resolver.versions)) (sym refines.plain.resolver_splits) ok.state.state,
+          subst (λ (splits : List Point). IsStateOf splits 0 (seen_before k.book.items role.taken).places
+              (last_version (take role.taken k.book.items) - window) (version_at role.core.versions)) (sym refines.plain.resolver_splits) ok.state.state,
         ) in
-        subst (λ (far : List ℕ). EachKeeps (ResolverKeeps m) far (k.resolver ∷ [])) (sym ok.one)
-        (each-one (ResolverKeeps m) ok.taken k.resolver keeps)
+        subst (λ (roles : List ResolverRole). EachKeeps (ResolverKeeps m) (taken_by roles) (map (λ (one : ResolverRole). one.core) roles)) (sym refines.resolvers.one)
+        (each-one (ResolverKeeps m) role.taken role.core keeps)
 
     log : EachKeeps (LogKeeps m) m.logs (k.log.items ∷ [])
     log =

@@ -1,8 +1,8 @@
 -- The walk over the steps of all kinds: what accepted steps change, and what they keep.
-use Rattle.std.proofs.Common.{◌≡◌, ◌<◌, ◌≤◌, refl, ap, subst, ℕ, ◌+◌, ◌%◌, min, max, Bool, true, false, not, ◌&&◌, ◌||◌, List, [], ◌∷◌, ◌++◌, length, fold, Some, Result, Ok, Err}
-use Rattle.std.specs.Prelude.{◌==◌, nat_lt, nat_le}
+use Rattle.std.proofs.Common.{◌≡◌, ◌<◌, ◌≤◌, refl, ap, subst, ℕ, ◌+◌, ◌%◌, min, max, Bool, true, false, not, ◌&&◌, List, [], ◌∷◌, ◌++◌, length, fold, Some, Result, Ok, Err}
+use Rattle.std.specs.Prelude.{nat_lt, nat_le}
 use Rattle.std.specs.List.{slice_get, slice_set, list_any, remove}
-use Rattle.std.proofs.lemmas.Bool.{and_parts, or_parts, not-false, ltb-false, leb-false}
+use Rattle.std.proofs.lemmas.Bool.{and_parts, not-false, ltb-false, leb-false}
 use Rattle.fdb_keys.specs.declared.refusal.Refusal.{Refusal}
 use Rattle.fdb_mutations.specs.Mutations.{mutation_fault}
 use Rattle.fdb_txn.specs.declared.entry.Entry.{Entry}
@@ -11,7 +11,7 @@ use Rattle.fdb_txn.specs.book.Book.{seen_of}
 use Rattle.fdb_txn.specs.rules.SerialMap.{serial_map_at}
 use Rattle.fdb_sequencer.specs.Limits.{version_limit}
 use Rattle.fdb_sequencer.specs.Sequencer.{next_version}
-use Rattle.fdb_core.specs.machine.Roles.{CommitProxy, Stage, Idle, Resolving, Logging, Reported, ShardProgress, Submission}
+use Rattle.fdb_core.specs.machine.Roles.{CommitProxy, Stage, Idle, Resolving, Logging, Reported, ShardProgress, Submission, Sender, FromResolver, FromLog}
 use Rattle.fdb_core.specs.declared.roles.client.program.Op.{Op}
 use Rattle.fdb_core.specs.declared.roles.client.program.Op.TheVariants as op
 use Rattle.fdb_core.specs.declared.roles.client.program.Transcript.{Transcript}
@@ -21,7 +21,7 @@ use Rattle.fdb_core.specs.declared.step.Step.TheVariants as step
 use Rattle.fdb_core.specs.headline.Promises.{reported}
 use Rattle.fdb_core.specs.headline.Traces.{after_steps}
 use Rattle.fdb_core.specs.machine.ClientSteps.{asks, grants, gets, writes, submits, without, serve, add_operation, has_no_number, read_fault, is_nil}
-use Rattle.fdb_core.specs.machine.CommitProxySteps.{seals, receives_verdicts, decides, receives_acknowledgement, reports, answers, is_idle, is_resolving, is_logging, is_reported, placed_from}
+use Rattle.fdb_core.specs.machine.CommitProxySteps.{seals, taken_by_sender, awaits, with_received, receives, decides, reports, answers, is_idle, is_resolving, is_logging, is_reported, placed_from}
 use Rattle.fdb_core.specs.machine.Machine.{Machine, Transition, is_busy, is_set, first_missing, last_version, seen_before}
 use Rattle.fdb_core.specs.machine.RoleSteps.{resolves, pushes, pulls}
 use Rattle.fdb_core.specs.machine.Steps.{next, answer_of, after}
@@ -106,18 +106,24 @@ stage-is Resolving = (λ is. cc, λ is. refl, λ is. cc, λ is. cc)
 stage-is Logging = (λ is. cc, λ is. cc, λ is. refl, λ is. cc)
 stage-is Reported = (λ is. cc, λ is. cc, λ is. cc, λ is. refl)
 
--- what is awaited by the stage: the test that refuses failed
-awaits : (stage same doubled : Bool) → (not (stage && same) || doubled) ≡ false → stage ≡ true
-awaits stage same doubled test = (and_parts stage same (not-false (stage && same) (or_parts (not (stage && same)) doubled test).0)).0
-
 module _ (R : Machine → ℕ → Machine → Type 0) (holds : HoldsOfSteps R) where
   -- between the machine and where a step takes it
   abbrev Leads : Machine → Step → Transition → Type 0
   Leads m taken transition = R m (reported taken (Ok transition.answer)) transition.next
 
+  -- what a proxy waits for comes
+  received : (m : Machine) (proxy : ℕ) (commit_proxy : CommitProxy) (i : ℕ) (sender : Sender) → slice_get m.commit_proxies proxy ≡ Some commit_proxy
+      → awaits commit_proxy i sender ≡ true → R m 0 (record m { commit_proxies = slice_set m.commit_proxies proxy (with_received commit_proxy sender) })
+  received m proxy commit_proxy i (FromResolver resolver) at awaited =
+      let stage = (stage-is commit_proxy.stage).1 (and_parts _ _ (and_parts _ _ awaited).0).0 in
+      holds.went_on m proxy commit_proxy commit_proxy.stage m.decided _ _ at (ap is_idle stage) (ap is_idle stage) (ap is_reported stage)
+  received m proxy commit_proxy i (FromLog log) at awaited =
+      let stage = (stage-is commit_proxy.stage).2 (and_parts _ _ (and_parts _ _ awaited).0).0 in
+      holds.went_on m proxy commit_proxy commit_proxy.stage m.decided _ _ at (ap is_idle stage) (ap is_idle stage) (ap is_reported stage)
+
   -- it holds of every accepted step
   holds-next : (m : Machine) (taken : Step) → IfAccepted (Leads m taken) (next m taken)
-  unfolding asks grants gets writes submits seals resolves receives_verdicts decides pushes receives_acknowledgement reports answers pulls
+  unfolding asks grants gets writes submits seals resolves receives decides pushes reports answers pulls
   holds-next m (step.Ask session proxy) =
       past-found _ (slice_get m.grv_proxies proxy) _ (λ there at.
       past-test _ (is_busy session m.grv_proxies m.commit_proxies) _ _ (λ free. holds.asked m session proxy there at free))
@@ -144,11 +150,9 @@ module _ (R : Machine → ℕ → Machine → Type 0) (holds : HoldsOfSteps R) w
       past-found _ (slice_get m.book i) _ (λ entry _. past-found _ (slice_get m.resolvers resolver) _ (λ taken _.
       past-turn _ taken i entry _ (holds.roles m (slice_set m.resolvers resolver (taken + 1)) m.logs m.shards)))
   holds-next m (step.Verdict i resolver) =
-      past-found _ (slice_get m.resolvers resolver) _ (λ taken _. past-test _ (nat_le taken i) _ _ (λ _.
+      past-found _ (taken_by_sender m (FromResolver resolver)) _ (λ taken _. past-test _ (nat_le taken i) _ _ (λ _.
       past-found _ (slice_get m.entry_proxies i) _ (λ proxy _. past-found _ (slice_get m.commit_proxies proxy) _ (λ commit_proxy at.
-      past-test _ (not (is_resolving commit_proxy.stage && (commit_proxy.entry == i)) || is_set commit_proxy.verdicts_received resolver) _ _ (λ awaited.
-      let stage = (stage-is commit_proxy.stage).1 (awaits _ _ _ awaited) in
-      holds.went_on m proxy commit_proxy commit_proxy.stage m.decided _ _ at (ap is_idle stage) (ap is_idle stage) (ap is_reported stage))))))
+      past-test _ (not (awaits commit_proxy i (FromResolver resolver))) _ _ (λ awaited. received m proxy commit_proxy i (FromResolver resolver) at (not-false _ awaited))))))
   holds-next m (step.Decide proxy) =
       past-found _ (slice_get m.commit_proxies proxy) _ (λ commit_proxy at.
       past-test _ (not (is_resolving commit_proxy.stage)) _ _ (λ resolving.
@@ -160,11 +164,9 @@ module _ (R : Machine → ℕ → Machine → Type 0) (holds : HoldsOfSteps R) w
       past-found _ (slice_get m.book i) _ (λ entry _. past-found _ (slice_get m.logs log) _ (λ taken _.
       past-test _ (not (is_set m.decided i)) _ _ (λ _. past-turn _ taken i entry _ (holds.roles m m.resolvers (slice_set m.logs log (taken + 1)) m.shards))))
   holds-next m (step.Logged i log) =
-      past-found _ (slice_get m.logs log) _ (λ taken _. past-test _ (nat_le taken i) _ _ (λ _.
+      past-found _ (taken_by_sender m (FromLog log)) _ (λ taken _. past-test _ (nat_le taken i) _ _ (λ _.
       past-found _ (slice_get m.entry_proxies i) _ (λ proxy _. past-found _ (slice_get m.commit_proxies proxy) _ (λ commit_proxy at.
-      past-test _ (not (is_logging commit_proxy.stage && (commit_proxy.entry == i)) || is_set commit_proxy.acknowledgements_received log) _ _ (λ awaited.
-      let stage = (stage-is commit_proxy.stage).2 (awaits _ _ _ awaited) in
-      holds.went_on m proxy commit_proxy commit_proxy.stage m.decided _ _ at (ap is_idle stage) (ap is_idle stage) (ap is_reported stage))))))
+      past-test _ (not (awaits commit_proxy i (FromLog log))) _ _ (λ awaited. received m proxy commit_proxy i (FromLog log) at (not-false _ awaited))))))
   holds-next m (step.Report proxy) =
       past-found _ (slice_get m.commit_proxies proxy) _ (λ commit_proxy at.
       past-test _ (not (is_logging commit_proxy.stage)) _ _ (λ logging.

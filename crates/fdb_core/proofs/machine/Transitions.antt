@@ -20,8 +20,7 @@ use Rattle.fdb_core.specs.machine.ClientSteps.{gets, add_operation, read_fault, 
 use Rattle.fdb_core.specs.machine.Machine.{Machine, is_of, is_set, seen_before}
 use Rattle.fdb_core.specs.machine.RoleSteps.{resolves, pushes}
 use Rattle.fdb_core.specs.machine.Verdicts.{verdicts_on}
-use Rattle.fdb_core.specs.programs.Programs.{program, copy, decided}
-use Rattle.fdb_core.specs.refinement.Roles.{value_after_op}
+use Rattle.fdb_core.specs.programs.Programs.{program, copy, decided, value_after_op}
 use Rattle.fdb_core.proofs.programs.ProgramLaws.{get-copy, decided-value}
 
 -- a read that finds the session's transaction, without a fault

@@ -13,8 +13,7 @@ use Rattle.fdb_mutations.proofs.Effects.{at_every_point}
 use Rattle.fdb_core.specs.declared.roles.client.program.Op.{Op}
 use Rattle.fdb_core.specs.declared.roles.client.program.Op.TheVariants as op
 use Rattle.fdb_core.specs.declared.roles.client.program.Reply.{Reply}
-use Rattle.fdb_core.specs.programs.Programs.{program, copy, decides, decided, mutations_of}
-use Rattle.fdb_core.specs.refinement.Roles.{value_after_op}
+use Rattle.fdb_core.specs.programs.Programs.{program, copy, decides, decided, mutations_of, value_after_op}
 use Rattle.fdb_core.proofs.common.AllLemmas.{all-push}
 
 -- every mutation of the program is a legal one

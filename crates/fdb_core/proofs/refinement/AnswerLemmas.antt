@@ -12,6 +12,7 @@ use Rattle.fdb_core.specs.machine.CommitProxySteps.{answers, is_idle, is_resolvi
 use Rattle.fdb_core.specs.machine.Verdicts.{outcomes_on}
 use Rattle.fdb_core.proofs.refinement.BatchLaws.{length-outcomes_on}
 use Rattle.fdb_core.proofs.refinement.CommitProxyTies.{commit_proxy-at}
+use Rattle.fdb_core.specs.refinement.Resolving.{taken_by}
 
 -- what a commit proxy finds whose version was reported
 pub record Answering (k : Cluster) (proxy : ℕ) (commit_proxy : CommitProxy) (entry : Entry) : Type 0 where
@@ -28,8 +29,8 @@ only_reported Reported reported = (refl, refl)
 
 -- the batch whose clients are answered
 module _ (k : Cluster) (proxy : ℕ) (commit_proxy : CommitProxy) (entry : Entry) (refines : Refines k) (found : Answering k proxy commit_proxy entry) where
-  ok : CommitProxyRefines k.book.items k.resolvers.items k.sequencer.committed commit_proxy k.outcomes
-  ok = commit_proxy-at k.book.items k.resolvers.items k.sequencer.committed k.commit_proxies.items k.outcomes proxy commit_proxy refines.commit_proxies found.proxy_there
+  ok : CommitProxyRefines k.book.items (taken_by k.resolvers.items) k.sequencer.committed commit_proxy k.outcomes
+  ok = commit_proxy-at k.book.items (taken_by k.resolvers.items) k.sequencer.committed k.commit_proxies.items k.outcomes proxy commit_proxy refines.commit_proxies found.proxy_there
 
   -- the outcomes that are kept are what became of the places
   kept : k.outcomes ≡ outcomes_on [] (seen_before k.book.items commit_proxy.entry) entry

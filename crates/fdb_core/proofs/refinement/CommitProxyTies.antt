@@ -1,11 +1,15 @@
 -- The one commit proxy, kept tied through the steps.
-use Rattle.std.proofs.Common.{◌≡◌, ◌∙◌, sym, ap, subst, ℕ, zero, suc, ◌<◌, ◌≤◌, Bool, true, false, List, [], ◌∷◌, ◌++◌, Option, Some, None, arith}
+use Rattle.std.proofs.Common.{◌≡◌, ◌∙◌, refl, sym, ap, subst, ℕ, zero, suc, ◌<◌, ◌≤◌, Bool, true, false, List, [], ◌∷◌, ◌++◌, Option, Some, None, Ok, arith}
 use Rattle.std.specs.List.{AllByRecursion, slice_get, slice_set}
+use Rattle.std.proofs.lemmas.Bool.{lt-leb}
+use Rattle.std.proofs.lemmas.List.{length-set}
 use Rattle.fdb_txn.specs.declared.entry.Entry.{Entry}
-use Rattle.fdb_core.specs.machine.Roles.{CommitProxy, Logging, Reported, Submission}
+use Rattle.fdb_core.specs.machine.Roles.{CommitProxy, Logging, Reported, Sender, FromResolver, FromLog, Submission}
+use Rattle.fdb_core.specs.declared.step.Answered.TheVariants as answered
 use Rattle.fdb_core.specs.declared.step.Outcome.{Outcome}
+use Rattle.fdb_core.specs.machine.Machine.{Machine}
 use Rattle.fdb_core.specs.refinement.Cluster.{CommitProxyRefines, CommitProxiesRefine, WaitsRefines}
-use Rattle.fdb_core.specs.machine.CommitProxySteps.{is_idle, is_resolving}
+use Rattle.fdb_core.specs.machine.CommitProxySteps.{is_idle, is_resolving, awaits, receives, taken_by_sender, with_received}
 use Rattle.fdb_core.proofs.common.AllLemmas.{all-push}
 use Rattle.fdb_txn.proofs.book.HistoryLemmas.{all-weaken}
 use Rattle.fdb_core.proofs.refinement.RoleTies.{one-at}
@@ -67,3 +71,40 @@ commit_proxy-reported book resolvers committed raised outcomes commit_proxy abov
       delivered = λ taken _. ok.delivered taken busy;
       decision = λ entry _ _. ok.decision entry busy decided;
     }
+
+-- what a resolver or a log says of the batch in flight comes, and the sender took the entry
+pub commit_proxy-receives : (book : List Entry) (resolvers : List ℕ) (committed : ℕ) (outcomes : List Outcome) (commit_proxy : CommitProxy) (sender : Sender) (one : ℕ)
+    → resolvers ≡ one ∷ [] → ((resolver : ℕ) → sender ≡ FromResolver resolver → (taken : ℕ) × (slice_get resolvers resolver ≡ Some taken) × (commit_proxy.entry < taken))
+    → CommitProxyRefines book resolvers committed commit_proxy outcomes → CommitProxyRefines book resolvers committed (with_received commit_proxy sender) outcomes
+commit_proxy-receives book resolvers committed outcomes commit_proxy (FromResolver resolver) one is took ok =
+    let there = took resolver refl in
+    let own : (resolver ≡ 0) × (one ≡ there.0) = one-at one there.0 resolver (rw is at there.1) in
+    record {
+      waiting = ok.waiting;
+      in_book = ok.in_book;
+      aligned = ok.aligned;
+      verdicts_received = λ busy. length-set commit_proxy.verdicts_received resolver true ∙ ok.verdicts_received busy;
+      delivered = λ taken busy set now.
+          let same : (0 ≡ 0) × (one ≡ taken) = one-at one taken 0 (rw is at now) in
+          omega (arith, there.2, own.1, same.1);
+      decision = ok.decision;
+    }
+commit_proxy-receives book resolvers committed outcomes commit_proxy (FromLog log) one is took ok = record {
+  waiting = ok.waiting;
+  in_book = ok.in_book;
+  aligned = ok.aligned;
+  verdicts_received = ok.verdicts_received;
+  delivered = ok.delivered;
+  decision = ok.decision;
+}
+
+-- what the machine does where the entry's proxy waits for it
+pub receives-transition : (m : Machine) (entry : ℕ) (sender : Sender) (taken proxy : ℕ) (commit_proxy : CommitProxy)
+    → taken_by_sender m sender ≡ Some taken → entry < taken → slice_get m.entry_proxies entry ≡ Some proxy → slice_get m.commit_proxies proxy ≡ Some commit_proxy
+    → awaits commit_proxy entry sender ≡ true
+    → receives m entry sender ≡ Ok (record {
+      answer = answered.Done;
+      next = record m { commit_proxies = slice_set m.commit_proxies proxy (with_received commit_proxy sender) };
+    })
+unfolding receives
+receives-transition m entry sender taken proxy commit_proxy took less its there waits = rw (took, lt-leb taken entry less, its, there, waits) refl

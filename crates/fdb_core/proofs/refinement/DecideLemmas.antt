@@ -11,7 +11,7 @@ use Rattle.fdb_txn.specs.declared.entry.Entry.{Entry}
 use Rattle.fdb_txn.specs.book.Book.{Seen}
 use Rattle.fdb_core.specs.declared.cluster.Cluster.{Cluster}
 use Rattle.fdb_core.specs.machine.Roles.{CommitProxy, Stage, Idle, Resolving, Logging, Reported}
-use Rattle.fdb_core.specs.declared.roles.log.Message.{Message}
+use Rattle.fdb_txn.specs.rules.Messages.{Message}
 use Rattle.fdb_resolver.specs.declared.verdict.Verdict.{Verdict}
 use Rattle.fdb_core.specs.declared.step.Outcome.{Outcome}
 use Rattle.fdb_core.specs.declared.step.Answered.TheVariants as answered
@@ -23,9 +23,11 @@ use Rattle.fdb_core.specs.machine.Verdicts.{verdicts_on, is_needed, outcomes_on}
 use Rattle.fdb_core.proofs.common.AllLemmas.{all-at}
 use Rattle.fdb_core.proofs.refinement.BatchLaws.{needed-points, not_needed-verdicts, outcomes-decided, body-committed}
 use Rattle.fdb_core.proofs.refinement.CommitProxyTies.{commit_proxy-at, commit_proxies-set}
-use Rattle.fdb_core.specs.refinement.Resolving.{is_judged}
+use Rattle.fdb_core.specs.refinement.Resolving.{is_judged, taken_by, sent_by}
 use Rattle.fdb_core.proofs.refinement.NoMoves.{no_moves-before, no_moves-at}
 use Rattle.fdb_core.proofs.refinement.RunLaws.{entries-below, slice_get-along, length-along}
+use Rattle.fdb_core.specs.declared.roles.resolver.ResolverRole.{ResolverRole}
+use Rattle.fdb_core.proofs.refinement.RoleTies.{sent-is}
 
 -- a list's item that was set, and any other one
 set-here : {A : Type 0} (xs : List A) (i : ℕ) (x : A) → i < length xs → slice_get (slice_set xs i x) i ≡ Some x
@@ -120,8 +122,8 @@ module _ (k : Cluster) (proxy : ℕ) (commit_proxy : CommitProxy) (entry : Entry
   below : ReadsBelow entry
   below = all-at ReadsBelow k.book.items commit_proxy.entry entry (entries-below 1 0 k.book.items refines.book.entries) found.entry_there
 
-  ok : CommitProxyRefines k.book.items k.resolvers.items k.sequencer.committed commit_proxy k.outcomes
-  ok = commit_proxy-at k.book.items k.resolvers.items k.sequencer.committed k.commit_proxies.items k.outcomes proxy commit_proxy refines.commit_proxies found.proxy_there
+  ok : CommitProxyRefines k.book.items (taken_by k.resolvers.items) k.sequencer.committed commit_proxy k.outcomes
+  ok = commit_proxy-at k.book.items (taken_by k.resolvers.items) k.sequencer.committed k.commit_proxies.items k.outcomes proxy commit_proxy refines.commit_proxies found.proxy_there
 
   not_idle : is_idle commit_proxy.stage ≡ false
   not_idle = busy commit_proxy.stage found.resolving
@@ -154,29 +156,29 @@ module _ (k : Cluster) (proxy : ℕ) (commit_proxy : CommitProxy) (entry : Entry
       rw (found.proxy_there, found.resolving, found.entry_there, refines.plain.resolver_splits, missing is_received is, none) refl
 
   -- a flag that is set tells that the resolver took the entry
-  taken : is_set commit_proxy.verdicts_received 0 ≡ true → commit_proxy.entry < refines.resolver.taken
-  taken verdicts_received = ok.delivered refines.resolver.taken not_idle verdicts_received (ap (λ (resolvers : List ℕ). slice_get resolvers 0) refines.resolver.one)
+  taken : is_set commit_proxy.verdicts_received 0 ≡ true → commit_proxy.entry < refines.resolvers.role.taken
+  taken verdicts_received = ok.delivered refines.resolvers.role.taken not_idle verdicts_received (ap (λ (resolvers : List ResolverRole). slice_get (taken_by resolvers) 0) refines.resolvers.one)
 
   -- and so there are verdicts on it
-  pub verdicts_received-taken : is_set commit_proxy.verdicts_received 0 ≡ true → commit_proxy.entry < length k.verdicts.items
+  pub verdicts_received-taken : is_set commit_proxy.verdicts_received 0 ≡ true → commit_proxy.entry < length (sent_by k.resolvers.items)
   verdicts_received-taken verdicts_received =
       let made : List (List (ℕ × Verdict)) = along (verdicts_on [] 0) k.book.items in
       let all : length made ≡ length k.book.items = length-along (verdicts_on [] 0) k.book.items in
-      let inside : refines.resolver.taken ≤ length made = omega (arith, all, refines.resolver.within) in
-      let count : length k.verdicts.items ≡ refines.resolver.taken =
-      ap (λ (verdicts : List (List (ℕ × Verdict))). length verdicts) refines.resolver.sent ∙ length-take-le refines.resolver.taken made inside in
+      let inside : refines.resolvers.role.taken ≤ length made = omega (arith, all, refines.resolvers.ok.within) in
+      let count : length (sent_by k.resolvers.items) ≡ refines.resolvers.role.taken =
+      ap (λ (verdicts : List (List (ℕ × Verdict))). length verdicts) (sent-is k.book.items k.resolvers.items refines.resolvers) ∙ length-take-le refines.resolvers.role.taken made inside in
       omega (arith, count, taken verdicts_received)
 
   -- the verdicts that the resolver sent
-  sent : is_set commit_proxy.verdicts_received 0 ≡ true → slice_get k.verdicts.items commit_proxy.entry ≡ Some (verdicts_on [] 0 (seen_before k.book.items commit_proxy.entry) entry)
+  sent : is_set commit_proxy.verdicts_received 0 ≡ true → slice_get (sent_by k.resolvers.items) commit_proxy.entry ≡ Some (verdicts_on [] 0 (seen_before k.book.items commit_proxy.entry) entry)
   sent verdicts_received =
-      ap (λ (verdicts : List (List (ℕ × Verdict))). slice_get verdicts commit_proxy.entry) refines.resolver.sent
-      ∙ taken-at (along (verdicts_on [] 0) k.book.items) refines.resolver.taken commit_proxy.entry (taken verdicts_received)
+      ap (λ (verdicts : List (List (ℕ × Verdict))). slice_get verdicts commit_proxy.entry) (sent-is k.book.items k.resolvers.items refines.resolvers)
+      ∙ taken-at (along (verdicts_on [] 0) k.book.items) refines.resolvers.role.taken commit_proxy.entry (taken verdicts_received)
       ∙ slice_get-along (verdicts_on [] 0) k.book.items commit_proxy.entry entry found.entry_there
 
   -- what is decided is what becomes of the places
   pub decision-outcomes : (is_received : Bool) (decision : List Outcome × Message) → is_set commit_proxy.verdicts_received 0 ≡ is_received → (is_any_judged entry && not is_received) ≡ false
-      → IsDecision k.book.items k.verdicts.items commit_proxy.entry is_received decision
+      → IsDecision k.book.items (sent_by k.resolvers.items) commit_proxy.entry is_received decision
       → decision.0 ≡ outcomes_on [] (seen_before k.book.items commit_proxy.entry) entry
   decision-outcomes true decision is none made =
       (made entry (verdicts_on [] 0 (seen_before k.book.items commit_proxy.entry) entry) found.entry_there (λ verdicts_received. sent is)).0
@@ -190,7 +192,7 @@ module _ (k : Cluster) (proxy : ℕ) (commit_proxy : CommitProxy) (entry : Entry
 
   -- and its message is what the log gets
   pub decision-message : (is_received : Bool) (decision : List Outcome × Message) → is_set commit_proxy.verdicts_received 0 ≡ is_received → (is_any_judged entry && not is_received) ≡ false
-      → IsDecision k.book.items k.verdicts.items commit_proxy.entry is_received decision
+      → IsDecision k.book.items (sent_by k.resolvers.items) commit_proxy.entry is_received decision
       → decision.1 ≡ message_on [] (seen_before k.book.items commit_proxy.entry) entry
   decision-message is_received decision is none made = by_heard is_received is made
       ∙ ap (λ (outcomes : List Outcome). message_by outcomes) (decision-outcomes is_received decision is none made)
@@ -199,14 +201,14 @@ module _ (k : Cluster) (proxy : ℕ) (commit_proxy : CommitProxy) (entry : Entry
       message_by : List Outcome → Message
       message_by outcomes = record { version = entry.version; body = body_by entry.batch outcomes }
 
-      by_heard : (verdicts_received : Bool) → is_set commit_proxy.verdicts_received 0 ≡ verdicts_received → IsDecision k.book.items k.verdicts.items commit_proxy.entry verdicts_received decision → decision.1 ≡ message_by decision.0
+      by_heard : (verdicts_received : Bool) → is_set commit_proxy.verdicts_received 0 ≡ verdicts_received → IsDecision k.book.items (sent_by k.resolvers.items) commit_proxy.entry verdicts_received decision → decision.1 ≡ message_by decision.0
       by_heard true is made = (made entry (verdicts_on [] 0 (seen_before k.book.items commit_proxy.entry) entry) found.entry_there (λ verdicts_received. sent is)).1
       by_heard false is made = (made entry [] found.entry_there (λ verdicts_received. absurd (true≢false (sym verdicts_received)))).1
 
   -- the lane goes on with its outcomes
   commit_proxy-decided : (outcomes : List Outcome) → outcomes ≡ outcomes_on [] (seen_before k.book.items commit_proxy.entry) entry
-      → CommitProxyRefines k.book.items k.resolvers.items k.sequencer.committed commit_proxy k.outcomes
-      → CommitProxyRefines k.book.items k.resolvers.items k.sequencer.committed (record commit_proxy { stage = Logging }) outcomes
+      → CommitProxyRefines k.book.items (taken_by k.resolvers.items) k.sequencer.committed commit_proxy k.outcomes
+      → CommitProxyRefines k.book.items (taken_by k.resolvers.items) k.sequencer.committed (record commit_proxy { stage = Logging }) outcomes
   commit_proxy-decided outcomes are held = record {
     waiting = held.waiting;
     in_book = λ busy_now. held.in_book not_idle;
@@ -243,9 +245,9 @@ module _ (k : Cluster) (proxy : ℕ) (commit_proxy : CommitProxy) (entry : Entry
           each_pooled = length-set k.messages.items commit_proxy.entry (Some message) ∙ book.each_pooled;
           made = made-set k.decided.items (along (message_on []) k.book.items) k.messages.items commit_proxy.entry message made within book.made;
         };
-        resolver = refines.resolver;
+        resolvers = refines.resolvers;
         log = refines.log;
-        commit_proxies = commit_proxies-set k.book.items k.book.items k.resolvers.items k.resolvers.items k.sequencer.committed k.sequencer.committed k.outcomes outcomes k.commit_proxies.items proxy commit_proxy
+        commit_proxies = commit_proxies-set k.book.items k.book.items (taken_by k.resolvers.items) (taken_by k.resolvers.items) k.sequencer.committed k.sequencer.committed k.outcomes outcomes k.commit_proxies.items proxy commit_proxy
             (record commit_proxy { stage = Logging }) refines.commit_proxies found.proxy_there (commit_proxy-decided outcomes are);
         opened = refines.opened;
       }

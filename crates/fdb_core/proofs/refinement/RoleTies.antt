@@ -10,12 +10,13 @@ use Rattle.fdb_txn.specs.book.Book.{add_entry, seen_of}
 use Rattle.fdb_txn.specs.book.History.{AreEntries}
 use Rattle.fdb_resolver.specs.Resolvers.{Resolver}
 use Rattle.fdb_core.specs.machine.Roles.{CommitProxy, ShardProgress}
-use Rattle.fdb_core.specs.declared.roles.log.Message.{Message}
+use Rattle.fdb_txn.specs.rules.Messages.{Message}
+use Rattle.fdb_core.specs.declared.roles.resolver.ResolverRole.{ResolverRole}
 use Rattle.fdb_core.specs.declared.step.Outcome.{Outcome}
 use Rattle.fdb_resolver.specs.declared.verdict.Verdict.{Verdict}
-use Rattle.fdb_core.specs.refinement.Cluster.{IsRising, ResolverRefines, LogRefines, CommitProxyRefines, CommitProxiesRefine}
+use Rattle.fdb_core.specs.refinement.Cluster.{IsRising, ResolverRefines, ResolversRefine, LogRefines, CommitProxyRefines, CommitProxiesRefine}
 use Rattle.fdb_core.specs.machine.Machine.{last_version, seen_before}
-use Rattle.fdb_core.specs.refinement.Resolving.{NoMovesIn, ResolverAt, IsNext}
+use Rattle.fdb_core.specs.refinement.Resolving.{NoMovesIn, ResolverAt, IsNext, TakesNext, taken_by, sent_by}
 use Rattle.fdb_core.specs.refinement.Roles.{along, message_on}
 use Rattle.fdb_core.specs.machine.Verdicts.{verdicts_on}
 use Rattle.fdb_core.proofs.common.AllLemmas.{within-item}
@@ -55,31 +56,54 @@ awaits book resolver i entry still entries there at =
       entries = subst (AreEntries 1 0) front (entries-take 1 0 (suc i) book entries);
     }
 
+-- what the one resolver sent
+pub sent-is : (book : List Entry) (resolvers : List ResolverRole) (ok : ResolversRefine book resolvers)
+    → sent_by resolvers ≡ take ok.role.taken (along (verdicts_on [] 0) book)
+sent-is book resolvers ok = ap sent_by ok.one ∙ ok.ok.sent
+
 -- the resolver takes the next entry
-module _ (book : List Entry) (resolvers : List ℕ) (resolver : Resolver) (verdicts : List (List (ℕ × Verdict))) (r i : ℕ) (entry : Entry)
-    (ok : ResolverRefines book resolvers resolver verdicts) (still : NoMovesIn book) (entries : AreEntries 1 0 book)
-    (there : slice_get book i ≡ Some entry) (at : slice_get resolvers r ≡ Some i) where
-  pub resolver-is : (r ≡ 0) × (ok.taken ≡ i)
-  resolver-is = one-at ok.taken i r (rw ok.one at at)
+module _ (book : List Entry) (resolvers : List ResolverRole) (r i : ℕ) (entry : Entry) (role : ResolverRole) (ok : ResolversRefine book resolvers) (still : NoMovesIn book)
+    (entries : AreEntries 1 0 book) (there : slice_get book i ≡ Some entry) (at : slice_get resolvers r ≡ Some role) (due : role.taken ≡ i) where
+  pub resolver-is : (r ≡ 0) × (ok.role ≡ role)
+  resolver-is = one-at ok.role role r (rw ok.one at at)
 
-  pub resolver-awaits : IsNext (take i book) resolver entry
-  resolver-awaits = awaits book resolver i entry still entries there (subst (λ (n : ℕ). ResolverAt (take n book) resolver) resolver-is.1 ok.state)
+  its : ResolverRefines book role
+  its = subst (ResolverRefines book) resolver-is.1 ok.ok
 
-  pub resolver-next : (later : Resolver) (sent : List (ℕ × Verdict)) → ResolverAt (take i book ++ entry ∷ []) later
-      → sent ≡ verdicts_on [] 0 (seen_before book i) entry → ResolverRefines book (slice_set resolvers r (i + 1)) later (verdicts ++ sent ∷ [])
-  resolver-next later sent state said = record {
-    taken = suc i;
-    one = rw (ok.one, resolver-is.0, add-one) refl;
-    within = slice_get_within book i entry there;
-    state = subst (λ (front : List Entry). ResolverAt front later) (sym (take-next book i entry there)) state;
-    sent = ap (λ vs. vs ++ sent ∷ []) (ok.sent ∙ ap (λ (n : ℕ). take n (along (verdicts_on [] 0) book)) resolver-is.1)
-        ∙ ap (λ v. take i (along (verdicts_on [] 0) book) ++ v ∷ []) said
-        ∙ sym (take-next (along (verdicts_on [] 0) book) i _ (slice_get-along (verdicts_on [] 0) book i entry there));
-  }
+  numbers : taken_by resolvers ≡ i ∷ []
+  numbers = ap taken_by ok.one ∙ ap (λ (one : ResolverRole). one.taken ∷ []) resolver-is.1 ∙ ap (λ (n : ℕ). n ∷ []) due
+
+  pub resolver-number : slice_get (taken_by resolvers) r ≡ Some i
+  resolver-number = rw (numbers, resolver-is.0) refl
+
+  pub resolver-awaits : IsNext (take i book) role.core entry
+  resolver-awaits = awaits book role.core i entry still entries there (subst (λ (n : ℕ). ResolverAt (take n book) role.core) due its.state)
+
+  module _ (answer : List (ℕ × Verdict)) (later : ResolverRole) (takes : TakesNext (take i book) entry role answer later) where
+    count : later.taken ≡ suc i
+    count = omega (arith, takes.taken, due)
+
+    pub resolvers-next : ResolversRefine book (slice_set resolvers r later)
+    resolvers-next = record {
+      role = later;
+      one = rw (ok.one, resolver-is.0) refl;
+      ok = record {
+        within = let inside = slice_get_within book i entry there in omega (arith, inside, count);
+        state = subst (λ (n : ℕ). ResolverAt (take n book) later.core) (sym count)
+            (subst (λ (front : List Entry). ResolverAt front later.core) (sym (take-next book i entry there)) takes.state);
+        sent = takes.sent ∙ ap (λ vs. vs ++ answer ∷ []) (its.sent ∙ ap (λ (n : ℕ). take n (along (verdicts_on [] 0) book)) due)
+            ∙ ap (λ v. take i (along (verdicts_on [] 0) book) ++ v ∷ []) takes.rule
+            ∙ sym (take-next (along (verdicts_on [] 0) book) i _ (slice_get-along (verdicts_on [] 0) book i entry there))
+            ∙ ap (λ (n : ℕ). take n (along (verdicts_on [] 0) book)) (sym count);
+      };
+    }
+
+    pub numbers-next : taken_by (slice_set resolvers r later) ≡ slice_set (taken_by resolvers) r (i + 1)
+    numbers-next = rw (ok.one, resolver-is.0) (let same : later.taken ≡ i + 1 = omega (arith, count) in ap (λ (n : ℕ). n ∷ []) same)
 
   -- what was delivered stays delivered
-  pub commit_proxy-resolved : (committed : ℕ) (commit_proxy : CommitProxy) (outcomes : List Outcome) → CommitProxyRefines book resolvers committed commit_proxy outcomes
-      → CommitProxyRefines book (slice_set resolvers r (i + 1)) committed commit_proxy outcomes
+  pub commit_proxy-resolved : (committed : ℕ) (commit_proxy : CommitProxy) (outcomes : List Outcome) → CommitProxyRefines book (taken_by resolvers) committed commit_proxy outcomes
+      → CommitProxyRefines book (slice_set (taken_by resolvers) r (i + 1)) committed commit_proxy outcomes
   commit_proxy-resolved committed commit_proxy outcomes refines = record {
     waiting = refines.waiting;
     in_book = refines.in_book;
@@ -87,14 +111,14 @@ module _ (book : List Entry) (resolvers : List ℕ) (resolver : Resolver) (verdi
     verdicts_received = refines.verdicts_received;
     decision = refines.decision;
     delivered = λ taken busy verdicts_received now.
-        let one : slice_get ((i + 1) ∷ []) 0 ≡ Some taken = rw (ok.one, resolver-is.0) at now in
+        let one : slice_get ((i + 1) ∷ []) 0 ≡ Some taken = rw (numbers, resolver-is.0) at now in
         let same = (one-at (i + 1) taken 0 one).1 in
-        let before = refines.delivered i busy verdicts_received (rw resolver-is.0 at at) in
+        let before = refines.delivered i busy verdicts_received (ap (λ (ns : List ℕ). slice_get ns 0) numbers) in
         omega (arith, before, same);
   }
 
-  pub commit_proxies-resolved : (committed : ℕ) (commit_proxies : List CommitProxy) (outcomes : List Outcome) → CommitProxiesRefine book resolvers committed commit_proxies outcomes
-      → CommitProxiesRefine book (slice_set resolvers r (i + 1)) committed commit_proxies outcomes
+  pub commit_proxies-resolved : (committed : ℕ) (commit_proxies : List CommitProxy) (outcomes : List Outcome) → CommitProxiesRefine book (taken_by resolvers) committed commit_proxies outcomes
+      → CommitProxiesRefine book (slice_set (taken_by resolvers) r (i + 1)) committed commit_proxies outcomes
   commit_proxies-resolved committed commit_proxies outcomes refines = record { commit_proxy = refines.commit_proxy; one = refines.one; ok = commit_proxy-resolved committed refines.commit_proxy outcomes refines.ok }
 
 -- the log takes the message of the next entry

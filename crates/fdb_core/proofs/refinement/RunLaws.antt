@@ -1,5 +1,5 @@
 -- What logs and shards keep, and the run of the committed transactions.
-use Rattle.std.proofs.Common.{◌≡◌, ◌∙◌, sym, ap, refl, ℕ, zero, suc, ◌<◌, ◌≤◌, if◌then◌else◌, nat_le, append_assoc, append-nil, take-append-drop, le_refl, le_of_lt, ⊎_elim, subst, List, [], ◌∷◌, ◌++◌, take, drop, fold, length, slice_get, Option, Some, arith}
+use Rattle.std.proofs.Common.{◌≡◌, ◌∙◌, sym, ap, refl, ℕ, zero, suc, ◌<◌, ◌≤◌, nat_le, append_assoc, append-nil, take-append-drop, le_refl, le_of_lt, ⊎_elim, subst, List, [], ◌∷◌, ◌++◌, take, drop, fold, length, slice_get, Option, Some, arith}
 use Rattle.std.specs.List.{AllByRecursion}
 use Rattle.std.specs.Ordering.{nat_cmp}
 use Rattle.std.specs.Cmp.Lexicographic.{slice_cmp}
@@ -16,12 +16,11 @@ use Rattle.fdb_txn.specs.rules.SerialMap.{serial_map, up_to, serial_map_at}
 use Rattle.fdb_txn.specs.book.History.{AreEntries}
 use Rattle.fdb_txn.proofs.book.HistoryLemmas.{all-weaken, AtMost, add_places-newer, up_to-above, up_to-all}
 use Rattle.fdb_txn.proofs.rules.MessagesLemmas.{at_most-more, get-effects, serial_map-add_places}
-use Rattle.fdb_core.specs.declared.roles.log.Message.{Message}
+use Rattle.fdb_txn.specs.rules.Messages.{Message, value_in, committed_from, value_after, value_with}
 use Rattle.fdb_core.specs.machine.Machine.{last_version, seen_before}
 use Rattle.fdb_core.specs.machine.Verdicts.{moves_through}
 use Rattle.fdb_core.specs.refinement.Cluster.{IsRising, ReadsBelow}
-use Rattle.fdb_core.specs.refinement.Roles.{along, message_on, value_in}
-use Rattle.fdb_txn.specs.rules.Messages.{committed_from, value_after}
+use Rattle.fdb_core.specs.refinement.Roles.{along, message_on}
 
 -- `along` from what was seen before, by recursion from the front
 along_from : {A : Type 0} → (Seen → Entry → A) → Seen → List Entry → List A
@@ -177,10 +176,6 @@ up_to-behind v least seen [] reached rising = refl
 up_to-behind v least seen (entry ∷ book) reached rising =
     up_to-behind v entry.version (add_entry seen entry) book (omega (arith, rising.0)) rising.1
     ∙ up_to-entry v entry.version (moves_through seen entry) entry.batch seen.places (omega (arith, rising.0))
-
--- what stands at a point after a message
-abbrev value_with : ℕ → Point → Option (List ℕ) → Message → Option (List ℕ)
-value_with v x value message = if nat_le message.version v then fold (value_after x) value message.body else value
 
 -- an entry's message answers as the run through the entry
 value-message : (splits : List Point) (v : ℕ) (x : Point) (seen : Seen) (entry : Entry) → AtMost entry.version seen.places

@@ -9,16 +9,15 @@ use Rattle.fdb_txn.specs.book.Book.{Seen, seen_of}
 use Rattle.fdb_txn.specs.book.History.{AreEntries}
 use Rattle.fdb_txn.specs.book.Transactions.{Transaction, NamesWrites}
 use Rattle.fdb_txn.proofs.book.HistoryLemmas.{entries_go_on}
-use Rattle.fdb_resolver.specs.Resolvers.{Resolver}
 use Rattle.fdb_sequencer.specs.Limits.{version_limit}
 use Rattle.fdb_sequencer.specs.Sequencer.{next_version}
 use Rattle.fdb_core.specs.machine.Roles.{CommitProxy, ShardProgress, Resolving, Submission}
-use Rattle.fdb_core.specs.declared.roles.log.Message.{Message}
+use Rattle.fdb_txn.specs.rules.Messages.{Message}
+use Rattle.fdb_core.specs.declared.roles.resolver.ResolverRole.{ResolverRole}
 use Rattle.fdb_core.specs.declared.roles.client.program.Transcript.{Transcript}
 use Rattle.fdb_core.specs.declared.step.Answered.TheVariants as answered
 use Rattle.fdb_core.specs.declared.step.Outcome.{Outcome}
-use Rattle.fdb_resolver.specs.declared.verdict.Verdict.{Verdict}
-use Rattle.fdb_core.specs.refinement.Cluster.{BookRefines, ResolverRefines, LogRefines, WaitsRefines, CommitProxyRefines}
+use Rattle.fdb_core.specs.refinement.Cluster.{BookRefines, ResolversRefine, LogRefines, WaitsRefines, CommitProxyRefines}
 use Rattle.fdb_core.specs.machine.Machine.{Machine, is_set, last_version}
 use Rattle.fdb_core.specs.machine.CommitProxySteps.{seals, is_idle, with_batch}
 use Rattle.fdb_core.specs.refinement.Resolving.{ResolverAt}
@@ -115,15 +114,19 @@ module _ (book : List Entry) (entry : Entry) where
       ap (λ made. take n made) (along-push f book entry)
       ∙ take-append-le n (along f book) (f (seen_of book) entry ∷ []) (omega (arith, length-along f book, within))
 
-  pub resolver-push : (resolvers : List ℕ) (resolver : Resolver) (verdicts : List (List (ℕ × Verdict))) → ResolverRefines book resolvers resolver verdicts
-      → ResolverRefines (book ++ entry ∷ []) resolvers resolver verdicts
-  resolver-push resolvers resolver verdicts ok = record {
-    taken = ok.taken;
-    one = ok.one;
-    within = omega (arith, length-append book (entry ∷ []), ok.within);
-    state = subst (λ (front : List Entry). ResolverAt front resolver) (sym (take-append-le ok.taken book (entry ∷ []) ok.within)) ok.state;
-    sent = ok.sent ∙ sym (along-front (verdicts_on [] 0) ok.taken ok.within);
-  }
+  pub resolvers-push : (resolvers : List ResolverRole) → ResolversRefine book resolvers → ResolversRefine (book ++ entry ∷ []) resolvers
+  resolvers-push resolvers refines =
+      let ok = refines.ok in
+      let taken = refines.role.taken in
+      record {
+        role = refines.role;
+        one = refines.one;
+        ok = record {
+          within = omega (arith, length-append book (entry ∷ []), ok.within);
+          state = subst (λ (front : List Entry). ResolverAt front refines.role.core) (sym (take-append-le taken book (entry ∷ []) ok.within)) ok.state;
+          sent = ok.sent ∙ sym (along-front (verdicts_on [] 0) taken ok.within);
+        };
+      }
 
   pub log-push : (logs : List ℕ) (shards : List ShardProgress) (log shard : List Message) → LogRefines book logs shards log shard
       → LogRefines (book ++ entry ∷ []) logs shards log shard

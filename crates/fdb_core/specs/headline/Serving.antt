@@ -9,10 +9,10 @@ use Rattle.fdb_txn.specs.rules.Resolvers.{IsStateOf}
 use Rattle.fdb_txn.specs.rules.SerialMap.{serial_map_at}
 use Rattle.fdb_resolver.specs.Resolvers.{Resolver}
 use Rattle.fdb_core.specs.machine.Roles.{ShardProgress}
-use Rattle.fdb_core.specs.declared.roles.log.Message.{Message}
+use Rattle.fdb_txn.specs.rules.Messages.{Message, value_in}
 use Rattle.fdb_core.specs.machine.ClientSteps.{version_of_shard}
 use Rattle.fdb_core.specs.machine.Machine.{Machine, last_version, seen_before}
-use Rattle.fdb_core.specs.refinement.Roles.{along, message_on, value_in}
+use Rattle.fdb_core.specs.refinement.Roles.{along, message_on}
 
 -- What a world shows: the machine, and what each of its roles keeps.
 pub record System : Type 0 where

@@ -1,12 +1,12 @@
 -- The steps of the commit proxies.
-use Rattle.std.specs.Prelude.{ℕ, max, Bool, true, false, not, ◌&&◌, ◌||◌, ◌==◌, nat_lt, nat_le, List, [], ◌∷◌, ◌++◌, take, drop, map, length, replicate, Result, Ok, slice_get, slice_set}
+use Rattle.std.specs.Prelude.{ℕ, max, Bool, true, false, not, ◌&&◌, ◌==◌, nat_lt, nat_le, List, [], ◌∷◌, ◌++◌, take, drop, map, length, replicate, Result, Ok, slice_get, slice_set, Option}
 use Rattle.fdb_keys.specs.declared.refusal.Refusal.{Refusal}
 use Rattle.fdb_keys.specs.declared.refusal.Refusal.TheVariants.{Unknown, Stale, NotYet, Exhausted, BookFull, WrongState}
 use Rattle.fdb_txn.specs.declared.batch.TheConstants.{PLACE_LIMIT}
 use Rattle.fdb_txn.specs.declared.spot.Spot.TheVariants as spot
 use Rattle.fdb_sequencer.specs.Limits.{version_limit}
 use Rattle.fdb_sequencer.specs.Sequencer.{next_version}
-use Rattle.fdb_core.specs.machine.Roles.{CommitProxy, Submission, Stage, Idle, Resolving, Logging, Reported}
+use Rattle.fdb_core.specs.machine.Roles.{CommitProxy, Sender, FromResolver, FromLog, Submission, Stage, Idle, Resolving, Logging, Reported}
 use Rattle.fdb_core.specs.declared.roles.client.Placed.{Placed}
 use Rattle.fdb_core.specs.declared.roles.client.program.Transcript.{Transcript}
 use Rattle.fdb_core.specs.declared.step.Outcome.{Outcome}
@@ -72,15 +72,34 @@ seals m proxy advance = found (slice_get m.commit_proxies proxy) (λ commit_prox
       };
     })))))
 
--- Verdict: refused where the resolver has not taken the entry, and for a double or a stranger.
-unfoldable pub receives_verdicts : Machine → ℕ → ℕ → Result Transition Refusal
-receives_verdicts m entry resolver = found (slice_get m.resolvers resolver) (λ taken.
+-- how many entries the sender took
+abbrev pub taken_by_sender : Machine → Sender → Option ℕ
+taken_by_sender m (FromResolver resolver) = slice_get m.resolvers resolver
+taken_by_sender m (FromLog log) = slice_get m.logs log
+
+-- the commit proxy waits for what the sender says of the entry: not where it isn't its entry, not at another stage, and not twice
+abbrev pub awaits : CommitProxy → ℕ → Sender → Bool
+awaits commit_proxy entry (FromResolver resolver) =
+    is_resolving commit_proxy.stage && (commit_proxy.entry == entry) && not (is_set commit_proxy.verdicts_received resolver)
+awaits commit_proxy entry (FromLog log) =
+    is_logging commit_proxy.stage && (commit_proxy.entry == entry) && not (is_set commit_proxy.acknowledgements_received log)
+
+-- the commit proxy to which it came
+abbrev pub with_received : CommitProxy → Sender → CommitProxy
+with_received commit_proxy (FromResolver resolver) =
+    record commit_proxy { verdicts_received = slice_set commit_proxy.verdicts_received resolver true }
+with_received commit_proxy (FromLog log) =
+    record commit_proxy { acknowledgements_received = slice_set commit_proxy.acknowledgements_received log true }
+
+-- Verdict and Logged: refused where the sender has not taken the entry, and where the entry's proxy doesn't wait for it.
+unfoldable pub receives : Machine → ℕ → Sender → Result Transition Refusal
+receives m entry sender = found (taken_by_sender m sender) (λ taken.
     refused_where (nat_le taken entry) Unknown
     (found (slice_get m.entry_proxies entry) (λ proxy. found (slice_get m.commit_proxies proxy) (λ commit_proxy.
-    refused_where (not (is_resolving commit_proxy.stage && (commit_proxy.entry == entry)) || is_set commit_proxy.verdicts_received resolver) Stale
+    refused_where (not (awaits commit_proxy entry sender)) Stale
     (Ok (record {
       answer = answered.Done;
-      next = record m { commit_proxies = slice_set m.commit_proxies proxy (record commit_proxy { verdicts_received = slice_set commit_proxy.verdicts_received resolver true }) };
+      next = record m { commit_proxies = slice_set m.commit_proxies proxy (with_received commit_proxy sender) };
     }))))))
 
 -- Decide: waits for each resolver that is asked about some place of the batch.
@@ -97,17 +116,6 @@ decides m proxy = found (slice_get m.commit_proxies proxy) (λ commit_proxy.
         commit_proxies = slice_set m.commit_proxies proxy (record commit_proxy { stage = Logging });
       };
     })))))
-
--- Logged: refused where the log has not taken the entry, and for a double or a stranger.
-unfoldable pub receives_acknowledgement : Machine → ℕ → ℕ → Result Transition Refusal
-receives_acknowledgement m entry log = found (slice_get m.logs log) (λ taken.
-    refused_where (nat_le taken entry) Unknown
-    (found (slice_get m.entry_proxies entry) (λ proxy. found (slice_get m.commit_proxies proxy) (λ commit_proxy.
-    refused_where (not (is_logging commit_proxy.stage && (commit_proxy.entry == entry)) || is_set commit_proxy.acknowledgements_received log) Stale
-    (Ok (record {
-      answer = answered.Done;
-      next = record m { commit_proxies = slice_set m.commit_proxies proxy (record commit_proxy { acknowledgements_received = slice_set commit_proxy.acknowledgements_received log true }) };
-    }))))))
 
 -- Report: waits for every log, and raises the committed version.
 unfoldable pub reports : Machine → ℕ → Result Transition Refusal

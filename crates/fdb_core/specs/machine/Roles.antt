@@ -25,6 +25,11 @@ pub record CommitProxy : Type 0 where
   pub verdicts_received : List Bool
   pub acknowledgements_received : List Bool
 
+-- who tells a commit proxy something of an entry: a resolver its verdicts, a log its acknowledgement
+pub data Sender : Type 0 where
+  FromResolver : (resolver : ℕ) → Sender
+  FromLog : (log : ℕ) → Sender
+
 -- a shard: how many entries it applied, and the least version that it serves
 pub record ShardProgress : Type 0 where
   pub applied : ℕ

@@ -6,7 +6,8 @@ use Rattle.fdb_core.specs.declared.step.Step.TheVariants as step
 use Rattle.fdb_core.specs.declared.step.Answered.{Answered}
 use Rattle.fdb_core.specs.machine.Machine.{Machine, Transition}
 use Rattle.fdb_core.specs.machine.ClientSteps.{asks, grants, gets, writes, submits}
-use Rattle.fdb_core.specs.machine.CommitProxySteps.{seals, receives_verdicts, decides, receives_acknowledgement, reports, answers}
+use Rattle.fdb_core.specs.machine.CommitProxySteps.{seals, receives, decides, reports, answers}
+use Rattle.fdb_core.specs.machine.Roles.{FromResolver, FromLog}
 use Rattle.fdb_core.specs.machine.RoleSteps.{resolves, pushes, pulls}
 
 abbrev pub next : Machine → Step → Result Transition Refusal
@@ -17,10 +18,10 @@ next m (step.Write session mutation) = writes m session mutation
 next m (step.Submit session proxy) = submits m session proxy
 next m (step.Seal proxy advance) = seals m proxy advance
 next m (step.Resolve entry resolver) = resolves m entry resolver
-next m (step.Verdict entry resolver) = receives_verdicts m entry resolver
+next m (step.Verdict entry resolver) = receives m entry (FromResolver resolver)
 next m (step.Decide proxy) = decides m proxy
 next m (step.Push entry log) = pushes m entry log
-next m (step.Logged entry log) = receives_acknowledgement m entry log
+next m (step.Logged entry log) = receives m entry (FromLog log)
 next m (step.Report proxy) = reports m proxy
 next m (step.Answer proxy) = answers m proxy
 next m (step.Pull shard limit) = pulls m shard limit

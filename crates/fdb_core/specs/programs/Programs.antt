@@ -1,5 +1,5 @@
 -- Programs, how they are executed on a map, and what they read and write.
-use Rattle.std.specs.Prelude.{Bool, false, not, ◌&&◌, ◌||◌, List, [], ◌∷◌, ◌++◌, fold, if◌then◌else◌}
+use Rattle.std.specs.Prelude.{ℕ, Bool, false, not, ◌&&◌, ◌||◌, List, [], ◌∷◌, ◌++◌, fold, Option, if◌then◌else◌}
 use Rattle.std.specs.FinMap.{get}
 use Rattle.fdb_keys.specs.Points.{Point, point_eq}
 use Rattle.fdb_keys.specs.Insertion.{with_range}
@@ -8,6 +8,7 @@ use Rattle.fdb_mutations.specs.declared.mutation.Mutation.{Mutation}
 use Rattle.fdb_mutations.specs.Maps.{Map}
 use Rattle.fdb_mutations.specs.Mutations.{effect, names, is_blind}
 use Rattle.fdb_txn.specs.book.Transactions.{Transaction, with_named}
+use Rattle.fdb_txn.specs.rules.Messages.{value_after}
 use Rattle.fdb_core.specs.declared.roles.client.program.Op.{Op}
 use Rattle.fdb_core.specs.declared.roles.client.program.Op.TheVariants.{Get, Write}
 use Rattle.fdb_core.specs.declared.roles.client.program.Reply.{Reply}
@@ -96,3 +97,8 @@ commit_request_of transcript =
       writes = with_named [] mutations;
       mutations = mutations;
     }
+
+-- what stands at a point after an operation, by what stood there
+abbrev pub value_after_op : Point → Option (List ℕ) → Op × Reply → Option (List ℕ)
+value_after_op x value (Get key snapshot, reply) = value
+value_after_op x value (Write mutation, reply) = value_after x value mutation

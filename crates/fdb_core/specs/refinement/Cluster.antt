@@ -1,21 +1,21 @@
 -- The world's parts as the machine, and what ties the roles' own lists to it.
-use Rattle.std.specs.Prelude.{◌≡◌, ℕ, ◌<◌, ◌≤◌, Bool, true, false, List, [], ◌∷◌, take, length, Option, Some, None, slice_get, if◌then◌else◌}
+use Rattle.std.specs.Prelude.{◌≡◌, ℕ, ◌<◌, ◌≤◌, Bool, true, false, List, [], ◌∷◌, take, map, length, Option, Some, None, slice_get, if◌then◌else◌}
 use Rattle.std.specs.List.{AllByRecursion}
 use Rattle.fdb_mutations.specs.Mutations.{mutation_fault}
 use Rattle.fdb_txn.specs.declared.entry.Entry.{Entry}
 use Rattle.fdb_txn.specs.book.Transactions.{Transaction, NamesWrites}
 use Rattle.fdb_txn.specs.book.History.{AreEntries}
-use Rattle.fdb_resolver.specs.Resolvers.{Resolver}
 use Rattle.fdb_sequencer.specs.Sequencer.{Sequencer}
 use Rattle.fdb_core.specs.declared.config.Config.{Config}
 use Rattle.fdb_core.specs.declared.cluster.Cluster.{Cluster}
 use Rattle.fdb_core.specs.machine.Roles.{CommitProxy, Submission, ShardProgress}
-use Rattle.fdb_core.specs.declared.roles.log.Message.{Message}
+use Rattle.fdb_txn.specs.rules.Messages.{Message}
+use Rattle.fdb_core.specs.declared.roles.resolver.ResolverRole.{ResolverRole}
 use Rattle.fdb_core.specs.declared.roles.client.program.Transcript.{Transcript}
 use Rattle.fdb_resolver.specs.declared.verdict.Verdict.{Verdict}
 use Rattle.fdb_core.specs.declared.step.Outcome.{Outcome}
 use Rattle.fdb_core.specs.machine.Machine.{Machine, is_set, last_version, seen_before}
-use Rattle.fdb_core.specs.refinement.Resolving.{NoMovesIn, ResolverAt}
+use Rattle.fdb_core.specs.refinement.Resolving.{NoMovesIn, ResolverAt, taken_by}
 use Rattle.fdb_core.specs.programs.Programs.{program, mutations_of}
 use Rattle.fdb_core.specs.machine.CommitProxySteps.{is_idle, is_resolving}
 use Rattle.fdb_core.specs.refinement.Roles.{along, message_on, outcomes_by, body_by}
@@ -32,7 +32,7 @@ machine_of k =
       decided = k.decided.items;
       pending = [];
       commit_proxies = k.commit_proxies.items;
-      resolvers = k.resolvers.items;
+      resolvers = taken_by k.resolvers.items;
       logs = k.logs.items;
       shards = k.shards.items;
       grv_proxies = k.grv_proxies.items;
@@ -47,7 +47,7 @@ abbrev pub system_of : Bool → Cluster → System
 system_of failed k =
     record {
       machine = if failed then None else Some (machine_of k);
-      resolvers = k.resolver ∷ [];
+      resolvers = map (λ (role : ResolverRole). role.core) k.resolvers.items;
       logs = k.log.items ∷ [];
       shards = k.shard.items ∷ [];
     }
@@ -84,13 +84,17 @@ pub record SequencerRefines (book : List Entry) (sequencer : Sequencer) : Type 0
   pub last : sequencer.last ≡ last_version book
   pub committed : sequencer.committed ≤ last_version book
 
--- the resolver took this many entries, and sent what the rule says of them
-pub record ResolverRefines (book : List Entry) (resolvers : List ℕ) (resolver : Resolver) (verdicts : List (List (ℕ × Verdict))) : Type 0 where
-  pub taken : ℕ
-  pub one : resolvers ≡ taken ∷ []
-  pub within : taken ≤ length book
-  pub state : ResolverAt (take taken book) resolver
-  pub sent : verdicts ≡ take taken (along (verdicts_on [] 0) book)
+-- a resolver took this many entries, and sent what the rule says of them
+pub record ResolverRefines (book : List Entry) (role : ResolverRole) : Type 0 where
+  pub within : role.taken ≤ length book
+  pub state : ResolverAt (take role.taken book) role.core
+  pub sent : role.sent.items ≡ take role.taken (along (verdicts_on [] 0) book)
+
+-- there is one
+pub record ResolversRefine (book : List Entry) (resolvers : List ResolverRole) : Type 0 where
+  pub role : ResolverRole
+  pub one : resolvers ≡ role ∷ []
+  pub ok : ResolverRefines book role
 
 -- the log took this many entries, and the shard applied this many of them
 pub record LogRefines (book : List Entry) (logs : List ℕ) (shards : List ShardProgress) (log shard : List Message) : Type 0 where
@@ -127,7 +131,7 @@ pub record OpenRefines (committed : ℕ) (transcript : Transcript) : Type 0 wher
   pub below : transcript.read_version ≤ committed
   pub legal : AllByRecursion (λ mutation. mutation_fault mutation ≡ None) (mutations_of (program transcript.ops))
 
--- the outcomes and the message of entry i, by the verdicts on it where they were heard, else by none
+-- the outcomes and the message of entry i, by the verdicts on it where they came, else by none
 abbrev pub IsDecision : List Entry → List (List (ℕ × Verdict)) → ℕ → Bool → List Outcome × Message → Type 0
 IsDecision book verdicts i is_received decision =
     (entry : Entry) (sent : List (ℕ × Verdict)) → slice_get book i ≡ Some entry → (is_received ≡ true → slice_get verdicts i ≡ Some sent) →
@@ -141,7 +145,7 @@ pub record Refines (k : Cluster) : Type 0 where
   pub room : length k.book.items ≤ k.config.book
   pub sequencer : SequencerRefines k.book.items k.sequencer
   pub book : BookRefines k.book.items k.entry_proxies.items k.decided.items k.messages.items
-  pub resolver : ResolverRefines k.book.items k.resolvers.items k.resolver k.verdicts.items
+  pub resolvers : ResolversRefine k.book.items k.resolvers.items
   pub log : LogRefines k.book.items k.logs.items k.shards.items k.log.items k.shard.items
-  pub commit_proxies : CommitProxiesRefine k.book.items k.resolvers.items k.sequencer.committed k.commit_proxies.items k.outcomes
+  pub commit_proxies : CommitProxiesRefine k.book.items (taken_by k.resolvers.items) k.sequencer.committed k.commit_proxies.items k.outcomes
   pub opened : AllByRecursion (OpenRefines k.sequencer.committed) k.opened.items

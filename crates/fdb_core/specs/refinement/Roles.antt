@@ -1,19 +1,15 @@
 -- What the log and the shard keep, as functions of what they took of the book, and what is made of verdicts.
-use Rattle.std.specs.Prelude.{ℕ, zero, suc, Bool, true, false, ◌==◌, nat_le, List, [], ◌∷◌, ◌++◌, fold, Option, None, if◌then◌else◌}
+use Rattle.std.specs.Prelude.{ℕ, zero, suc, Bool, true, false, ◌==◌, List, [], ◌∷◌, ◌++◌, fold, if◌then◌else◌}
 use Rattle.fdb_keys.specs.Points.{Point}
 use Rattle.fdb_mutations.specs.declared.mutation.Mutation.{Mutation}
 use Rattle.fdb_txn.specs.declared.entry.Entry.{Entry}
 use Rattle.fdb_txn.specs.book.Transactions.{Transaction}
 use Rattle.fdb_txn.specs.book.Book.{Seen, nothing, add_entry}
-use Rattle.fdb_txn.specs.rules.Messages.{committed_from, value_after}
-use Rattle.fdb_core.specs.declared.roles.log.Message.{Message}
+use Rattle.fdb_txn.specs.rules.Messages.{committed_from, Message}
 use Rattle.fdb_resolver.specs.declared.verdict.Verdict.{Verdict}
 use Rattle.fdb_resolver.specs.declared.verdict.Verdict.TheVariants as verdict
 use Rattle.fdb_core.specs.declared.step.Outcome.{Outcome}
 use Rattle.fdb_core.specs.declared.step.Outcome.TheVariants as outcome
-use Rattle.fdb_core.specs.declared.roles.client.program.Op.{Op}
-use Rattle.fdb_core.specs.declared.roles.client.program.Op.TheVariants as op
-use Rattle.fdb_core.specs.declared.roles.client.program.Reply.{Reply}
 use Rattle.fdb_core.specs.machine.Verdicts.{moves_through}
 
 -- for each entry of a book what a function makes of it and of what was seen before it
@@ -30,11 +26,6 @@ along {A} f book = behind.1
 abbrev pub message_on : List Point → Seen → Entry → Message
 message_on splits before entry =
     record { version = entry.version; body = committed_from splits entry.version (moves_through before entry) entry.batch before.places }
-
--- what stands at a point after the messages of version at most v, from nothing
-abbrev pub value_in : ℕ → Point → List Message → Option (List ℕ)
-value_in v x messages =
-    fold (λ (value : Option (List ℕ)) (message : Message). if nat_le message.version v then fold (value_after x) value message.body else value) None messages
 
 -- what is made of a verdict on a place; without a verdict nothing stands against it
 abbrev pub outcome_by : ℕ → ℕ → Verdict → Outcome
@@ -61,8 +52,3 @@ abbrev pub body_by : List Transaction → List Outcome → List Mutation
 body_by [] outcomes = []
 body_by (t ∷ ts) [] = []
 body_by (t ∷ ts) (outcome ∷ outcomes) = (if is_commit outcome then t.mutations else []) ++ body_by ts outcomes
-
--- what stands at a point after an operation, by what stood there
-abbrev pub value_after_op : Point → Option (List ℕ) → Op × Reply → Option (List ℕ)
-value_after_op x value (op.Get key snapshot, reply) = value
-value_after_op x value (op.Write mutation, reply) = value_after x value mutation

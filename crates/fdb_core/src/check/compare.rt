@@ -70,8 +70,9 @@ fn is_answered(map: &PlainMap, earlier: &[(Op, Reply)], op: &Op, reply: &Reply) 
     }
 }
 
-// Whether each ordinary operation of the transcript was answered as its program answers it on the map.
-fn is_answered_on(map: &PlainMap, transcript: &Transcript) -> bool
+/// Whether each ordinary operation of the transcript was answered as its program, run from its first operation
+/// on a copy of the map, answers it there. What snapshot reads were answered doesn't matter. It takes no memory.
+pub fn is_answered_on(map: &PlainMap, transcript: &Transcript) -> bool
     ensures { IsTrue result ↔ (AnsweredOn map.now transcript.now) }
 {
     let ops = transcript.ops.as_slice();

@@ -5,7 +5,7 @@ ghost use Rattle.fdb_keys.specs.Points.{Point, point_eq};
 ghost use Rattle.fdb_mutations.specs.Mutations.{names};
 ghost use Rattle.fdb_txn.specs.book.Transactions.{some_names};
 ghost use Rattle.fdb_core.specs.check.Holding.{AreAlike, messages_name, batch_names, entries_name};
-ghost use Rattle.fdb_core.specs.refinement.Roles.{value_in};
+ghost use Rattle.fdb_txn.specs.rules.Messages.{value_in};
 
 use crate::roles::log::Message;
 use crate::roles::values::value_in;
@@ -72,7 +72,7 @@ pub(crate) fn are_alike_in_messages(map: &PlainMap, shard: &[Message], version: 
     ensures { IsTrue result ↔ (AreAlike map.now shard.now version (messages_name shard.now)) }
 {
     for message in shard {
-        if !are_alike(map, shard, version, message.body.as_slice()) {
+        if !are_alike(map, shard, version, message.body()) {
             return false;
         }
     }

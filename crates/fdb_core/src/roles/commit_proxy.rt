@@ -7,7 +7,7 @@ pub(crate) mod replying;
 use crate::roles::client::Submission;
 use crate::roles::client::program::Transcript;
 use crate::roles::commit_proxy::batching::take_batch;
-use crate::roles::commit_proxy::flags::{set, unset};
+use crate::roles::commit_proxy::flags::{is_set, set, unset};
 use fdb_keys::Items;
 use fdb_txn::Sealed;
 use std::alloc::{AllocError, Global};
@@ -22,6 +22,13 @@ enum Stage {
     Resolving,
     Logging,
     Reported,
+}
+
+/// Who tells a commit proxy something of an entry: a resolver its verdicts, a log its acknowledgement.
+#[derive(Clone, Copy)]
+pub(crate) enum Sender {
+    Resolver(u32),
+    Log(u32),
 }
 
 /// A commit proxy: those who wait there in order, and the batch in flight with its entry, the transcripts by
@@ -55,7 +62,8 @@ impl Model for CommitProxy {
 impl CommitProxy {
     ghost use Rattle.std.specs.Prelude.{◌≡◌, true, [], ◌∷◌, ◌++◌, map, take, slice_set, IfOk, OnOk};
     ghost use Rattle.fdb_txn.specs.declared.batch.TheConstants.{PLACE_LIMIT};
-    ghost use Rattle.fdb_core.specs.machine.CommitProxySteps.{is_idle, is_resolving, is_logging, is_reported, with_batch};
+    ghost use Rattle.fdb_core.specs.machine.CommitProxySteps.{is_idle, is_resolving, is_logging, is_reported, awaits, with_batch, with_received};
+    ghost use Rattle.fdb_core.specs.refinement.Views.{sender_of};
     ghost use Rattle.fdb_core.specs.machine.Roles.{Idle, Logging, Reported};
     ghost use Rattle.fdb_core.specs.machine.Worlds.{idle_proxy};
 
@@ -183,18 +191,32 @@ impl CommitProxy {
         Ok(taken.batch)
     }
 
-    /// Notes that the verdicts of the resolver came.
-    pub(crate) fn receive_verdicts(&mut self, resolver: usize)
-        ensures { self.new ≡ record self.old { verdicts_received = slice_set self.old.verdicts_received resolver true } }
+    /// Whether the proxy waits for what the sender says of the entry.
+    pub(crate) fn awaits(&self, entry: u32, sender: Sender) -> bool
+        ensures { result ≡ awaits self.now entry (sender_of sender) }
     {
-        set(&mut self.verdicts_received, resolver);
+        match sender {
+            Sender::Resolver(resolver) => {
+                self.is_resolving()
+                    && self.entry == entry
+                    && !is_set(self.verdicts_received.as_slice(), resolver as usize)
+            }
+            Sender::Log(log) => {
+                self.is_logging()
+                    && self.entry == entry
+                    && !is_set(self.acknowledgements_received.as_slice(), log as usize)
+            }
+        }
     }
 
-    /// Notes that the acknowledgement of the log came.
-    pub(crate) fn receive_acknowledgement(&mut self, log: usize)
-        ensures { self.new ≡ record self.old { acknowledgements_received = slice_set self.old.acknowledgements_received log true } }
+    /// What the sender says of the entry came.
+    pub(crate) fn receive(&mut self, sender: Sender)
+        ensures { self.new ≡ with_received self.old (sender_of sender) }
     {
-        set(&mut self.acknowledgements_received, log);
+        match sender {
+            Sender::Resolver(resolver) => set(&mut self.verdicts_received, resolver as usize),
+            Sender::Log(log) => set(&mut self.acknowledgements_received, log as usize),
+        }
     }
 
     /// The batch in flight is decided.

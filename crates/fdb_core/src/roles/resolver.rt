@@ -1,12 +1,12 @@
 // The one resolver, which owns every key, takes its part of an entry.
-ghost use Rattle.std.specs.Prelude.{◌≡◌, ◌^◌, ◌<◌, ◌++◌, length, List, [], ◌∷◌, None, IfOk, OnOk, if◌then◌else◌};
+ghost use Rattle.std.specs.Prelude.{◌≡◌, ◌^◌, ◌<◌, ◌++◌, length, slice_get, List, [], ◌∷◌, None, Some, IfOk, OnOk, if◌then◌else◌};
 ghost use Rattle.std.specs.List.{list_any};
 ghost use Rattle.std.specs.Slice.Iter.{iter_rest};
 ghost use Rattle.fdb_keys.specs.Answers.{Answers};
 ghost use Rattle.fdb_txn.specs.declared.entry.Entry.{Entry};
 ghost use Rattle.fdb_txn.specs.rules.Admission.{has_points};
 ghost use Rattle.fdb_txn.specs.book.Book.{seen_of};
-ghost use Rattle.fdb_core.specs.refinement.Resolving.{is_judged, item_of, items_from, ResolverAt, IsNext};
+ghost use Rattle.fdb_core.specs.refinement.Resolving.{is_judged, item_of, items_from, sent_by, ResolverAt, IsNext};
 ghost use Rattle.fdb_core.specs.machine.Verdicts.{verdicts_on};
 
 use fdb_keys::{Items, RangeSet, Refusal};
@@ -75,6 +75,62 @@ fn items_of(alloc: Global, batch: &[Sealed]) -> Result<Items<Item>, AllocError>
         add_item(&mut items, place as u32, txn)?;
     }
     Ok(items)
+}
+
+/// A resolver with what it sent of each entry that it took.
+#[derive(Drop)]
+pub(crate) struct ResolverRole {
+    pub(crate) core: ResolverCore,
+    pub(crate) taken: u32,
+    pub(crate) sent: Vec<Items<(u32, Verdict)>>,
+}
+
+impl ResolverRole {
+    ghost use Rattle.std.specs.Prelude.{◌≡◌, ◌<◌, ◌-◌, ◌^◌, List, [], IfOk};
+    ghost use Rattle.fdb_txn.specs.declared.entry.Entry.{Entry};
+    ghost use Rattle.fdb_core.specs.refinement.Resolving.{ResolverAt, IsNext, TakesNext};
+
+    /// The one resolver, which took nothing.
+    pub(crate) fn new(alloc: Global) -> Self
+        ensures core { ResolverAt [] result.core }
+        ensures taken { result.taken ≡ 0 }
+        ensures sent { result.sent.items ≡ [] }
+    {
+        ResolverRole {
+            core: first_resolver(alloc),
+            taken: 0,
+            sent: Vec::new(alloc),
+        }
+    }
+
+    /// Takes the next entry, and answers what the rule says of each place with a point in its sets.
+    pub(crate) fn take(
+        &mut self,
+        alloc: Global,
+        entry: &Entry,
+    ) -> Result<Items<(u32, Verdict)>, AllocError>
+        requires { self.old.taken < 2 ^ 32 - 1 }
+        ensures { (before : List Entry) → IsNext before self.old.core entry.now → IfOk result (λ answer. TakesNext before entry.now self.old answer self.new) }
+    {
+        let Ok(verdicts) = judge_entry(alloc, &mut self.core, self.taken, entry) else {
+            return Err(AllocError);
+        };
+        let answer = Items::from_vec(Vec::from_slice(alloc, verdicts.as_slice())?);
+        self.sent.push(verdicts)?;
+        self.taken += 1;
+        Ok(answer)
+    }
+}
+
+/// What the first of the resolvers sent of the entry, which it took.
+pub(crate) fn sent_of(resolvers: &[ResolverRole], entry: usize) -> &[(u32, Verdict)]
+    requires { entry < length (sent_by resolvers.now) }
+    ensures { slice_get (sent_by resolvers.now) entry ≡ Some result.now }
+{
+    match resolvers {
+        [role, ..] => role.sent[entry].as_slice(),
+        [] => unreachable!(),
+    }
 }
 
 /// The one resolver before its first entry.

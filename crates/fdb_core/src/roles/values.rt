@@ -2,9 +2,8 @@
 ghost use Rattle.std.specs.Prelude.{◌≡◌, fold, IfOk};
 ghost use Rattle.std.specs.Option.{option_copied};
 ghost use Rattle.fdb_mutations.specs.Mutations.{names};
-ghost use Rattle.fdb_core.specs.programs.Programs.{program, decided};
-ghost use Rattle.fdb_core.specs.refinement.Roles.{value_after_op, value_in};
-ghost use Rattle.fdb_txn.specs.rules.Messages.{value_after};
+ghost use Rattle.fdb_core.specs.programs.Programs.{program, decided, value_after_op};
+ghost use Rattle.fdb_txn.specs.rules.Messages.{value_in, value_after};
 
 use crate::roles::client::program::{Op, Reply};
 use crate::roles::log::Message;
@@ -45,8 +44,8 @@ pub(crate) fn value_in<'a>(messages: &'a [Message], version: u64, key: &Key) -> 
 {
     let mut value = None;
     for message in messages {
-        if message.version <= version {
-            value = value_after_message(key, value, message.body.as_slice());
+        if message.version() <= version {
+            value = value_after_message(key, value, message.body());
         }
     }
     value

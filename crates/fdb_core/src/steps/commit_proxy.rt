@@ -1,15 +1,18 @@
 // The steps of the commit proxies.
 ghost use Rattle.std.specs.Prelude.{◌≡◌, ◌<◌, true, length, IfOk, OnOk};
+ghost use Rattle.fdb_core.specs.refinement.Views.{sender_of};
 ghost use Rattle.fdb_core.specs.refinement.Cluster.{machine_of, IsDecision, Refines};
-ghost use Rattle.fdb_core.specs.machine.CommitProxySteps.{seals, receives_verdicts, decides, receives_acknowledgement, reports, answers};
+ghost use Rattle.fdb_core.specs.refinement.Resolving.{sent_by};
+ghost use Rattle.fdb_core.specs.machine.CommitProxySteps.{taken_by_sender, seals, receives, decides, reports, answers};
 ghost use Rattle.fdb_core.specs.machine.Steps.{answer_of, after};
 
 use crate::cluster::Cluster;
+use crate::roles::commit_proxy::Sender;
 use crate::roles::commit_proxy::deciding::{committed_body, decide_batch};
 use crate::roles::commit_proxy::flags::{first_unset, is_set};
 use crate::roles::commit_proxy::replying::{place_all, reply_all};
 use crate::roles::log::Message;
-use crate::roles::resolver::are_any_judged;
+use crate::roles::resolver::{are_any_judged, sent_of};
 use crate::roles::sequencer::{issue, take_report};
 use crate::step::{Answered, Outcome};
 use fdb_keys::{Items, Refusal};
@@ -73,22 +76,34 @@ impl Cluster {
         }))
     }
 
-    #[tactic(auto, unfolding(crate::specs::machine::CommitProxySteps::receives_verdicts))]
-    pub(crate) fn receive_verdicts(
+    // How many entries the sender took.
+    fn taken_by(&self, sender: Sender) -> Option<u32>
+        ensures { result ≡ taken_by_sender (machine_of self.now) (sender_of sender) }
+    {
+        match sender {
+            Sender::Resolver(resolver) => match self.resolvers.get(resolver as usize) {
+                Some(role) => Some(role.taken),
+                None => None,
+            },
+            Sender::Log(log) => self.logs.get(log as usize).copied(),
+        }
+    }
+
+    #[tactic(auto, unfolding(crate::specs::machine::CommitProxySteps::receives))]
+    pub(crate) fn receive(
         &mut self,
         entry: u32,
-        resolver: u32,
+        sender: Sender,
     ) -> Result<Result<Answered, Refusal>, AllocError>
         requires { Refines self.old }
-        ensures answer { IfOk result (λ answer. answer ≡ answer_of (receives_verdicts (machine_of self.old) entry resolver)) }
-        ensures after { OnOk result (machine_of self.new ≡ after (machine_of self.old) (receives_verdicts (machine_of self.old) entry resolver)) }
+        ensures answer { IfOk result (λ answer. answer ≡ answer_of (receives (machine_of self.old) entry (sender_of sender))) }
+        ensures after { OnOk result (machine_of self.new ≡ after (machine_of self.old) (receives (machine_of self.old) entry (sender_of sender))) }
         ensures refines { OnOk result (Refines self.new) }
     {
-        let from = resolver as usize;
-        if from >= self.resolvers.len() {
+        let Some(taken) = self.taken_by(sender) else {
             return Ok(Err(Refusal::Unknown));
-        }
-        if self.resolvers[from] <= entry {
+        };
+        if taken <= entry {
             return Ok(Err(Refusal::Unknown));
         }
         let i = entry as usize;
@@ -99,14 +114,11 @@ impl Cluster {
         if at >= self.commit_proxies.len() {
             return Ok(Err(Refusal::Unknown));
         }
+        if !self.commit_proxies[at].awaits(entry, sender) {
+            return Ok(Err(Refusal::Stale));
+        }
         let commit_proxy = &mut self.commit_proxies[at];
-        if !commit_proxy.is_resolving() || commit_proxy.entry() != entry {
-            return Ok(Err(Refusal::Stale));
-        }
-        if is_set(commit_proxy.verdicts_received(), from) {
-            return Ok(Err(Refusal::Stale));
-        }
-        commit_proxy.receive_verdicts(from);
+        commit_proxy.receive(sender);
         Ok(Ok(Answered::Done))
     }
 
@@ -146,60 +158,19 @@ impl Cluster {
     // The outcomes of an entry's places and its message, by the verdicts that were heard.
     fn decision(&self, i: usize, is_received: bool) -> Result<(Items<Outcome>, Message), AllocError>
         requires within { i < length self.now.book.items }
-        requires verdicts_received { is_received ≡ true → i < length self.now.verdicts.items }
-        ensures { IfOk result (IsDecision self.now.book.items self.now.verdicts.items i is_received) }
+        requires verdicts_received { is_received ≡ true → i < length (sent_by self.now.resolvers.items) }
+        ensures { IfOk result (IsDecision self.now.book.items (sent_by self.now.resolvers.items) i is_received) }
     {
         let entry = &self.book[i];
         let batch = entry.batch.as_slice();
         let said = if is_received {
-            self.verdicts[i].as_slice()
+            sent_of(&self.resolvers, i)
         } else {
             &[]
         };
         let outcomes = decide_batch(self.alloc, entry.version, said, batch.len())?;
         let body = committed_body(self.alloc, batch, outcomes.as_slice())?;
-        let message = Message {
-            version: entry.version,
-            body,
-        };
-        Ok((outcomes, message))
-    }
-
-    #[tactic(auto, unfolding(crate::specs::machine::CommitProxySteps::receives_acknowledgement))]
-    pub(crate) fn receive_acknowledgement(
-        &mut self,
-        entry: u32,
-        log: u32,
-    ) -> Result<Result<Answered, Refusal>, AllocError>
-        requires { Refines self.old }
-        ensures answer { IfOk result (λ answer. answer ≡ answer_of (receives_acknowledgement (machine_of self.old) entry log)) }
-        ensures after { OnOk result (machine_of self.new ≡ after (machine_of self.old) (receives_acknowledgement (machine_of self.old) entry log)) }
-        ensures refines { OnOk result (Refines self.new) }
-    {
-        let from = log as usize;
-        if from >= self.logs.len() {
-            return Ok(Err(Refusal::Unknown));
-        }
-        if self.logs[from] <= entry {
-            return Ok(Err(Refusal::Unknown));
-        }
-        let i = entry as usize;
-        if i >= self.entry_proxies.len() {
-            return Ok(Err(Refusal::Unknown));
-        }
-        let at = self.entry_proxies[i] as usize;
-        if at >= self.commit_proxies.len() {
-            return Ok(Err(Refusal::Unknown));
-        }
-        let commit_proxy = &mut self.commit_proxies[at];
-        if !commit_proxy.is_logging() || commit_proxy.entry() != entry {
-            return Ok(Err(Refusal::Stale));
-        }
-        if is_set(commit_proxy.acknowledgements_received(), from) {
-            return Ok(Err(Refusal::Stale));
-        }
-        commit_proxy.receive_acknowledgement(from);
-        Ok(Ok(Answered::Done))
+        Ok((outcomes, Message::new(entry.version, body)))
     }
 
     #[tactic(auto, unfolding(crate::specs::machine::CommitProxySteps::reports))]

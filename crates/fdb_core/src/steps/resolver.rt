@@ -5,9 +5,8 @@ ghost use Rattle.fdb_core.specs.machine.RoleSteps.{resolves};
 ghost use Rattle.fdb_core.specs.machine.Steps.{answer_of, after};
 
 use crate::cluster::Cluster;
-use crate::roles::resolver::judge_entry;
 use crate::step::Answered;
-use fdb_keys::{Items, Refusal};
+use fdb_keys::Refusal;
 use std::alloc::AllocError;
 
 impl Cluster {
@@ -27,7 +26,7 @@ impl Cluster {
         if i >= self.book.len() || of >= self.resolvers.len() {
             return Ok(Err(Refusal::Unknown));
         }
-        let taken = self.resolvers[of];
+        let taken = self.resolvers[of].taken;
         if entry < taken {
             return Ok(Err(Refusal::Stale));
         }
@@ -35,12 +34,8 @@ impl Cluster {
             return Ok(Err(Refusal::NotYet(self.book[i].prev)));
         }
         let part = &self.book[i];
-        let Ok(verdicts) = judge_entry(self.alloc, &mut self.resolver, entry, part) else {
-            return Err(AllocError);
-        };
-        let answer = Items::from_vec(Vec::from_slice(self.alloc, verdicts.as_slice())?);
-        self.verdicts.push(verdicts)?;
-        self.resolvers[of] = taken + 1;
+        let role = &mut self.resolvers[of];
+        let answer = role.take(self.alloc, part)?;
         Ok(Ok(Answered::Verdicts(answer)))
     }
 }

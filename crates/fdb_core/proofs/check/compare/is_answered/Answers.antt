@@ -2,7 +2,7 @@ use Rattle.std.proofs.Common.{◌≡◌, false, fold, rules}
 use Rattle.std.specs.FinMap.{get}
 use Rattle.std.specs.Option.{option_copied}
 use Rattle.fdb_core.specs.declared.roles.client.program.Op.TheVariants.{Get}
-use Rattle.fdb_core.specs.refinement.Roles.{value_after_op}
+use Rattle.fdb_core.specs.programs.Programs.{value_after_op}
 use Rattle.fdb_core.proofs.checking.ComparingLemmas.{answered-read}
 use Rattle.fdb_core.proofs.check.compare.is_answered.Goals as goal
 

@@ -2,7 +2,7 @@ use Rattle.std.proofs.Common.{◌≡◌, ◌<◌, refl, subst, ◌↔◌, List, 
 use Rattle.std.proofs.lemmas.Option.{slice_get_read}
 use Rattle.fdb_mutations.specs.declared.mutation.Mutation.{Mutation}
 use Rattle.fdb_txn.specs.book.Transactions.{some_names}
-use Rattle.fdb_core.specs.declared.roles.log.Message.{Message}
+use Rattle.fdb_txn.specs.rules.Messages.{Message}
 use Rattle.fdb_core.specs.check.Holding.{AreAlike}
 use Rattle.fdb_core.proofs.checking.HoldingLemmas.{alike-next, unlike-at}
 use Rattle.fdb_core.proofs.check.shards.are_alike_in_messages.Goals as goal
@@ -13,7 +13,7 @@ returns-then-not-are_alike c =
     let i = c.loop-message.message-index in
     let within : i < length items = search rules in
     let there : slice_get items i ≡ Some c.message-item.result = slice_get_read items (length items) i c.message-item.result refl within c.message-item.is in
-    let decides = subst (λ (mutations : List Mutation). (c.are_alike.result ≡ true) ↔ AreAlike c.args.map.now c.args.shard.now c.args.version (some_names mutations)) c.as_slice.ensures c.are_alike.ensures in
+    let decides = subst (λ (mutations : List Mutation). (c.are_alike.result ≡ true) ↔ AreAlike c.args.map.now c.args.shard.now c.args.version (some_names mutations)) c.body.ensures c.are_alike.ensures in
     unlike-at c.args.map.now c.args.shard.now c.args.version (λ (message : Message). some_names message.body) items i c.message-item.result c.are_alike.result there decides c.if-not-are_alike.true
 
 pub loop-message-preserved : goal.loop-message-preserved
@@ -22,5 +22,5 @@ loop-message-preserved c =
     let i = c.loop-message.message-index in
     let within : i < length items = search rules in
     let there : slice_get items i ≡ Some c.message-item.result = slice_get_read items (length items) i c.message-item.result refl within c.message-item.is in
-    let decides = subst (λ (mutations : List Mutation). (c.are_alike.result ≡ true) ↔ AreAlike c.args.map.now c.args.shard.now c.args.version (some_names mutations)) c.as_slice.ensures c.are_alike.ensures in
+    let decides = subst (λ (mutations : List Mutation). (c.are_alike.result ≡ true) ↔ AreAlike c.args.map.now c.args.shard.now c.args.version (some_names mutations)) c.body.ensures c.are_alike.ensures in
     alike-next c.args.map.now c.args.shard.now c.args.version (λ (message : Message). some_names message.body) items i c.message-item.result there (decides.0 c.if-not-are_alike.false) c.loop-message.invariant

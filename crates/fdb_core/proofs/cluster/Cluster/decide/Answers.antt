@@ -5,7 +5,7 @@ use Rattle.std.proofs.lemmas.Option.{slice_get_read, slice_get_within}
 use Rattle.fdb_keys.specs.declared.refusal.Refusal.TheVariants.{NotYet}
 use Rattle.fdb_txn.specs.declared.entry.Entry.{Entry}
 use Rattle.fdb_core.specs.machine.Roles.{CommitProxy, Logging}
-use Rattle.fdb_core.specs.declared.roles.log.Message.{Message}
+use Rattle.fdb_txn.specs.rules.Messages.{Message}
 use Rattle.fdb_core.specs.declared.step.Outcome.{Outcome}
 use Rattle.fdb_core.specs.declared.step.Answered.TheVariants as answered
 use Rattle.fdb_core.specs.declared.cluster.Cluster.{Cluster}
@@ -17,6 +17,7 @@ use Rattle.fdb_core.proofs.common.AllLemmas.{within-item}
 use Rattle.fdb_core.proofs.refinement.DecideLemmas.{same-items, one-item, Deciding, is_any_judged, decides-waits, decides-transition, verdicts_received-taken, decision-outcomes, decision-message, decided-refines}
 use Rattle.fdb_core.proofs.cluster.Cluster.decide.Goals as goal
 use Rattle.fdb_core.proofs.cluster.Cluster.decide.Goals.{After-is_set-is_received, Then-are_any_judged, In_ok-answer, else-not-is_received-via-then-not-is_received+else-are_any_judged, else-not-is_received-via-else-not-is_received}
+use Rattle.fdb_core.specs.refinement.Resolving.{sent_by}
 
 -- what was found once the resolver's flag was read
 found_at : (c : After-is_set-is_received) → (entry : Entry) × Deciding c.args.self.now c.args.proxy c.index-commit_proxy.result.now entry
@@ -61,7 +62,7 @@ returns-then-are_any_judged-clause-after c = sym (ap (after (machine_of c.args.s
 pub decision-requires-clause-verdicts_received : goal.decision-requires-clause-verdicts_received
 decision-requires-clause-verdicts_received c is =
     let f = found_at (goal.at.decision-requires-clause-verdicts_received c).After-is_set-is_received in
-    subst (λ (i : ℕ). i < length c.args.self.now.verdicts.items) (sym c.entry-i.ensures)
+    subst (λ (i : ℕ). i < length (sent_by c.args.self.now.resolvers.items)) (sym c.entry-i.ensures)
     (verdicts_received-taken c.args.self.now c.args.proxy c.index-commit_proxy.result.now f.0 c.requires f.1 (f.2 ∙ is))
 
 -- the verdicts came, or aren't needed
@@ -77,10 +78,10 @@ none_missing c entry there = elim c.else-not-is_received.branch [
 ]
 
 -- what was decided of the entry
-decided : (c : In_ok-answer) → IsDecision c.args.self.now.book.items c.args.self.now.verdicts.items c.index-commit_proxy.result.now.entry c.is_set-is_received.result
+decided : (c : In_ok-answer) → IsDecision c.args.self.now.book.items (sent_by c.args.self.now.resolvers.items) c.index-commit_proxy.result.now.entry c.is_set-is_received.result
     (c.in_ok-outcomes.outcomes, c.in_ok-outcomes.message)
 decided c =
-    subst (λ (i : ℕ). IsDecision c.args.self.now.book.items c.args.self.now.verdicts.items i c.is_set-is_received.result (c.in_ok-outcomes.outcomes, c.in_ok-outcomes.message))
+    subst (λ (i : ℕ). IsDecision c.args.self.now.book.items (sent_by c.args.self.now.resolvers.items) i c.is_set-is_received.result (c.in_ok-outcomes.outcomes, c.in_ok-outcomes.message))
     c.entry-i.ensures c.in_ok-outcomes.ensures
 
 pub returns-clause-answer : goal.returns-clause-answer

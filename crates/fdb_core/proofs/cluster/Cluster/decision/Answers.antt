@@ -11,6 +11,8 @@ use Rattle.fdb_core.specs.refinement.Roles.{outcomes_by, body_by}
 use Rattle.fdb_core.proofs.refinement.DecideLemmas.{length-outcomes_by}
 use Rattle.fdb_core.proofs.cluster.Cluster.decision.Goals as goal
 use Rattle.fdb_core.proofs.cluster.Cluster.decision.Goals.{then-is_received, else-is_received}
+use Rattle.fdb_core.specs.declared.roles.resolver.ResolverRole.{ResolverRole}
+use Rattle.fdb_core.specs.refinement.Resolving.{sent_by}
 
 pub committed_body-requires : goal.committed_body-requires
 committed_body-requires c =
@@ -25,10 +27,9 @@ returns c entry sent there verdicts_received =
     let same : c.index-entry.result.now ≡ entry = same_Some c.index-entry.result.now entry (sym found ∙ there) in
     let said : c.if-is_received.said.now ≡ (if c.args.is_received then sent else []) = elim c.if-is_received.branch [
       | then-is_received w ↦
-          let is : slice_get k.verdicts.items c.args.i ≡ Some w.index.result.now =
-          slice_get_read k.verdicts.items (length k.verdicts.items) c.args.i w.index.result.now refl (c.requires.verdicts_received w.if-is_received.true) w.index.ensures in
-          ap (λ (verdicts : Bor (List (ℕ × Verdict))). verdicts.now) w.said-is ∙ w.as_slice-said.ensures
-          ∙ same_Some w.index.result.now sent (sym is ∙ verdicts_received w.if-is_received.true)
+          ap (λ (verdicts : Bor (List (ℕ × Verdict))). verdicts.now) w.said-is
+          ∙ same_Some w.sent_of-said.result.now sent (sym w.sent_of-said.ensures
+          ∙ ap (λ (resolvers : List ResolverRole). slice_get (sent_by resolvers) c.args.i) w.deref.ensures.value ∙ verdicts_received w.if-is_received.true)
           ∙ sym (cond-true c.args.is_received sent [] w.if-is_received.true)
       | else-is_received w ↦
           ap (λ (verdicts : Bor (List (ℕ × Verdict))). verdicts.now) w.said-is ∙ sym (cond-false c.args.is_received sent [] w.if-is_received.false)
@@ -43,4 +44,4 @@ returns c entry sent there verdicts_received =
     c.in_ok-body.ensures
     ∙ ap₂ (λ (batch : List Transaction) (made : List Outcome). body_by batch made)
     (c.as_slice-batch.ensures.places ∙ ap (λ (e : Entry). e.batch) same) c.as_slice.ensures in
-    (outcomes, ap₂ (λ (version : ℕ) (made : List Mutation). record { version = version; body = made }) (ap (λ (e : Entry). e.version) same) body)
+    (outcomes, c.new.ensures ∙ ap₂ (λ (version : ℕ) (made : List Mutation). record { version = version; body = made }) (ap (λ (e : Entry). e.version) same) body)

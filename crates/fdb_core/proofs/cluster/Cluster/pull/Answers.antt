@@ -1,6 +1,6 @@
 use Rattle.std.proofs.Common.{◌≡◌, ◌∙◌, refl, ap, ◌-◌, ◌%◌, ◌<◌, ◌≤◌, ℕ, min, max, length, List, ◌++◌, take, drop, Some, slice_get, slice_set, arith, rules}
 use Rattle.std.proofs.lemmas.Option.{slice_get_read}
-use Rattle.fdb_core.specs.declared.roles.log.Message.{Message}
+use Rattle.fdb_txn.specs.rules.Messages.{Message}
 use Rattle.fdb_core.specs.declared.cluster.Cluster.{Cluster}
 use Rattle.fdb_core.specs.machine.Roles.{ShardProgress}
 use Rattle.fdb_core.specs.refinement.Cluster.{LogRefines}
@@ -53,7 +53,7 @@ returns-clause-refines c =
       room = before.room;
       sequencer = before.sequencer;
       book = before.book;
-      resolver = before.resolver;
+      resolvers = before.resolvers;
       log = rw kept (applies k before.log c.args.shard (c.args.shard % c.len-2.result) c.index-progress.result.now c.index-has.result.now c.saturating_add.result c.applied-before.result c.max-applied.result
           there at c.applied-before.ensures is c.apply_to.new.self new);
       commit_proxies = before.commit_proxies;

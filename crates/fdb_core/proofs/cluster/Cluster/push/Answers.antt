@@ -1,7 +1,7 @@
 use Rattle.std.proofs.Common.{◌≡◌, ◌∙◌, refl, ap, ◌+◌, ◌<◌, true, length, ℕ, List, [], Option, Some, slice_get, slice_set, arith, rules}
 use Rattle.std.proofs.lemmas.Option.{slice_get_read}
 use Rattle.fdb_txn.specs.declared.entry.Entry.{Entry}
-use Rattle.fdb_core.specs.declared.roles.log.Message.{Message}
+use Rattle.fdb_txn.specs.rules.Messages.{Message}
 use Rattle.fdb_core.specs.refinement.Cluster.{machine_of}
 use Rattle.fdb_core.specs.machine.Machine.{is_set, seen_before}
 use Rattle.fdb_core.specs.refinement.Roles.{message_on}
@@ -62,7 +62,7 @@ returns-clause-refines c =
       room = before.room;
       sequencer = before.sequencer;
       book = before.book;
-      resolver = before.resolver;
+      resolvers = before.resolvers;
       log = rw (c.in_ok-push.ensures.items, same c) (log-next k.book.items k.logs.items k.shards.items k.log.items k.shard.items c.args.log c.args.entry (there c).0 before.log (there c).1 (at c) c.in_ok-message.message is);
       commit_proxies = before.commit_proxies;
       opened = before.opened;

@@ -1,4 +1,4 @@
-use Rattle.std.proofs.Common.{◌≡◌, ◌∙◌, refl, sym, ap, subst, ◌<◌, ◌≤◌, max, length, slice_get, slice_set, Some, None, Ok, ℕ, true, arith, rules}
+use Rattle.std.proofs.Common.{◌≡◌, ◌∙◌, refl, sym, ap, ◌<◌, ◌≤◌, max, length, slice_get, slice_set, Some, None, Ok, ℕ, true, arith, rules}
 use Rattle.std.proofs.lemmas.Option.{slice_get_read}
 use Rattle.fdb_core.specs.machine.Roles.{CommitProxy, Logging, Reported}
 use Rattle.fdb_core.specs.declared.step.Answered.TheVariants as answered
@@ -14,6 +14,7 @@ use Rattle.fdb_core.proofs.refinement.DecideLemmas.{one-item}
 use Rattle.fdb_core.proofs.refinement.RunLaws.{entries-rising}
 use Rattle.fdb_core.proofs.cluster.Cluster.report.Goals as goal
 use Rattle.fdb_core.proofs.cluster.Cluster.report.Goals.{After-committed}
+use Rattle.fdb_core.specs.refinement.Resolving.{taken_by}
 
 -- the commit proxy is there, and waits to report
 there : (c : After-committed) → slice_get c.args.self.now.commit_proxies.items c.args.proxy ≡ Some c.index-commit_proxy.result.now
@@ -94,9 +95,9 @@ returns-clause-refines c =
       room = before.room;
       sequencer = record { proxies = before.sequencer.proxies; accepted = before.sequencer.accepted; last = before.sequencer.last; committed = within };
       book = before.book;
-      resolver = before.resolver;
+      resolvers = before.resolvers;
       log = before.log;
-      commit_proxies = rw (reported c) (commit_proxies-set k.book.items k.book.items k.resolvers.items k.resolvers.items k.sequencer.committed committed k.outcomes k.outcomes k.commit_proxies.items c.args.proxy commit_proxy _
-          before.commit_proxies (there c) (commit_proxy-reported k.book.items k.resolvers.items k.sequencer.committed committed k.outcomes commit_proxy above (logging c)));
+      commit_proxies = rw (reported c) (commit_proxies-set k.book.items k.book.items (taken_by k.resolvers.items) (taken_by k.resolvers.items) k.sequencer.committed committed k.outcomes k.outcomes k.commit_proxies.items c.args.proxy commit_proxy _
+          before.commit_proxies (there c) (commit_proxy-reported k.book.items (taken_by k.resolvers.items) k.sequencer.committed committed k.outcomes commit_proxy above (logging c)));
       opened = all-weaken (OpenRefines k.sequencer.committed) (OpenRefines committed) (λ transcript ok. record { below = omega (arith, ok.below, above); legal = ok.legal }) k.opened.items before.opened;
     })

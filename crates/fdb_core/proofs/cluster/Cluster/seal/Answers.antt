@@ -1,4 +1,4 @@
-use Rattle.std.proofs.Common.{◌≡◌, ◌∙◌, refl, sym, ap, subst, ◌<◌, ◌≤◌, true, false, length, map, replicate, ℕ, List, [], ◌∷◌, ◌++◌, take, drop, Some, Ok, Err, slice_get, slice_set, arith, rules}
+use Rattle.std.proofs.Common.{◌≡◌, ◌∙◌, refl, sym, ap, subst, ◌<◌, ◌≤◌, true, length, map, List, [], ◌∷◌, ◌++◌, take, Some, Ok, Err, slice_get, slice_set, arith, rules}
 use Rattle.std.proofs.lemmas.List.{length-append, length-map}
 use Rattle.std.proofs.lemmas.Option.{slice_get_read}
 use Rattle.fdb_keys.specs.declared.refusal.Refusal.TheVariants.{Exhausted}
@@ -7,8 +7,9 @@ use Rattle.fdb_txn.specs.declared.entry.Entry.{Entry}
 use Rattle.fdb_sequencer.specs.declared.ticket.Ticket.{Ticket}
 use Rattle.fdb_sequencer.specs.Limits.{version_limit}
 use Rattle.fdb_sequencer.specs.Sequencer.{Sequencer, next_version}
-use Rattle.fdb_core.specs.machine.Roles.{CommitProxy, Idle, Resolving, Submission}
+use Rattle.fdb_core.specs.machine.Roles.{CommitProxy, Submission}
 use Rattle.fdb_core.specs.declared.step.Answered.TheVariants as answered
+use Rattle.fdb_core.specs.declared.roles.resolver.ResolverRole.{ResolverRole}
 use Rattle.fdb_core.specs.refinement.Cluster.{machine_of, WaitsRefines, CommitProxiesRefine}
 use Rattle.fdb_core.specs.machine.Machine.{last_version}
 use Rattle.fdb_core.specs.machine.CommitProxySteps.{seals, is_idle, with_batch}
@@ -17,10 +18,11 @@ use Rattle.fdb_core.proofs.refinement.CommitProxyTies.{commit_proxies-set}
 use Rattle.fdb_core.proofs.refinement.DecideLemmas.{one-item}
 use Rattle.fdb_core.proofs.refinement.RoleTies.{last-push}
 use Rattle.fdb_core.proofs.refinement.CommitProxyTies.{commit_proxy-at}
-use Rattle.fdb_core.proofs.refinement.SealLemmas.{sealed_entry, sealed_proxy, seals-transition, length-sealed, batch-fits, sealed-below, book-push, resolver-push, log-push, commit_proxy-seal}
+use Rattle.fdb_core.proofs.refinement.SealLemmas.{sealed_entry, sealed_proxy, seals-transition, length-sealed, batch-fits, sealed-below, book-push, resolvers-push, log-push, commit_proxy-seal}
 use Rattle.fdb_core.proofs.refinement.TicketTies.{plan-refused, plan-given, seals-exhausted}
 use Rattle.fdb_core.proofs.cluster.Cluster.seal.Goals as goal
 use Rattle.fdb_core.proofs.cluster.Cluster.seal.Goals.{After-drop-ticket-2}
+use Rattle.fdb_core.specs.refinement.Resolving.{taken_by}
 
 pub overflow_cast-places : goal.overflow_cast-places
 overflow_cast-places c = let few : length c.in_ok-batch.batch ≤ PLACE_LIMIT = batch-fits _ _ c.in_ok-batch.ensures.batch in omega (arith, few)
@@ -83,7 +85,8 @@ entry c =
 
 next : (c : After-drop-ticket-2) → c.seal.new.self ≡ sealed_proxy (machine_of c.args.self.now) c.index_mut-commit_proxy.result.now
 next c =
-    let resolvers : c.len-resolvers.result ≡ length c.args.self.now.resolvers.items = search rules in
+    let count_of : c.len-resolvers.result ≡ length c.args.self.now.resolvers.items = search rules in
+    let resolvers : c.len-resolvers.result ≡ length (taken_by c.args.self.now.resolvers.items) = count_of ∙ sym (length-map c.args.self.now.resolvers.items (λ (role : ResolverRole). role.taken)) in
     let logs : c.len-logs.result ≡ length c.args.self.now.logs.items = search rules in
     c.in_ok-batch.ensures.after ∙ (λ i. with_batch c.index_mut-commit_proxy.result.now (count c i) (resolvers i) (logs i))
 
@@ -138,9 +141,9 @@ returns-clause-refines c =
     let commit_proxy = c.index_mut-commit_proxy.result.now in
     let e = sealed_entry m c.args.advance commit_proxy in
     let above : last_version k.book.items < e.version = omega arith in
-    let ok = commit_proxy-at k.book.items k.resolvers.items k.sequencer.committed k.commit_proxies.items k.outcomes c.args.proxy commit_proxy before.commit_proxies (there c) in
+    let ok = commit_proxy-at k.book.items (taken_by k.resolvers.items) k.sequencer.committed k.commit_proxies.items k.outcomes c.args.proxy commit_proxy before.commit_proxies (there c) in
     let reads = sealed-below k.sequencer.committed e.version (take PLACE_LIMIT commit_proxy.waiting) (omega (arith, above, before.sequencer.committed)) (all-take (WaitsRefines k.sequencer.committed) PLACE_LIMIT commit_proxy.waiting ok.waiting) in
-    let one : length k.resolvers.items ≡ 1 = ap (λ (rs : List ℕ). length rs) before.resolver.one in
+    let one : length (taken_by k.resolvers.items) ≡ 1 = ap (λ (rs : List ResolverRole). length (taken_by rs)) before.resolvers.one in
     let fits : length k.book.items < k.config.book = room c in
     let aligned = length-map (take PLACE_LIMIT commit_proxy.waiting) (λ (submission : Submission). submission.transcript)
     ∙ sym (length-map (take PLACE_LIMIT commit_proxy.waiting) (λ (submission : Submission). submission.sealed)) in
@@ -156,12 +159,12 @@ returns-clause-refines c =
           });
       book = rw (book_then c, c.in_ok-push-2.ensures.items, c.in_ok-push-3.ensures.items, c.in_ok-push-4.ensures.items)
           (book-push k.book.items e k.entry_proxies.items k.decided.items k.messages.items c.args.proxy before.book refl (above, refl, tt, reads, tt));
-      resolver = rw (book_then c) (resolver-push k.book.items e k.resolvers.items k.resolver k.verdicts.items before.resolver);
+      resolvers = rw (book_then c) (resolvers-push k.book.items e k.resolvers.items before.resolvers);
       log = rw (book_then c) (log-push k.book.items e k.logs.items k.shards.items k.log.items k.shard.items before.log);
       commit_proxies = rw (c.issue.ensures, book_then c)
-          (subst (λ (commit_proxies : List CommitProxy). CommitProxiesRefine (k.book.items ++ e ∷ []) k.resolvers.items k.sequencer.committed commit_proxies k.outcomes) (sym (proxies_then c))
-          (commit_proxies-set k.book.items (k.book.items ++ e ∷ []) k.resolvers.items k.resolvers.items k.sequencer.committed k.sequencer.committed k.outcomes k.outcomes k.commit_proxies.items c.args.proxy commit_proxy (sealed_proxy m commit_proxy)
+          (subst (λ (commit_proxies : List CommitProxy). CommitProxiesRefine (k.book.items ++ e ∷ []) (taken_by k.resolvers.items) k.sequencer.committed commit_proxies k.outcomes) (sym (proxies_then c))
+          (commit_proxies-set k.book.items (k.book.items ++ e ∷ []) (taken_by k.resolvers.items) (taken_by k.resolvers.items) k.sequencer.committed k.sequencer.committed k.outcomes k.outcomes k.commit_proxies.items c.args.proxy commit_proxy (sealed_proxy m commit_proxy)
           before.commit_proxies (there c)
-          (commit_proxy-seal k.book.items e k.resolvers.items k.sequencer.committed commit_proxy k.outcomes PLACE_LIMIT (sealed_proxy m commit_proxy).in_flight (sealed_proxy m commit_proxy).acknowledgements_received one aligned)));
+          (commit_proxy-seal k.book.items e (taken_by k.resolvers.items) k.sequencer.committed commit_proxy k.outcomes PLACE_LIMIT (sealed_proxy m commit_proxy).in_flight (sealed_proxy m commit_proxy).acknowledgements_received one aligned)));
       opened = rw c.issue.ensures before.opened;
     }

@@ -7,6 +7,7 @@ use Rattle.fdb_core.proofs.common.AllLemmas.{all-at, all-remove}
 use Rattle.fdb_core.proofs.refinement.CommitProxyTies.{commit_proxies-set, commit_proxy-submit}
 use Rattle.fdb_core.proofs.invariant.SoundLemmas.{commit_request_of-names}
 use Rattle.fdb_core.proofs.cluster.Cluster.submit.Goals as goal
+use Rattle.fdb_core.specs.refinement.Resolving.{taken_by}
 
 pub returns-clause-refines : goal.returns-clause-refines
 returns-clause-refines c =
@@ -28,10 +29,10 @@ returns-clause-refines c =
       room = before.room;
       sequencer = before.sequencer;
       book = before.book;
-      resolver = before.resolver;
+      resolvers = before.resolvers;
       log = before.log;
       commit_proxies = rw c.in_ok-submit.ensures
-          (commit_proxies-set k.book.items k.book.items k.resolvers.items k.resolvers.items k.sequencer.committed k.sequencer.committed k.outcomes k.outcomes k.commit_proxies.items c.args.proxy commit_proxy _
-          before.commit_proxies proxy_there (commit_proxy-submit k.book.items k.resolvers.items k.sequencer.committed k.outcomes commit_proxy c.new.result (subst (WaitsRefines k.sequencer.committed) (sym c.new.ensures) waits)));
+          (commit_proxies-set k.book.items k.book.items (taken_by k.resolvers.items) (taken_by k.resolvers.items) k.sequencer.committed k.sequencer.committed k.outcomes k.outcomes k.commit_proxies.items c.args.proxy commit_proxy _
+          before.commit_proxies proxy_there (commit_proxy-submit k.book.items (taken_by k.resolvers.items) k.sequencer.committed k.outcomes commit_proxy c.new.result (subst (WaitsRefines k.sequencer.committed) (sym c.new.ensures) waits)));
       opened = rw c.remove-transcript.ensures.items (all-remove (OpenRefines k.sequencer.committed) k.opened.items place before.opened);
     }

@@ -9,8 +9,8 @@ use Rattle.fdb_core.specs.machine.Roles.{ShardProgress}
 use Rattle.fdb_core.specs.machine.ClientSteps.{shard_fault}
 use Rattle.fdb_core.specs.refinement.Cluster.{machine_of}
 use Rattle.fdb_core.specs.machine.Machine.{last_version}
-use Rattle.fdb_core.specs.programs.Programs.{program, decided}
-use Rattle.fdb_core.specs.refinement.Roles.{value_in, value_after_op}
+use Rattle.fdb_core.specs.programs.Programs.{program, decided, value_after_op}
+use Rattle.fdb_txn.specs.rules.Messages.{value_in}
 use Rattle.fdb_core.proofs.refinement.RunLaws.{entries-rising, value-of-serial_map}
 use Rattle.fdb_core.proofs.machine.Transitions.{answers-decided, answers-undecided}
 use Rattle.fdb_core.proofs.cluster.Cluster.value_of.Goals as goal

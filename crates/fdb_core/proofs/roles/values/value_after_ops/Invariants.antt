@@ -1,6 +1,6 @@
 use Rattle.std.proofs.Common.{◌≡◌, take, fold}
 use Rattle.std.specs.Option.{option_copied}
-use Rattle.fdb_core.specs.refinement.Roles.{value_after_op}
+use Rattle.fdb_core.specs.programs.Programs.{value_after_op}
 use Rattle.fdb_core.proofs.roles.values.value_after_ops.Given as goal
 
 abbrev pub invariant-loop-op : goal.invariant-loop-op
