@@ -1,5 +1,6 @@
 pub mod ClientSteps
 pub mod CommitProxySteps
+pub mod GrvProxySteps
 pub mod InFlight
 pub mod Machine
 pub mod RoleSteps

@@ -44,7 +44,7 @@ pub fn traces_determine_the_machine()
 {}
 
 /// Over every trace, each acknowledged transaction stands at its spot. At a spot in an entry it is committed
-/// there, at the spot's place and under its version; at a read-only spot it wrote nothing, and stands behind
+/// there, at the spot's place and under its version; at a read-only spot it wrote nothing, and stands after
 /// the entries up to its read version. Each of its ordinary reads was answered as when the committed
 /// transactions before the spot run one at a time from the empty map, by version and by place in the batch.
 pub fn acknowledged_transactions_are_serialized_at_their_spots()
@@ -58,11 +58,11 @@ pub fn who_begins_after_an_acknowledgement_is_ordered_after_it()
 {}
 
 /// What the headline says of small worlds: which transactions stand at which spots and which don't, who stands
-/// behind a version, what an empty shard would have to answer, and which answers a trace has.
+/// after a version, what an empty shard would have to answer, and which answers a trace has.
 pub fn worked_examples()
     ensures spots { OnlyTheFirstIsSerialized }
     ensures read_only { ReadOnlyAtItsVersion }
-    ensures behind { AfterAVersion }
+    ensures after { AfterAVersion }
     ensures shard { AnEmptyShardDoesNotServe }
     ensures traces { Traced }
 {}

@@ -82,7 +82,7 @@ impl World {
     /// Where the world stands for a trace, it then stands for that trace with this step and its answer. Each
     /// transaction that the trace acknowledged stands at its spot: it is committed there, and each of its
     /// ordinary reads was answered as when the committed transactions run one at a time from the empty map, by
-    /// commit version and place in the batch. It stands behind all that were acknowledged before it began. And
+    /// commit version and place in the batch. It stands after all that were acknowledged before it began. And
     /// every shard answers, at each version that it serves, from that run's map.
     pub fn step(&mut self, step: Step) -> Result<Answered, Refusal>
         ensures step { IsStep self.old.machine step result self.new.machine }

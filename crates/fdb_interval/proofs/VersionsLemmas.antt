@@ -25,7 +25,7 @@ with_mark_comm a b x version = by_cases (in_range a.range x) (in_range b.range x
     by_cases false true = refl
     by_cases false false = refl
 
--- one mark more, behind the others
+-- one mark more, after the others
 version_at-push : (marks : List Mark) (mark : Mark) (x : Point) → version_at (marks ++ mark ∷ []) x ≡ with_mark mark x (version_at marks x)
 version_at-push [] mark x = refl
 version_at-push (first ∷ marks) mark x =

@@ -4,7 +4,7 @@ use Rattle.std.proofs.lemmas.Bool.{cases_Bool, and_parts, and_from, or_cases, or
 use Rattle.std.proofs.lemmas.Bool.Decides.{same_from_decides}
 use Rattle.std.proofs.Math.Bool.{or_assoc, or_comm}
 use Rattle.fdb_keys.specs.Points.{Point, point_lt}
-use Rattle.fdb_keys.specs.Ranges.{Range, in_range, in_set, begins_behind, is_apart, is_empty_range}
+use Rattle.fdb_keys.specs.Ranges.{Range, in_range, in_set, begins_after, is_apart, is_empty_range}
 use Rattle.fdb_keys.specs.Texts.{is_bound}
 use Rattle.fdb_keys.specs.Insertion.{lesser_point, greater_point, joined_range, inserted}
 use Rattle.fdb_keys.proofs.PointOrder.{lt-itself, lt_one_way, lt_chain, le_chain, lt_le_chain, le_lt_chain}
@@ -70,7 +70,7 @@ in_either : (a b : Range) (x : Point) → point_lt x a.begin ≡ false → (poin
 in_either a b x from until touching =
     ⊎_elim
     (λ inside. or_left _ _ (in_range_from a x from inside))
-    (λ behind. or_right _ _ (in_range_from b x (le_chain b.begin a.end x touching behind) (⊎_elim (λ inside. absurd (both_ways _ behind inside)) (λ inside. inside) until)))
+    (λ after. or_right _ _ (in_range_from b x (le_chain b.begin a.end x touching after) (⊎_elim (λ inside. absurd (both_ways _ after inside)) (λ inside. inside) until)))
     (cases_Bool (point_lt x a.end))
 
 in_either-joined : (a b : Range) (x : Point) → point_lt b.end a.begin ≡ false → point_lt a.end b.begin ≡ false
@@ -115,10 +115,10 @@ pub inserted-before : (carried range : Range) (ranges : List Range) → point_lt
 unfolding inserted
 inserted-before carried range ranges before = cond-true _ _ _ before
 
-pub inserted-behind : (carried range : Range) (ranges : List Range) → point_lt range.end carried.begin ≡ false → point_lt carried.end range.begin ≡ true
+pub inserted-after : (carried range : Range) (ranges : List Range) → point_lt range.end carried.begin ≡ false → point_lt carried.end range.begin ≡ true
     → inserted carried (range ∷ ranges) ≡ carried ∷ inserted range ranges
 unfolding inserted
-inserted-behind carried range ranges reaches behind = cond-false _ _ _ reaches ∙ cond-true _ _ _ behind
+inserted-after carried range ranges reaches after = cond-false _ _ _ reaches ∙ cond-true _ _ _ after
 
 pub inserted-joined : (carried range : Range) (ranges : List Range) → point_lt range.end carried.begin ≡ false → point_lt carried.end range.begin ≡ false
     → inserted carried (range ∷ ranges) ≡ inserted (joined_range carried range) ranges
@@ -139,8 +139,8 @@ in_inserted carried (range ∷ ranges) x =
     ∙ or_assoc (in_range carried x) (in_range range x) (in_set ranges x))
     (λ reaches.
     ⊎_elim
-    (λ behind.
-    ap (λ (l : List Range). in_set l x) (inserted-behind carried range ranges reaches behind)
+    (λ after.
+    ap (λ (l : List Range). in_set l x) (inserted-after carried range ranges reaches after)
     ∙ ap (λ (t : Bool). in_range carried x || t) (in_inserted range ranges x))
     (λ reached.
     ap (λ (l : List Range). in_set l x) (inserted-joined carried range ranges reaches reached)
@@ -151,21 +151,21 @@ in_inserted carried (range ∷ ranges) x =
     (cases_Bool (point_lt range.end carried.begin))
 
 pub apart_parts : (range : Range) (ranges : List Range) → is_apart (range ∷ ranges) ≡ true
-    → (point_lt range.begin range.end ≡ true) × (begins_behind range.end ranges ≡ true) × (is_apart ranges ≡ true)
+    → (point_lt range.begin range.end ≡ true) × (begins_after range.end ranges ≡ true) × (is_apart ranges ≡ true)
 apart_parts range ranges apart =
-    let parts : (point_lt range.begin range.end && begins_behind range.end ranges ≡ true) × (is_apart ranges ≡ true) = and_parts _ _ apart in
-    let of_range : (point_lt range.begin range.end ≡ true) × (begins_behind range.end ranges ≡ true) = and_parts _ _ parts.0 in
+    let parts : (point_lt range.begin range.end && begins_after range.end ranges ≡ true) × (is_apart ranges ≡ true) = and_parts _ _ apart in
+    let of_range : (point_lt range.begin range.end ≡ true) × (begins_after range.end ranges ≡ true) = and_parts _ _ parts.0 in
     (of_range.0, of_range.1, parts.1)
 
-apart_from : (range : Range) (ranges : List Range) → point_lt range.begin range.end ≡ true → begins_behind range.end ranges ≡ true → is_apart ranges ≡ true
+apart_from : (range : Range) (ranges : List Range) → point_lt range.begin range.end ≡ true → begins_after range.end ranges ≡ true → is_apart ranges ≡ true
     → is_apart (range ∷ ranges) ≡ true
-apart_from range ranges some behind apart =
-    and_from (point_lt range.begin range.end && begins_behind range.end ranges) (is_apart ranges)
-    (and_from (point_lt range.begin range.end) (begins_behind range.end ranges) some behind) apart
+apart_from range ranges some after apart =
+    and_from (point_lt range.begin range.end && begins_after range.end ranges) (is_apart ranges)
+    (and_from (point_lt range.begin range.end) (begins_after range.end ranges) some after) apart
 
-pub begins_behind-sooner : (x y : Point) (ranges : List Range) → point_lt x y ≡ true → begins_behind y ranges ≡ true → begins_behind x ranges ≡ true
-begins_behind-sooner x y [] sooner behind = refl
-begins_behind-sooner x y (range ∷ ranges) sooner behind = lt_chain x y range.begin sooner behind
+pub begins_after-sooner : (x y : Point) (ranges : List Range) → point_lt x y ≡ true → begins_after y ranges ≡ true → begins_after x ranges ≡ true
+begins_after-sooner x y [] sooner after = refl
+begins_after-sooner x y (range ∷ ranges) sooner after = lt_chain x y range.begin sooner after
 
 -- a range that has a point, joined with another one, has one
 some_joined : (a b : Range) → point_lt a.begin a.end ≡ true → point_lt (lesser_point a.begin b.begin) (greater_point a.end b.end) ≡ true
@@ -174,21 +174,21 @@ some_joined a b some =
     (le_lt_chain (lesser_point a.begin b.begin) a.begin a.end (lesser-left a.begin b.begin) some) (greater-left a.end b.end)
 
 -- what comes before the range and before the list comes before what they make
-begins_behind-inserted : (x : Point) (carried : Range) (ranges : List Range) → point_lt x carried.begin ≡ true → begins_behind x ranges ≡ true → is_apart ranges ≡ true
-    → begins_behind x (inserted carried ranges) ≡ true
+begins_after-inserted : (x : Point) (carried : Range) (ranges : List Range) → point_lt x carried.begin ≡ true → begins_after x ranges ≡ true → is_apart ranges ≡ true
+    → begins_after x (inserted carried ranges) ≡ true
 unfolding inserted
-begins_behind-inserted x carried [] first rest apart = first
-begins_behind-inserted x carried (range ∷ ranges) first rest apart =
+begins_after-inserted x carried [] first rest apart = first
+begins_after-inserted x carried (range ∷ ranges) first rest apart =
     let parts = apart_parts range ranges apart in
     ⊎_elim
-    (λ before. ap (begins_behind x) (inserted-before carried range ranges before) ∙ rest)
+    (λ before. ap (begins_after x) (inserted-before carried range ranges before) ∙ rest)
     (λ reaches.
     ⊎_elim
-    (λ behind. ap (begins_behind x) (inserted-behind carried range ranges reaches behind) ∙ first)
+    (λ after. ap (begins_after x) (inserted-after carried range ranges reaches after) ∙ first)
     (λ reached.
-    ap (begins_behind x) (inserted-joined carried range ranges reaches reached)
-    ∙ begins_behind-inserted x (joined_range carried range) ranges (below_lesser x carried.begin range.begin first rest)
-    (begins_behind-sooner x range.end ranges (lt_chain x range.begin range.end rest parts.0) parts.1) parts.2)
+    ap (begins_after x) (inserted-joined carried range ranges reaches reached)
+    ∙ begins_after-inserted x (joined_range carried range) ranges (below_lesser x carried.begin range.begin first rest)
+    (begins_after-sooner x range.end ranges (lt_chain x range.begin range.end rest parts.0) parts.1) parts.2)
     (cases_Bool (point_lt carried.end range.begin)))
     (cases_Bool (point_lt range.end carried.begin))
 
@@ -201,13 +201,13 @@ apart-inserted carried (range ∷ ranges) some apart =
     ⊎_elim
     (λ before.
     ap is_apart (inserted-before carried range ranges before)
-    ∙ apart_from range (inserted carried ranges) parts.0 (begins_behind-inserted range.end carried ranges before parts.1 parts.2) (apart-inserted carried ranges some parts.2))
+    ∙ apart_from range (inserted carried ranges) parts.0 (begins_after-inserted range.end carried ranges before parts.1 parts.2) (apart-inserted carried ranges some parts.2))
     (λ reaches.
     ⊎_elim
-    (λ behind.
-    ap is_apart (inserted-behind carried range ranges reaches behind)
+    (λ after.
+    ap is_apart (inserted-after carried range ranges reaches after)
     ∙ apart_from carried (inserted range ranges) some
-    (begins_behind-inserted carried.end range ranges behind (begins_behind-sooner carried.end range.end ranges (lt_chain carried.end range.begin range.end behind parts.0) parts.1) parts.2)
+    (begins_after-inserted carried.end range ranges after (begins_after-sooner carried.end range.end ranges (lt_chain carried.end range.begin range.end after parts.0) parts.1) parts.2)
     (apart-inserted range ranges parts.0 parts.2))
     (λ reached. ap is_apart (inserted-joined carried range ranges reaches reached) ∙ apart-inserted (joined_range carried range) ranges (some_joined carried range some) parts.2)
     (cases_Bool (point_lt carried.end range.begin)))

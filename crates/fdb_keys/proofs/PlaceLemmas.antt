@@ -7,10 +7,10 @@ use Rattle.std.proofs.lemmas.Bool.{cases_Bool, cond-true, cond-false, not-true, 
 use Rattle.std.proofs.lemmas.List.{drop-drop}
 use Rattle.std.proofs.lemmas.List.Sums.{prefix_len_is}
 use Rattle.fdb_keys.specs.Points.{Point, point_lt}
-use Rattle.fdb_keys.specs.Ranges.{Range, begins_behind, is_apart}
+use Rattle.fdb_keys.specs.Ranges.{Range, begins_after, is_apart}
 use Rattle.fdb_keys.specs.Insertion.{lesser_point, greater_point, joined_range, inserted}
 use Rattle.fdb_keys.proofs.PointOrder.{lt-itself, lt_one_way, lt_chain, le_chain, lt_le_chain, le_lt_chain}
-use Rattle.fdb_keys.proofs.InsertionLemmas.{lesser-right, inserted-before, inserted-behind, inserted-joined, apart_parts, begins_behind-sooner}
+use Rattle.fdb_keys.proofs.InsertionLemmas.{lesser-right, inserted-before, inserted-after, inserted-joined, apart_parts, begins_after-sooner}
 
 -- the range ends before the point
 abbrev pub ends_before : Point → Range → Bool
@@ -20,13 +20,13 @@ ends_before x range = point_lt range.end x
 abbrev pub begins_by : Point → Range → Bool
 begins_by x range = not (point_lt x range.begin)
 
--- what begins behind a point ends behind it
-begin_behind : (x : Point) (ranges : List Range) → begins_behind x ranges ≡ true → is_apart ranges ≡ true → (k : ℕ) (d : Range) → k < length ranges → point_lt x (get_or ranges k d).begin ≡ true
-begin_behind x [] behind apart k d within = absurd (omega arith)
-begin_behind x (range ∷ ranges) behind apart zero d within = behind
-begin_behind x (range ∷ ranges) behind apart (suc k) d within =
+-- what begins after a point ends after it
+begin_after : (x : Point) (ranges : List Range) → begins_after x ranges ≡ true → is_apart ranges ≡ true → (k : ℕ) (d : Range) → k < length ranges → point_lt x (get_or ranges k d).begin ≡ true
+begin_after x [] after apart k d within = absurd (omega arith)
+begin_after x (range ∷ ranges) after apart zero d within = after
+begin_after x (range ∷ ranges) after apart (suc k) d within =
     let parts = apart_parts range ranges apart in
-    begin_behind x ranges (begins_behind-sooner x range.end ranges (lt_chain x range.begin range.end behind parts.0) parts.1) parts.2 k d (omega arith)
+    begin_after x ranges (begins_after-sooner x range.end ranges (lt_chain x range.begin range.end after parts.0) parts.1) parts.2 k d (omega arith)
 
 some_at : (ranges : List Range) → is_apart ranges ≡ true → (k : ℕ) (d : Range) → k < length ranges → point_lt (get_or ranges k d).begin (get_or ranges k d).end ≡ true
 some_at [] apart k d within = absurd (omega arith)
@@ -41,7 +41,7 @@ ends_rise x (range ∷ ranges) apart zero (suc j) d low within before =
     let parts = apart_parts range ranges apart in
     let next = get_or ranges j d in
     lt_chain range.end next.end x
-    (lt_chain range.end next.begin next.end (begin_behind range.end ranges parts.1 parts.2 j d (omega arith)) (some_at ranges parts.2 j d (omega arith)))
+    (lt_chain range.end next.begin next.end (begin_after range.end ranges parts.1 parts.2 j d (omega arith)) (some_at ranges parts.2 j d (omega arith)))
     before
 ends_rise x (range ∷ ranges) apart (suc i) zero d low within before = absurd (omega arith)
 ends_rise x (range ∷ ranges) apart (suc i) (suc j) d low within before =
@@ -55,7 +55,7 @@ begins_rise x (range ∷ ranges) apart zero (suc j) d low within reached =
     let next = get_or ranges j d in
     not_from_false _
     (le_chain range.begin next.begin x
-    (lt_one_way range.begin next.begin (lt_chain range.begin range.end next.begin parts.0 (begin_behind range.end ranges parts.1 parts.2 j d (omega arith))))
+    (lt_one_way range.begin next.begin (lt_chain range.begin range.end next.begin parts.0 (begin_after range.end ranges parts.1 parts.2 j d (omega arith))))
     (not-true _ reached))
 begins_rise x (range ∷ ranges) apart (suc i) zero d low within reached = absurd (omega arith)
 begins_rise x (range ∷ ranges) apart (suc i) (suc j) d low within reached =
@@ -80,19 +80,19 @@ is_apart-drop zero ranges apart = apart
 is_apart-drop (suc n) [] apart = refl
 is_apart-drop (suc n) (range ∷ ranges) apart = is_apart-drop n ranges (apart_parts range ranges apart).2
 
--- what comes right before the sorted ranges behind it is inserted at their front
+-- what comes right before the sorted ranges after it is inserted at their front
 inserted-apart : (range : Range) (ranges : List Range) → is_apart (range ∷ ranges) ≡ true → inserted range ranges ≡ range ∷ ranges
 unfolding inserted
 inserted-apart range [] apart = refl
 inserted-apart range (next ∷ ranges) apart =
     let parts = apart_parts range (next ∷ ranges) apart in
     let of_next = apart_parts next ranges parts.2 in
-    inserted-behind range next ranges
+    inserted-after range next ranges
     (lt_one_way range.begin next.end (lt_chain range.begin range.end next.end parts.0 (lt_chain range.end next.begin next.end parts.1 of_next.0)))
     parts.1
     ∙ ap (λ (l : List Range). range ∷ l) (inserted-apart next ranges parts.2)
 
--- the range doesn't begin behind the end of the first one
+-- the range doesn't begin after the end of the first one
 abbrev BeginsInReach : Range → List Range → Type 0
 BeginsInReach carried [] = ⊤
 BeginsInReach carried (range ∷ ranges) = point_lt range.end carried.begin ≡ false
@@ -124,8 +124,8 @@ alike-joined : (end : Point) (carried range : Range) (ranges : List Range) → i
 alike-joined end carried range [] apart alike = tt
 alike-joined end carried range (next ∷ ranges) apart alike = λ z from.
     let parts = apart_parts range (next ∷ ranges) apart in
-    let behind : point_lt range.end z ≡ true = lt_le_chain range.end next.begin z parts.1 from in
-    greater_before carried.end range.end z behind ∙ alike z (lt_one_way range.begin z (lt_chain range.begin range.end z parts.0 behind))
+    let after : point_lt range.end z ≡ true = lt_le_chain range.end next.begin z parts.1 from in
+    greater_before carried.end range.end z after ∙ alike z (lt_one_way range.begin z (lt_chain range.begin range.end z parts.0 after))
 
 -- a range that begins in reach of the first one is joined with those that begin by its end
 inserted-in_reach : (end : Point) (carried : Range) (ranges : List Range) → is_apart ranges ≡ true → BeginsInReach carried ranges → EndAlike carried.end end ranges
@@ -137,10 +137,10 @@ inserted-in_reach end carried (range ∷ ranges) apart reach alike =
     let same : point_lt carried.end range.begin ≡ point_lt end range.begin = alike range.begin (lt-itself range.begin) in
     let joined_by = λ (n : ℕ). fold joined_range carried (take n (range ∷ ranges)) ∷ drop n (range ∷ ranges) in
     ⊎_elim
-    (λ behind.
-    inserted-behind carried range ranges reach (same ∙ behind)
+    (λ after.
+    inserted-after carried range ranges reach (same ∙ after)
     ∙ ap (λ (l : List Range). carried ∷ l) (inserted-apart range ranges apart)
-    ∙ sym (ap joined_by (counts_none (begins_by end) range ranges (ap not behind))))
+    ∙ sym (ap joined_by (counts_none (begins_by end) range ranges (ap not after))))
     (λ reached.
     inserted-joined carried range ranges reach (same ∙ reached)
     ∙ inserted-in_reach end (joined_range carried range) ranges parts.2 (in_reach-joined carried range ranges apart) (alike-joined end carried range ranges apart alike)
@@ -148,26 +148,26 @@ inserted-in_reach end carried (range ∷ ranges) apart reach alike =
     (cases_Bool (point_lt end range.begin))
 
 -- what ends before the range stays where it is
-inserted-behind_all : (carried : Range) (ranges : List Range)
+inserted-after_all : (carried : Range) (ranges : List Range)
     → inserted carried ranges ≡ take (prefix_len (ends_before carried.begin) ranges) ranges ++ inserted carried (drop (prefix_len (ends_before carried.begin) ranges) ranges)
 unfolding inserted
-inserted-behind_all carried [] = refl
-inserted-behind_all carried (range ∷ ranges) =
+inserted-after_all carried [] = refl
+inserted-after_all carried (range ∷ ranges) =
     let parted_by = λ (n : ℕ). take n (range ∷ ranges) ++ inserted carried (drop n (range ∷ ranges)) in
     ⊎_elim
     (λ before.
     inserted-before carried range ranges before
-    ∙ ap (λ (l : List Range). range ∷ l) (inserted-behind_all carried ranges)
+    ∙ ap (λ (l : List Range). range ∷ l) (inserted-after_all carried ranges)
     ∙ sym (ap parted_by (counts_first (ends_before carried.begin) range ranges before)))
     (λ reach. sym (ap parted_by (counts_none (ends_before carried.begin) range ranges reach)))
     (cases_Bool (point_lt range.end carried.begin))
 
-in_reach-behind : (carried : Range) (ranges : List Range) → BeginsInReach carried (drop (prefix_len (ends_before carried.begin) ranges) ranges)
-in_reach-behind carried [] = tt
-in_reach-behind carried (range ∷ ranges) =
+in_reach-after : (carried : Range) (ranges : List Range) → BeginsInReach carried (drop (prefix_len (ends_before carried.begin) ranges) ranges)
+in_reach-after carried [] = tt
+in_reach-after carried (range ∷ ranges) =
     let reach_by = λ (n : ℕ). BeginsInReach carried (drop n (range ∷ ranges)) in
     ⊎_elim
-    (λ before. subst reach_by (sym (counts_first (ends_before carried.begin) range ranges before)) (in_reach-behind carried ranges))
+    (λ before. subst reach_by (sym (counts_first (ends_before carried.begin) range ranges before)) (in_reach-after carried ranges))
     (λ reach. subst reach_by (sym (counts_none (ends_before carried.begin) range ranges reach)) reach)
     (cases_Bool (point_lt range.end carried.begin))
 
@@ -184,6 +184,6 @@ inserted_in_place carried ranges start count apart starts counts =
     ∙ ap (λ (n : ℕ). take start ranges ++ fold joined_range carried (take n (drop start ranges)) ∷ drop n (drop start ranges)) counts
     ∙ ap (λ (l : List Range). take start ranges ++ l)
     (sym (inserted-in_reach carried.end carried (drop start ranges) (is_apart-drop start ranges apart)
-    (subst (λ (n : ℕ). BeginsInReach carried (drop n ranges)) (sym starts) (in_reach-behind carried ranges)) (alike-itself carried.end (drop start ranges))))
+    (subst (λ (n : ℕ). BeginsInReach carried (drop n ranges)) (sym starts) (in_reach-after carried ranges)) (alike-itself carried.end (drop start ranges))))
     ∙ ap (λ (n : ℕ). take n ranges ++ inserted carried (drop n ranges)) starts
-    ∙ sym (inserted-behind_all carried ranges)
+    ∙ sym (inserted-after_all carried ranges)

@@ -5,7 +5,7 @@ use Rattle.fdb_keys.specs.Points.{Point, point_lt}
 use Rattle.fdb_keys.specs.Ranges.{Range, in_range, ranges_meet}
 use Rattle.fdb_keys.proofs.PointOrder.{lt-itself, lt_one_way, le_lt_chain}
 
--- a point that lies in a range comes neither before its begin nor at or behind its end
+-- a point that lies in a range comes neither before its begin nor at or after its end
 pub in_range_parts : (range : Range) (x : Point) → in_range range x ≡ true → (point_lt x range.begin ≡ false) × (point_lt x range.end ≡ true)
 in_range_parts range x inside =
     let parts : (not (point_lt x range.begin) ≡ true) × (point_lt x range.end ≡ true) = and_parts _ _ inside in

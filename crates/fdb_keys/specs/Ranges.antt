@@ -16,7 +16,7 @@ in_range range x = not (point_lt x range.begin) && point_lt x range.end
 abbrev pub in_set : List Range → Point → Bool
 in_set ranges x = list_any (λ range. in_range range x) ranges
 
--- the range of one key: the least point behind a text is the text with a zero byte at its end
+-- the range of one key: the least point after a text is the text with a zero byte at its end
 abbrev pub single_range : List ℕ → Range
 single_range key = record { begin = key; end = key ++ 0 ∷ [] }
 
@@ -29,12 +29,12 @@ abbrev pub ranges_meet : Range → Range → Bool
 ranges_meet a b =
     point_lt a.begin a.end && point_lt a.begin b.end && (point_lt b.begin a.end && point_lt b.begin b.end)
 
--- the first range of the list, if any, begins behind the point
-abbrev pub begins_behind : Point → List Range → Bool
-begins_behind x [] = true
-begins_behind x (range ∷ ranges) = point_lt x range.begin
+-- the first range of the list, if any, begins after the point
+abbrev pub begins_after : Point → List Range → Bool
+begins_after x [] = true
+begins_after x (range ∷ ranges) = point_lt x range.begin
 
 -- the ranges are sorted, none touches the next, and none is empty
 abbrev pub is_apart : List Range → Bool
 is_apart [] = true
-is_apart (range ∷ ranges) = point_lt range.begin range.end && begins_behind range.end ranges && is_apart ranges
+is_apart (range ∷ ranges) = point_lt range.begin range.end && begins_after range.end ranges && is_apart ranges

@@ -15,13 +15,13 @@ begins_with_ff (byte ∷ bytes) = nat_le 255 byte
 abbrev pub is_key : List ℕ → Bool
 is_key text = nat_le (length text) KEY_LIMIT && not (begins_with_ff text)
 
--- the text comes behind the one byte FF
-abbrev pub is_behind_ff : List ℕ → Bool
-is_behind_ff text = point_lt (255 ∷ []) text
+-- the text comes after the one byte FF
+abbrev pub is_after_ff : List ℕ → Bool
+is_after_ff text = point_lt (255 ∷ []) text
 
 -- a bound has at most 10,001 bytes, and is at most the one byte FF
 abbrev pub is_bound : List ℕ → Bool
-is_bound text = nat_le (length text) BOUND_LIMIT && not (is_behind_ff text)
+is_bound text = nat_le (length text) BOUND_LIMIT && not (is_after_ff text)
 
 -- why a text is no key
 abbrev pub key_fault : List ℕ → Option Refusal
@@ -33,5 +33,5 @@ key_fault text =
 abbrev pub range_fault : List ℕ → List ℕ → Option Refusal
 range_fault begin end =
     if nat_lt BOUND_LIMIT (length begin) || nat_lt BOUND_LIMIT (length end) then Some KeyTooLarge
-    else (if is_behind_ff begin || is_behind_ff end then Some KeyOutsideLegalRange
+    else (if is_after_ff begin || is_after_ff end then Some KeyOutsideLegalRange
     else (if point_lt end begin then Some InvertedRange else None))

@@ -1,12 +1,12 @@
 use crate::key::Key;
-use crate::order::{greater_bound, have_common_point, is_before, is_behind_ff, lesser_bound};
+use crate::order::{greater_bound, have_common_point, is_after_ff, is_before, lesser_bound};
 use crate::refusal::Refusal;
 use bytes::Bytes;
 use std::alloc::{AllocError, Global};
 use std::marker::Model;
 
 /// The most bytes that a bound of a range may have. It is one more than a key has, so that a bound can
-/// come right behind every key.
+/// come right after every key.
 pub const BOUND_LIMIT: usize = 10_001;
 
 /// The keys from a begin up to but not including an end.
@@ -40,7 +40,7 @@ impl KeyRange {
     ghost use Rattle.fdb_keys.specs.Texts.{range_fault};
 
     /// The range from `begin` up to but not including `end`. Refused as `KeyTooLarge` where a bound
-    /// exceeds 10,001 bytes, as `KeyOutsideLegalRange` where one comes behind the one byte `FF`, and as
+    /// exceeds 10,001 bytes, as `KeyOutsideLegalRange` where one comes after the one byte `FF`, and as
     /// `InvertedRange` where the end comes before the begin. Equal bounds give the empty range.
     pub fn new(alloc: Global, begin: &[u8], end: &[u8]) -> Result<Self, Refusal>
         ensures { Answers result (range_fault begin.now end.now) (λ range. range ≡ record { begin = begin.now; end = end.now }) }
@@ -48,7 +48,7 @@ impl KeyRange {
         if begin.len() > BOUND_LIMIT || end.len() > BOUND_LIMIT {
             return Err(Refusal::KeyTooLarge);
         }
-        if is_behind_ff(begin) || is_behind_ff(end) {
+        if is_after_ff(begin) || is_after_ff(end) {
             return Err(Refusal::KeyOutsideLegalRange);
         }
         if is_before(end, begin) {
@@ -59,7 +59,7 @@ impl KeyRange {
         Ok(KeyRange { begin, end })
     }
 
-    /// The range of one key alone, which ends right behind it.
+    /// The range of one key alone, which ends right after it.
     pub fn single(alloc: Global, key: &Key) -> Result<Self, Refusal>
         ensures answers { Answers result None (λ range. range ≡ single_range key.now) }
         ensures alone { IfOk result (λ range. (x : Point) → in_range range x ≡ point_eq x key.now) }

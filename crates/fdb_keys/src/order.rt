@@ -3,7 +3,7 @@ ghost use Rattle.std.specs.Prelude.{◌≡◌, IfOk};
 ghost use Rattle.fdb_keys.specs.Insertion.{lesser_point, greater_point};
 ghost use Rattle.fdb_keys.specs.Points.{point_lt};
 ghost use Rattle.fdb_keys.specs.Ranges.{Range, ranges_meet};
-ghost use Rattle.fdb_keys.specs.Texts.{begins_with_ff, is_behind_ff};
+ghost use Rattle.fdb_keys.specs.Texts.{begins_with_ff, is_after_ff};
 
 use bytes::Bytes;
 use std::alloc::AllocError;
@@ -24,8 +24,8 @@ pub(crate) fn begins_with_ff(text: &[u8]) -> bool
     }
 }
 
-pub(crate) fn is_behind_ff(text: &[u8]) -> bool
-    ensures { result ≡ is_behind_ff text.now }
+pub(crate) fn is_after_ff(text: &[u8]) -> bool
+    ensures { result ≡ is_after_ff text.now }
 {
     is_before(&[0xff], text)
 }

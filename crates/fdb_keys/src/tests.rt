@@ -94,7 +94,7 @@ fn touching_ranges_do_not_meet(rt: HostRuntime) -> Result<(), Fail> {
 }
 
 #[test]
-fn range_of_one_key_ends_right_behind_it(rt: HostRuntime) -> Result<(), Fail> {
+fn range_of_one_key_ends_right_after_it(rt: HostRuntime) -> Result<(), Fail> {
     let key = Key::new(rt.alloc(), b"a")?;
     let range = KeyRange::single(rt.alloc(), &key)?;
     assert_eq!(rt; key.bytes(), b"a".as_slice());

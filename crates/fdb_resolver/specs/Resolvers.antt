@@ -9,7 +9,7 @@ use Rattle.fdb_txn.specs.rules.Owners.{window}
 use Rattle.fdb_txn.specs.rules.Resolvers.{AgreeFrom}
 use Rattle.fdb_resolver.specs.declared.part.Part.{Part}
 use Rattle.fdb_resolver.specs.declared.verdict.Verdicts.{Verdicts}
-use Rattle.fdb_resolver.specs.Rule.{AreVerdicts, versions_behind}
+use Rattle.fdb_resolver.specs.Rule.{AreVerdicts, versions_after}
 
 -- its number, the version of the last entry that it took, whether memory ran out, and the versions at which
 -- it admitted writes
@@ -41,12 +41,12 @@ pub record IsAnswer (core : Resolver) (part : Part) (verdicts : Verdicts) : Type
   pub index : verdicts.index ≡ part.index
   pub answers : AreVerdicts part.version (version_at core.versions) part.items verdicts.answers
 
--- What it keeps behind a part. From the window's begin on, the versions answer as those behind all places.
+-- What it keeps after a part. From the window's begin on, the versions answer as those after all places.
 pub record HasTaken (old : Resolver) (part : Part) (verdicts : Verdicts) (new : Resolver) : Type 0 where
   pub index : new.index ≡ old.index
   pub last : new.last ≡ part.version
   pub works : new.is_failed ≡ false
-  pub versions : AgreeFrom (part.version - window) (version_at new.versions) (versions_behind part.version (version_at old.versions) part.items verdicts.answers)
+  pub versions : AgreeFrom (part.version - window) (version_at new.versions) (versions_after part.version (version_at old.versions) part.items verdicts.answers)
 
 -- it is the same resolver, and refuses every further part
 pub record HasFailed (old new : Resolver) : Type 0 where

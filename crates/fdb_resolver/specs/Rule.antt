@@ -7,7 +7,7 @@ use Rattle.fdb_resolver.specs.declared.part.Item.{Item}
 use Rattle.fdb_resolver.specs.declared.verdict.Verdict.{Verdict}
 use Rattle.fdb_resolver.specs.declared.verdict.Verdict.TheVariants.{Yes, Conflict, Old}
 
--- the transaction has reads, and its read version lies behind the window
+-- the transaction has reads, and its read version lies below the window
 abbrev pub is_old : ℕ → Item → Bool
 is_old version item = item.has_reads && nat_lt (item.read_version + window) version
 
@@ -26,13 +26,13 @@ IsVerdict version f item Old = is_old version item ≡ true
 IsVerdict version f item Conflict = (is_old version item ≡ false) × HasNewer f item.reads item.read_version
 IsVerdict version f item Yes = (is_old version item ≡ false) × HasNoNewer f item.reads item.read_version
 
--- the versions behind a place: it gives the points that it writes its entry's version, if it may commit
+-- the versions after a place: it gives the points that it writes its entry's version, if it may commit
 abbrev pub versions_with : ℕ → Item → Verdict → (Point → ℕ) → Point → ℕ
 versions_with version item Yes f x = if in_set item.writes x then version else f x
 versions_with version item Conflict f x = f x
 versions_with version item Old f x = f x
 
--- one verdict on each place, with the place's number, by the versions behind the places before it
+-- one verdict on each place, with the place's number, by the versions after the places before it
 abbrev pub AreVerdicts : ℕ → (Point → ℕ) → List Item → List (ℕ × Verdict) → Type 0
 AreVerdicts version f [] [] = ⊤
 AreVerdicts version f [] (answer ∷ answers) = ⊥
@@ -41,9 +41,9 @@ AreVerdicts version f (item ∷ items) (answer ∷ answers) =
     (answer.0 ≡ item.place) × IsVerdict version f item answer.1
     × AreVerdicts version (versions_with version item answer.1 f) items answers
 
--- the versions behind all places
-abbrev pub versions_behind : ℕ → (Point → ℕ) → List Item → List (ℕ × Verdict) → Point → ℕ
-versions_behind version f [] answers = f
-versions_behind version f (item ∷ items) [] = f
-versions_behind version f (item ∷ items) (answer ∷ answers) =
-    versions_behind version (versions_with version item answer.1 f) items answers
+-- the versions after all places
+abbrev pub versions_after : ℕ → (Point → ℕ) → List Item → List (ℕ × Verdict) → Point → ℕ
+versions_after version f [] answers = f
+versions_after version f (item ∷ items) [] = f
+versions_after version f (item ∷ items) (answer ∷ answers) =
+    versions_after version (versions_with version item answer.1 f) items answers

@@ -19,7 +19,7 @@ pub record IsItemOf (splits : List Point) (i : ℕ) (place : Place) (item : Item
   pub reads : (x : Point) → in_set item.reads x ≡ part_reads splits i place x
   pub writes : (x : Point) → in_set item.writes x ≡ part_writes splits i place x
 
--- what the rule over the book says of a place behind the earlier ones
+-- what the rule over the book says of a place after the earlier ones
 abbrev pub verdict_by_book : List Point → ℕ → List Place → Place → Verdict
 verdict_by_book splits i earlier place =
     if is_fresh place then (if admits splits i earlier place then Yes else Conflict) else Old
@@ -32,7 +32,7 @@ VerdictsAreByTheBook =
     → IsHistory (suc (length splits)) (place ∷ earlier) → IsStateOf splits i earlier floor f → floor ≤ place.version - window
     → IsItemOf splits i place item → IsVerdict place.version f item verdict → verdict ≡ verdict_by_book splits i earlier place
 
--- And the versions behind the place are again such a state.
+-- And the versions after the place are again such a state.
 abbrev pub PlacesKeepState : Type 0
 PlacesKeepState =
     (splits : List Point) (i : ℕ) (place : Place) (earlier : List Place) (floor : ℕ) (f : Point → ℕ) (item : Item) (verdict : Verdict)

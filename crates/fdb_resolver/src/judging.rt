@@ -5,7 +5,7 @@ ghost use Rattle.fdb_keys.specs.Answers.{Answers};
 ghost use Rattle.fdb_keys.specs.Points.{Point};
 ghost use Rattle.fdb_keys.specs.Ranges.{in_set};
 ghost use Rattle.fdb_interval.specs.Versions.{version_at};
-ghost use Rattle.fdb_resolver.specs.Rule.{HasNewer, IsVerdict, AreVerdicts, versions_with, versions_behind};
+ghost use Rattle.fdb_resolver.specs.Rule.{HasNewer, IsVerdict, AreVerdicts, versions_with, versions_after};
 
 use crate::part::Item;
 use crate::verdict::Verdict;
@@ -71,7 +71,7 @@ pub(crate) fn judge_items(
 ) -> Result<Items<(u32, Verdict)>, Refusal>
     requires { (x : Point) → version_at versions.old x ≤ version }
     ensures verdicts { Answers result None (λ answers. AreVerdicts version (version_at versions.old) items.now answers) }
-    ensures versions { IfOk result (λ answers. (x : Point) → version_at versions.new x ≡ versions_behind version (version_at versions.old) items.now answers x) }
+    ensures versions { IfOk result (λ answers. (x : Point) → version_at versions.new x ≡ versions_after version (version_at versions.old) items.now answers x) }
     ensures below { OnOk result ((x : Point) → version_at versions.new x ≤ version) }
 {
     let mut answers = Items::new(alloc);

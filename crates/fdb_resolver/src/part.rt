@@ -11,7 +11,7 @@ pub struct Part {
     pub version: u64,
     /// The version of the entry before it, 0 where it is the first.
     pub prev: u64,
-    /// The places, each behind those before it.
+    /// The places, each after those before it.
     pub items: Items<Item>,
 }
 

@@ -51,7 +51,7 @@ impl ResolverCore {
     /// Takes the resolver's part of an entry, and says of each place, as the places before it left the
     /// versions, whether it is old, conflicts, or may commit. Places that may commit give the points that
     /// they write the part's version. Refused as `Unknown` where the part is another resolver's, as `Failed`
-    /// once memory ran out in an earlier call, as `Stale` where the entry before the part's lies behind the
+    /// once memory ran out in an earlier call, as `Stale` where the entry before the part's lies after the
     /// last one taken, as `NotYet` with that entry's version where it hasn't been taken, and as `NoMemory`.
     /// The resolver stays as it was where it is refused, but for `NoMemory`, after which it has failed.
     /// A part's version is above that of the entry before it, its places rise, and of a transaction without

@@ -143,22 +143,22 @@ fn later_place_conflicts_with_an_earlier_one(rt: HostRuntime) -> Result<(), Fail
 #[test]
 fn read_of_what_an_earlier_entry_wrote_conflicts(rt: HostRuntime) -> Result<(), Fail> {
     let before = one_reader(rt.alloc(), 100, 0, 0, [b"a", b"z"])?;
-    let behind = one_reader(rt.alloc(), 200, 100, 0, [b"z", b"z"])?;
+    let after = one_reader(rt.alloc(), 200, 100, 0, [b"z", b"z"])?;
     let mut core = ResolverCore::new(rt.alloc(), 0);
     assert!(rt; is_answered(&core.take(&before), &[(0, Verdict::Yes)]));
-    assert!(rt; is_answered(&core.take(&behind), &[(0, Verdict::Conflict)]));
+    assert!(rt; is_answered(&core.take(&after), &[(0, Verdict::Conflict)]));
     Ok(())
 }
 
 #[test]
-fn reads_behind_the_window_are_old(rt: HostRuntime) -> Result<(), Fail> {
+fn reads_below_the_window_are_old(rt: HostRuntime) -> Result<(), Fail> {
     let empty = part_of(7, 100, 0, Items::new(rt.alloc()));
     let within = one_reader(rt.alloc(), 5_000_100, 100, 100, [b"a", b"b"])?;
-    let behind = reader_and_writer(rt.alloc())?;
+    let after = reader_and_writer(rt.alloc())?;
     let mut core = ResolverCore::new(rt.alloc(), 0);
     assert!(rt; is_answered(&core.take(&empty), &[]));
     assert!(rt; is_answered(&core.take(&within), &[(0, Verdict::Yes)]));
-    assert!(rt; is_answered(&core.take(&behind), &[(0, Verdict::Old), (1, Verdict::Yes)]));
+    assert!(rt; is_answered(&core.take(&after), &[(0, Verdict::Old), (1, Verdict::Yes)]));
     Ok(())
 }
 

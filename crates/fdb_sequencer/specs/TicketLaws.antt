@@ -48,7 +48,7 @@ ReadsBelow issued = AllByRecursion (λ (t : Transaction). (t.read < issued.0.ver
 abbrev pub entry_of : Issued → Entry
 entry_of issued = record { version = issued.0.version; prev = issued.0.prev; moves = issued.0.pending; batch = issued.1 }
 
--- batches at tickets that are accepted one after another are entries of a book, behind the last version
+-- batches at tickets that are accepted one after another are entries of a book, after the last version
 abbrev pub TicketsMakeABook : Type 0
 TicketsMakeABook =
     (s : Sequencer) (issued : List Issued) → AreAccepted s (map (λ (one : Issued). one.0) issued) → AllByRecursion ReadsBelow issued

@@ -101,9 +101,9 @@ pub fn reads_of_committed_transactions_stand()
     ensures { ReadsStand }
 {}
 
-/// With one more entry the earlier places of a book stay as they were, behind new ones of the entry's
+/// With one more entry the earlier places of a book stay as they were, after new ones of the entry's
 /// version, and so does the map at each version below the entry's. A book stays one with an entry that
-/// may stand behind its last.
+/// may stand after its last.
 pub fn one_more_entry_changes_nothing_earlier()
     ensures places { EarlierPlacesStay }
     ensures maps { EarlierMapsStay }

@@ -7,7 +7,7 @@ pub enum Spot {
         place: u32,
         version: u64,
     },
-    /// Behind all entries up to the version, as a transaction that wrote nothing stands.
+    /// After all entries up to the version, as a transaction that wrote nothing stands.
     ReadOnly {
         version: u64,
     },

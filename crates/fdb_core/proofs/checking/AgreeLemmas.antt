@@ -48,11 +48,11 @@ pub ends-weaken : {T New All : Type 0} {Stop : CheckFault → Type 0} (r : Resul
 ends-weaken (Ok done) Come Other new all comes stops = comes new all
 ends-weaken (Err fault) Come Other new all comes stops = stops fault all
 
--- nothing stands behind a list's end
-nothing-behind : {A : Type 0} (xs : List A) (i : ℕ) → length xs ≤ i → slice_get xs i ≡ None
-nothing-behind [] i behind = refl
-nothing-behind (x ∷ xs) zero behind = absurd (omega (arith, behind))
-nothing-behind (x ∷ xs) (suc i) behind = nothing-behind xs i (omega (arith, behind))
+-- nothing stands after a list's end
+nothing-after : {A : Type 0} (xs : List A) (i : ℕ) → length xs ≤ i → slice_get xs i ≡ None
+nothing-after [] i after = refl
+nothing-after (x ∷ xs) zero after = absurd (omega (arith, after))
+nothing-after (x ∷ xs) (suc i) after = nothing-after xs i (omega (arith, after))
 
 -- the entry with a number, or the end of the book
 abbrev pub IsUntil : List Entry → ℕ → Option ℕ → Type 0
@@ -64,25 +64,25 @@ below-next v None end is below = cc
 below-next v (Some version) end is below = let same : version ≡ end = cc in subst (λ n. v < n) same (ltb-true v version below)
 
 module _ (book : List Entry) (plain : IsPlainBook book) (n : ℕ) where
-  -- the run's map behind the first n entries
-  abbrev behind : Map
-  behind = serial_map [] (seen_before book n).places
+  -- the run's map after the first n entries
+  abbrev after : Map
+  after = serial_map [] (seen_before book n).places
 
   -- it is the map at each version from that of the last one of them up to the next one's
   map-here : (until : Option ℕ) (v : ℕ) → IsUntil book n until → nat_le (last_version (take n book)) v && is_below v until ≡ true
-      → serial_map_at [] v (seen_of book).places ≡ behind
+      → serial_map_at [] v (seen_of book).places ≡ after
   map-here until v next between =
       let parts = and_parts _ _ between in
       map-between [] book (entries-rising 1 book plain.entries) n v (leb-true _ v parts.0) (λ entry there. below-next v until entry.version (next entry there) parts.1)
 
   pub agrees-between : (until : Option ℕ) → IsUntil book n until → (transcript : Transcript) (at : Spot) → AgreesAt book transcript at
-      → is_at (Between (last_version (take n book)) until) at ≡ true → AnsweredOn behind transcript
+      → is_at (Between (last_version (take n book)) until) at ≡ true → AnsweredOn after transcript
   agrees-between until next transcript (spot.Entry i p version) agrees never = absurd (both_ways _ refl never)
   agrees-between until next transcript (spot.ReadOnly version) agrees between =
       subst (λ (map : Map). AnsweredOn map transcript) (map-here until version next between) agrees
 
   pub between-agrees : (until : Option ℕ) → IsUntil book n until → (transcript : Transcript) (version : ℕ)
-      → (is_at (Between (last_version (take n book)) until) (spot.ReadOnly version) ≡ true → AnsweredOn behind transcript)
+      → (is_at (Between (last_version (take n book)) until) (spot.ReadOnly version) ≡ true → AnsweredOn after transcript)
       → nat_le (last_version (take n book)) version && is_below version until ≡ true → AgreesAt book transcript (spot.ReadOnly version)
   between-agrees until next transcript version answered between =
       subst (λ (map : Map). AnsweredOn map transcript) (sym (map-here until version next between)) (answered between)
@@ -102,13 +102,13 @@ module _ (book : List Entry) (plain : IsPlainBook book) (n : ℕ) where
     abbrev decided : List Outcome
     decided = outcomes_on [] before entry
 
-    -- the map behind all its places is the run's behind the entry
-    pub map-after : map_after behind entry.batch decided (length entry.batch) ≡ serial_map [] (seen_before book (n + 1)).places
+    -- the map after all its places is the run's after the entry
+    pub map-after : map_after after entry.batch decided (length entry.batch) ≡ serial_map [] (seen_before book (n + 1)).places
     map-after =
         let as_many = length-outcomes_on [] before entry in
-        ap₂ (λ (batch : List Transaction) (outcomes : List Outcome). effects behind (body_by batch outcomes))
+        ap₂ (λ (batch : List Transaction) (outcomes : List Outcome). effects after (body_by batch outcomes))
         (take_all (length entry.batch) entry.batch (le_refl (length entry.batch))) (take_all (length entry.batch) decided (omega (arith, as_many)))
-        ∙ ap (effects behind) (body-committed [] before entry)
+        ∙ ap (effects after) (body-committed [] before entry)
         ∙ sym (serial_map-add_places [] entry.version (moves_through before entry) entry.batch before.places)
         ∙ ap (λ (seen : Seen). serial_map [] seen.places) (sym next-seen)
 
@@ -117,7 +117,7 @@ module _ (book : List Entry) (plain : IsPlainBook book) (n : ℕ) where
     places-here i p same = ap (λ (j : ℕ). place_at book j p) same ∙ ap (place_of before p) there
 
     pub agrees-in : (transcript : Transcript) (at : Spot) → AgreesAt book transcript at
-        → (p : ℕ) → p < length entry.batch → is_at (Before n p) at ≡ true → AnsweredOn (map_after behind entry.batch decided p) transcript
+        → (p : ℕ) → p < length entry.batch → is_at (Before n p) at ≡ true → AnsweredOn (map_after after entry.batch decided p) transcript
     agrees-in transcript (spot.ReadOnly version) agrees p within never = absurd (both_ways _ refl never)
     agrees-in transcript (spot.Entry i q version) agrees p within here =
         let parts = and_parts _ _ here in
@@ -127,8 +127,8 @@ module _ (book : List Entry) (plain : IsPlainBook book) (n : ℕ) where
 
     -- who stands before the next entry and agrees where he stands before this one, between, or in it, agrees
     pub agrees-next : (transcript : Transcript) (at : Spot) → (is_before book n at ≡ true → AgreesAt book transcript at)
-        → (is_at (Between (last_version (take n book)) (Some entry.version)) at ≡ true → AnsweredOn behind transcript)
-        → ((p : ℕ) → p < length entry.batch → is_at (Before n p) at ≡ true → AnsweredOn (map_after behind entry.batch decided p) transcript)
+        → (is_at (Between (last_version (take n book)) (Some entry.version)) at ≡ true → AnsweredOn after transcript)
+        → ((p : ℕ) → p < length entry.batch → is_at (Before n p) at ≡ true → AnsweredOn (map_after after entry.batch decided p) transcript)
         → is_before book (n + 1) at ≡ true → AgreesAt book transcript at
     agrees-next transcript (spot.Entry i q version) earlier between inside is_earlier = ⊎_elim earlier
         (λ (later : nat_lt i n ≡ false) found at.
@@ -171,12 +171,12 @@ module _ (book : List Entry) (plain : IsPlainBook book) (n : ℕ) where
     }
       where
         between_now : (placed : Placed) → AnsweredAt (Between from (Some entry.version)) old.map placed
-            → AnsweredAt (Between (last_version (take n book)) (Some entry.version)) behind placed
-        between_now placed here = subst (λ (v : ℕ). AnsweredAt (Between v (Some entry.version)) behind placed) is_last
+            → AnsweredAt (Between (last_version (take n book)) (Some entry.version)) after placed
+        between_now placed here = subst (λ (v : ℕ). AnsweredAt (Between v (Some entry.version)) after placed) is_last
             (subst (λ (m : Map). AnsweredAt (Between from (Some entry.version)) m placed) come.map here)
 
-        inside_now : (placed : Placed) → AnsweredIn old.map entry.batch outcomes n (length entry.batch) placed → AnsweredIn behind entry.batch decided n (length entry.batch) placed
-        inside_now placed here = subst (λ (os : List Outcome). AnsweredIn behind entry.batch os n (length entry.batch) placed) are_decided
+        inside_now : (placed : Placed) → AnsweredIn old.map entry.batch outcomes n (length entry.batch) placed → AnsweredIn after entry.batch decided n (length entry.batch) placed
+        inside_now placed here = subst (λ (os : List Outcome). AnsweredIn after entry.batch os n (length entry.batch) placed) are_decided
             (subst (λ (m : Map). AnsweredIn m entry.batch outcomes n (length entry.batch) placed) come.map here)
 
     -- whom it finds in the entry answered otherwise doesn't agree
@@ -186,7 +186,7 @@ module _ (book : List Entry) (plain : IsPlainBook book) (n : ℕ) where
     stops-in acknowledged old outcomes fault come are =
         stops-weaken (AnsweredIn old.map entry.batch outcomes n (length entry.batch)) (Agrees book)
         (λ placed agrees. subst (λ (m : Map). AnsweredIn m entry.batch outcomes n (length entry.batch) placed) (sym come.map)
-        (subst (λ (os : List Outcome). AnsweredIn behind entry.batch os n (length entry.batch) placed) (sym are)
+        (subst (λ (os : List Outcome). AnsweredIn after entry.batch os n (length entry.batch) placed) (sym are)
         (agrees-in placed.transcript placed.spot agrees)))
         acknowledged fault
 
@@ -197,22 +197,22 @@ module _ (book : List Entry) (plain : IsPlainBook book) (n : ℕ) where
   stops-between acknowledged old from until fault come is_last next differs =
       stops-weaken (AnsweredAt (Between from until) old.map) (Agrees book)
       (λ placed agrees. subst (λ (m : Map). AnsweredAt (Between from until) m placed) (sym come.map)
-      (subst (λ (v : ℕ). AnsweredAt (Between v until) behind placed) (sym is_last)
+      (subst (λ (v : ℕ). AnsweredAt (Between v until) after placed) (sym is_last)
       (agrees-between until next placed.transcript placed.spot agrees)))
       acknowledged fault (inr differs)
 
   -- who agrees where he stands before the end of the book, and at its last version or above, agrees
   agrees-last : length book ≤ n → (transcript : Transcript) (at : Spot) → (is_before book n at ≡ true → AgreesAt book transcript at)
-      → (is_at (Between (last_version (take n book)) None) at ≡ true → AnsweredOn behind transcript) → AgreesAt book transcript at
+      → (is_at (Between (last_version (take n book)) None) at ≡ true → AnsweredOn after transcript) → AgreesAt book transcript at
   agrees-last all transcript (spot.Entry i p version) earlier between = ⊎_elim earlier
       (λ (later : nat_lt i n ≡ false) found at.
       let beyond = ltb-false i n later in
-      let none : slice_get book i ≡ None = nothing-behind book i (omega (arith, all, beyond)) in
+      let none : slice_get book i ≡ None = nothing-after book i (omega (arith, all, beyond)) in
       let gone = ap (place_of (seen_of (take i book)) p) (sym none) ∙ at in cc)
       (cases_Bool (nat_lt i n))
   agrees-last all transcript (spot.ReadOnly version) earlier between = ⊎_elim earlier
       (λ (later : nat_lt version (last_version (take n book)) ≡ false).
-      between-agrees None (λ entry there. let gone = sym there ∙ nothing-behind book n all in cc) transcript version between
+      between-agrees None (λ entry there. let gone = sym there ∙ nothing-after book n all in cc) transcript version between
       (and_from _ _ (le-leb (last_version (take n book)) version (ltb-false version (last_version (take n book)) later)) refl))
       (cases_Bool (nat_lt version (last_version (take n book))))
 
@@ -222,14 +222,14 @@ module _ (book : List Entry) (plain : IsPlainBook book) (n : ℕ) where
   comes-last all acknowledged old from come is_last =
       all-both (λ placed. is_before book n placed.spot ≡ true → Agrees book placed) (AnsweredAt (Between from None) old.map) (Agrees book)
       (λ placed earlier between. agrees-last all placed.transcript placed.spot earlier
-      (subst (λ (v : ℕ). AnsweredAt (Between v None) behind placed) is_last
+      (subst (λ (v : ℕ). AnsweredAt (Between v None) after placed) is_last
       (subst (λ (m : Map). AnsweredAt (Between from None) m placed) come.map between)))
       acknowledged come.compared
 
   pub stops-last : length book ≤ n → (acknowledged : List Placed) (old : Replay) (from : ℕ) (fault : CheckFault) → HasCome book acknowledged n old
       → from ≡ last_version (take n book) → Differs (AnsweredAt (Between from None) old.map) acknowledged fault → StopsBy (Agrees book) acknowledged fault
   stops-last all acknowledged old from fault come is_last =
-      stops-between acknowledged old from None fault come is_last (λ entry there. let gone = sym there ∙ nothing-behind book n all in cc)
+      stops-between acknowledged old from None fault come is_last (λ entry there. let gone = sym there ∙ nothing-after book n all in cc)
 
 -- before the first entry there is nothing to compare
 comes-first : (book : List Entry) (acknowledged : List Placed) → AllByRecursion (λ placed. is_before book 0 placed.spot ≡ true → Agrees book placed) acknowledged

@@ -50,7 +50,7 @@ pub answered-next : (map : Map) (ops : List (Op × Reply)) (i : ℕ) (done : Op 
 answered-next map ops i done there here before =
     subst (AnsweredSoFar map) (sym (ap (λ (n : ℕ). take n ops) (add-one i) ∙ take-next ops i done there)) (answered-push map (take i ops) done here before)
 
--- and so each one behind those before it
+-- and so each one after those before it
 pub answered-at : (map : Map) (ops : List (Op × Reply)) (i : ℕ) (done : Op × Reply) → slice_get ops i ≡ Some done → AnsweredSoFar map ops
     → IsAnswered map (take i ops) done
 answered-at map ops i done there all =

@@ -119,7 +119,7 @@ pub held-where-named : (book : List Entry) → IsPlainBook book → (shard : Lis
     → (AreAlike map shard (last_version (take applied book)) (messages_name shard)
     × AreAlike map shard (last_version (take applied book)) (entries_name (take applied book)))
     ↔ HoldsTheRun book shard
-held-where-named book plain shard map applied least behind = (
+held-where-named book plain shard map applied least after = (
   λ alike x. subst (λ (v : ℕ). value_in v x shard ≡ get (serial_map_at [] v (seen_of book).places) x) (ap last_version its)
       (by_names alike x ∙ ap (λ (now : Map). get now x) same),
   λ holds.
@@ -135,7 +135,7 @@ held-where-named book plain shard map applied least behind = (
     its = ap (λ (n : ℕ). take n book) least ∙ take_min (length shard) book
 
     same : map ≡ serial_map_at [] (last_version (take applied book)) (seen_of book).places
-    same = behind ∙ sym (map-between [] book (entries-rising 1 book plain.entries) applied (last_version (take applied book)) (le_refl (last_version (take applied book)))
+    same = after ∙ sym (map-between [] book (entries-rising 1 book plain.entries) applied (last_version (take applied book)) (le_refl (last_version (take applied book)))
         (λ entry there. entries-rising 1 book plain.entries applied entry there))
 
     nothing_there : (x : Point) → messages_name shard x ≡ false → entries_name (take applied book) x ≡ false
@@ -144,7 +144,7 @@ held-where-named book plain shard map applied least behind = (
         unnamed-messages (last_version (take applied book)) x None shard unsent
         ∙ sym (get-empty {X = List ℕ} (slice_cmp nat_cmp) x)
         ∙ sym (unnamed-serial_map nothing (take applied book) x unwritten)
-        ∙ ap (λ (now : Map). get now x) (sym behind)
+        ∙ ap (λ (now : Map). get now x) (sym after)
 
     by_names : AreAlike map shard (last_version (take applied book)) (messages_name shard)
         × AreAlike map shard (last_version (take applied book)) (entries_name (take applied book))

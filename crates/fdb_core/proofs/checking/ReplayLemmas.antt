@@ -45,12 +45,12 @@ body-next (first ∷ batch) (o ∷ outcomes) (suc p) t outcome there at =
     ap (λ others. (if is_commit o then first.mutations else []) ++ others) (body-next batch outcomes p t outcome there at)
     ∙ sym (append_assoc (if is_commit o then first.mutations else []) (body_by (take p batch) (take p outcomes)) (if is_commit outcome then t.mutations else []))
 
--- the map behind one place more
-pub behind-next : (map old new : Map) (batch : List Transaction) (outcomes : List Outcome) (p : ℕ) (t : Transaction) (other : Outcome)
+-- the map after one place more
+pub after-next : (map old new : Map) (batch : List Transaction) (outcomes : List Outcome) (p : ℕ) (t : Transaction) (other : Outcome)
     → slice_get batch p ≡ Some t → p < length outcomes → old ≡ map_after map batch outcomes p
     → new ≡ effects old (if is_commit (get_or outcomes p other) then t.mutations else [])
     → new ≡ map_after map batch outcomes (p + 1)
-behind-next map old new batch outcomes p t other there within before after =
+after-next map old new batch outcomes p t other there within before after =
     let outcome = get_or outcomes p other in
     after
     ∙ ap (λ (at : Map). effects at (if is_commit outcome then t.mutations else [])) before

@@ -44,7 +44,7 @@ module _ (k : Cluster) (refines : Refines k) where
       let messages = along (message_on []) k.book.items in
       let each : length messages ≡ length k.book.items = length-along (message_on []) k.book.items in
       let all : length k.shard.items ≡ log.applied =
-      ap (λ (ms : List Message). length ms) log.kept ∙ length-take-le log.applied messages (omega (arith, each, log.behind, log.within)) in
+      ap (λ (ms : List Message). length ms) log.kept ∙ length-take-le log.applied messages (omega (arith, each, log.after, log.within)) in
       let reached : last_version (take (length k.shard.items) k.book.items) ≤ last_version (take log.applied k.book.items) =
       subst (λ (n : ℕ). last_version (take n k.book.items) ≤ last_version (take log.applied k.book.items)) (sym all) (le_refl (last_version (take log.applied k.book.items))) in
       ap (λ (ms : List Message). value_in (last_version (take (length k.shard.items) k.book.items)) x ms) log.kept

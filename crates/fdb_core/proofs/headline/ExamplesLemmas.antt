@@ -14,7 +14,7 @@ use Rattle.fdb_txn.proofs.rules.MessagesLemmas.{get-effects}
 use Rattle.fdb_txn.specs.rules.Admission.{committed}
 use Rattle.fdb_core.specs.declared.roles.client.program.Reply.TheVariants as reply
 use Rattle.fdb_core.specs.headline.Examples.{reads_and_sets, OnlyTheFirstIsSerialized, ReadOnlyAtItsVersion, AfterAVersion, AnEmptyShardDoesNotServe, Traced}
-use Rattle.fdb_core.specs.machine.ClientSteps.{asks, grants}
+use Rattle.fdb_core.specs.machine.GrvProxySteps.{asks, grants}
 use Rattle.fdb_core.specs.headline.Headline.{AnsweredOn}
 use Rattle.fdb_core.specs.programs.Programs.{commit_request_of}
 
@@ -61,8 +61,8 @@ read_only_at_its_version = (
   (λ stands. cc (stands.2)),
 )
 
-pub behind_a_version : AfterAVersion
-behind_a_version = ((λ behind. omega (arith, behind)), omega arith, (λ behind. omega (arith, behind)), omega arith)
+pub after_a_version : AfterAVersion
+after_a_version = ((λ after. omega (arith, after)), omega arith, (λ after. omega (arith, after)), omega arith)
 
 pub an_empty_shard_does_not_serve : AnEmptyShardDoesNotServe
 unfolding point_lt insertion.inserted

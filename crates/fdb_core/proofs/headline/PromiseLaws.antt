@@ -11,7 +11,9 @@ use Rattle.fdb_txn.specs.rules.SerialMap.{serial_map_at}
 use Rattle.fdb_core.specs.machine.Roles.{ShardProgress}
 use Rattle.fdb_core.specs.declared.roles.client.program.Transcript.{Transcript}
 use Rattle.fdb_core.specs.declared.step.Answered.TheVariants as answered
-use Rattle.fdb_core.specs.machine.ClientSteps.{grants, gets, read_fault, shard_fault, has_no_number, version_of_shard}
+use Rattle.fdb_core.specs.machine.ClientSteps.{gets, read_fault}
+use Rattle.fdb_core.specs.machine.GrvProxySteps.{grants, has_no_number}
+use Rattle.fdb_core.specs.machine.RoleSteps.{shard_fault, version_of_shard}
 use Rattle.fdb_core.specs.machine.Machine.{Machine, Transition, refused_by, is_of}
 use Rattle.fdb_core.specs.programs.Programs.{program, copy, decided}
 use Rattle.fdb_core.specs.headline.Promises.{RefusalsChangeNothing, GrantsCommitted, GetsFromTheRun, GetsRefused}
@@ -59,14 +61,14 @@ gets-refused m session key snapshot i transcript why at there =
     by_fault (Some other) transition = ((λ refused. cc), (λ faulty. cc))
 
 -- a shard is ahead of a version exactly where it has it and is not there yet
-shard-behind : (m : Machine) (version : ℕ) (there : Option ShardProgress)
+shard-after : (m : Machine) (version : ℕ) (there : Option ShardProgress)
     → (shard_fault m.book version there ≡ Some FutureVersion)
     ↔ ((progress : ShardProgress) × (there ≡ Some progress) × (nat_lt version progress.floor ≡ false) × (nat_lt (version_of_shard m.book progress) version ≡ true))
-shard-behind m version None = ((λ faulty. cc), (λ behind. let h = behind.1 in cc))
-shard-behind m version (Some progress) = (
+shard-after m version None = ((λ faulty. cc), (λ after. let h = after.1 in cc))
+shard-after m version (Some progress) = (
   (λ faulty. let tests = (by_tests _ _).0 faulty in (progress, refl, tests.0, tests.1)),
-  (λ behind. let same : behind.0 ≡ progress = cc (behind.1) in
-      (by_tests _ _).1 (ap (λ (r : ShardProgress). nat_lt version r.floor) (sym same) ∙ behind.2, ap (λ (r : ShardProgress). nat_lt (version_of_shard m.book r) version) (sym same) ∙ behind.3)),
+  (λ after. let same : after.0 ≡ progress = cc (after.1) in
+      (by_tests _ _).1 (ap (λ (r : ShardProgress). nat_lt version r.floor) (sym same) ∙ after.2, ap (λ (r : ShardProgress). nat_lt (version_of_shard m.book r) version) (sym same) ∙ after.3)),
 )
   where
     by_tests : (old late : Bool)
@@ -75,26 +77,26 @@ shard-behind m version (Some progress) = (
     by_tests false true = ((λ faulty. (refl, refl)), (λ tests. refl))
     by_tests false false = ((λ faulty. cc), (λ tests. let h = tests.1 in cc))
 
--- a read of an open transaction is refused as in the future exactly where the key's shard is behind
+-- a read of an open transaction is refused as in the future exactly where the key's shard is after
 pub gets_refused : GetsRefused
 gets_refused m session key snapshot i transcript at there = (
   (λ refused. (by_decided (decided (program transcript.ops) key)).0 (answer.0 refused)),
-  (λ behind. answer.1 ((by_decided (decided (program transcript.ops) key)).1 behind)),
+  (λ after. answer.1 ((by_decided (decided (program transcript.ops) key)).1 after)),
 )
   where
     answer : (gets m session key snapshot ≡ Err FutureVersion) ↔ (read_fault m (program transcript.ops) transcript.read_version key ≡ Some FutureVersion)
     answer = gets-refused m session key snapshot i transcript FutureVersion at there
 
-    Behind : Type 0
-    Behind =
+    After : Type 0
+    After =
         (progress : ShardProgress) × (slice_get m.shards (first_owner m.config.shard_splits key) ≡ Some progress)
         × (nat_lt transcript.read_version progress.floor ≡ false) × (nat_lt (version_of_shard m.book progress) transcript.read_version ≡ true)
 
     shard : Option Refusal
     shard = shard_fault m.book transcript.read_version (slice_get m.shards (first_owner m.config.shard_splits key))
 
-    by_decided : (own : Bool) → ((if own then None else shard) ≡ Some FutureVersion) ↔ ((own ≡ false) × Behind)
-    by_decided true = ((λ faulty. cc), (λ behind. let h = behind.0 in cc))
+    by_decided : (own : Bool) → ((if own then None else shard) ≡ Some FutureVersion) ↔ ((own ≡ false) × After)
+    by_decided true = ((λ faulty. cc), (λ after. let h = after.0 in cc))
     by_decided false =
-        let there_behind = shard-behind m transcript.read_version (slice_get m.shards (first_owner m.config.shard_splits key)) in
-        ((λ faulty. (refl, there_behind.0 faulty)), (λ behind. there_behind.1 behind.1))
+        let there_after = shard-after m transcript.read_version (slice_get m.shards (first_owner m.config.shard_splits key)) in
+        ((λ faulty. (refl, there_after.0 faulty)), (λ after. there_after.1 after.1))

@@ -15,7 +15,7 @@ use Rattle.fdb_core.specs.machine.Roles.{LastTransaction, Submission, CommitProx
 use Rattle.fdb_core.specs.declared.roles.client.program.Transcript.{Transcript}
 use Rattle.fdb_core.specs.headline.Once.{NoTraceHasAnIdTwice, same_name, times_named, times_in_book}
 use Rattle.fdb_core.specs.headline.Traces.{machine_of_trace}
-use Rattle.fdb_core.specs.machine.ClientSteps.{last_number, begin_next, next_number, greatest_number, has_used_up, first_of, serve, without, without_at, has_no_number}
+use Rattle.fdb_core.specs.machine.GrvProxySteps.{last_number, begin_next, next_number, greatest_number, has_used_up, first_of, serve, without, without_at, has_no_number}
 use Rattle.fdb_core.specs.machine.Machine.{Machine, is_of, waits_at_grv_proxy, waits_at_commit_proxy}
 use Rattle.fdb_core.specs.machine.Worlds.{start, idle_proxy}
 use Rattle.fdb_core.specs.programs.Programs.{commit_request_of}

@@ -19,7 +19,7 @@ use Rattle.fdb_core.specs.declared.step.Outcome.TheVariants as outcome
 use Rattle.fdb_core.specs.declared.step.Step.{Step}
 use Rattle.fdb_core.specs.headline.RealTime.{RealTime, HasBegun, AreAfterEarlier, IsAfterVersion, spot_version}
 use Rattle.fdb_core.specs.headline.Traces.{after_steps, machine_of_trace}
-use Rattle.fdb_core.specs.machine.ClientSteps.{last_number, begin_next, next_number, greatest_number, first_of}
+use Rattle.fdb_core.specs.machine.GrvProxySteps.{last_number, begin_next, next_number, greatest_number, first_of}
 use Rattle.fdb_core.specs.machine.CommitProxySteps.{placed_from}
 use Rattle.fdb_core.specs.machine.Machine.{Machine}
 use Rattle.fdb_core.specs.machine.Worlds.{start, idle_proxy}
@@ -160,15 +160,15 @@ begun-start config = (omega arith, (tt, all-replicate _ idle_proxy config.proxie
 abbrev HadBegun : Machine → List LastTransaction → TxnId → ℕ → Type 0
 HadBegun m last_transactions id read = HasBegun m id ⊎ (m.committed ≤ read)
 
--- who reads at a version stands behind what is of it
-stands-behind : (v read : ℕ) (at : Spot) → v ≤ read → IsAfterVersion read at → IsAfterVersion v at
-stands-behind v read (spot.Entry entry place version) below is = omega (arith, is, below)
-stands-behind v read (spot.ReadOnly version) below is = omega (arith, is, below)
+-- who reads at a version stands after what is of it
+stands-after : (v read : ℕ) (at : Spot) → v ≤ read → IsAfterVersion read at → IsAfterVersion v at
+stands-after v read (spot.Entry entry place version) below is = omega (arith, is, below)
+stands-after v read (spot.ReadOnly version) below is = omega (arith, is, below)
 
--- behind a machine and those after it
-behind-earlier : (m : Machine) (steps : List Step) (given : List (Result Answered Refusal)) → Invariant m → Kept HasBegunThere 0 m
+-- after a machine and those after it
+after-earlier : (m : Machine) (steps : List Step) (given : List (Result Answered Refusal)) → Invariant m → Kept HasBegunThere 0 m
     → AreAfterEarlier m (after_steps m steps given)
-behind-earlier m steps given sound begun i j one other at_one at_other fresh =
+after-earlier m steps given sound begun i j one other at_one at_other fresh =
     let later = after_steps m steps given in
     let now : Kept (HadBegun m) m.committed m = (
       le_refl m.committed,
@@ -179,11 +179,11 @@ behind-earlier m steps given sound begun i j one other at_one at_other fresh =
     (kept_steps (HadBegun m) m.committed (λ last_transactions session t had. had) (λ last_transactions session version above. inr above)) m steps given now in
     let reads : m.committed ≤ other.transcript.read_version
     = ⊎_elim (λ has. absurd (fresh has)) (λ above. above) (all-at _ later.acknowledged j other had.1.2 at_other) in
-    let behind : spot_version one.spot ≤ other.transcript.read_version
+    let after : spot_version one.spot ≤ other.transcript.read_version
     = le_trans (all-at (IsReported m) m.acknowledged i one sound.reported at_one).0 reads in
     let later_sound : Invariant later = kept-by_trace Invariant sound_steps m steps given sound in
     let stands = (all-at (IsReported later) later.acknowledged j other later_sound.reported at_other).1 in
-    (behind, stands-behind (spot_version one.spot) other.transcript.read_version other.spot behind stands)
+    (after, stands-after (spot_version one.spot) other.transcript.read_version other.spot after stands)
 
 pub real_time : RealTime
 real_time config steps given n =
@@ -193,4 +193,4 @@ real_time config steps given n =
     (λ last_transactions session version above. begins-new last_transactions session version))
     (start config) (take n steps) (take n given) (begun-start config) in
     subst (AreAfterEarlier m) (after_steps-parts n (start config) steps given)
-    (behind-earlier m (drop n steps) (drop n given) (sound-trace config (take n steps) (take n given)) begun)
+    (after-earlier m (drop n steps) (drop n given) (sound-trace config (take n steps) (take n given)) begun)

@@ -86,7 +86,7 @@ spot-stays m entry transcript (spot.ReadOnly version) above stands =
       subst (λ (now : Map). AnsweredOn now transcript) (sym (earlier_maps_stay m.config.resolver_splits m.book entry version below)) stands.3,
     )
 
--- the places are the earlier ones behind newer ones of at least the version
+-- the places are the earlier ones after newer ones of at least the version
 abbrev Extends : ℕ → List Place → List Place → Type 0
 Extends version places earlier =
     (newer : List Place) × (places ≡ newer ++ earlier) × AllByRecursion (λ (place : Place). version ≤ place.version) newer
@@ -106,7 +106,7 @@ extends-batch least version moves batch earlier reached =
     let added = add_places-newer version moves batch earlier in
     (added.0, added.1, all-weaken _ (λ (place : Place). least ≤ place.version) (λ (place : Place) is. omega (arith, is, reached)) added.0 added.2)
 
--- entries behind a version extend the places
+-- entries after a version extend the places
 extends-entries : (resolvers least last : ℕ) (seen : Seen) (book : List Entry) → least ≤ last → AreEntries resolvers last book
     → Extends least (fold add_entry seen book).places seen.places
 extends-entries resolvers least last seen [] reached entries = ([], refl, tt)

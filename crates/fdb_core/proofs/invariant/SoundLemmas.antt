@@ -21,7 +21,7 @@ use Rattle.fdb_core.specs.machine.Roles.{LastTransaction, CommitProxy, Submissio
 use Rattle.fdb_core.specs.declared.roles.client.program.Op.{Op}
 use Rattle.fdb_core.specs.declared.roles.client.program.Reply.{Reply}
 use Rattle.fdb_core.specs.declared.roles.client.program.Transcript.{Transcript}
-use Rattle.fdb_core.specs.machine.ClientSteps.{without, without_at, serve, begin_next, first_of}
+use Rattle.fdb_core.specs.machine.GrvProxySteps.{without, without_at, serve, begin_next, first_of}
 use Rattle.fdb_core.specs.headline.Headline.{replies_of}
 use Rattle.fdb_core.specs.machine.Machine.{Machine, is_of}
 use Rattle.fdb_core.specs.programs.Programs.{program, copy, reply_on, exec, commit_request_of, mutations_of}
@@ -118,7 +118,7 @@ pub sealed-in_flight : (m : Machine) (submissions : List Submission) → AllByRe
 sealed-in_flight m [] waits = refl
 sealed-in_flight m (submission ∷ submissions) waits = ap₂ (λ first others. first ∷ others) waits.0.0 (sealed-in_flight m submissions waits.1)
 
--- what is found in a list is found there with more behind it
+-- what is found in a list is found there with more after it
 pub found-front : {A : Type 0} (xs ys : List A) (i : ℕ) (x : A) → slice_get xs i ≡ Some x → slice_get (xs ++ ys) i ≡ Some x
 found-front [] ys i x there = cc
 found-front (y ∷ xs) ys zero x there = there

@@ -19,39 +19,39 @@ pub of-accepted : (Q : Transition → Type 0) (result : Result Transition Refusa
 of-accepted Q result transition accepted holds = subst (IfAccepted Q) accepted holds
 
 module _ (Q : Transition → Type 0) where
-  -- behind a number it holds if it does behind what has it
+  -- after a number it holds if it does after what has it
   pub past-found : {A : Type 0} (x : Option A) (next : A → Result Transition Refusal) → ((a : A) → x ≡ Some a → IfAccepted Q (next a))
       → IfAccepted Q (found x next)
   past-found None next holds = tt
   past-found (Some a) next holds = holds a refl
 
-  -- behind a test, if it does where that fails
+  -- after a test, if it does where that fails
   pub past-test : (test : Bool) (refusal : Refusal) (next : Result Transition Refusal) → (test ≡ false → IfAccepted Q next)
       → IfAccepted Q (refused_where test refusal next)
   past-test true refusal next holds = tt
   past-test false refusal next holds = holds refl
 
-  -- behind what may be at fault, if it does where nothing is
+  -- after what may be at fault, if it does where nothing is
   pub past-fault : (fault : Option Refusal) (next : Result Transition Refusal) → (fault ≡ None → IfAccepted Q next) → IfAccepted Q (refused_by fault next)
   past-fault None next holds = holds refl
   past-fault (Some why) next holds = tt
 
-  -- behind a wait, if it does where none is missing
+  -- after a wait, if it does where none is missing
   pub past-wait : (missing : Option ℕ) (next : Result Transition Refusal) → (missing ≡ None → IfAccepted Q next) → IfAccepted Q (waits_for missing next)
   past-wait None next holds = holds refl
   past-wait (Some i) next holds = tt
 
-  -- behind an entry's turn
+  -- after an entry's turn
   pub past-turn : (taken i : ℕ) (entry : Entry) (next : Result Transition Refusal) → IfAccepted Q next → IfAccepted Q (in_turn taken i entry next)
   past-turn taken i entry next holds = past-test (nat_lt i taken) Stale _ (λ _. past-test (nat_lt taken i) (NotYet entry.prev) next (λ _. holds))
 
-  -- behind a choice, if it does in both
+  -- after a choice, if it does in both
   pub past-choice : (test : Bool) (one other : Result Transition Refusal) → (test ≡ true → IfAccepted Q one) → (test ≡ false → IfAccepted Q other)
       → IfAccepted Q (if test then one else other)
   past-choice true one other first second = first refl
   past-choice false one other first second = second refl
 
-  -- behind a session's open transaction
+  -- after a session's open transaction
   pub past-opened : (session : ℕ) (opened : List Transcript) (next : ℕ → Transcript → Result Transition Refusal)
       → ((i : ℕ) (transcript : Transcript) → position (is_of session) opened ≡ Some i → slice_get opened i ≡ Some transcript → IfAccepted Q (next i transcript))
       → IfAccepted Q (with_opened session opened next)

@@ -8,7 +8,7 @@ use Rattle.std.proofs.lemmas.List.Folds.{find_at, find-set, find_past, find-appe
 use Rattle.std.proofs.lemmas.Option.{slice_get_past}
 use Rattle.std.proofs.lemmas.Bool.{eqb-true, eq-eqb, ne_eqb, ltb-true, ltb-false}
 use Rattle.fdb_core.specs.machine.Roles.{LastTransaction}
-use Rattle.fdb_core.specs.machine.ClientSteps.{last_number, begin_next, next_number, greatest_number}
+use Rattle.fdb_core.specs.machine.GrvProxySteps.{last_number, begin_next, next_number, greatest_number}
 
 -- what passes is found at its place, and there is none where there is no place
 find-place : {X : Type 0} (p : X → Bool) (xs : List X)

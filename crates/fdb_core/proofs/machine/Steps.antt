@@ -20,7 +20,8 @@ use Rattle.fdb_core.specs.declared.step.Step.{Step}
 use Rattle.fdb_core.specs.declared.step.Step.TheVariants as step
 use Rattle.fdb_core.specs.headline.Promises.{reported}
 use Rattle.fdb_core.specs.headline.Traces.{after_steps}
-use Rattle.fdb_core.specs.machine.ClientSteps.{asks, grants, gets, writes, submits, without, serve, add_operation, has_no_number, read_fault, is_nil}
+use Rattle.fdb_core.specs.machine.ClientSteps.{gets, writes, submits, add_operation, read_fault, is_nil}
+use Rattle.fdb_core.specs.machine.GrvProxySteps.{asks, grants, without, serve, has_no_number}
 use Rattle.fdb_core.specs.machine.CommitProxySteps.{seals, taken_by_sender, awaits, with_received, receives, decides, reports, answers, is_idle, is_resolving, is_logging, is_reported, placed_from}
 use Rattle.fdb_core.specs.machine.Machine.{Machine, Transition, is_busy, is_set, first_missing, last_version, seen_before}
 use Rattle.fdb_core.specs.machine.RoleSteps.{resolves, pushes, pulls}
@@ -36,7 +37,7 @@ abbrev pub writes_nothing : Transcript → Bool
 writes_nothing transcript = is_nil (commit_request_of transcript).mutations && is_nil (commit_request_of transcript).writes
 
 -- What accepted steps do, by the fields that they change. The relation is between the machine, the version that the step
--- reports, which is 0 at all but a report, and the machine behind the step.
+-- reports, which is 0 at all but a report, and the machine after the step.
 pub record HoldsOfSteps (R : Machine → ℕ → Machine → Type 0) : Type 0 where
   -- resolvers, logs and shards went on (Resolve, Push, Pull)
   pub roles : (m : Machine) (resolvers logs : List ℕ) (shards : List ShardProgress) → R m 0 (record m { resolvers = resolvers; logs = logs; shards = shards })

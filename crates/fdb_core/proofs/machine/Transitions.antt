@@ -16,9 +16,9 @@ use Rattle.fdb_core.specs.declared.roles.client.program.Op.TheVariants as op
 use Rattle.fdb_core.specs.declared.roles.client.program.Reply.TheVariants as reply
 use Rattle.fdb_core.specs.declared.roles.client.program.Transcript.{Transcript}
 use Rattle.fdb_core.specs.declared.step.Answered.TheVariants as answered
-use Rattle.fdb_core.specs.machine.ClientSteps.{gets, add_operation, read_fault, shard_fault}
+use Rattle.fdb_core.specs.machine.ClientSteps.{gets, add_operation, read_fault}
+use Rattle.fdb_core.specs.machine.RoleSteps.{shard_fault, resolves, pushes}
 use Rattle.fdb_core.specs.machine.Machine.{Machine, is_of, is_set, seen_before}
-use Rattle.fdb_core.specs.machine.RoleSteps.{resolves, pushes}
 use Rattle.fdb_core.specs.machine.Verdicts.{verdicts_on}
 use Rattle.fdb_core.specs.programs.Programs.{program, copy, decided, value_after_op}
 use Rattle.fdb_core.proofs.programs.ProgramLaws.{get-copy, decided-value}

@@ -20,22 +20,22 @@ use Rattle.fdb_core.proofs.common.AllLemmas.{all-push}
 abbrev pub IsLegal : List Op → Type 0
 IsLegal ops = AllByRecursion (λ mutation. mutation_fault mutation ≡ None) (mutations_of ops)
 
--- a transcript's operations behind earlier ones
-abbrev behind : List Op → List (Op × Reply) → List Op
-behind earlier ops = fold (λ (before : List Op) (done : Op × Reply). done.0 ∷ before) earlier ops
+-- a transcript's operations after earlier ones
+abbrev after : List Op → List (Op × Reply) → List Op
+after earlier ops = fold (λ (before : List Op) (done : Op × Reply). done.0 ∷ before) earlier ops
 
--- the same as `get-copy`, behind earlier operations
-get-behind : (map : Map) (earlier : List Op) (ops : List (Op × Reply)) (x : Point)
-    → get (copy map (behind earlier ops)) x ≡ fold (value_after_op x) (get (copy map earlier) x) ops
-get-behind map earlier [] x = refl
-get-behind map earlier ((op.Get key snapshot, reply) ∷ ops) x = get-behind map (op.Get key snapshot ∷ earlier) ops x
-get-behind map earlier ((op.Write mutation, reply) ∷ ops) x =
-    get-behind map (op.Write mutation ∷ earlier) ops x
+-- the same as `get-copy`, after earlier operations
+get-after : (map : Map) (earlier : List Op) (ops : List (Op × Reply)) (x : Point)
+    → get (copy map (after earlier ops)) x ≡ fold (value_after_op x) (get (copy map earlier) x) ops
+get-after map earlier [] x = refl
+get-after map earlier ((op.Get key snapshot, reply) ∷ ops) x = get-after map (op.Get key snapshot ∷ earlier) ops x
+get-after map earlier ((op.Write mutation, reply) ∷ ops) x =
+    get-after map (op.Write mutation ∷ earlier) ops x
     ∙ ap (λ (value : Option (List ℕ)). fold (value_after_op x) value ops) (at_every_point (copy map earlier) mutation x)
 
 -- a point of the copy after the operations, by what stood there
 pub get-copy : (map : Map) (ops : List (Op × Reply)) (x : Point) → get (copy map (program ops)) x ≡ fold (value_after_op x) (get map x) ops
-get-copy map ops x = get-behind map [] ops x
+get-copy map ops x = get-after map [] ops x
 
 -- a value put there, or two values that are the same
 same-where : (here earlier : Bool) (put v w : Option (List ℕ)) → (earlier ≡ true → v ≡ w)
@@ -50,17 +50,17 @@ same-after (op.Get key snapshot, reply) x earlier v w same is_decided = same is_
 same-after (op.Write (Set key value), reply) x earlier v w same is_decided = same-where (point_eq x key) earlier (Some value) v w same is_decided
 same-after (op.Write (Clear key), reply) x earlier v w same is_decided = same-where (point_eq x key) earlier None v w same is_decided
 
--- the same as `decided-value`, behind earlier operations: where these decide the point, both values are the same
-same-behind : (earlier : List Op) (ops : List (Op × Reply)) (x : Point) (v w : Option (List ℕ)) → (decided earlier x ≡ true → v ≡ w)
-    → decided (behind earlier ops) x ≡ true → fold (value_after_op x) v ops ≡ fold (value_after_op x) w ops
-same-behind earlier [] x v w same is_decided = same is_decided
-same-behind earlier (done ∷ ops) x v w same is_decided =
-    same-behind (done.0 ∷ earlier) ops x (value_after_op x v done) (value_after_op x w done) (same-after done x (decided earlier x) v w same) is_decided
+-- the same as `decided-value`, after earlier operations: where these decide the point, both values are the same
+same-over : (earlier : List Op) (ops : List (Op × Reply)) (x : Point) (v w : Option (List ℕ)) → (decided earlier x ≡ true → v ≡ w)
+    → decided (after earlier ops) x ≡ true → fold (value_after_op x) v ops ≡ fold (value_after_op x) w ops
+same-over earlier [] x v w same is_decided = same is_decided
+same-over earlier (done ∷ ops) x v w same is_decided =
+    same-over (done.0 ∷ earlier) ops x (value_after_op x v done) (value_after_op x w done) (same-after done x (decided earlier x) v w same) is_decided
 
--- behind operations that decide a point it doesn't matter what stood there
+-- after operations that decide a point it doesn't matter what stood there
 pub decided-value : (ops : List (Op × Reply)) (x : Point) → decided (program ops) x ≡ true
     → (v w : Option (List ℕ)) → fold (value_after_op x) v ops ≡ fold (value_after_op x) w ops
-decided-value ops x is_decided v w = same-behind [] ops x v w (λ never. absurd (both_ways _ refl never)) is_decided
+decided-value ops x is_decided v w = same-over [] ops x v w (λ never. absurd (both_ways _ refl never)) is_decided
 
 -- one more operation is the newest of the program
 pub program-push : (ops : List (Op × Reply)) (done : Op × Reply) → program (ops ++ done ∷ []) ≡ done.0 ∷ program ops

@@ -34,10 +34,10 @@ decided-value_after_message mutation x decides v w =
     ∙ sym (cond-true (names mutation x) (new_value mutation w) w parts.1)
 
 -- one mutation more leaves the same at a point where the maps agree
-agree-behind : (m n : Map) (earlier : List Op) (mutation : Mutation) (x : Point)
+agree-after : (m n : Map) (earlier : List Op) (mutation : Mutation) (x : Point)
     → value_after_message mutation x (get (copy m earlier) x) ≡ value_after_message mutation x (get (copy n earlier) x)
     → get (copy m (Write mutation ∷ earlier)) x ≡ get (copy n (Write mutation ∷ earlier)) x
-agree-behind m n earlier mutation x same =
+agree-after m n earlier mutation x same =
     at_every_point (copy m earlier) mutation x ∙ same ∙ sym (at_every_point (copy n earlier) mutation x)
 
 -- the copies agree at a point that the program decides, and where the maps do
@@ -46,8 +46,8 @@ copies-agree m n [] x (inl decides) = absurd (both_ways false refl decides)
 copies-agree m n [] x (inr same) = same
 copies-agree m n (Get key snapshot ∷ earlier) x either = copies-agree m n earlier x either
 copies-agree m n (Write mutation ∷ earlier) x (inr same) =
-    agree-behind m n earlier mutation x (ap (value_after_message mutation x) (copies-agree m n earlier x (inr same)))
-copies-agree m n (Write mutation ∷ earlier) x (inl decides) = agree-behind m n earlier mutation x (⊎_elim
+    agree-after m n earlier mutation x (ap (value_after_message mutation x) (copies-agree m n earlier x (inr same)))
+copies-agree m n (Write mutation ∷ earlier) x (inl decides) = agree-after m n earlier mutation x (⊎_elim
     (λ here. decided-value_after_message mutation x here _ _)
     (λ before. ap (value_after_message mutation x) (copies-agree m n earlier x (inl before)))
     (or_cases (is_blind mutation && names mutation x) (decided earlier x) decides))
@@ -60,14 +60,14 @@ read-agrees m n earlier key agree = ⊎_elim
     (or_left _ (read_set m earlier key) (and_from (point_eq key key) (not (decided earlier key)) ((bytes_decides key key).1 refl) (not_from_false _ undecided))))))
     (cases_Bool (decided earlier key))
 
--- an ordinary operation replies the same behind the copies
+-- an ordinary operation replies the same after the copies
 reply-agrees : (m n : Map) (op : Op) (earlier : List Op) → AgreeOnReads m n (op ∷ earlier) → is_ordinary op ≡ true
     → reply_on (copy m earlier) op ≡ reply_on (copy n earlier) op
 reply-agrees m n (Get key true) earlier agree ordinary = absurd (both_ways false refl ordinary)
 reply-agrees m n (Get key false) earlier agree ordinary = ap Value (read-agrees m n earlier key agree)
 reply-agrees m n (Write mutation) earlier agree ordinary = refl
 
--- an operation reads the same points behind the copies
+-- an operation reads the same points after the copies
 reads-agree : (m n : Map) (op : Op) (earlier : List Op) (x : Point) → reads_on (copy m earlier) earlier op x ≡ reads_on (copy n earlier) earlier op x
 reads-agree m n (Get key snapshot) earlier x = refl
 reads-agree m n (Write mutation) earlier x = refl

@@ -44,7 +44,7 @@ module _ (k : Cluster) (proxy : ℕ) (commit_proxy : CommitProxy) (entry : Entry
       ok.aligned entry (only_reported commit_proxy.stage found.reported).0 found.entry_there
       ∙ sym (ap (λ (outcomes : List Outcome). length outcomes) kept ∙ length-outcomes_on [] (seen_before k.book.items commit_proxy.entry) entry)
 
-  -- the turn that the machine takes
+  -- the transition that the machine makes
   pub answers-transition : answers (machine_of k) proxy ≡ Ok (record {
     answer = answered.Answers (replies_from commit_proxy.in_flight k.outcomes);
     next = record (machine_of k) {

@@ -21,7 +21,7 @@ commit_proxy-at book resolvers committed commit_proxies outcomes i commit_proxy 
     let found = one-at ok.commit_proxy commit_proxy i (rw ok.one at there) in
     subst (λ (l : CommitProxy). CommitProxyRefines book resolvers committed l outcomes) found.1 ok.ok
 
--- the one lane is found under number 0 alone, and put back there
+-- the one commit proxy is found under number 0 alone, and put back there
 set_one : (book later : List Entry) (resolvers others : List ℕ) (committed raised : ℕ) (outcomes decision : List Outcome) (one : CommitProxy) (i : ℕ) (commit_proxy next : CommitProxy)
     → slice_get (one ∷ []) i ≡ Some commit_proxy → CommitProxyRefines book resolvers committed one outcomes
     → (CommitProxyRefines book resolvers committed commit_proxy outcomes → CommitProxyRefines later others raised next decision)

@@ -136,7 +136,7 @@ module _ (k : Cluster) (proxy : ℕ) (commit_proxy : CommitProxy) (entry : Entry
       missing-one (λ resolver. is_needed [] resolver (seen_before k.book.items commit_proxy.entry) entry) commit_proxy.verdicts_received is_received (ok.verdicts_received not_idle) is
       ∙ ap (λ (needed : Bool). if needed && not is_received then Some 0 else None) (needed-points (seen_before k.book.items commit_proxy.entry) entry still moveless below)
 
-  -- the resolver's verdicts are needed, and weren't heard
+  -- the resolver's verdicts are needed, and didn't come
   pub decides-waits : is_set commit_proxy.verdicts_received 0 ≡ false → is_any_judged entry ≡ true → decides (machine_of k) proxy ≡ Err (NotYet 0)
   unfolding decides
   decides-waits not_received judged =
@@ -205,7 +205,7 @@ module _ (k : Cluster) (proxy : ℕ) (commit_proxy : CommitProxy) (entry : Entry
       by_heard true is made = (made entry (verdicts_on [] 0 (seen_before k.book.items commit_proxy.entry) entry) found.entry_there (λ verdicts_received. sent is)).1
       by_heard false is made = (made entry [] found.entry_there (λ verdicts_received. absurd (true≢false (sym verdicts_received)))).1
 
-  -- the lane goes on with its outcomes
+  -- the commit proxy goes on with its outcomes
   commit_proxy-decided : (outcomes : List Outcome) → outcomes ≡ outcomes_on [] (seen_before k.book.items commit_proxy.entry) entry
       → CommitProxyRefines k.book.items (taken_by k.resolvers.items) k.sequencer.committed commit_proxy k.outcomes
       → CommitProxyRefines k.book.items (taken_by k.resolvers.items) k.sequencer.committed (record commit_proxy { stage = Logging }) outcomes

@@ -27,7 +27,7 @@ and-true : (test : Bool) → test && true ≡ test
 and-true true = refl
 and-true false = refl
 
--- a place behind no moves
+-- a place after no moves
 module _ (place : Place) (still : place.moves ≡ []) where
   owner-is : (x : Point) (v : ℕ) → owner [] place.moves x v ≡ 0
   owner-is x v = ap (λ (moves : List Stamped). owner [] moves x v) still

@@ -22,7 +22,7 @@ use Rattle.fdb_resolver.specs.declared.verdict.Verdict.{Verdict}
 use Rattle.fdb_resolver.specs.declared.verdict.Verdicts.{Verdicts}
 use Rattle.fdb_resolver.specs.Parts.{AreRising, IsPart}
 use Rattle.fdb_resolver.specs.Resolvers.{Resolver, part_fault, IsAnswer, HasTaken}
-use Rattle.fdb_resolver.specs.Rule.{AreVerdicts, versions_with, versions_behind}
+use Rattle.fdb_resolver.specs.Rule.{AreVerdicts, versions_with, versions_after}
 use Rattle.fdb_resolver.proofs.BookLemmas.{verdicts_are_by_the_book, places_keep_state}
 use Rattle.fdb_core.specs.machine.Machine.{last_version}
 use Rattle.fdb_core.specs.refinement.Resolving.{is_judged, item_of, items_from, ResolverAt, IsNext}
@@ -61,7 +61,7 @@ part-is part ts later are = record {
   reads = subst (AllByRecursion (λ (item : Item). has_points item.reads ≡ true → item.has_reads ≡ true)) (sym are) (items-reads ts 0);
 }
 
--- the places of a history with a batch behind them are one
+-- the places of a history with a batch after them are one
 history-before : (version : ℕ) (moves : List Stamped) (ts : List Transaction) (earlier : List Place)
     → IsHistory 1 (add_places version moves ts earlier) → IsHistory 1 earlier
 history-before version moves [] earlier history = history
@@ -78,11 +78,11 @@ keeps-unjudged place earlier floor f still history none state x v reached =
     unwritten = part_writes-all place still x ∙ false_from_ne_true _ (λ inside. both_ways _ none (points_from-in_set place.transaction.writes x inside))
 
 module _ (version : ℕ) (moves : List Stamped) (still : moves ≡ []) (floor : ℕ) (in_window : floor ≤ version - window) where
-  -- Of such items behind the earlier places, these verdicts are given; the versions then are a state of the later places.
+  -- Of such items after the earlier places, these verdicts are given; the versions then are a state of the later places.
   abbrev Judges : List Place → List Item → List (ℕ × Verdict) → List Place → Type 0
   Judges earlier items said later =
       (f : Point → ℕ) (answers : List (ℕ × Verdict)) → IsStateOf [] 0 earlier floor f → AreVerdicts version f items answers
-      → (answers ≡ said) × IsStateOf [] 0 later floor (versions_behind version f items answers)
+      → (answers ≡ said) × IsStateOf [] 0 later floor (versions_after version f items answers)
 
   judges-none : (places : List Place) → Judges places [] [] places
   judges-none places f [] state are = (refl, state)
@@ -126,16 +126,16 @@ module _ (version : ℕ) (moves : List Stamped) (still : moves ≡ []) (floor : 
       (λ f answers state are. rest f answers (keeps-unjudged place earlier floor f still now none.0 state) are)))
       (cases_Bool (is_judged t))
 
--- entries behind others follow on the last of those
-entries-behind : (resolvers last : ℕ) (before : List Entry) (entry : Entry) → AreEntries resolvers last (before ++ entry ∷ [])
+-- entries after others follow on the last of those
+entries-after : (resolvers last : ℕ) (before : List Entry) (entry : Entry) → AreEntries resolvers last (before ++ entry ∷ [])
     → AreEntries resolvers (version_after last before) (entry ∷ [])
-entries-behind resolvers last [] entry entries = entries
-entries-behind resolvers last (first ∷ before) entry entries = entries-behind resolvers first.version before entry entries.4
+entries-after resolvers last [] entry entries = entries
+entries-after resolvers last (first ∷ before) entry entries = entries-after resolvers first.version before entry entries.4
 
 -- The next entry of the resolver.
 module _ (before : List Entry) (entry : Entry) (old : Resolver) (next : IsNext before old entry) where
   follows : AreEntries 1 (last_version before) (entry ∷ [])
-  follows = entries-behind 1 0 before entry next.entries
+  follows = entries-after 1 0 before entry next.entries
 
   pub rises : entry.prev < entry.version
   rises = let above = follows.0 in let on = follows.1 in omega (arith, above, on)
@@ -164,7 +164,7 @@ module _ (before : List Entry) (entry : Entry) (old : Resolver) (next : IsNext b
   -- what it says of its items, and the versions that it has then
   judged : (answers : List (ℕ × Verdict)) → AreVerdicts entry.version (version_at old.versions) (items_from entry.batch 0) answers
       → (answers ≡ verdicts_on [] 0 (seen_of before) entry)
-      × IsStateOf [] 0 places (last_version before - window) (versions_behind entry.version (version_at old.versions) (items_from entry.batch 0) answers)
+      × IsStateOf [] 0 places (last_version before - window) (versions_after entry.version (version_at old.versions) (items_from entry.batch 0) answers)
   judged answers are =
       let above = follows.0 in
       judges-batch entry.version moves still (last_version before - window) (omega (arith, above)) entry.batch (seen_of before).places 0
@@ -188,9 +188,9 @@ module _ (before : List Entry) (entry : Entry) (old : Resolver) (next : IsNext b
     pub answers-are : (verdicts : Verdicts) → IsAnswer old part_of verdicts → verdicts.answers ≡ verdicts_on [] 0 (seen_of before) entry
     answers-are verdicts is = (judged verdicts.answers is.answers).0
 
-    pub resolver-behind : (verdicts : Verdicts) (new : Resolver) → IsAnswer old part_of verdicts → HasTaken old part_of verdicts new
+    pub resolver-after : (verdicts : Verdicts) (new : Resolver) → IsAnswer old part_of verdicts → HasTaken old part_of verdicts new
         → ResolverAt (before ++ entry ∷ []) new
-    resolver-behind verdicts new is taken =
+    resolver-after verdicts new is taken =
         let above = follows.0 in
         let last : last_version (before ++ entry ∷ []) ≡ entry.version = fold-append (λ (n : ℕ) (one : Entry). one.version) 0 before (entry ∷ []) in
         record {

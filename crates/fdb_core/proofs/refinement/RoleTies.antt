@@ -134,7 +134,7 @@ module _ (book : List Entry) (logs : List ℕ) (shards : List ShardProgress) (lo
     one_log = rw (ok.one_log, log-is.0, add-one) refl;
     one_shard = ok.one_shard;
     within = slice_get_within book i entry there;
-    behind = omega (arith, ok.behind, log-is.1);
+    after = omega (arith, ok.after, log-is.1);
     logged = ap (λ ms. ms ++ message ∷ []) (ok.logged ∙ ap (λ (n : ℕ). take n (along (message_on []) book)) log-is.1)
         ∙ ap (λ m. take i (along (message_on []) book) ++ m ∷ []) is
         ∙ sym (take-next (along (message_on []) book) i _ (slice_get-along (message_on []) book i entry there));
@@ -159,14 +159,14 @@ module _ (book : List Entry) (logs : List ℕ) (shards : List ShardProgress) (lo
       let through : length log ≡ min ok.taken (length (along (message_on []) book)) = ap length ok.logged ∙ length-take ok.taken (along (message_on []) book) in
       omega (arith, through, length-along (message_on []) book, ok.within)
 
-  -- what is pulled is in the log
+  -- what is applied is in the log
   pub applied-until : (i has s n q : ℕ) (progress : ShardProgress) → slice_get logs i ≡ Some has → slice_get shards s ≡ Some progress
       → q ≡ max progress.applied (min has n) → q ≤ length log
   applied-until i has s n q progress at there is =
       let found = one-at (record { applied = ok.applied; floor = 0 }) progress s (rw ok.one_shard at there) in
       let from_there : ok.applied ≡ progress.applied = ap (λ (r : ShardProgress). r.applied) found.1 in
       let same = (one-at ok.taken has i (rw ok.one_log at at)).1 in
-      omega (arith, is, from_there, same, length-log, ok.behind)
+      omega (arith, is, from_there, same, length-log, ok.after)
 
   pub applied-next : (s q : ℕ) (progress : ShardProgress) → slice_get shards s ≡ Some progress → progress.applied ≤ q → q ≤ length log
       → LogRefines book logs (slice_set shards s (record { applied = q; floor = progress.floor })) log (shard ++ take (q - progress.applied) (drop progress.applied log))
@@ -182,12 +182,12 @@ module _ (book : List Entry) (logs : List ℕ) (shards : List ShardProgress) (lo
         one_log = ok.one_log;
         one_shard = rw (ok.one_shard, found.0, ← floor) refl;
         within = ok.within;
-        behind = below;
+        after = below;
         logged = ok.logged;
         kept =
             ap (λ ms. ms ++ take (q - progress.applied) (drop progress.applied log))
             (ok.kept ∙ ap (λ (n : ℕ). take n (along (message_on []) book)) from_there
-            ∙ sym (take-take (along (message_on []) book) progress.applied ok.taken (omega (arith, ok.behind, from_there)))
+            ∙ sym (take-take (along (message_on []) book) progress.applied ok.taken (omega (arith, ok.after, from_there)))
             ∙ ap (λ (ms : List Message). take progress.applied ms) (sym ok.logged))
             ∙ sym (take-add progress.applied (q - progress.applied) log)
             ∙ ap (λ (n : ℕ). take n log) whole

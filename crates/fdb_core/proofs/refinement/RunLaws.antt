@@ -169,12 +169,12 @@ up_to-entry v version moves batch earlier above =
     let added = add_places-newer version moves batch earlier in
     ap (up_to v) added.1 ∙ up_to-above v version added.0 earlier above added.2
 
--- and so are all behind a version that v doesn't pass
-up_to-behind : (v least : ℕ) (seen : Seen) (book : List Entry) → v ≤ least → RisesFrom least book
+-- and so are all after a version that v doesn't pass
+up_to-after : (v least : ℕ) (seen : Seen) (book : List Entry) → v ≤ least → RisesFrom least book
     → up_to v (fold add_entry seen book).places ≡ up_to v seen.places
-up_to-behind v least seen [] reached rising = refl
-up_to-behind v least seen (entry ∷ book) reached rising =
-    up_to-behind v entry.version (add_entry seen entry) book (omega (arith, rising.0)) rising.1
+up_to-after v least seen [] reached rising = refl
+up_to-after v least seen (entry ∷ book) reached rising =
+    up_to-after v entry.version (add_entry seen entry) book (omega (arith, rising.0)) rising.1
     ∙ up_to-entry v entry.version (moves_through seen entry) entry.batch seen.places (omega (arith, rising.0))
 
 -- an entry's message answers as the run through the entry
@@ -229,7 +229,7 @@ value-of-serial_map splits book rising applied v reached x =
     ∙ value-messages splits v x 0 nothing (take applied book) tt (rises-take 0 applied book whole)
     ∙ ap (λ (now : List Place). get (serial_map splits now) x)
     (sym (ap (λ (seen : Seen). up_to v seen.places) parts
-    ∙ up_to-behind v (last_version (take applied book)) (seen_of (take applied book)) (drop applied book) reached (rises-drop 0 applied book whole)))
+    ∙ up_to-after v (last_version (take applied book)) (seen_of (take applied book)) (drop applied book) reached (rises-drop 0 applied book whole)))
 
 -- with the places of a rising book none is above its last version
 at_most-book : (least : ℕ) (seen : Seen) (book : List Entry) → AtMost least seen.places → RisesFrom least book
@@ -246,16 +246,16 @@ up_to-later : (v least : ℕ) (seen : Seen) (book : List Entry) → ((entry : En
 up_to-later v least seen [] later rising = refl
 up_to-later v least seen (entry ∷ book) later rising =
     let above : v < entry.version = later entry refl in
-    up_to-behind v entry.version (add_entry seen entry) book (le_of_lt above) rising.1
+    up_to-after v entry.version (add_entry seen entry) book (le_of_lt above) rising.1
     ∙ up_to-entry v entry.version (moves_through seen entry) entry.batch seen.places above
 
--- the first one behind a front
+-- the first one after a front
 first-drop : (n : ℕ) (book : List Entry) → slice_get (drop n book) 0 ≡ slice_get book n
 first-drop zero book = refl
 first-drop (suc n) [] = refl
 first-drop (suc n) (entry ∷ book) = first-drop n book
 
--- from the version of the last of the first n entries on, and below that of the next one, the map is that behind those entries
+-- from the version of the last of the first n entries on, and below that of the next one, the map is that after those entries
 pub map-between : (splits : List Point) (book : List Entry) → IsRising book → (n v : ℕ) → last_version (take n book) ≤ v
     → ((entry : Entry) → slice_get book n ≡ Some entry → v < entry.version)
     → serial_map_at splits v (seen_of book).places ≡ serial_map splits (seen_before book n).places

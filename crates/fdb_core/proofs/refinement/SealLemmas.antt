@@ -40,7 +40,7 @@ sealed_entry m advance commit_proxy = record {
 abbrev pub sealed_proxy : Machine → CommitProxy → CommitProxy
 sealed_proxy m commit_proxy = with_batch commit_proxy (length m.book) (length m.resolvers) (length m.logs)
 
--- the machine behind a seal
+-- the machine after a seal
 abbrev pub sealed_machine : Machine → ℕ → ℕ → CommitProxy → Machine
 sealed_machine m proxy advance commit_proxy = record m {
   book = m.book ++ sealed_entry m advance commit_proxy ∷ [];
@@ -136,9 +136,9 @@ module _ (book : List Entry) (entry : Entry) where
     one_log = ok.one_log;
     one_shard = ok.one_shard;
     within = omega (arith, length-append book (entry ∷ []), ok.within);
-    behind = ok.behind;
+    after = ok.after;
     logged = ok.logged ∙ sym (along-front (message_on []) ok.taken ok.within);
-    kept = ok.kept ∙ sym (along-front (message_on []) ok.applied (omega (arith, ok.behind, ok.within)));
+    kept = ok.kept ∙ sym (along-front (message_on []) ok.applied (omega (arith, ok.after, ok.within)));
   }
 
   pub book-push : (entry_proxies : List ℕ) (decided : List Bool) (messages : List (Option Message)) (proxy : ℕ) → BookRefines book entry_proxies decided messages

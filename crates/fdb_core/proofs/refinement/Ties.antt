@@ -10,7 +10,8 @@ use Rattle.fdb_core.specs.declared.roles.client.program.Op.TheVariants as op
 use Rattle.fdb_core.specs.declared.roles.client.program.Reply.{Reply}
 use Rattle.fdb_core.specs.machine.Roles.{LastTransaction}
 use Rattle.fdb_core.specs.declared.roles.client.program.Transcript.{Transcript}
-use Rattle.fdb_core.specs.machine.ClientSteps.{with_operation, without, without_at, serve, begin_next, first_of}
+use Rattle.fdb_core.specs.machine.ClientSteps.{with_operation}
+use Rattle.fdb_core.specs.machine.GrvProxySteps.{without, without_at, serve, begin_next, first_of}
 use Rattle.fdb_core.specs.refinement.Cluster.{OpenRefines}
 use Rattle.fdb_core.specs.machine.Machine.{is_of}
 use Rattle.fdb_core.proofs.programs.ProgramLaws.{legal-get, legal-write}

@@ -26,11 +26,11 @@ use Rattle.fdb_core.specs.machine.Machine.{last_version, seen_before}
 use Rattle.fdb_core.specs.refinement.Resolving.{NoMovesIn, ResolverAt}
 use Rattle.fdb_core.specs.refinement.Roles.{body_by}
 
--- the map behind the first places of a batch
+-- the map after the first places of a batch
 abbrev pub map_after : Map → List Transaction → List Outcome → ℕ → Map
 map_after map batch outcomes count = effects map (body_by (take count batch) (take count outcomes))
 
--- who stands at one of the first places of the entry was answered as on the map behind the places before his
+-- who stands at one of the first places of the entry was answered as on the map after the places before his
 abbrev pub AnsweredIn : Map → List Transaction → List Outcome → ℕ → ℕ → Placed → Type 0
 AnsweredIn map batch outcomes entry count placed = (p : ℕ) → p < count → AnsweredAt (Before entry p) (map_after map batch outcomes p) placed
 
@@ -54,7 +54,7 @@ abbrev pub is_before : List Entry → ℕ → Spot → Bool
 is_before book n (spot.Entry index place version) = nat_lt index n
 is_before book n (spot.ReadOnly version) = nat_lt version (last_version (take n book))
 
--- A check has come to entry n: its resolver took the entries before, it has the run's map behind them, and who stands
+-- A check has come to entry n: its resolver took the entries before, it has the run's map after them, and who stands
 -- before was answered as in that run.
 pub record HasCome (book : List Entry) (acknowledged : List Placed) (n : ℕ) (replay : Replay) : Type 0 where
   pub resolver : ResolverAt (take n book) replay.resolver

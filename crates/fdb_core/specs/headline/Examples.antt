@@ -65,7 +65,7 @@ ReadOnlyAtItsVersion =
     × (IsSerializedAtSpot two_in_one_entry (record does_nothing { read_version = 101 }) (spot.ReadOnly 101) → ⊥)
     × (IsSerializedAtSpot two_in_one_entry (reads_and_sets 0 None) (spot.ReadOnly 0) → ⊥)
 
--- An entry at a version isn't behind that version, but who reads at it alone is.
+-- An entry at a version isn't after that version, but who reads at it alone is.
 abbrev pub AfterAVersion : Type 0
 AfterAVersion =
     (IsAfterVersion 100 (spot.Entry 0 0 100) → ⊥) × IsAfterVersion 100 (spot.Entry 0 0 101)

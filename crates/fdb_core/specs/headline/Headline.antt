@@ -41,7 +41,7 @@ IsSerializedAt m transcript entry place version =
     × (committed m.config.resolver_splits there.1 there.0 ≡ true)
     × AnsweredOn (serial_map m.config.resolver_splits there.1) transcript
 
--- The transaction wrote nothing, and was answered as on the map of the run behind all entries of version at most
+-- The transaction wrote nothing, and was answered as on the map of the run after all entries of version at most
 -- its read version.
 abbrev pub IsReadOnlyAt : Machine → Transcript → ℕ → Type 0
 IsReadOnlyAt m transcript version =
@@ -69,7 +69,7 @@ AcknowledgedAreSerialized =
     (config : Config) (steps : List Step) (answers : List (Result Answered Refusal)) → AllSerialized (machine_of_trace config steps answers)
 
 -- What holds of a trace and of the world that stands for it: the world shows the trace's machine; no transaction stands in
--- the book twice; each that the trace acknowledged stands at its spot, and behind those that were acknowledged before it began; and every shard
+-- the book twice; each that the trace acknowledged stands at its spot, and after those that were acknowledged before it began; and every shard
 -- answers, at each version that it serves, from the run of the committed transactions one at a time.
 pub record IsStrictlySerializable (config : Config) (steps : List Step) (answers : List (Result Answered Refusal)) (system : System) : Type 0 where
   pub is_trace_of : IsTraceOf config steps answers system.machine

@@ -13,7 +13,7 @@ use Rattle.fdb_core.specs.declared.step.Answered.{Answered}
 use Rattle.fdb_core.specs.declared.step.Answered.TheVariants as answered
 use Rattle.fdb_core.specs.declared.step.Step.{Step}
 use Rattle.fdb_core.specs.declared.step.Step.TheVariants as step
-use Rattle.fdb_core.specs.machine.ClientSteps.{version_of_shard}
+use Rattle.fdb_core.specs.machine.RoleSteps.{version_of_shard}
 use Rattle.fdb_core.specs.machine.Machine.{Machine, Transition, is_of}
 use Rattle.fdb_core.specs.programs.Programs.{program, copy, decided}
 use Rattle.fdb_core.specs.machine.Steps.{next, after}
@@ -62,7 +62,7 @@ IsLagging m transcript key =
     × ((progress : ShardProgress) × (slice_get m.shards (first_owner m.config.shard_splits key) ≡ Some progress)
     × (nat_lt transcript.read_version progress.floor ≡ false) × (nat_lt (version_of_shard m.book progress) transcript.read_version ≡ true))
 
--- a read of an open transaction is refused as in the future where the key's shard is behind, and only there
+-- a read of an open transaction is refused as in the future where the key's shard is after, and only there
 abbrev pub GetsRefused : Type 0
 GetsRefused =
     (m : Machine) (session : ℕ) (key : List ℕ) (snapshot : Bool) (i : ℕ) (transcript : Transcript)

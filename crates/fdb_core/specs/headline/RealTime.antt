@@ -8,11 +8,11 @@ use Rattle.fdb_core.specs.declared.config.Config.{Config}
 use Rattle.fdb_core.specs.declared.roles.client.Placed.{Placed}
 use Rattle.fdb_core.specs.declared.step.Answered.{Answered}
 use Rattle.fdb_core.specs.declared.step.Step.{Step}
-use Rattle.fdb_core.specs.machine.ClientSteps.{last_number}
+use Rattle.fdb_core.specs.machine.GrvProxySteps.{last_number}
 use Rattle.fdb_core.specs.machine.Machine.{Machine}
 use Rattle.fdb_core.specs.headline.Traces.{machine_of_trace}
 
--- the version of the spot: of one in an entry the entry's, of one behind all entries up to a version that version
+-- the version of the spot: of one in an entry the entry's, of one after all entries up to a version that version
 abbrev pub spot_version : Spot → ℕ
 spot_version (spot.Entry entry place version) = version
 spot_version (spot.ReadOnly version) = version
@@ -21,14 +21,14 @@ spot_version (spot.ReadOnly version) = version
 abbrev pub HasBegun : Machine → TxnId → Type 0
 HasBegun m id = (last : ℕ) × (last_number id.session m.last_transactions ≡ Some last) × (id.number ≤ last)
 
--- The spot stands behind the entries up to a version: one in an entry is of a greater version, one behind all entries
+-- The spot stands after the entries up to a version: one in an entry is of a greater version, one after all entries
 -- up to a version is of that version or a greater one.
 abbrev pub IsAfterVersion : ℕ → Spot → Type 0
 IsAfterVersion v (spot.Entry entry place version) = v < version
 IsAfterVersion v (spot.ReadOnly version) = v ≤ version
 
 -- A transaction that is acknowledged in the later machine, and hadn't begun where another was acknowledged, reads
--- at that one's version or a greater one, and stands behind it.
+-- at that one's version or a greater one, and stands after it.
 abbrev pub AreAfterEarlier : Machine → Machine → Type 0
 AreAfterEarlier m later =
     (i j : ℕ) (placed other : Placed) → slice_get m.acknowledged i ≡ Some placed → slice_get later.acknowledged j ≡ Some other

@@ -10,7 +10,7 @@ use Rattle.fdb_txn.specs.rules.SerialMap.{serial_map_at}
 use Rattle.fdb_resolver.specs.Resolvers.{Resolver}
 use Rattle.fdb_core.specs.machine.Roles.{ShardProgress}
 use Rattle.fdb_txn.specs.rules.Messages.{Message, value_in}
-use Rattle.fdb_core.specs.machine.ClientSteps.{version_of_shard}
+use Rattle.fdb_core.specs.machine.RoleSteps.{version_of_shard}
 use Rattle.fdb_core.specs.machine.Machine.{Machine, last_version, seen_before}
 use Rattle.fdb_core.specs.refinement.Roles.{along, message_on}
 

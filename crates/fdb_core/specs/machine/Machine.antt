@@ -37,7 +37,7 @@ pub record Machine : Type 0 where
   -- the acknowledged transactions
   pub acknowledged : List Placed
 
--- what a step answers, and the machine behind it
+-- what a step answers, and the machine after it
 pub record Transition : Type 0 where
   pub answer : Answered
   pub next : Machine

@@ -1,7 +1,7 @@
 -- The steps of resolvers, logs and shards.
-use Rattle.std.specs.Prelude.{ℕ, ◌+◌, ◌%◌, min, max, not, take, length, Result, Ok, slice_get, slice_set}
+use Rattle.std.specs.Prelude.{ℕ, ◌+◌, ◌%◌, min, max, not, take, length, Result, Ok, slice_get, slice_set, ◌-◌, nat_lt, List, Option, Some, None, if◌then◌else◌}
 use Rattle.fdb_keys.specs.declared.refusal.Refusal.{Refusal}
-use Rattle.fdb_keys.specs.declared.refusal.Refusal.TheVariants.{Unknown}
+use Rattle.fdb_keys.specs.declared.refusal.Refusal.TheVariants.{Unknown, TransactionTooOld, FutureVersion}
 use Rattle.fdb_txn.specs.declared.entry.Entry.{Entry}
 use Rattle.fdb_core.specs.machine.Roles.{ShardProgress}
 use Rattle.fdb_core.specs.declared.step.Answered.TheVariants as answered
@@ -35,3 +35,14 @@ pulls m shard limit = found (slice_get m.shards shard) (λ (progress : ShardProg
       answer = answered.Version (last_version (take applied m.book));
       next = record m { shards = slice_set m.shards shard (record progress { applied = applied }) };
     })))
+
+-- the version through which a shard applied the book
+abbrev pub version_of_shard : List Entry → ShardProgress → ℕ
+version_of_shard book progress = last_version (take progress.applied book)
+
+-- why a shard does not serve a version
+abbrev pub shard_fault : List Entry → ℕ → Option ShardProgress → Option Refusal
+shard_fault book version None = Some Unknown
+shard_fault book version (Some progress) =
+    if nat_lt version progress.floor then Some TransactionTooOld
+    else (if nat_lt (version_of_shard book progress) version then Some FutureVersion else None)

@@ -5,7 +5,8 @@ use Rattle.fdb_core.specs.declared.step.Step.{Step}
 use Rattle.fdb_core.specs.declared.step.Step.TheVariants as step
 use Rattle.fdb_core.specs.declared.step.Answered.{Answered}
 use Rattle.fdb_core.specs.machine.Machine.{Machine, Transition}
-use Rattle.fdb_core.specs.machine.ClientSteps.{asks, grants, gets, writes, submits}
+use Rattle.fdb_core.specs.machine.ClientSteps.{gets, writes, submits}
+use Rattle.fdb_core.specs.machine.GrvProxySteps.{asks, grants}
 use Rattle.fdb_core.specs.machine.CommitProxySteps.{seals, receives, decides, reports, answers}
 use Rattle.fdb_core.specs.machine.Roles.{FromResolver, FromLog}
 use Rattle.fdb_core.specs.machine.RoleSteps.{resolves, pushes, pulls}
@@ -26,12 +27,12 @@ next m (step.Report proxy) = reports m proxy
 next m (step.Answer proxy) = answers m proxy
 next m (step.Pull shard limit) = pulls m shard limit
 
--- what a turn answers
+-- what a transition answers
 abbrev pub answer_of : Result Transition Refusal → Result Answered Refusal
 answer_of (Ok transition) = Ok transition.answer
 answer_of (Err refusal) = Err refusal
 
--- the machine behind a turn; a refused step changes nothing
+-- the machine after a transition; a refused step changes nothing
 abbrev pub after : Machine → Result Transition Refusal → Machine
 after m (Ok transition) = transition.next
 after m (Err refusal) = m

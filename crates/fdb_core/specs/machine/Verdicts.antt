@@ -11,17 +11,17 @@ use Rattle.fdb_resolver.specs.declared.verdict.Verdict.TheVariants as verdict
 use Rattle.fdb_core.specs.declared.step.Outcome.{Outcome}
 use Rattle.fdb_core.specs.declared.step.Outcome.TheVariants as outcome
 
--- what resolver i says of a place behind the earlier ones
+-- what resolver i says of a place after the earlier ones
 abbrev pub verdict_at : List Point → ℕ → List Place → Place → Verdict
 verdict_at splits i earlier place =
     if is_fresh place then (if admits splits i earlier place then verdict.Yes else verdict.Conflict) else verdict.Old
 
--- what becomes of place p behind the earlier ones
+-- what becomes of place p after the earlier ones
 abbrev pub outcome_at : List Point → List Place → Place → ℕ → Outcome
 outcome_at splits earlier place p =
     if is_fresh place then (if committed splits earlier place then outcome.Commit place.version p else outcome.Conflict) else outcome.Old
 
--- one after another, the places of a batch from number p on, behind the earlier ones
+-- one after another, the places of a batch from number p on, after the earlier ones
 module _ (splits : List Point) (version : ℕ) (moves : List Stamped) where
   -- what resolver i says of those that it is asked about
   abbrev pub verdicts_from : ℕ → List Transaction → List Place → ℕ → List (ℕ × Verdict)
@@ -43,7 +43,7 @@ module _ (splits : List Point) (version : ℕ) (moves : List Stamped) where
       let place = placed version moves t in
       outcome_at splits earlier place p ∷ outcomes_from ts (place ∷ earlier) (suc p)
 
--- the moves through an entry, behind what was seen before it
+-- the moves through an entry, after what was seen before it
 abbrev pub moves_through : Seen → Entry → List Stamped
 moves_through before entry = add_moves entry.version entry.moves before.moves
 

@@ -49,7 +49,7 @@ abbrev pub decided : List Op → Point → Bool
 decided [] x = false
 decided (op ∷ earlier) x = decides op x || decided earlier x
 
--- the points that an operation reads behind the earlier ones
+-- the points that an operation reads after the earlier ones
 abbrev pub reads_on : Map → List Op → Op → Point → Bool
 reads_on map earlier (Get key snapshot) x = not snapshot && point_eq x key && not (decided earlier x)
 reads_on map earlier (Write mutation) x = false
@@ -75,7 +75,7 @@ abbrev pub mutations_of : List Op → List Mutation
 mutations_of [] = []
 mutations_of (op ∷ earlier) = add_mutation op (mutations_of earlier)
 
--- the ranges with what an operation reads behind the earlier ones
+-- the ranges with what an operation reads after the earlier ones
 abbrev pub add_reads : List Op → Op → List Range → List Range
 add_reads earlier (Get key snapshot) ranges =
     if not snapshot && not (decided earlier key) then with_range (single_range key) ranges else ranges

@@ -103,7 +103,7 @@ pub record LogRefines (book : List Entry) (logs : List ℕ) (shards : List Shard
   pub one_log : logs ≡ taken ∷ []
   pub one_shard : shards ≡ record { applied = applied; floor = 0 } ∷ []
   pub within : taken ≤ length book
-  pub behind : applied ≤ taken
+  pub after : applied ≤ taken
   pub logged : log ≡ take taken (along (message_on []) book)
   pub kept : shard ≡ take applied (along (message_on []) book)
 

@@ -49,7 +49,7 @@ abbrev pub sent_by : List ResolverRole → List (List (ℕ × Verdict))
 sent_by [] = []
 sent_by (role ∷ others) = role.sent.items
 
--- it took the entries before this one, which may stand behind them, and nothing moves
+-- it took the entries before this one, which may stand after them, and nothing moves
 pub record IsNext (before : List Entry) (resolver : Resolver) (entry : Entry) : Type 0 where
   pub taken : ResolverAt before resolver
   pub still : NoMovesIn (before ++ entry ∷ [])

@@ -14,13 +14,13 @@ use Rattle.fdb_core.specs.machine.Verdicts.{moves_through}
 
 -- for each entry of a book what a function makes of it and of what was seen before it
 abbrev pub along : {A : Type 0} → (Seen → Entry → A) → List Entry → List A
-along {A} f book = behind.1
+along {A} f book = after.1
   where
     step : Seen × List A → Entry → Seen × List A
     step made entry = (add_entry made.0 entry, made.1 ++ f made.0 entry ∷ [])
 
-    behind : Seen × List A
-    behind = fold step (nothing, []) book
+    after : Seen × List A
+    after = fold step (nothing, []) book
 
 -- what logs get of an entry
 abbrev pub message_on : List Point → Seen → Entry → Message

@@ -17,7 +17,7 @@ use fdb_txn::Spot;
 pub(crate) enum Moment {
     /// Right before a place of an entry.
     Before { entry: usize, place: usize },
-    /// Behind the entries up to a version, and so at each later one below that of the next entry, if there is one.
+    /// After the entries up to a version, and so at each later one below that of the next entry, if there is one.
     Between { from: u64, until: Option<u64> },
 }
 

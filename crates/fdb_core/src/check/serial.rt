@@ -107,7 +107,7 @@ fn run_batch(
     Ok(())
 }
 
-// Compares those who read below an entry's version and behind the entry before, and those who stand in it, and runs it.
+// Compares those who read below an entry's version and after the entry before, and those who stand in it, and runs it.
 fn run_entry(
     alloc: Global,
     replay: &mut Replay,

@@ -1,7 +1,7 @@
 // Sessions begin transactions.
 ghost use Rattle.std.specs.Prelude.{◌≡◌, ◌<◌, fold, map, length, IfSome, IfOk, OnOk};
 ghost use Rattle.std.specs.List.{list_any};
-ghost use Rattle.fdb_core.specs.machine.ClientSteps.{last_place, last_number, has_no_number, next_number, begin_next, first_of, serve};
+ghost use Rattle.fdb_core.specs.machine.GrvProxySteps.{last_place, last_number, has_no_number, next_number, begin_next, first_of, serve};
 
 use crate::roles::client::LastTransaction;
 use crate::roles::client::program::Transcript;

@@ -155,7 +155,7 @@ impl Cluster {
         Ok(Ok(Answered::Decided(answer)))
     }
 
-    // The outcomes of an entry's places and its message, by the verdicts that were heard.
+    // The outcomes of an entry's places and its message, by the verdicts that came.
     fn decision(&self, i: usize, is_received: bool) -> Result<(Items<Outcome>, Message), AllocError>
         requires within { i < length self.now.book.items }
         requires verdicts_received { is_received ≡ true → i < length (sent_by self.now.resolvers.items) }

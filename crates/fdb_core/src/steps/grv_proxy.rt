@@ -1,6 +1,6 @@
 // Sessions ask a read-version proxy, which serves them.
 ghost use Rattle.std.specs.Prelude.{◌≡◌, IfOk, OnOk};
-ghost use Rattle.fdb_core.specs.machine.ClientSteps.{asks, grants};
+ghost use Rattle.fdb_core.specs.machine.GrvProxySteps.{asks, grants};
 ghost use Rattle.fdb_core.specs.machine.Steps.{answer_of, after};
 ghost use Rattle.fdb_core.specs.refinement.Cluster.{machine_of, Refines};
 
@@ -13,7 +13,7 @@ use std::alloc::AllocError;
 use std::mem;
 
 impl Cluster {
-    #[tactic(auto, unfolding(crate::specs::machine::ClientSteps::asks))]
+    #[tactic(auto, unfolding(crate::specs::machine::GrvProxySteps::asks))]
     pub(crate) fn ask(
         &mut self,
         session: u32,
@@ -37,7 +37,7 @@ impl Cluster {
         Ok(Ok(Answered::Done))
     }
 
-    #[tactic(auto, unfolding(crate::specs::machine::ClientSteps::grants))]
+    #[tactic(auto, unfolding(crate::specs::machine::GrvProxySteps::grants))]
     pub(crate) fn grant(&mut self, proxy: u32) -> Result<Result<Answered, Refusal>, AllocError>
         requires { Refines self.old }
         ensures answer { IfOk result (λ answer. answer ≡ answer_of (grants (machine_of self.old) proxy)) }

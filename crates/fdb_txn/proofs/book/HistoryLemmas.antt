@@ -26,8 +26,8 @@ abbrev IsMoveThrough : ℕ → ℕ → Stamped → Type 0
 IsMoveThrough resolvers version move = (move.version ≤ version) × (move.target < resolvers)
 
 -- a place of this version and with these moves would follow the earlier one
-abbrev IsBehind : ℕ → List Stamped → Place → Type 0
-IsBehind version moves earlier =
+abbrev IsAfter : ℕ → List Stamped → Place → Type 0
+IsAfter version moves earlier =
     (earlier.version ≤ version)
     × ((newer : List Stamped) × (moves ≡ newer ++ earlier.moves) × AllByRecursion (λ (move : Stamped). earlier.version < move.version) newer)
 
@@ -66,50 +66,50 @@ moves-through resolvers last version moves older later newer through =
     (λ (move : Stamped) was. (le_trans was.0 later, was.1)) older through))
 
 -- newer moves of a greater version come before the moves of an earlier place, too
-behind-newer : (resolvers last version : ℕ) (moves older : List Stamped) → last < version → HasNewer resolvers version moves older
-    → (place : Place) → IsBehind last older place → IsBehind version moves place
-behind-newer resolvers last version moves older later newer place behind = (
-  le_trans behind.0 (le_of_lt later),
+after-newer : (resolvers last version : ℕ) (moves older : List Stamped) → last < version → HasNewer resolvers version moves older
+    → (place : Place) → IsAfter last older place → IsAfter version moves place
+after-newer resolvers last version moves older later newer place after = (
+  le_trans after.0 (le_of_lt later),
   (
-    newer.0 ++ behind.1.0,
-    newer.1 ∙ ap (λ (rest : List Stamped). newer.0 ++ rest) behind.1.1 ∙ sym (append_assoc newer.0 behind.1.0 place.moves),
-    all-append (λ (move : Stamped). place.version < move.version) newer.0 behind.1.0
-        (all-weaken _ (λ (move : Stamped). place.version < move.version) (λ (move : Stamped) made. omega (arith, made.0, behind.0)) newer.0 newer.2)
-        behind.1.2,
+    newer.0 ++ after.1.0,
+    newer.1 ∙ ap (λ (rest : List Stamped). newer.0 ++ rest) after.1.1 ∙ sym (append_assoc newer.0 after.1.0 place.moves),
+    all-append (λ (move : Stamped). place.version < move.version) newer.0 after.1.0
+        (all-weaken _ (λ (move : Stamped). place.version < move.version) (λ (move : Stamped) made. omega (arith, made.0, after.0)) newer.0 newer.2)
+        after.1.2,
   ),
 )
 
 -- the places of an entry go on a history that they follow
 history-add_places : (resolvers version : ℕ) (moves : List Stamped) (batch : List Transaction) (earlier : List Place)
     → AllByRecursion (IsMoveThrough resolvers version) moves → AllByRecursion (MayStandAt version) batch
-    → IsHistory resolvers earlier → AllByRecursion (IsBehind version moves) earlier
-    → IsHistory resolvers (add_places version moves batch earlier) × AllByRecursion (IsBehind version moves) (add_places version moves batch earlier)
-history-add_places resolvers version moves [] earlier through may history behind = (history, behind)
-history-add_places resolvers version moves (t ∷ ts) earlier through may history behind =
+    → IsHistory resolvers earlier → AllByRecursion (IsAfter version moves) earlier
+    → IsHistory resolvers (add_places version moves batch earlier) × AllByRecursion (IsAfter version moves) (add_places version moves batch earlier)
+history-add_places resolvers version moves [] earlier through may history after = (history, after)
+history-add_places resolvers version moves (t ∷ ts) earlier through may history after =
     history-add_places resolvers version moves ts (placed version moves t ∷ earlier) through may.1
-    ((may.0.0, may.0.1, through), behind, history)
-    ((le_refl version, ([], refl, tt)), behind)
+    ((may.0.0, may.0.1, through), after, history)
+    ((le_refl version, ([], refl, tt)), after)
 
--- the same as `places_are_history`, behind what was seen before
-history-behind : (resolvers last : ℕ) (seen : Seen) (book : List Entry)
-    → AllByRecursion (IsMoveThrough resolvers last) seen.moves → IsHistory resolvers seen.places → AllByRecursion (IsBehind last seen.moves) seen.places
+-- the same as `places_are_history`, after what was seen before
+history-after : (resolvers last : ℕ) (seen : Seen) (book : List Entry)
+    → AllByRecursion (IsMoveThrough resolvers last) seen.moves → IsHistory resolvers seen.places → AllByRecursion (IsAfter last seen.moves) seen.places
     → AreEntries resolvers last book → IsHistory resolvers (fold add_entry seen book).places
-history-behind resolvers last seen [] through history behind entries = history
-history-behind resolvers last seen (entry ∷ book) through history behind entries =
+history-after resolvers last seen [] through history after entries = history
+history-after resolvers last seen (entry ∷ book) through history after entries =
     let newer : HasNewer resolvers entry.version moves seen.moves = add_moves-newer resolvers entry.version entry.moves seen.moves entries.2 in
     let now : AllByRecursion (IsMoveThrough resolvers entry.version) moves =
     moves-through resolvers last entry.version moves seen.moves (le_of_lt entries.0) newer through in
     let both = history-add_places resolvers entry.version moves entry.batch seen.places now entries.3 history
-    (all-weaken (IsBehind last seen.moves) (IsBehind entry.version moves) (behind-newer resolvers last entry.version moves seen.moves entries.0 newer)
-    seen.places behind) in
-    history-behind resolvers entry.version (add_entry seen entry) book now both.0 both.1 entries.4
+    (all-weaken (IsAfter last seen.moves) (IsAfter entry.version moves) (after-newer resolvers last entry.version moves seen.moves entries.0 newer)
+    seen.places after) in
+    history-after resolvers entry.version (add_entry seen entry) book now both.0 both.1 entries.4
   where
     moves : List Stamped
     moves = add_moves entry.version entry.moves seen.moves
 
 -- the places of a book are a history
 pub places_are_history : PlacesAreHistory
-places_are_history resolvers book entries = history-behind resolvers 0 nothing book tt tt tt entries
+places_are_history resolvers book entries = history-after resolvers 0 nothing book tt tt tt entries
 
 -- the places of an entry stand before the earlier ones and have its version
 pub add_places-newer : (version : ℕ) (moves : List Stamped) (batch : List Transaction) (earlier : List Place)
@@ -124,7 +124,7 @@ add_places-newer version moves (t ∷ ts) earlier =
 pub seen_of-push : (book : List Entry) (entry : Entry) → seen_of (book ++ entry ∷ []) ≡ add_entry (seen_of book) entry
 seen_of-push book entry = fold-append add_entry nothing book (entry ∷ [])
 
--- with one more entry the earlier places stay, behind new ones of its version
+-- with one more entry the earlier places stay, after new ones of its version
 pub earlier_places_stay : EarlierPlacesStay
 earlier_places_stay book entry =
     let added =
@@ -157,7 +157,7 @@ earlier_maps_stay splits book entry v above =
     ap (λ (places : List Place). serial_map splits (up_to v places)) stay.1
     ∙ ap (serial_map splits) (up_to-above v entry.version stay.0 (seen_of book).places above stay.2)
 
--- entries stay entries with one more that may stand behind them
+-- entries stay entries with one more that may stand after them
 pub entries_go_on : EntriesGoOn
 entries_go_on resolvers last [] entry entries more = more
 entries_go_on resolvers last (first ∷ book) entry entries more =

@@ -38,7 +38,7 @@ first_owner-exists : (splits : List Point) (x : Point) → first_owner splits x 
 first_owner-exists [] x = omega arith
 first_owner-exists (split ∷ splits) x =
     let others = first_owner-exists splits x in
-    cond_both (point_lt x split) 0 (suc (first_owner splits x)) (λ i. i < suc (suc (length splits))) (λ before. omega arith) (λ behind. omega (arith, others))
+    cond_both (point_lt x split) 0 (suc (first_owner splits x)) (λ i. i < suc (suc (length splits))) (λ before. omega arith) (λ after. omega (arith, others))
 
 -- the owner of a point exists, where each move goes to a resolver that does
 pub owner-exists : (splits : List Point) (version : ℕ) (moves : List Stamped) (x : Point) (v : ℕ)

@@ -17,7 +17,7 @@ pub some_of-any : {A : Type 0} (p : A → Bool) (xs : List A) → list_any p xs 
 some_of-any p [] any = cc
 some_of-any p (x ∷ xs) any = ⊎_elim (λ here. (x, here)) (λ there. some_of-any p xs there) (or_cases (p x) (list_any p xs) any)
 
--- one of a list may be put behind the first
+-- one of a list may be put after the first
 or-skip : (a b c : Bool) → (a || c) ≡ true → (a || (b || c)) ≡ true
 or-skip true b c either = refl
 or-skip false b c either = or_right b c either
@@ -181,19 +181,19 @@ asked_at_some_point splits i place =
     (alike-second_set splits place.moves place.transaction.writes place.transaction.reads x y alike)
     (alike-owned splits i place.moves x y (span_begin place) place.version one)))
 
--- versions behind or at the same moves have one owner of each point
+-- versions after or at the same moves have one owner of each point
 same_moves-owner : (splits : List Point) (moves : List Stamped) (x : Point) (v w : ℕ)
     → AreAlike nat_lt (map (λ (move : Stamped). move.version) moves) v w → owner splits moves x v ≡ owner splits moves x w
 same_moves-owner splits [] x v w alike = refl
 same_moves-owner splits (move ∷ older) x v w alike =
-    ap₂ (λ (behind : Bool) (others : ℕ). if behind && in_range move.range x then move.target else others)
+    ap₂ (λ (after : Bool) (others : ℕ). if after && in_range move.range x then move.target else others)
     (same_le move.version v w alike.0)
     (same_moves-owner splits older x v w alike.1)
   where
     same_le : (n v w : ℕ) → nat_lt v n ≡ nat_lt w n → nat_le n v ≡ nat_le n w
     same_le n v w same = ⊎_elim
         (λ (before : nat_lt v n ≡ true). lt-leb n v (ltb-true v n before) ∙ sym (lt-leb n w (ltb-true w n (sym same ∙ before))))
-        (λ (behind : nat_lt v n ≡ false). le-leb n v (ltb-false v n behind) ∙ sym (le-leb n w (ltb-false w n (sym same ∙ behind))))
+        (λ (after : nat_lt v n ≡ false). le-leb n v (ltb-false v n after) ∙ sym (le-leb n w (ltb-false w n (sym same ∙ after))))
         (cases_Bool (nat_lt v n))
 
 -- resolver i owns the point at this version of the span

@@ -123,7 +123,7 @@ value-message splits range v x inside seen entry at_most = ⊎_elim
     body : List Mutation
     body = committed_from splits entry.version moves entry.batch seen.places
 
--- and so do the messages of entries, behind what was seen before
+-- and so do the messages of entries, after what was seen before
 value-messages : (splits : List Point) (range : Range) (v : ℕ) (x : Point) → in_range range x ≡ true
     → (resolvers last : ℕ) (seen : Seen) (book : List Entry) → AtMost last seen.places → AreEntries resolvers last book
     → fold (value_with v x) (get (serial_map_at splits v seen.places) x) (messages_after splits range seen book)

@@ -24,7 +24,7 @@ part_reads-earlier splits i place u x follows fresh above is_read owner_is =
     ((owned_at_some_version splits i place.moves x (span_begin place) place.version).1
     (u.version, omega (arith, within, above), follows.0, one_owner_where_follows splits place u x follows ∙ owner_is))
 
--- u, behind the places us, keeps resolver i from admitting the place
+-- u, after the places us, keeps resolver i from admitting the place
 abbrev is_against : List Point → ℕ → Place → List Place → Place → Bool
 is_against splits i place us u = nat_lt place.transaction.read u.version && overlaps splits i u place && admits splits i us u
 
@@ -41,7 +41,7 @@ module _ (splits : List Point) (i : ℕ) where
       let is = cond-true _ (max u.version (last_commit_version splits i us x)) (last_commit_version splits i us x) (and_from _ _ admitted written) in
       omega (arith, is)
 
-  -- no last version is above that of a place behind all
+  -- no last version is above that of a place after all
   last-below : (place : Place) (us : List Place) (x : Point) → AllByRecursion (Follows place) us → last_commit_version splits i us x ≤ place.version
   last-below place [] x follows = omega arith
   last-below place (u ∷ us) x follows =

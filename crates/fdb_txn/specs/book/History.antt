@@ -26,7 +26,7 @@ abbrev pub IsHistory : ℕ → List Place → Type 0
 IsHistory resolvers [] = ⊤
 IsHistory resolvers (place ∷ earlier) = IsPlace resolvers place × AllByRecursion (Follows place) earlier × IsHistory resolvers earlier
 
--- Entries behind a version: versions rise, each previous one is that of the entry before, each transaction
+-- Entries after a version: versions rise, each previous one is that of the entry before, each transaction
 -- read below its entry's version, and each move goes to a resolver that exists.
 abbrev pub AreEntries : ℕ → ℕ → List Entry → Type 0
 AreEntries resolvers last [] = ⊤

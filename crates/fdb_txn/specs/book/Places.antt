@@ -10,7 +10,7 @@ place_in version moves [] earlier p = None
 place_in version moves (t ∷ ts) earlier zero = Some (placed version moves t, earlier)
 place_in version moves (t ∷ ts) earlier (suc p) = place_in version moves ts (placed version moves t ∷ earlier) p
 
--- place p of an entry behind what was seen before it
+-- place p of an entry after what was seen before it
 abbrev pub place_of : Seen → ℕ → Option Entry → Option (Place × List Place)
 place_of before p None = None
 place_of before p (Some entry) = place_in entry.version (add_moves entry.version entry.moves before.moves) entry.batch before.places p

@@ -25,7 +25,7 @@ OwnedAtSomeVersion =
     → (owned splits i moves x low high ≡ true) ↔ ((v : ℕ) × (low < v) × (v ≤ high) × (owner splits moves x v ≡ i))
 
 -- A conflict of the place at resolver i: an earlier place of a version above the place's read version, that i
--- admitted behind those before it, and a point at which the two overlap.
+-- admitted after those before it, and a point at which the two overlap.
 pub record Conflict (splits : List Point) (i : ℕ) (earlier : List Place) (place : Place) : Type 0 where
   pub newer : List Place
   pub other : Place

@@ -32,7 +32,7 @@ reads_and_sets number version keys others =
       mutations = sets others;
     }
 
--- the entry of a version behind a previous one
+-- the entry of a version after a previous one
 abbrev pub entry_of : ℕ → ℕ → List Move → List Transaction → Entry
 entry_of version prev moves batch = record { version = version; prev = prev; moves = moves; batch = batch }
 
@@ -53,7 +53,7 @@ pub record Ruling : Type 0 where
   pub admitting : List ℕ
   pub commits : Bool
 
--- what the rules say of a place behind the earlier ones
+-- what the rules say of a place after the earlier ones
 abbrev pub ruled : List Point → Option (Place × List Place) → Option Ruling
 ruled splits None = None
 ruled splits (Some found) =
@@ -113,7 +113,7 @@ WriteSkew =
     (ruling at_m write_skew 0 0 ≡ Some (record { fresh = true; asked = 0 ∷ 1 ∷ []; admitting = 0 ∷ 1 ∷ []; commits = true }))
     × (ruling at_m write_skew 1 0 ≡ Some (record { fresh = true; asked = 0 ∷ 1 ∷ []; admitting = 0 ∷ []; commits = false }))
 
--- Behind these, at 300, transaction 2 reads a at version 100 and sets b.
+-- After these, at 300, transaction 2 reads a at version 100 and sets b.
 abbrev pub false_conflict : List Entry
 false_conflict = write_skew ++ entry_of 300 200 [] (reads_and_sets 2 100 (codes "a" ∷ []) (codes "b" ∷ []) ∷ []) ∷ []
 
@@ -262,7 +262,7 @@ AtBounds =
     × (ruling at_m at_bounds 0 1 ≡ Some (record { fresh = true; asked = 0 ∷ []; admitting = 0 ∷ 1 ∷ []; commits = true }))
     × (ruling at_m at_bounds 0 2 ≡ Some (record { fresh = true; asked = 1 ∷ []; admitting = 0 ∷ 1 ∷ []; commits = true }))
 
--- What entries of two resolvers behind version 0 are. The first two are, with a read version right below the entry's,
+-- What entries of two resolvers after version 0 are. The first two are, with a read version right below the entry's,
 -- versions that rise by one, and a move to the last resolver.
 abbrev pub Entries : Type 0
 Entries =

@@ -23,7 +23,7 @@ ReadsStand =
     → (x : Point) → in_set place.transaction.reads x ≡ true
     → get (serial_map_at splits place.transaction.read (place ∷ earlier)) x ≡ get (serial_map splits earlier) x
 
--- with one more entry the earlier places stay as they were, behind new ones of the entry's version
+-- with one more entry the earlier places stay as they were, after new ones of the entry's version
 abbrev pub EarlierPlacesStay : Type 0
 EarlierPlacesStay =
     (book : List Entry) (entry : Entry)
@@ -36,11 +36,11 @@ EarlierMapsStay =
     (splits : List Point) (book : List Entry) (entry : Entry) (v : ℕ) → v < entry.version
     → serial_map_at splits v (seen_of (book ++ entry ∷ [])).places ≡ serial_map_at splits v (seen_of book).places
 
--- the version of the last entry, else that behind which the first one would come
+-- the version of the last entry, else that after which the first one would come
 abbrev pub version_after : ℕ → List Entry → ℕ
 version_after last book = fold (λ (before : ℕ) (entry : Entry). entry.version) last book
 
--- entries stay entries with one more that may stand behind the last of them
+-- entries stay entries with one more that may stand after the last of them
 abbrev pub EntriesGoOn : Type 0
 EntriesGoOn =
     (resolvers last : ℕ) (book : List Entry) (entry : Entry) → AreEntries resolvers last book

@@ -33,7 +33,7 @@ no_conflict splits i (earlier ∷ others) place =
     && (is_fresh earlier && no_conflict splits i others earlier))
     && no_conflict splits i others place
 
--- resolver i admits the place behind the earlier ones
+-- resolver i admits the place after the earlier ones
 abbrev pub admits : List Point → ℕ → List Place → Place → Bool
 admits splits i earlier place = is_fresh place && no_conflict splits i earlier place
 

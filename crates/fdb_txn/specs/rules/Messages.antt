@@ -38,7 +38,7 @@ message_for splits range before entry =
       body = filter (meets_range range) (committed_from splits entry.version moves entry.batch before.places);
     }
 
--- the messages of entries behind what was seen before them, the first one first
+-- the messages of entries after what was seen before them, the first one first
 abbrev pub messages_after : List Point → Range → Seen → List Entry → List Message
 messages_after splits range before [] = []
 messages_after splits range before (entry ∷ book) =

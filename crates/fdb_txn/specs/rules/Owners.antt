@@ -39,7 +39,7 @@ abbrev pub owned : List Point → ℕ → List Stamped → Point → ℕ → ℕ
 owned splits i moves x low high =
     list_any (λ v. nat_lt low v && nat_le v high && (owner splits moves x v == i)) (version_corners low moves)
 
--- reads are asked of whoever owned them at a version behind this one
+-- reads are asked of whoever owned them at a version after this one
 abbrev pub span_begin : Place → ℕ
 span_begin place = max place.transaction.read (place.version - window)
 

@@ -37,6 +37,6 @@ with_place splits i admitted place f x = if admitted && part_writes splits i pla
 abbrev pub AgreeFrom : ℕ → (Point → ℕ) → (Point → ℕ) → Type 0
 AgreeFrom floor f g = (x : Point) (v : ℕ) → floor ≤ v → nat_lt v (f x) ≡ nat_lt v (g x)
 
--- for each bound from the floor on, f answers as the last versions of resolver i behind these places
+-- for each bound from the floor on, f answers as the last versions of resolver i after these places
 abbrev pub IsStateOf : List Point → ℕ → List Place → ℕ → (Point → ℕ) → Type 0
 IsStateOf splits i places floor f = AgreeFrom floor f (last_commit_version splits i places)

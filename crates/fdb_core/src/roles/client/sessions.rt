@@ -1,7 +1,8 @@
 // Looking for sessions in the world's lists.
 ghost use Rattle.std.specs.Prelude.{◌≡◌, ◌<◌, position, slice_get, length, Some, IfSome, OnOk};
 ghost use Rattle.std.specs.List.{list_any};
-ghost use Rattle.fdb_core.specs.machine.ClientSteps.{with_operation, without};
+ghost use Rattle.fdb_core.specs.machine.ClientSteps.{with_operation};
+ghost use Rattle.fdb_core.specs.machine.GrvProxySteps.{without};
 ghost use Rattle.fdb_core.specs.machine.Machine.{is_of, waits_at_grv_proxy, waits_at_commit_proxy, is_busy};
 
 use crate::roles::client::Submission;

@@ -6,7 +6,7 @@ use Rattle.fdb_core.specs.declared.check.compare.Moment.TheVariants.{Before}
 use Rattle.fdb_core.specs.check.Checking.{AnsweredIn, map_after}
 use Rattle.fdb_core.specs.check.Comparing.{AnsweredAt}
 use Rattle.fdb_core.proofs.common.AllLemmas.{all-both}
-use Rattle.fdb_core.proofs.checking.ReplayLemmas.{behind-next}
+use Rattle.fdb_core.proofs.checking.ReplayLemmas.{after-next}
 use Rattle.fdb_core.proofs.check.serial.run_batch.Goals as goal
 
 pub loop-place-preserved : goal.loop-place-preserved
@@ -20,7 +20,7 @@ loop-place-preserved c =
     let decided : p < length outcomes = omega arith in
     let there : slice_get batch p ≡ Some c.index-batch-place.result = slice_get_read batch (length batch) p c.index-batch-place.result refl within c.index-batch-place.is in
     record {
-      map = behind-next map c.loop-place.map c.run_place.new.map batch outcomes p c.index-batch-place.result _ there decided before.map c.in_ok-run_place.ensures.map;
+      map = after-next map c.loop-place.map c.run_place.new.map batch outcomes p c.index-batch-place.result _ there decided before.map c.in_ok-run_place.ensures.map;
       compared = all-both (AnsweredIn map batch outcomes c.args.entry p) (AnsweredAt (Before c.args.entry p) c.loop-place.map) (AnsweredIn map batch outcomes c.args.entry (p + 1))
           (λ (placed : Placed) earlier here. below_more (λ (q : ℕ). AnsweredAt (Before c.args.entry q) (map_after map batch outcomes q) placed) p earlier
           (subst (λ (there : Map). AnsweredAt (Before c.args.entry p) there placed) before.map here))

@@ -23,7 +23,7 @@ there c =
     let within : c.in-Some.place < length c.args.self.now.opened.items = search rules in
     slice_get_read c.args.self.now.opened.items (length c.args.self.now.opened.items) c.in-Some.place c.index.result.now refl within c.index.ensures
 
--- the turn that the machine takes
+-- the transition that the machine makes
 turn_of : (c : In_ok-add_operation) → gets (machine_of c.args.self.now) c.args.session c.args.key.now c.args.snapshot
     ≡ Ok (record { answer = answered.Value c.in-Ok.value; next = add_operation (machine_of c.args.self.now) c.in-Some.place c.index.result.now (op.Get c.args.key.now c.args.snapshot) (reply.Value c.in-Ok.value) })
 turn_of c =

@@ -1,6 +1,6 @@
 use Rattle.std.proofs.Common.{sym, subst, ℕ, fold}
 use Rattle.std.specs.List.{AllByRecursion}
-use Rattle.fdb_core.specs.machine.ClientSteps.{serve}
+use Rattle.fdb_core.specs.machine.GrvProxySteps.{serve}
 use Rattle.fdb_core.specs.refinement.Cluster.{OpenRefines}
 use Rattle.fdb_core.proofs.refinement.Ties.{opened-served}
 use Rattle.fdb_core.proofs.cluster.Cluster.grant.Goals as goal

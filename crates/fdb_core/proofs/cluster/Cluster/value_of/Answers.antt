@@ -6,7 +6,7 @@ use Rattle.fdb_txn.specs.book.Book.{seen_of}
 use Rattle.fdb_txn.specs.rules.Owners.{first_owner}
 use Rattle.fdb_txn.specs.rules.SerialMap.{serial_map_at}
 use Rattle.fdb_core.specs.machine.Roles.{ShardProgress}
-use Rattle.fdb_core.specs.machine.ClientSteps.{shard_fault}
+use Rattle.fdb_core.specs.machine.RoleSteps.{shard_fault}
 use Rattle.fdb_core.specs.refinement.Cluster.{machine_of}
 use Rattle.fdb_core.specs.machine.Machine.{last_version}
 use Rattle.fdb_core.specs.programs.Programs.{program, decided, value_after_op}

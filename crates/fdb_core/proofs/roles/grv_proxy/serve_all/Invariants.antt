@@ -1,5 +1,5 @@
 use Rattle.std.proofs.Common.{◌≡◌, take, fold, map}
-use Rattle.fdb_core.specs.machine.ClientSteps.{serve}
+use Rattle.fdb_core.specs.machine.GrvProxySteps.{serve}
 use Rattle.fdb_core.proofs.roles.grv_proxy.serve_all.Given as goal
 
 abbrev pub invariant-loop-session : goal.invariant-loop-session

@@ -8,7 +8,7 @@ use Rattle.fdb_resolver.specs.declared.part.Part.{Part}
 use Rattle.fdb_resolver.specs.declared.verdict.Verdicts.{Verdicts}
 use Rattle.fdb_resolver.specs.Resolvers.{Resolver, part_fault, IsAnswer, HasTaken}
 use Rattle.fdb_core.specs.refinement.Resolving.{items_from, IsNext}
-use Rattle.fdb_core.proofs.refinement.ResolvingLemmas.{part-is, rises, part_of, no_fault, answers-are, resolver-behind}
+use Rattle.fdb_core.proofs.refinement.ResolvingLemmas.{part-is, rises, part_of, no_fault, answers-are, resolver-after}
 use Rattle.fdb_core.proofs.roles.resolver.judge_entry.Goals as goal
 
 pub returns-then-entry-clause-verdicts : goal.returns-then-entry-clause-verdicts
@@ -46,6 +46,6 @@ returns-clause-verdicts c before next =
 pub returns-clause-state : goal.returns-clause-state
 returns-clause-state c before next =
     let are : c.in_ok-items.items ≡ items_from c.args.entry.now.batch 0 = search rules in
-    resolver-behind before c.args.entry.now c.args.resolver.now next c.args.index c.in_ok-said.said c.take.new.self
+    resolver-after before c.args.entry.now c.args.resolver.now next c.args.index c.in_ok-said.said c.take.new.self
     (answers-of before c.args.entry.now c.args.resolver.now next c.args.index c.in_ok-items.items are (Ok c.in_ok-said.said) c.in_ok-said.ensures.answers)
     (taken-is before c.args.entry.now c.args.resolver.now next c.args.index c.in_ok-items.items are c.in_ok-said.said c.take.new.self c.in_ok-said.ensures.taken)
