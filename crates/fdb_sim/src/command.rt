@@ -3,7 +3,7 @@ ghost use Rattle.std.specs.Io.KnownBytes.{Keeps};
 ghost use Rattle.clap.specs.Words.{FailsBy, app_of, fault_of, kind_of};
 ghost use Rattle.fdb_sim.specs.Commands.{commands, Obeys};
 
-use crate::script::run_script;
+use crate::play::script::run_script;
 use clap::error::ErrorKind;
 use clap::{Command, Error};
 use std::alloc::Global;

@@ -1,6 +1,7 @@
 // What each answer is printed as.
-use crate::output::{RefusalLine, push_answer};
-use crate::step_line::Kind;
+use crate::print::answers::push_answer;
+use crate::print::refusals::RefusalLine;
+use crate::script::step_line::Kind;
 use bytes::Bytes;
 use fdb_core::{Answered, Outcome, Verdict};
 use fdb_keys::{Items, Refusal};

@@ -1,6 +1,6 @@
 // The lines of readers that give few bytes a call, and many.
-use crate::lines::Lines;
-use crate::stop::Stop;
+use crate::play::stop::Stop;
+use crate::script::lines::Lines;
 use std::alloc::{AllocError, Global};
 use std::io;
 use std::io::Read;

@@ -1,4 +1,4 @@
-use crate::script::run_script;
+use crate::play::script::run_script;
 use std::alloc::Global;
 use std::process::Abort;
 use std::test::Fail;

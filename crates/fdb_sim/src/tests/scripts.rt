@@ -1,5 +1,5 @@
 // Scripts whose output doesn't depend on what the steps do.
-use crate::script::run_script;
+use crate::play::script::run_script;
 use std::alloc::{AllocError, Global};
 use std::process::Abort;
 use std::test::Fail;
