@@ -77,17 +77,3 @@ fn lines_over_many_chunks(rt: HostRuntime) -> Result<(), Fail> {
     }
     Ok(())
 }
-
-#[test]
-fn lines_are_numbered_from_one(rt: HostRuntime) -> Result<(), Fail> {
-    let mut reader: &[u8] = b"a\nb";
-    let mut lines = Lines::new(rt.alloc(), &mut reader)?;
-    assert!(rt; lines.number() == 0);
-    assert!(rt; matches!(lines.advance(), Ok(true)));
-    assert!(rt; lines.number() == 1);
-    assert!(rt; matches!(lines.advance(), Ok(true)));
-    assert!(rt; lines.number() == 2);
-    assert!(rt; lines.text() == b"b".as_slice());
-    assert!(rt; matches!(lines.advance(), Ok(false)));
-    Ok(())
-}
