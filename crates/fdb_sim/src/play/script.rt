@@ -1,25 +1,20 @@
-ghost use Rattle.std.specs.Prelude.{◌≡◌, ◌<◌, ◌≤◌, ◌++◌, suc, ℕ, List, [], ◌∷◌, Some, None, true, false, IfOk, IfErr, OnOk, IfSome, string_bytes};
-ghost use Rattle.std.specs.Io.KnownBytes.{Appends};
-ghost use Rattle.fdb_keys.specs.declared.refusal.Refusal.TheVariants.{NoMemory};
-ghost use Rattle.fdb_core.specs.Worlds.{IsStep, config_fault, start};
-ghost use Rattle.fdb_sim.specs.print.Answers.{result_text};
+ghost use Rattle.std.specs.Prelude.{◌≡◌, ◌<◌, ◌≤◌, ◌++◌, ℕ, List, [], Some, None, true, false, IfOk, IfErr, OnOk, string_bytes};
+ghost use Rattle.fdb_core.specs.Worlds.{config_fault, start};
 ghost use Rattle.fdb_sim.specs.script.Configs.{WritesConfig, line_fault};
-ghost use Rattle.fdb_sim.specs.script.Lines.{left, lines_of, line_text, line_number};
-ghost use Rattle.fdb_sim.specs.play.Scripts.{printed_line, refused_line, is_silent, IsChecked, AnswersLine, PlaysOn, PlaysFrom, Plays, Unconfigured, StopsAt, stop_text, Printed, Knows, Says, Reaches};
+ghost use Rattle.fdb_sim.specs.script.Lines.{left, line_text, line_number};
+ghost use Rattle.fdb_sim.specs.play.Scripts.{is_silent, AnswersLine, PlaysOn, PlaysFrom, Plays, Unconfigured, StopsAt, Printed, Knows, Says, Reaches};
 
 use crate::play::driving::drive;
 use crate::play::stop::Stop;
-use crate::print::answers::push_answer;
+use crate::print::answers::{push_refusal, push_result};
 use crate::print::endings::{print_check, print_stop};
-use crate::print::refusals::RefusalLine;
 use crate::script::config_line::read_config;
 use crate::script::fault::Fault;
 use crate::script::line::{Line, read_line};
 use crate::script::lines::Lines;
 use crate::script::step_line::Kind;
-use fdb_core::{Answered, Config, World};
-use fdb_keys::Refusal;
-use std::alloc::{AllocError, Global};
+use fdb_core::{Config, World};
+use std::alloc::Global;
 use std::io;
 use std::io::{Read, Write};
 
@@ -154,30 +149,6 @@ fn take_line<R: Read + Drop>(
         Err(Fault::Bad) => Err(Stop::BadLine(lines.number())),
         Err(Fault::NoMemory) => Err(Stop::NoMemory),
     }
-}
-
-// Writes what a step of this kind prints, as a line.
-fn push_result(
-    text: &mut String,
-    kind: Kind,
-    outcome: Result<Answered, Refusal>,
-) -> Result<(), AllocError>
-    ensures { OnOk result (string_bytes text.new ≡ string_bytes text.old ++ printed_line (result_text kind outcome)) }
-{
-    match outcome {
-        Ok(answered) => {
-            push_answer(text, kind, &answered)?;
-            text.push('\n')
-        }
-        Err(refusal) => push_refusal(text, refusal),
-    }
-}
-
-fn push_refusal(text: &mut String, refusal: Refusal) -> Result<(), AllocError>
-    ensures { OnOk result (string_bytes text.new ≡ string_bytes text.old ++ refused_line refusal) }
-{
-    let line = RefusalLine(refusal);
-    writeln!(text, "{line}")
 }
 
 fn too_many_lines() -> io::Error {

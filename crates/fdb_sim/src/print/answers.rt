@@ -1,15 +1,42 @@
-// What is printed of a step: what it answered.
+// What is printed of a step: what it answered, or why it was refused.
 ghost use Rattle.std.specs.Prelude.{◌≡◌, ◌++◌, OnOk, string_bytes};
 ghost use Rattle.std.specs.Fmt.{decimal};
 ghost use Rattle.fdb_keys.specs.Refusals.{code_of};
-ghost use Rattle.fdb_sim.specs.print.Answers.{granted_text, value_text, verdict_name, verdicts_text, outcome_name, outcomes_text, version_text, told_text, clients_text, answer_text};
+ghost use Rattle.fdb_sim.specs.print.Answers.{granted_text, value_text, verdict_name, verdicts_text, outcome_name, outcomes_text, version_text, told_text, clients_text, answer_text, result_text};
+ghost use Rattle.fdb_sim.specs.play.Scripts.{printed_line, refused_line};
 
+use crate::print::refusals::RefusalLine;
 use crate::print::texts::push_text;
 use crate::script::step_line::Kind;
 use bytes::Bytes;
 use fdb_core::{Answered, Outcome, Verdict};
 use fdb_keys::Refusal;
 use std::alloc::AllocError;
+
+/// Appends what a step of this kind prints, as a line.
+pub fn push_result(
+    text: &mut String,
+    kind: Kind,
+    outcome: Result<Answered, Refusal>,
+) -> Result<(), AllocError>
+    ensures { OnOk result (string_bytes text.new ≡ string_bytes text.old ++ printed_line (result_text kind outcome)) }
+{
+    match outcome {
+        Ok(answered) => {
+            push_answer(text, kind, &answered)?;
+            text.push('\n')
+        }
+        Err(refusal) => push_refusal(text, refusal),
+    }
+}
+
+/// Appends what is printed of a refusal, as a line.
+pub fn push_refusal(text: &mut String, refusal: Refusal) -> Result<(), AllocError>
+    ensures { OnOk result (string_bytes text.new ≡ string_bytes text.old ++ refused_line refusal) }
+{
+    let line = RefusalLine(refusal);
+    writeln!(text, "{line}")
+}
 
 /// Appends what a step of this kind answered, as a script prints it. Only want of memory is an error.
 pub fn push_answer(text: &mut String, kind: Kind, answered: &Answered) -> Result<(), AllocError>
