@@ -11,7 +11,8 @@ use std::io::{BufRead, BufReader, Read};
 /// How many reads an input may take.
 const READ_LIMIT: u64 = 1 << 32;
 
-/// A reader that is read so often, and then no more. Its error is told from other errors by `failed`.
+/// A reader that refuses reads beyond `READ_LIMIT`. `failed` says that the last read gave an error, which tells
+/// that error from want of memory for the line.
 #[derive(Drop)]
 struct Limited<R> {
     reader: R,

@@ -30,44 +30,6 @@ fn check_refusal(rt: &impl Abort, alloc: Global, refusal: Refusal, line: &str) -
 }
 
 #[test]
-fn plain_answers(rt: HostRuntime) -> Result<(), Fail> {
-    check_answer(&rt, rt.alloc(), Kind::Ask, Answered::Done, "ok")?;
-    check_answer(
-        &rt,
-        rt.alloc(),
-        Kind::Submit,
-        Answered::ReadOnly(100),
-        "readonly 100",
-    )?;
-    check_answer(
-        &rt,
-        rt.alloc(),
-        Kind::Report,
-        Answered::Version(200),
-        "committed 200",
-    )?;
-    check_answer(
-        &rt,
-        rt.alloc(),
-        Kind::Pull,
-        Answered::Version(0),
-        "through 0",
-    )
-}
-
-#[test]
-fn a_sealed_entry(rt: HostRuntime) -> Result<(), Fail> {
-    let issued = Answered::Issued {
-        index: 1,
-        version: 18_446_744_073_709_551_615,
-        prev: 100,
-        places: 4_096,
-    };
-    let line = "entry 1 version 18446744073709551615 prev 100 places 4096";
-    check_answer(&rt, rt.alloc(), Kind::Seal, issued, line)
-}
-
-#[test]
 fn values(rt: HostRuntime) -> Result<(), Fail> {
     check_answer(&rt, rt.alloc(), Kind::Get, Answered::Value(None), "none")?;
     let empty = Answered::Value(Some(Bytes::new()));
@@ -80,12 +42,6 @@ fn values(rt: HostRuntime) -> Result<(), Fail> {
         Answered::Value(Some(bytes)),
         "value aZ09._/%00%2d%25%ff%20",
     )
-}
-
-#[test]
-fn who_is_served(rt: HostRuntime) -> Result<(), Fail> {
-    let served = Answered::Granted(Items::from_vec(vec![in rt.alloc(); (1, 100), (2, 100)]?));
-    check_answer(&rt, rt.alloc(), Kind::Grant, served, "grant 1=100 2=100")
 }
 
 #[test]

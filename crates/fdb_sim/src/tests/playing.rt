@@ -15,7 +15,7 @@ pub fn check_script(
     let mut reader = script;
     let mut out: Vec<u8> = Vec::new(alloc);
     let ended = run_script(alloc, &mut reader, &mut out)?;
-    assert!(rt; out.as_slice() == output, "the output of {script:?}");
-    assert!(rt; ended == status, "the status of {script:?}");
+    let is_played = out.as_slice() == output && ended == status;
+    assert!(rt; is_played, "the output or the status of {script:?}");
     Ok(())
 }

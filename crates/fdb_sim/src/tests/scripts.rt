@@ -4,12 +4,11 @@ use std::alloc::{AllocError, Global};
 use std::process::Abort;
 use std::test::Fail;
 
-const CONFIG: &[u8] = b"config proxies 1 logs 1 resolvers - shards - book 100";
+const CONFIG: &[u8] = b"config proxies 1 logs 1 resolvers - shards - book 100\n";
 
 // The configuration, and then the lines.
 fn behind_config(alloc: Global, lines: &[u8]) -> Result<Vec<u8>, AllocError> {
     let mut script = Vec::from_slice(alloc, CONFIG)?;
-    script.push(b'\n')?;
     script.extend_from_slice(lines)?;
     Ok(script)
 }
