@@ -27,7 +27,7 @@ pub(crate) fn join(ranges: &[KeyRange], range: &KeyRange) -> Result<Joined, Allo
     let start = count_before(ranges, range.begin());
     let (_before, rest) = ranges.split_at(start);
     let count = count_reached(rest, range.end());
-    let (touched, _behind) = rest.split_at(count);
+    let (touched, _after) = rest.split_at(count);
     let range = joined_with_all(range, touched)?;
     let end = start + count;
     Ok(Joined { start, end, range })

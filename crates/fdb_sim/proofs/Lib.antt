@@ -1,11 +1,1 @@
-mod CommandsLemmas
-mod ConfigsLemmas
-mod DrivingLemmas
-mod FaultsLemmas
-mod GrammarLemmas
-mod LinesLemmas
-mod NumbersLemmas
-mod ReadBack
-mod ScriptLemmas
-mod TextsLemmas
-mod WordsLemmas
+mod lemmas

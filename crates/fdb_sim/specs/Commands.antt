@@ -2,7 +2,7 @@
 use Rattle.std.specs.Prelude.{◌≡◌, ℕ, List, [], true, codes, Option, ◌⊎◌}
 use Rattle.std.specs.Io.KnownBytes.{Keeps}
 use Rattle.clap.specs.Words.{App, Text, fault_of, new_app, with_subcommand}
-use Rattle.fdb_sim.specs.Scripts.{Knows, Plays, Printed}
+use Rattle.fdb_sim.specs.play.Scripts.{Knows, Plays, Printed}
 
 -- one command, `run`, which must be given; the program's own name is not among the words
 abbrev pub commands : App

@@ -1,11 +1,4 @@
-pub mod Lines
-pub mod Faults
-pub mod Texts
-pub mod Words
-pub mod Grammar
-pub mod Kinds
-pub mod Configs
-pub mod Answers
-pub mod Driving
-pub mod Scripts
+pub mod script
+pub mod play
+pub mod print
 pub mod Commands

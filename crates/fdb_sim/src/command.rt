@@ -3,7 +3,7 @@ ghost use Rattle.std.specs.Io.KnownBytes.{Keeps};
 ghost use Rattle.clap.specs.Words.{FailsBy, app_of, fault_of, kind_of};
 ghost use Rattle.fdb_sim.specs.Commands.{commands, Obeys};
 
-use crate::script::run_script;
+use crate::play::script::run_script;
 use clap::error::ErrorKind;
 use clap::{Command, Error};
 use std::alloc::Global;
@@ -13,7 +13,7 @@ use std::io::{Read, Write};
 /// The status of words that give no command.
 const BAD_WORDS: u8 = 2;
 
-/// Runs the command that the words give, which are those behind the program's own name, and answers the
+/// Runs the command that the words give, which are those after the program's own name, and answers the
 /// status. `run` runs the script that the reader gives, and prints to `out`.
 ///
 /// Help is printed to `out`, with status 0. Words that give no command print what is wrong with them to

@@ -3,22 +3,11 @@
 #![tactic(auto)]
 
 mod command;
-mod config_line;
-mod driving;
-mod fault;
-mod keys;
-mod laws;
-mod line;
-mod lines;
-mod numbers;
-mod output;
+mod play;
+mod print;
 mod script;
-mod step_line;
-mod stop;
 #[cfg(test)]
 mod tests;
-mod texts;
-mod words;
 
 use crate::command::run_words;
 use std::io::{BufWriter, Write};

@@ -2,6 +2,8 @@ mod answers;
 mod failing;
 mod large;
 mod lines;
+mod playing;
 mod rows;
 mod scripts;
 mod words;
+mod worlds;

@@ -1,6 +1,7 @@
 // What each answer is printed as.
-use crate::output::{RefusalLine, push_answer};
-use crate::step_line::Kind;
+use crate::print::answers::push_answer;
+use crate::print::refusals::RefusalLine;
+use crate::script::step_line::Kind;
 use bytes::Bytes;
 use fdb_core::{Answered, Outcome, Verdict};
 use fdb_keys::{Items, Refusal};
@@ -12,11 +13,11 @@ fn check_answer(
     rt: &impl Abort,
     alloc: Global,
     kind: Kind,
-    answered: &Answered,
+    answered: Answered,
     line: &str,
 ) -> Result<(), Fail> {
     let mut text = String::new(alloc);
-    push_answer(&mut text, kind, answered)?;
+    push_answer(&mut text, kind, &answered)?;
     assert_eq!(rt; text.as_str(), line);
     Ok(())
 }
@@ -29,70 +30,22 @@ fn check_refusal(rt: &impl Abort, alloc: Global, refusal: Refusal, line: &str) -
 }
 
 #[test]
-fn plain_answers(rt: HostRuntime) -> Result<(), Fail> {
-    check_answer(&rt, rt.alloc(), Kind::Ask, &Answered::Done, "ok")?;
-    check_answer(
-        &rt,
-        rt.alloc(),
-        Kind::Submit,
-        &Answered::ReadOnly(100),
-        "readonly 100",
-    )?;
-    check_answer(
-        &rt,
-        rt.alloc(),
-        Kind::Report,
-        &Answered::Version(200),
-        "committed 200",
-    )?;
-    check_answer(
-        &rt,
-        rt.alloc(),
-        Kind::Pull,
-        &Answered::Version(0),
-        "through 0",
-    )
-}
-
-#[test]
-fn a_sealed_entry(rt: HostRuntime) -> Result<(), Fail> {
-    let issued = Answered::Issued {
-        index: 1,
-        version: 18_446_744_073_709_551_615,
-        prev: 100,
-        places: 4_096,
-    };
-    let line = "entry 1 version 18446744073709551615 prev 100 places 4096";
-    check_answer(&rt, rt.alloc(), Kind::Seal, &issued, line)
-}
-
-#[test]
 fn values(rt: HostRuntime) -> Result<(), Fail> {
-    check_answer(&rt, rt.alloc(), Kind::Get, &Answered::Value(None), "none")?;
+    check_answer(&rt, rt.alloc(), Kind::Get, Answered::Value(None), "none")?;
     let empty = Answered::Value(Some(Bytes::new()));
-    check_answer(&rt, rt.alloc(), Kind::Get, &empty, "value %")?;
+    check_answer(&rt, rt.alloc(), Kind::Get, empty, "value %")?;
     let bytes = Bytes::from_static(b"aZ09._/\x00-%\xff ");
     check_answer(
         &rt,
         rt.alloc(),
         Kind::Get,
-        &Answered::Value(Some(bytes)),
+        Answered::Value(Some(bytes)),
         "value aZ09._/%00%2d%25%ff%20",
     )
 }
 
 #[test]
-fn who_is_served(rt: HostRuntime) -> Result<(), Fail> {
-    let none = Answered::Granted(Items::new(rt.alloc()));
-    check_answer(&rt, rt.alloc(), Kind::Grant, &none, "grant")?;
-    let served = Answered::Granted(Items::from_vec(vec![in rt.alloc(); (1, 100), (2, 100)]?));
-    check_answer(&rt, rt.alloc(), Kind::Grant, &served, "grant 1=100 2=100")
-}
-
-#[test]
 fn verdicts(rt: HostRuntime) -> Result<(), Fail> {
-    let none = Answered::Verdicts(Items::new(rt.alloc()));
-    check_answer(&rt, rt.alloc(), Kind::Resolve, &none, "verdict")?;
     let list = vec![in rt.alloc();
         (0, Verdict::Yes),
         (2, Verdict::Conflict),
@@ -103,7 +56,7 @@ fn verdicts(rt: HostRuntime) -> Result<(), Fail> {
         &rt,
         rt.alloc(),
         Kind::Resolve,
-        &verdicts,
+        verdicts,
         "verdict 0=yes 2=conflict 3=old",
     )
 }
@@ -120,7 +73,7 @@ fn outcomes(rt: HostRuntime) -> Result<(), Fail> {
         &rt,
         rt.alloc(),
         Kind::Decide,
-        &decided,
+        decided,
         "decided 0=commit 1=conflict 2=old",
     )?;
     let list = vec![in rt.alloc(); (7, commit), (1, Outcome::Conflict), (4, Outcome::Old)]?;
@@ -129,7 +82,7 @@ fn outcomes(rt: HostRuntime) -> Result<(), Fail> {
         &rt,
         rt.alloc(),
         Kind::Answer,
-        &answers,
+        answers,
         "answer 7=100/0 1=1020 4=1007",
     )
 }

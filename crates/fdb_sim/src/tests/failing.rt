@@ -1,5 +1,5 @@
 // Readers and writers over memory, of which one call fails.
-use crate::script::run_script;
+use crate::play::script::run_script;
 use std::alloc::Global;
 use std::io;
 use std::io::{ErrorKind, Read, Write};

@@ -1,5 +1,5 @@
 // Scripts with more requests than a batch has places.
-use crate::script::run_script;
+use crate::play::script::run_script;
 use std::alloc::{AllocError, Global};
 use std::test::Fail;
 

@@ -1,6 +1,6 @@
 // The lines of readers that give few bytes a call, and many.
-use crate::lines::Lines;
-use crate::stop::Stop;
+use crate::play::stop::Stop;
+use crate::script::lines::Lines;
 use std::alloc::{AllocError, Global};
 use std::io;
 use std::io::Read;
@@ -20,7 +20,7 @@ impl<'a> Read for PieceReader<'a> {
     }
 }
 
-// The lines of the text, each with a `|` behind it.
+// The lines of the text, each with a `|` after it.
 fn marked_lines(alloc: Global, text: &[u8], most: usize) -> Result<Vec<u8>, Stop> {
     let mut reader = PieceReader { rest: text, most };
     let mut lines = Lines::new(alloc, &mut reader)?;
@@ -42,7 +42,7 @@ fn has_lines(alloc: Global, text: &[u8], most: usize, marked: &[u8]) -> bool {
     }
 }
 
-// So many bytes, and the end behind them.
+// So many bytes, and the end after them.
 fn long_text(alloc: Global, length: usize, end: &[u8]) -> Result<Vec<u8>, AllocError> {
     let mut text = vec![in alloc; b'x'; length]?;
     text.extend_from_slice(end)?;
@@ -75,19 +75,5 @@ fn lines_over_many_chunks(rt: HostRuntime) -> Result<(), Fail> {
             "{length}"
         );
     }
-    Ok(())
-}
-
-#[test]
-fn lines_are_numbered_from_one(rt: HostRuntime) -> Result<(), Fail> {
-    let mut reader: &[u8] = b"a\nb";
-    let mut lines = Lines::new(rt.alloc(), &mut reader)?;
-    assert!(rt; lines.number() == 0);
-    assert!(rt; matches!(lines.advance(), Ok(true)));
-    assert!(rt; lines.number() == 1);
-    assert!(rt; matches!(lines.advance(), Ok(true)));
-    assert!(rt; lines.number() == 2);
-    assert!(rt; lines.text() == b"b".as_slice());
-    assert!(rt; matches!(lines.advance(), Ok(false)));
     Ok(())
 }

@@ -1,29 +1,21 @@
-use crate::script::run_script;
-use std::alloc::Global;
-use std::process::Abort;
+use crate::tests::playing::check_script;
 use std::test::Fail;
 
 const CONFIG: &[u8] = b"config proxies 1 logs 1 resolvers - shards - book 100\n";
 
-fn check_script(
-    rt: &impl Abort,
-    alloc: Global,
-    script: &[u8],
-    status: u8,
-    output: &[u8],
-) -> Result<(), Fail> {
-    let mut reader = script;
-    let mut out: Vec<u8> = Vec::new(alloc);
-    let ended = run_script(alloc, &mut reader, &mut out)?;
-    assert!(rt; out.as_slice() == output);
-    assert!(rt; ended == status);
-    Ok(())
-}
-
-const FIRST_PATH: &[u8] = b"config proxies 1 logs 1 resolvers - shards - book 100\n\
+// The lines of examples/conflict.txt, and what they print.
+const CONFLICT: &[u8] =
+    b"# Two sessions read one key at the same version and both write it: the second commit is refused.\n\
+    config proxies 1 logs 1 resolvers - shards - book 100\n\
     ask 0 0\n\
+    ask 1 0\n\
     grant 0\n\
-    write 0 set a 1\n\
+    get 0 a\n\
+    get 1 a\n\
+    write 0 set a x\n\
+    write 1 set a y\n\
+    \n\
+    # The first one commits at version 100.\n\
     submit 0 0\n\
     seal 0 100\n\
     resolve 0 0\n\
@@ -31,22 +23,33 @@ const FIRST_PATH: &[u8] = b"config proxies 1 logs 1 resolvers - shards - book 10
     decide 0\n\
     push 0 0\n\
     logged 0 0\n\
-    ask 1 0\n\
-    grant 0\n\
     report 0\n\
     answer 0\n\
-    ask 2 0\n\
+    \n\
+    # The second one read at 0 what was written at 100.\n\
+    submit 1 0\n\
+    seal 0 100\n\
+    resolve 1 0\n\
+    verdict 1 0\n\
+    decide 0\n\
+    push 1 0\n\
+    logged 1 0\n\
+    report 0\n\
+    answer 0\n\
+    \n\
+    # It tries again, and reads what the first one wrote.\n\
+    ask 1 0\n\
     grant 0\n\
-    get 2 a\n\
     pull 0 9\n\
-    get 2 a\n\
-    get 1 a\n\
-    submit 2 0\n\
-    submit 1 0\n";
+    get 1 a\n";
 
-const FIRST_PATH_OUTPUT: &[u8] = b"ok\n\
+const CONFLICT_OUTPUT: &[u8] = b"ok\n\
     ok\n\
-    grant 0=0\n\
+    ok\n\
+    grant 0=0 1=0\n\
+    none\n\
+    none\n\
+    ok\n\
     ok\n\
     ok\n\
     entry 0 version 100 prev 0 places 1\n\
@@ -55,23 +58,26 @@ const FIRST_PATH_OUTPUT: &[u8] = b"ok\n\
     decided 0=commit\n\
     ok\n\
     ok\n\
-    ok\n\
-    grant 1=0\n\
     committed 100\n\
     answer 0=100/0\n\
     ok\n\
-    grant 2=100\n\
-    refused 1009 FutureVersion\n\
-    through 100\n\
-    value 1\n\
-    none\n\
-    readonly 100\n\
-    readonly 0\n\
-    checked 3\n";
+    entry 1 version 200 prev 100 places 1\n\
+    verdict 0=conflict\n\
+    ok\n\
+    decided 0=conflict\n\
+    ok\n\
+    ok\n\
+    committed 200\n\
+    answer 1=1020\n\
+    ok\n\
+    grant 1=200\n\
+    through 200\n\
+    value x\n\
+    checked 1\n";
 
 #[test]
-fn first_path(rt: HostRuntime) -> Result<(), Fail> {
-    check_script(&rt, rt.alloc(), FIRST_PATH, 0, FIRST_PATH_OUTPUT)
+fn conflict(rt: HostRuntime) -> Result<(), Fail> {
+    check_script(&rt, rt.alloc(), CONFLICT, 0, CONFLICT_OUTPUT)
 }
 
 const EMPTY: &[u8] = b"config proxies 1 logs 1 resolvers - shards - book 100\n\
@@ -289,7 +295,7 @@ const DRIVES_REFUSED: &[u8] = b"config proxies 1 logs 1 resolvers - shards - boo
     verdict 1 0\n\
     decide 0\n";
 
-// The drive that comes behind a step of its own ends at that step's refusal, and takes none of those behind.
+// The drive that comes after a step of its own ends at that step's refusal, and takes none of those after.
 const DRIVES_REFUSED_OUTPUT: &[u8] = b"ok\n\
     refused 9014 WrongState\n\
     refused 9016 Unknown\n\

@@ -1,33 +1,14 @@
 // Scripts whose output doesn't depend on what the steps do.
-use crate::script::run_script;
+use crate::tests::playing::check_script;
 use std::alloc::{AllocError, Global};
 use std::process::Abort;
 use std::test::Fail;
 
-const CONFIG: &str = "config proxies 1 logs 1 resolvers - shards - book 100";
-
-fn check_script(
-    rt: &impl Abort,
-    alloc: Global,
-    script: &[u8],
-    status: u8,
-    output: &str,
-) -> Result<(), Fail> {
-    let mut reader = script;
-    let mut out: Vec<u8> = Vec::new(alloc);
-    let ended = run_script(alloc, &mut reader, &mut out)?;
-    assert!(rt;
-        out.as_slice() == output.as_bytes(),
-        "the output of {script:?}"
-    );
-    assert!(rt; ended == status, "the status of {script:?}");
-    Ok(())
-}
+const CONFIG: &[u8] = b"config proxies 1 logs 1 resolvers - shards - book 100\n";
 
 // The configuration, and then the lines.
-fn behind_config(alloc: Global, lines: &[u8]) -> Result<Vec<u8>, AllocError> {
-    let mut script = Vec::from_slice(alloc, CONFIG.as_bytes())?;
-    script.push(b'\n')?;
+fn after_config(alloc: Global, lines: &[u8]) -> Result<Vec<u8>, AllocError> {
+    let mut script = Vec::from_slice(alloc, CONFIG)?;
     script.extend_from_slice(lines)?;
     Ok(script)
 }
@@ -37,140 +18,116 @@ fn check_lines(
     alloc: Global,
     lines: &[u8],
     status: u8,
-    output: &str,
+    output: &[u8],
 ) -> Result<(), Fail> {
-    let script = behind_config(alloc, lines)?;
+    let script = after_config(alloc, lines)?;
     check_script(rt, alloc, script.as_slice(), status, output)
 }
 
-#[test]
-fn words_too_many(rt: HostRuntime) -> Result<(), Fail> {
-    let lines = [
-        "ask 0 0 0",
-        "grant 0 0",
-        "get 0 a b",
-        "write 0 set a b c",
-        "write 0 clear a b",
-        "submit 0 0 0",
-        "seal 0 1 1",
-        "resolve 0 0 0",
-        "verdict 0 0 0",
-        "decide 0 0",
-        "push 0 0 0",
-        "logged 0 0 0",
-        "report 0 0",
-        "answer 0 0",
-        "pull 0 9 9",
-        "drive 0 0",
-    ];
-    for line in lines {
-        check_lines(&rt, rt.alloc(), line.as_bytes(), 2, "ok\nbad line 2\n")?;
+/// Lines with a word too many.
+const TOO_MANY: &[u8] = b"ask 0 0 0\n\
+    grant 0 0\n\
+    get 0 a b\n\
+    write 0 set a b c\n\
+    write 0 clear a b\n\
+    submit 0 0 0\n\
+    seal 0 1 1\n\
+    resolve 0 0 0\n\
+    verdict 0 0 0\n\
+    decide 0 0\n\
+    push 0 0 0\n\
+    logged 0 0 0\n\
+    report 0 0\n\
+    answer 0 0\n\
+    pull 0 9 9\n\
+    drive 0 0";
+
+/// Lines with a word too few, of spaces alone at last.
+const TOO_FEW: &[u8] = b"ask 0\n\
+    grant\n\
+    get 0\n\
+    get\n\
+    write 0 set a\n\
+    write 0 clear\n\
+    write 0\n\
+    write\n\
+    submit 0\n\
+    seal 0\n\
+    resolve 0\n\
+    verdict 0\n\
+    decide\n\
+    push 0\n\
+    logged 0\n\
+    report\n\
+    answer\n\
+    pull 0\n\
+    drive\n\
+    \x20  ";
+
+/// Lines whose words are none of the grammar.
+const NO_WORDS: &[u8] = b"wri\n\
+    Ask 0 0\n\
+    ask\t0 0\n\
+    \x20# 0\n\
+    sget 0 a\n\
+    range 0 a b 1\n\
+    srange 0 a b 1\n\
+    write 0 clearrange a b\n\
+    write 0 add a b\n\
+    addread 0 a b\n\
+    addwrite 0 a b\n\
+    move a b 0\n\
+    forget 0 1\n\
+    pop 0\n\
+    show 0\n\
+    Drive 0\n\
+    drives 0\n\
+    get 0 a\xc3\xa9\n\
+    g\xc3\xa9t 0 a";
+
+/// Lines with words that are no numbers, or too great ones.
+const NO_NUMBERS: &[u8] = b"ask 4294967296 0\n\
+    ask 0 4294967296\n\
+    ask 18446744073709551616 0\n\
+    ask +5 0\n\
+    ask -1 0\n\
+    ask 0x1 0\n\
+    ask 1a 0\n\
+    ask %31 0\n\
+    seal 4294967296 1\n\
+    seal 0 18446744073709551616\n\
+    pull 0 4294967296\n\
+    pull 4294967296 0\n\
+    drive 4294967296\n\
+    drive a\n\
+    get 99999999999999999999999999999999999999 a";
+
+/// Lines with words that are no byte texts.
+const NO_TEXTS: &[u8] = b"get 0 a%\n\
+    get 0 a%4\n\
+    get 0 %4\n\
+    get 0 %4g\n\
+    get 0 %%\n\
+    get 0 %g4\n\
+    get 0 a-b\n\
+    get 0 a,b\n\
+    write 0 set a %f\n\
+    write 0 set %f a\n\
+    write 0 clear %f\n\
+    write 0 set %ff b%";
+
+// Each line is bad after a configuration.
+fn check_bad(rt: &impl Abort, alloc: Global, lines: &[u8]) -> Result<(), Fail> {
+    for line in lines.split(|byte| *byte == b'\n') {
+        check_lines(rt, alloc, line, 2, b"ok\nbad line 2\n")?;
     }
     Ok(())
 }
 
 #[test]
-fn words_too_few(rt: HostRuntime) -> Result<(), Fail> {
-    let lines = [
-        "ask 0",
-        "grant",
-        "get 0",
-        "get",
-        "write 0 set a",
-        "write 0 clear",
-        "write 0",
-        "write",
-        "submit 0",
-        "seal 0",
-        "resolve 0",
-        "verdict 0",
-        "decide",
-        "push 0",
-        "logged 0",
-        "report",
-        "answer",
-        "pull 0",
-        "drive",
-        "   ",
-    ];
-    for line in lines {
-        check_lines(&rt, rt.alloc(), line.as_bytes(), 2, "ok\nbad line 2\n")?;
-    }
-    Ok(())
-}
-
-#[test]
-fn words_that_are_none(rt: HostRuntime) -> Result<(), Fail> {
-    let lines = [
-        "wri",
-        "Ask 0 0",
-        "ask\t0 0",
-        " # 0",
-        "sget 0 a",
-        "range 0 a b 1",
-        "srange 0 a b 1",
-        "write 0 clearrange a b",
-        "write 0 add a b",
-        "addread 0 a b",
-        "addwrite 0 a b",
-        "move a b 0",
-        "forget 0 1",
-        "pop 0",
-        "show 0",
-        "Drive 0",
-        "drives 0",
-        "get 0 a\u{e9}",
-        "g\u{e9}t 0 a",
-    ];
-    for line in lines {
-        check_lines(&rt, rt.alloc(), line.as_bytes(), 2, "ok\nbad line 2\n")?;
-    }
-    Ok(())
-}
-
-#[test]
-fn numbers_that_are_none(rt: HostRuntime) -> Result<(), Fail> {
-    let lines = [
-        "ask 4294967296 0",
-        "ask 0 4294967296",
-        "ask 18446744073709551616 0",
-        "ask +5 0",
-        "ask -1 0",
-        "ask 0x1 0",
-        "ask 1a 0",
-        "ask %31 0",
-        "seal 4294967296 1",
-        "seal 0 18446744073709551616",
-        "pull 0 4294967296",
-        "pull 4294967296 0",
-        "drive 4294967296",
-        "drive a",
-        "get 99999999999999999999999999999999999999 a",
-    ];
-    for line in lines {
-        check_lines(&rt, rt.alloc(), line.as_bytes(), 2, "ok\nbad line 2\n")?;
-    }
-    Ok(())
-}
-
-#[test]
-fn texts_that_are_none(rt: HostRuntime) -> Result<(), Fail> {
-    let lines = [
-        "get 0 a%",
-        "get 0 a%4",
-        "get 0 %4",
-        "get 0 %4g",
-        "get 0 %%",
-        "get 0 %g4",
-        "get 0 a-b",
-        "get 0 a,b",
-        "write 0 set a %f",
-        "write 0 set %f a",
-        "write 0 clear %f",
-        "write 0 set %ff b%",
-    ];
-    for line in lines {
-        check_lines(&rt, rt.alloc(), line.as_bytes(), 2, "ok\nbad line 2\n")?;
+fn bad_lines(rt: HostRuntime) -> Result<(), Fail> {
+    for lines in [TOO_MANY, TOO_FEW, NO_WORDS, NO_NUMBERS, NO_TEXTS] {
+        check_bad(&rt, rt.alloc(), lines)?;
     }
     Ok(())
 }
@@ -192,7 +149,7 @@ fn legal_forms(rt: HostRuntime) -> Result<(), Fail> {
     ];
     for line in lines {
         let text = format!(in rt.alloc(); "# first\n\n{line}\n#last")?;
-        let output = "ok\nrefused 2004 KeyOutsideLegalRange\nchecked 0\n";
+        let output = b"ok\nrefused 2004 KeyOutsideLegalRange\nchecked 0\n";
         check_lines(&rt, rt.alloc(), text.as_bytes(), 0, output)?;
     }
     Ok(())
@@ -205,10 +162,10 @@ fn a_carriage_return_belongs_to_a_line_feed(rt: HostRuntime) -> Result<(), Fail>
         rt.alloc(),
         b"\r\n# a\r\nwri\r\n",
         2,
-        "ok\nbad line 4\n",
+        b"ok\nbad line 4\n",
     )?;
-    check_lines(&rt, rt.alloc(), b"get 0 %ff\r", 2, "ok\nbad line 2\n")?;
-    check_lines(&rt, rt.alloc(), b"get 0 %ff\r\r\n", 2, "ok\nbad line 2\n")?;
+    check_lines(&rt, rt.alloc(), b"get 0 %ff\r", 2, b"ok\nbad line 2\n")?;
+    check_lines(&rt, rt.alloc(), b"get 0 %ff\r\r\n", 2, b"ok\nbad line 2\n")?;
     Ok(())
 }
 
@@ -219,26 +176,26 @@ fn bytes_beyond_ascii(rt: HostRuntime) -> Result<(), Fail> {
         rt.alloc(),
         b"# \xff\xfe\x00\nget 0 \xff\n",
         2,
-        "ok\nbad line 3\n",
+        b"ok\nbad line 3\n",
     )?;
-    check_lines(&rt, rt.alloc(), b"\xff\n", 2, "ok\nbad line 2\n")?;
+    check_lines(&rt, rt.alloc(), b"\xff\n", 2, b"ok\nbad line 2\n")?;
     Ok(())
 }
 
 #[test]
 fn no_configuration(rt: HostRuntime) -> Result<(), Fail> {
-    check_script(&rt, rt.alloc(), b"", 2, "bad line 0\n")?;
-    check_script(&rt, rt.alloc(), b"\n# a\n\n#", 2, "bad line 0\n")?;
-    check_script(&rt, rt.alloc(), b"\n# a\nask 0 0\n", 2, "bad line 3\n")?;
-    check_script(&rt, rt.alloc(), b" \n", 2, "bad line 1\n")?;
+    check_script(&rt, rt.alloc(), b"", 2, b"bad line 0\n")?;
+    check_script(&rt, rt.alloc(), b"\n# a\n\n#", 2, b"bad line 0\n")?;
+    check_script(&rt, rt.alloc(), b"\n# a\nask 0 0\n", 2, b"bad line 3\n")?;
+    check_script(&rt, rt.alloc(), b" \n", 2, b"bad line 1\n")?;
     Ok(())
 }
 
 #[test]
 fn a_second_configuration(rt: HostRuntime) -> Result<(), Fail> {
-    check_lines(&rt, rt.alloc(), b"", 0, "ok\nchecked 0\n")?;
-    let line = CONFIG.as_bytes();
-    check_lines(&rt, rt.alloc(), line, 2, "ok\nbad line 2\n")?;
+    check_lines(&rt, rt.alloc(), b"", 0, b"ok\nchecked 0\n")?;
+    let line = CONFIG;
+    check_lines(&rt, rt.alloc(), line, 2, b"ok\nbad line 2\n")?;
     Ok(())
 }
 
@@ -261,7 +218,7 @@ fn configurations_that_are_none(rt: HostRuntime) -> Result<(), Fail> {
         "config proxies 1 logs 1 resolvers %ff shards %f book 1",
     ];
     for line in lines {
-        check_script(&rt, rt.alloc(), line.as_bytes(), 2, "bad line 1\n")?;
+        check_script(&rt, rt.alloc(), line.as_bytes(), 2, b"bad line 1\n")?;
     }
     Ok(())
 }
@@ -274,7 +231,7 @@ fn a_split_that_is_no_key(rt: HostRuntime) -> Result<(), Fail> {
         rt.alloc(),
         line,
         2,
-        "refused 2004 KeyOutsideLegalRange\n",
+        b"refused 2004 KeyOutsideLegalRange\n",
     )?;
     let mut long = Vec::from_slice(rt.alloc(), b"config proxies 1 logs 1 resolvers ")?;
     long.resize(long.len().saturating_add(10_001), b'k')?;
@@ -284,7 +241,7 @@ fn a_split_that_is_no_key(rt: HostRuntime) -> Result<(), Fail> {
         rt.alloc(),
         long.as_slice(),
         2,
-        "refused 2102 KeyTooLarge\n",
+        b"refused 2102 KeyTooLarge\n",
     )
 }
 
@@ -293,6 +250,6 @@ fn a_key_that_is_too_long(rt: HostRuntime) -> Result<(), Fail> {
     let mut line = Vec::from_slice(rt.alloc(), b"get 0 ")?;
     line.resize(10_007, b'k')?;
     line.extend_from_slice(b"\nget 0 %ff")?;
-    let output = "ok\nrefused 2102 KeyTooLarge\nrefused 2004 KeyOutsideLegalRange\nchecked 0\n";
+    let output = b"ok\nrefused 2102 KeyTooLarge\nrefused 2004 KeyOutsideLegalRange\nchecked 0\n";
     check_lines(&rt, rt.alloc(), line.as_slice(), 0, output)
 }

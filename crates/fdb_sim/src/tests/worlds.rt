@@ -1,10 +1,11 @@
-// Worlds with known answers.
-use crate::config::Config;
-use crate::in_flight::InFlight;
-use crate::runs::run;
-use crate::step::{Answered, Step};
-use crate::world::World;
+// Worlds with known answers, by what a caller of `fdb_core` sees.
+use bytes::Bytes;
+use fdb_core::{
+    Answered, Config, InFlight, Op, Reply, Step, Transcript, World, is_answered_on, run,
+};
 use fdb_keys::{Items, Key, Refusal};
+use fdb_mutations::PlainMap;
+use fdb_txn::TxnId;
 use std::alloc::Global;
 use std::test::Fail;
 
@@ -26,6 +27,39 @@ fn is_bad(alloc: Global, config: Config) -> bool {
     }
 }
 
+fn is_bad_with(alloc: Global, proxies: u32, book: u32) -> bool {
+    let mut config = one_of_each(alloc);
+    config.proxies = proxies;
+    config.book = book;
+    is_bad(alloc, config)
+}
+
+fn is_bad_split(alloc: Global, split: Key) -> Result<bool, Fail> {
+    let mut config = one_of_each(alloc);
+    config.shard_splits.push(split)?;
+    Ok(is_bad(alloc, config))
+}
+
+#[test]
+fn world_has_one_of_each_role(rt: HostRuntime) -> Result<(), Fail> {
+    assert!(rt; is_bad_with(rt.alloc(), 2, 8));
+    assert!(rt; is_bad_with(rt.alloc(), 1, 0));
+    let split = Key::new(rt.alloc(), b"m")?;
+    assert!(rt; is_bad_split(rt.alloc(), split)?);
+    Ok(())
+}
+
+// Whether session 0 alone was served, with read version 0.
+fn is_first_grant(answer: &Result<Answered, Refusal>) -> bool {
+    match answer {
+        Ok(Answered::Granted(granted)) => match granted.as_slice() {
+            [(session, version)] => *session == 0 && *version == 0,
+            _ => false,
+        },
+        _ => false,
+    }
+}
+
 fn is_done(answer: &Result<Answered, Refusal>) -> bool {
     match answer {
         Ok(Answered::Done) => true,
@@ -33,71 +67,36 @@ fn is_done(answer: &Result<Answered, Refusal>) -> bool {
     }
 }
 
-fn is_only(granted: &[(u32, u64)], session: u32, version: u64) -> bool {
-    match granted {
-        [(to, at)] => *to == session && *at == version,
-        _ => false,
-    }
-}
-
-// Whether the session alone was served, with the read version.
-fn is_granted(answer: &Result<Answered, Refusal>, session: u32, version: u64) -> bool {
-    match answer {
-        Ok(Answered::Granted(granted)) => is_only(granted.as_slice(), session, version),
-        _ => false,
-    }
-}
-
-fn are_done_and_granted(answers: &[Result<Answered, Refusal>]) -> bool {
-    match answers {
-        [first, second] => is_done(first) && is_granted(second, 0, 0),
-        _ => false,
-    }
-}
-
-#[test]
-fn world_has_one_of_each_role(rt: HostRuntime) -> Result<(), Fail> {
-    let alloc = rt.alloc();
-    let mut two_proxies = one_of_each(alloc);
-    two_proxies.proxies = 2;
-    assert!(rt; is_bad(alloc, two_proxies));
-    let mut no_book = one_of_each(alloc);
-    no_book.book = 0;
-    assert!(rt; is_bad(alloc, no_book));
-    let mut split = one_of_each(alloc);
-    split.shard_splits.push(Key::new(alloc, b"m")?)?;
-    assert!(rt; is_bad(alloc, split));
-    Ok(())
-}
-
-#[test]
-fn first_grant_is_of_version_zero(rt: HostRuntime) -> Result<(), Fail> {
-    let steps = [
-        Step::Ask {
-            session: 0,
-            proxy: 0,
+// Whether the two steps are answered as the first ask and the first grant of a world.
+fn begins(alloc: Global, steps: &[Step]) -> bool {
+    match run(alloc, one_of_each(alloc), steps) {
+        Ok((_, answers)) => match answers.as_slice() {
+            [first, second] => is_done(first) && is_first_grant(second),
+            _ => false,
         },
-        Step::Grant { proxy: 0 },
-    ];
-    let (_, answers) = run(rt.alloc(), one_of_each(rt.alloc()), &steps)?;
-    assert!(rt; are_done_and_granted(answers.as_slice()));
-    Ok(())
+        Err(_) => false,
+    }
+}
+
+const FIRST_STEPS: [Step; 2] = [
+    Step::Ask {
+        session: 0,
+        proxy: 0,
+    },
+    Step::Grant { proxy: 0 },
+];
+
+#[test]
+fn first_grant_is_of_version_zero(rt: HostRuntime) {
+    let steps = FIRST_STEPS;
+    assert!(rt; begins(rt.alloc(), steps.as_slice()));
 }
 
 #[test]
-fn new_world_knows_one_proxy_and_no_transaction(rt: HostRuntime) -> Result<(), Fail> {
-    let mut world = World::new(rt.alloc(), one_of_each(rt.alloc()))?;
-    assert!(rt; world.check() == Ok(0));
-    let answer = world.step(Step::Grant { proxy: 7 });
-    assert!(rt; answer == Err(Refusal::Unknown));
-    Ok(())
-}
-
-#[test]
-fn new_world_has_no_batch_in_flight(rt: HostRuntime) -> Result<(), Fail> {
+fn new_world_has_one_proxy_and_no_transaction(rt: HostRuntime) -> Result<(), Fail> {
     let world = World::new(rt.alloc(), one_of_each(rt.alloc()))?;
-    assert!(rt; world.in_flight(0) == Err(Refusal::WrongState));
     assert!(rt; world.in_flight(7) == Err(Refusal::Unknown));
+    assert!(rt; world.check() == Ok(0));
     Ok(())
 }
 
@@ -126,7 +125,7 @@ const BATCHES: [Step; 9] = [
     },
 ];
 
-fn in_flight_behind(alloc: Global, steps: &[Step]) -> Result<InFlight, Refusal> {
+fn in_flight_after(alloc: Global, steps: &[Step]) -> Result<InFlight, Refusal> {
     let (world, _) = run(alloc, one_of_each(alloc), steps)?;
     world.in_flight(0)
 }
@@ -135,7 +134,7 @@ fn in_flight_behind(alloc: Global, steps: &[Step]) -> Result<InFlight, Refusal> 
 fn in_flight_after(alloc: Global, count: usize) -> Result<InFlight, Refusal> {
     let steps = BATCHES;
     match steps.get(..count) {
-        Some(first) => in_flight_behind(alloc, first),
+        Some(first) => in_flight_after(alloc, first),
         None => Err(Refusal::Failed),
     }
 }
@@ -156,5 +155,32 @@ fn batch_is_in_flight_from_its_seal_to_its_answer(rt: HostRuntime) -> Result<(),
     }
     assert!(rt; in_flight_after(rt.alloc(), 8) == Err(Refusal::WrongState));
     assert!(rt; is_entry(in_flight_after(rt.alloc(), 9), 1));
+    Ok(())
+}
+
+// A transaction that read the one key, and was told the value.
+fn reader_of(alloc: Global, told: Option<Bytes>, snapshot: bool) -> Result<Transcript, Refusal> {
+    let key = Key::new(alloc, b"a")?;
+    let mut ops = Items::new(alloc);
+    ops.push((Op::Get { key, snapshot }, Reply::Value(told)))?;
+    Ok(Transcript {
+        id: TxnId {
+            session: 3,
+            number: 5,
+        },
+        read_version: 0,
+        ops,
+    })
+}
+
+#[test]
+fn ordinary_reads_are_compared_with_a_map(rt: HostRuntime) -> Result<(), Fail> {
+    let map = PlainMap::new(rt.alloc());
+    let nothing = reader_of(rt.alloc(), None, false)?;
+    let something = reader_of(rt.alloc(), Some(Bytes::from_static(b"x")), false)?;
+    let snapshot = reader_of(rt.alloc(), Some(Bytes::from_static(b"x")), true)?;
+    assert!(rt; is_answered_on(&map, &nothing));
+    assert!(rt; !is_answered_on(&map, &something));
+    assert!(rt; is_answered_on(&map, &snapshot));
     Ok(())
 }

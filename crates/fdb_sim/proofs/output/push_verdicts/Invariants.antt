@@ -1,9 +1,0 @@
-use Rattle.std.proofs.Common.{◌≡◌, ◌++◌, drop, string_bytes}
-use Rattle.std.specs.List.{flat_map}
-use Rattle.fdb_sim.specs.Answers.{verdict_text}
-use Rattle.fdb_sim.proofs.output.push_verdicts.Given as goal
-
--- with the items that are left the text has all of them
-abbrev pub invariant-loop-place : goal.invariant-loop-place
-invariant-loop-place l =
-    string_bytes l.text ++ flat_map verdict_text (drop l.place-index l.verdicts) ≡ string_bytes l.initial.text ++ flat_map verdict_text l.verdicts

@@ -1,0 +1,7 @@
+pub mod Lines
+pub mod Faults
+pub mod Texts
+pub mod Words
+pub mod Grammar
+pub mod Kinds
+pub mod Configs

@@ -1,0 +1,103 @@
+-- The lines after the configuration, each as the words that write it.
+use Rattle.std.specs.Prelude.{◌≡◌, ℕ, ◌^◌, ◌<◌, false, List, [], ◌∷◌, Option, Some, None, codes}
+use Rattle.std.specs.Str.Parse.{IsNumeral, digits_value}
+use Rattle.fdb_keys.specs.Texts.{key_fault}
+use Rattle.fdb_keys.specs.declared.refusal.Refusal.{Refusal}
+use Rattle.fdb_core.specs.declared.step.Step.{Step}
+use Rattle.fdb_core.specs.declared.step.Step.TheVariants as made
+use Rattle.fdb_mutations.specs.declared.mutation.Mutation.{Mutation}
+use Rattle.fdb_mutations.specs.declared.mutation.Mutation.TheVariants.{Set, Clear}
+use Rattle.fdb_sim.specs.declared.script.line.Line.{Line}
+use Rattle.fdb_sim.specs.declared.script.line.Line.TheVariants as given
+use Rattle.fdb_sim.specs.declared.script.step_line.Kind.{Kind}
+use Rattle.fdb_sim.specs.declared.script.step_line.Kind.TheVariants.{Ask, Grant, Get, Write, Submit, Seal, Resolve, Verdict, Decide, Push, Logged, Report, Answer, Pull}
+use Rattle.fdb_sim.specs.script.Kinds.{name_of}
+use Rattle.fdb_sim.specs.script.Texts.{value_of}
+use Rattle.fdb_sim.specs.script.Words.{words_of}
+
+-- the word writes the number, which is below 2^64, by digits alone
+abbrev pub WritesNumber : List ℕ → ℕ → Type 0
+WritesNumber word number = IsNumeral 10 word × (number ≡ digits_value 10 word) × (number < 2 ^ 64)
+
+-- the same of a number below 2^32
+abbrev pub WritesSmall : List ℕ → ℕ → Type 0
+WritesSmall word number = IsNumeral 10 word × (number ≡ digits_value 10 word) × (number < 2 ^ 32)
+
+-- the word is a byte text that writes the bytes
+abbrev pub WritesText : List ℕ → List ℕ → Type 0
+WritesText word bytes = value_of word ≡ Some bytes
+
+-- the words are one number below 2^32
+abbrev pub WritesOne : List (List ℕ) → ℕ → Type 0
+WritesOne words a = (x : List ℕ) × (words ≡ x ∷ []) × WritesSmall x a
+
+-- the words are two numbers below 2^32
+abbrev pub WritesTwo : List (List ℕ) → ℕ → ℕ → Type 0
+WritesTwo words a b = (x : List ℕ) × (y : List ℕ) × (words ≡ x ∷ y ∷ []) × WritesSmall x a × WritesSmall y b
+
+-- the words are a number below 2^32 and one below 2^64
+abbrev pub WritesSmallAndNumber : List (List ℕ) → ℕ → ℕ → Type 0
+WritesSmallAndNumber words a b = (x : List ℕ) × (y : List ℕ) × (words ≡ x ∷ y ∷ []) × WritesSmall x a × WritesNumber y b
+
+-- the words are a number below 2^32 and a byte text
+abbrev pub WritesNumberAndText : List (List ℕ) → ℕ → List ℕ → Type 0
+WritesNumberAndText words a bytes = (x : List ℕ) × (y : List ℕ) × (words ≡ x ∷ y ∷ []) × WritesSmall x a × WritesText y bytes
+
+-- the words after a session's number write the mutation
+abbrev pub WritesMutation : List (List ℕ) → Mutation → Type 0
+WritesMutation words (Set key value) =
+    (x : List ℕ) × (y : List ℕ) × (words ≡ codes "set" ∷ x ∷ y ∷ []) × WritesText x key × WritesText y value
+WritesMutation words (Clear key) = (x : List ℕ) × (words ≡ codes "clear" ∷ x ∷ []) × WritesText x key
+
+-- the words are a number below 2^32 and a mutation
+abbrev pub WritesNumberAndMutation : List (List ℕ) → ℕ → Mutation → Type 0
+WritesNumberAndMutation words a mutation =
+    (x : List ℕ) × (rest : List (List ℕ)) × (words ≡ x ∷ rest) × WritesSmall x a × WritesMutation rest mutation
+
+-- the words after the first one of such a line write the step
+abbrev pub WritesRest : Kind → List (List ℕ) → Step → Type 0
+WritesRest Ask words step = (session : ℕ) × (proxy : ℕ) × WritesTwo words session proxy × (step ≡ made.Ask session proxy)
+WritesRest Grant words step = (proxy : ℕ) × WritesOne words proxy × (step ≡ made.Grant proxy)
+WritesRest Get words step =
+    (session : ℕ) × (key : List ℕ) × WritesNumberAndText words session key × (step ≡ made.Get session key false)
+WritesRest Write words step =
+    (session : ℕ) × (mutation : Mutation) × WritesNumberAndMutation words session mutation × (step ≡ made.Write session mutation)
+WritesRest Submit words step = (session : ℕ) × (proxy : ℕ) × WritesTwo words session proxy × (step ≡ made.Submit session proxy)
+WritesRest Seal words step = (proxy : ℕ) × (advance : ℕ) × WritesSmallAndNumber words proxy advance × (step ≡ made.Seal proxy advance)
+WritesRest Resolve words step = (entry : ℕ) × (resolver : ℕ) × WritesTwo words entry resolver × (step ≡ made.Resolve entry resolver)
+WritesRest Verdict words step = (entry : ℕ) × (resolver : ℕ) × WritesTwo words entry resolver × (step ≡ made.Verdict entry resolver)
+WritesRest Decide words step = (proxy : ℕ) × WritesOne words proxy × (step ≡ made.Decide proxy)
+WritesRest Push words step = (entry : ℕ) × (log : ℕ) × WritesTwo words entry log × (step ≡ made.Push entry log)
+WritesRest Logged words step = (entry : ℕ) × (log : ℕ) × WritesTwo words entry log × (step ≡ made.Logged entry log)
+WritesRest Report words step = (proxy : ℕ) × WritesOne words proxy × (step ≡ made.Report proxy)
+WritesRest Answer words step = (proxy : ℕ) × WritesOne words proxy × (step ≡ made.Answer proxy)
+WritesRest Pull words step = (shard : ℕ) × (limit : ℕ) × WritesTwo words shard limit × (step ≡ made.Pull shard limit)
+
+-- the words are the kind's name and then words that write the step
+abbrev pub WritesStep : List (List ℕ) → Kind → Step → Type 0
+WritesStep words kind step = (rest : List (List ℕ)) × (words ≡ name_of kind ∷ rest) × WritesRest kind rest step
+
+-- the words are 'drive' and the number of a commit proxy
+abbrev pub WritesDrive : List (List ℕ) → ℕ → Type 0
+WritesDrive words proxy = (rest : List (List ℕ)) × (words ≡ codes "drive" ∷ rest) × WritesOne rest proxy
+
+-- the line writes what it gives
+abbrev pub WritesLine : List ℕ → Line → Type 0
+WritesLine line (given.Step kind step) = WritesStep (words_of line) kind step
+WritesLine line (given.Drive proxy) = WritesDrive (words_of line) proxy
+
+-- why the mutation's key is no key
+abbrev pub mutation_fault : Mutation → Option Refusal
+mutation_fault (Set key value) = key_fault key
+mutation_fault (Clear key) = key_fault key
+
+-- why the step's key, if it has one, is no key
+abbrev pub step_fault : Step → Option Refusal
+step_fault (made.Get session key snapshot) = key_fault key
+step_fault (made.Write session mutation) = mutation_fault mutation
+step_fault other = None
+
+-- why the key of the line's step, if it has one, is no key
+abbrev pub read_fault : Line → Option Refusal
+read_fault (given.Step kind step) = step_fault step
+read_fault (given.Drive proxy) = None

@@ -1,0 +1,21 @@
+-- The first words of lines.
+use Rattle.std.specs.Prelude.{ℕ, List, codes}
+use Rattle.fdb_sim.specs.declared.script.step_line.Kind.{Kind}
+use Rattle.fdb_sim.specs.declared.script.step_line.Kind.TheVariants.{Ask, Grant, Get, Write, Submit, Seal, Resolve, Verdict, Decide, Push, Logged, Report, Answer, Pull}
+
+-- the word that names the kind
+abbrev pub name_of : Kind → List ℕ
+name_of Ask = codes "ask"
+name_of Grant = codes "grant"
+name_of Get = codes "get"
+name_of Write = codes "write"
+name_of Submit = codes "submit"
+name_of Seal = codes "seal"
+name_of Resolve = codes "resolve"
+name_of Verdict = codes "verdict"
+name_of Decide = codes "decide"
+name_of Push = codes "push"
+name_of Logged = codes "logged"
+name_of Report = codes "report"
+name_of Answer = codes "answer"
+name_of Pull = codes "pull"

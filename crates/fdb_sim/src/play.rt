@@ -1,0 +1,3 @@
+pub mod driving;
+pub mod script;
+pub mod stop;
