@@ -1,5 +1,6 @@
 pub mod check
 pub mod headline
+pub mod invariant
 pub mod machine
 pub mod programs
 pub mod refinement

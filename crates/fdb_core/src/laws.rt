@@ -43,8 +43,8 @@ pub fn traces_determine_the_machine()
     ensures { TracesDetermineTheMachine }
 {}
 
-/// Over every trace, each acknowledged transaction stands at its spot. At a spot in an entry it is committed
-/// there, at the spot's place and under its version; at a read-only spot it wrote nothing, and stands after
+/// Over every trace, each acknowledged transaction is serialized at its spot. At a spot in an entry it is committed
+/// there, at the spot's place and under its version; at a read-only spot it wrote nothing, and is ordered after
 /// the entries up to its read version. Each of its ordinary reads was answered as when the committed
 /// transactions before the spot run one at a time from the empty map, by version and by place in the batch.
 pub fn acknowledged_transactions_are_serialized_at_their_spots()
@@ -52,12 +52,12 @@ pub fn acknowledged_transactions_are_serialized_at_their_spots()
 {}
 
 /// Real time, over every trace: a transaction that begins after another was acknowledged reads at that one's version or a
-/// greater one, and never stands before it.
+/// greater one, and is never ordered before it.
 pub fn who_begins_after_an_acknowledgement_is_ordered_after_it()
     ensures { RealTime }
 {}
 
-/// What the headline says of small worlds: which transactions stand at which spots and which don't, who stands
+/// What the headline says of small worlds: which transactions are serialized at which spots and which aren't, who is ordered
 /// after a version, what an empty shard would have to answer, and which answers a trace has.
 pub fn worked_examples()
     ensures spots { OnlyTheFirstIsSerialized }
@@ -67,7 +67,7 @@ pub fn worked_examples()
     ensures traces { Traced }
 {}
 
-/// Over every trace, each transaction stands in the book at most once: no two places of it, of one entry or of
+/// Over every trace, each transaction is in the book at most once: no two places of it, of one entry or of
 /// two, are of transactions with the same name.
 pub fn no_transaction_is_in_the_book_twice()
     ensures { NoTraceHasAnIdTwice }

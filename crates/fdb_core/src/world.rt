@@ -31,7 +31,7 @@ impl Model for World {
     ghost use Rattle.std.specs.Prelude.{◌≡◌, false};
     ghost use Rattle.fdb_core.specs.refinement.Cluster.{machine_of, system_of, Refines};
     ghost use Rattle.fdb_core.specs.headline.Serving.{System};
-    ghost use Rattle.fdb_core.specs.refinement.Invariant.{Invariant};
+    ghost use Rattle.fdb_core.specs.invariant.Invariant.{Invariant};
 
     ghost Value = { System };
 
@@ -80,9 +80,9 @@ impl World {
     /// runs out in the step, the answer is `NoMemory`, and every later step is refused as `Failed`.
     ///
     /// Where the world stands for a trace, it then stands for that trace with this step and its answer. Each
-    /// transaction that the trace acknowledged stands at its spot: it is committed there, and each of its
+    /// transaction that the trace acknowledged is serialized at its spot: it is committed there, and each of its
     /// ordinary reads was answered as when the committed transactions run one at a time from the empty map, by
-    /// commit version and place in the batch. It stands after all that were acknowledged before it began. And
+    /// commit version and place in the batch. It is ordered after all that were acknowledged before it began. And
     /// every shard answers, at each version that it serves, from that run's map.
     pub fn step(&mut self, step: Step) -> Result<Answered, Refusal>
         ensures step { IsStep self.old.machine step result self.new.machine }

@@ -19,7 +19,7 @@ use Rattle.fdb_core.specs.headline.Headline.{AnsweredOn, IsSerializedAtSpot, IsS
 use Rattle.fdb_core.specs.refinement.Cluster.{machine_of, Refines}
 use Rattle.fdb_core.specs.machine.Machine.{Machine, last_version}
 use Rattle.fdb_core.specs.refinement.Roles.{along, message_on}
-use Rattle.fdb_core.specs.refinement.Invariant.{Invariant}
+use Rattle.fdb_core.specs.invariant.Invariant.{Invariant}
 use Rattle.fdb_core.proofs.common.AllLemmas.{all-at}
 use Rattle.fdb_core.proofs.refinement.RunLaws.{entries-rising, length-along, value-of-serial_map}
 
@@ -28,7 +28,7 @@ module _ (k : Cluster) (refines : Refines k) where
   plain-book : IsPlainBook k.book.items
   plain-book = record { no_moves = refines.book.no_moves; entries = refines.book.entries }
 
-  -- who stands at a spot agrees with the book there
+  -- who is at a spot agrees with the book there
   agrees-where-stands : (transcript : Transcript) (at : Spot) → IsSerializedAtSpot (machine_of k) transcript at → AgreesAt k.book.items transcript at
   agrees-where-stands transcript (spot.Entry i p version) stands = λ found at.
       let same : stands.0 ≡ found = same_Some stands.0 found (sym stands.1 ∙ at) in

@@ -1,4 +1,4 @@
--- After every trace the machine is sound, and so every acknowledged transaction stands at its spot.
+-- After every trace the machine is sound, and so every acknowledged transaction is serialized at its spot.
 use Rattle.std.proofs.Common.{List, [], ◌∷◌, ◌++◌, Option, Some, None, Result}
 use Rattle.std.specs.Prelude.{IfSome}
 use Rattle.fdb_keys.specs.declared.refusal.Refusal.{Refusal}
@@ -7,7 +7,7 @@ use Rattle.fdb_core.specs.declared.step.Answered.{Answered}
 use Rattle.fdb_core.specs.declared.step.Step.{Step}
 use Rattle.fdb_core.specs.headline.Headline.{AcknowledgedAreSerialized, IsStrictlySerializable}
 use Rattle.fdb_core.specs.machine.Machine.{Machine}
-use Rattle.fdb_core.specs.refinement.Invariant.{Invariant}
+use Rattle.fdb_core.specs.invariant.Invariant.{Invariant}
 use Rattle.fdb_core.specs.machine.Steps.{next, after}
 use Rattle.fdb_core.specs.headline.Serving.{System, AllServe, RolesKeep}
 use Rattle.fdb_core.specs.headline.Traces.{IsTraceOf}
@@ -23,7 +23,7 @@ use Rattle.fdb_core.proofs.machine.Steps.{kept-next}
 pub sound-after : (m : Machine) (taken : Step) → Invariant m → Invariant (after m (next m taken))
 sound-after = kept-next Invariant sound_steps
 
--- after any trace each acknowledged transaction stands at its spot
+-- after any trace each acknowledged transaction is serialized at its spot
 pub acknowledged_stand : AcknowledgedAreSerialized
 acknowledged_stand config steps given = (sound-trace config steps given).acknowledged
 

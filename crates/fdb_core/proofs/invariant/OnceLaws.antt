@@ -1,4 +1,4 @@
--- Each transaction stands in the book at most once: how often there is one of a name, kept by every step.
+-- Each transaction is in the book at most once: how often there is one of a name, kept by every step.
 use Rattle.std.proofs.Common.{◌≡◌, ◌≢◌, ◌∙◌, ◌<◌, ◌≤◌, refl, sym, ap, subst, arith, ⊎_elim, ℕ, ◌+◌, min, true, false, cond, List, [], ◌∷◌, ◌++◌, take, fold, replicate, Option, Some, None, position, sum_by}
 use Rattle.std.specs.Prelude.{◌==◌, nat_le, unwrap_or}
 use Rattle.std.specs.List.{AllByRecursion, slice_get, slice_set, list_any, count_by}

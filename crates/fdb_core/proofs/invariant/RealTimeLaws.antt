@@ -23,7 +23,7 @@ use Rattle.fdb_core.specs.machine.GrvProxySteps.{last_number, begin_next, next_n
 use Rattle.fdb_core.specs.machine.CommitProxySteps.{placed_from}
 use Rattle.fdb_core.specs.machine.Machine.{Machine}
 use Rattle.fdb_core.specs.machine.Worlds.{start, idle_proxy}
-use Rattle.fdb_core.specs.refinement.Invariant.{Invariant, IsReported}
+use Rattle.fdb_core.specs.invariant.Invariant.{Invariant, IsReported}
 use Rattle.fdb_core.proofs.common.AllLemmas.{all-push, all-remove, all-set, all-at, all-drop, all-take, all-map, all-replicate}
 use Rattle.fdb_core.proofs.headline.TraceLaws.{after_steps-parts}
 use Rattle.fdb_core.proofs.machine.LastNumbers.{last-next, last-others, next-within}

@@ -29,13 +29,13 @@ use Rattle.fdb_core.specs.machine.Machine.{Machine, last_version, seen_before}
 use Rattle.fdb_core.specs.programs.ProgramLaws.{AgreeWhereOrdinary}
 use Rattle.fdb_core.specs.programs.Programs.{program, exec, mutations_of, commit_request_of}
 use Rattle.fdb_core.specs.machine.CommitProxySteps.{placed_from}
-use Rattle.fdb_core.specs.refinement.Invariant.{IsReplied, IsReported}
+use Rattle.fdb_core.specs.invariant.Invariant.{IsReplied, IsReported}
 use Rattle.fdb_core.specs.machine.Verdicts.{moves_through, outcomes_from, outcomes_on}
 use Rattle.fdb_core.proofs.programs.ProgramsAgree.{programs_agree}
 use Rattle.fdb_core.proofs.programs.ReadSetLemmas.{in_read_ranges}
 use Rattle.fdb_core.proofs.refinement.RoleTies.{last-push}
 
--- a transaction stands at its spot, which is reported
+-- a transaction is serialized at its spot, which is reported
 abbrev pub Stands : Machine → Placed → Type 0
 Stands m placed = IsSerialized m placed × IsReported m placed
 
@@ -49,7 +49,7 @@ nil-is : {A : Type 0} (xs : List A) → is_nil xs ≡ true → xs ≡ []
 nil-is [] none = refl
 nil-is (x ∷ xs) none = let counted : length (x ∷ xs) ≡ 0 = eqb-true (length (x ∷ xs)) 0 none in absurd (omega (arith, counted))
 
--- an answered transaction that writes nothing stands at its read version
+-- an answered transaction that writes nothing is serialized at its read version
 pub read_only_serialized : (m : Machine) (transcript : Transcript) → m.committed ≤ last_version m.book → IsReplied m transcript
     → is_nil (commit_request_of transcript).mutations && is_nil (commit_request_of transcript).writes ≡ true
     → IsSerialized m (record { spot = spot.ReadOnly transcript.read_version; transcript = transcript })
@@ -216,7 +216,7 @@ module _ (m : Machine) (n version : ℕ) (moves : List Stamped) (reported : vers
       here = history-earlier (suc (length m.config.resolver_splits)) through.0 (place ∷ earlier)
           (subst (IsHistory (suc (length m.config.resolver_splits))) through.1 history)
 
--- those of a reported batch that are committed stand at their places
+-- those of a reported batch that are committed are serialized at their places
 pub batch_serialized : (m : Machine) (commit_proxy : CommitProxy) (entry : Entry) → AreEntries (suc (length m.config.resolver_splits)) 0 m.book
     → AllByRecursion (IsReplied m) commit_proxy.in_flight → slice_get m.book commit_proxy.entry ≡ Some entry
     → entry.batch ≡ map commit_request_of commit_proxy.in_flight → entry.version ≤ m.committed

@@ -25,7 +25,7 @@ use Rattle.fdb_core.specs.machine.GrvProxySteps.{without, without_at, serve, beg
 use Rattle.fdb_core.specs.headline.Headline.{replies_of}
 use Rattle.fdb_core.specs.machine.Machine.{Machine, is_of}
 use Rattle.fdb_core.specs.programs.Programs.{program, copy, reply_on, exec, commit_request_of, mutations_of}
-use Rattle.fdb_core.specs.refinement.Invariant.{IsReplied, Waits, CommitProxyIsSound}
+use Rattle.fdb_core.specs.invariant.Invariant.{IsReplied, Waits, CommitProxyIsSound}
 use Rattle.fdb_core.proofs.common.AllLemmas.{all-push, all-remove, all-map}
 use Rattle.fdb_txn.proofs.book.HistoryLemmas.{all-weaken}
 use Rattle.fdb_core.proofs.programs.ReadSetLemmas.{in_with_range}

@@ -24,7 +24,7 @@ abbrev pub is_below : ℕ → Option ℕ → Bool
 is_below version None = true
 is_below version (Some end) = nat_lt version end
 
--- who stands at the spot is to be answered as on the map of the moment
+-- who is at the spot is to be answered as on the map of the moment
 abbrev pub is_at : Moment → Spot → Bool
 is_at (Before entry place) (spot.Entry index p version) = index == entry && p == place
 is_at (Before entry place) (spot.ReadOnly version) = false

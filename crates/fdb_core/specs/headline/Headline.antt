@@ -49,7 +49,7 @@ IsReadOnlyAt m transcript version =
     × (mutations_of (program transcript.ops) ≡ [])
     × AnsweredOn (serial_map_at m.config.resolver_splits version (seen_of m.book).places) transcript
 
--- the transaction stands at its spot
+-- the transaction is serialized at its spot
 abbrev pub IsSerializedAtSpot : Machine → Transcript → Spot → Type 0
 IsSerializedAtSpot m transcript (spot.Entry entry place version) = IsSerializedAt m transcript entry place version
 IsSerializedAtSpot m transcript (spot.ReadOnly version) = IsReadOnlyAt m transcript version
@@ -57,11 +57,11 @@ IsSerializedAtSpot m transcript (spot.ReadOnly version) = IsReadOnlyAt m transcr
 abbrev pub IsSerialized : Machine → Placed → Type 0
 IsSerialized m placed = IsSerializedAtSpot m placed.transcript placed.spot
 
--- each acknowledged transaction stands at its spot
+-- each acknowledged transaction is serialized at its spot
 abbrev pub AllSerialized : Machine → Type 0
 AllSerialized m = AllByRecursion (IsSerialized m) m.acknowledged
 
--- Over every trace, each acknowledged transaction stands at its spot: it is committed there, and each of its
+-- Over every trace, each acknowledged transaction is serialized at its spot: it is committed there, and each of its
 -- ordinary reads was answered as when the committed transactions run one at a time from the empty map, by commit
 -- version and place in the batch.
 abbrev pub AcknowledgedAreSerialized : Type 0
@@ -69,7 +69,7 @@ AcknowledgedAreSerialized =
     (config : Config) (steps : List Step) (answers : List (Result Answered Refusal)) → AllSerialized (machine_of_trace config steps answers)
 
 -- What holds of a trace and of the world that stands for it: the world shows the trace's machine; no transaction stands in
--- the book twice; each that the trace acknowledged stands at its spot, and after those that were acknowledged before it began; and every shard
+-- the book twice; each that the trace acknowledged is serialized at its spot, and after those that were acknowledged before it began; and every shard
 -- answers, at each version that it serves, from the run of the committed transactions one at a time.
 pub record IsStrictlySerializable (config : Config) (steps : List Step) (answers : List (Result Answered Refusal)) (system : System) : Type 0 where
   pub is_trace_of : IsTraceOf config steps answers system.machine

@@ -1,4 +1,4 @@
--- Each transaction stands in the book at most once.
+-- Each transaction is in the book at most once.
 use Rattle.std.specs.Prelude.{◌≤◌, ℕ, Bool, ◌&&◌, ◌==◌, List, Result, count_by, sum_by}
 use Rattle.fdb_keys.specs.declared.refusal.Refusal.{Refusal}
 use Rattle.fdb_txn.specs.declared.entry.Entry.{Entry}

@@ -1,4 +1,4 @@
--- Real time: who begins after another transaction was acknowledged never stands before it.
+-- Real time: who begins after another transaction was acknowledged is never ordered before it.
 use Rattle.std.specs.Prelude.{◌≡◌, ◌<◌, ◌≤◌, ℕ, List, take, Some, Result, slice_get}
 use Rattle.fdb_keys.specs.declared.refusal.Refusal.{Refusal}
 use Rattle.fdb_txn.specs.declared.spot.Spot.{Spot}
@@ -21,14 +21,14 @@ spot_version (spot.ReadOnly version) = version
 abbrev pub HasBegun : Machine → TxnId → Type 0
 HasBegun m id = (last : ℕ) × (last_number id.session m.last_transactions ≡ Some last) × (id.number ≤ last)
 
--- The spot stands after the entries up to a version: one in an entry is of a greater version, one after all entries
+-- The spot is ordered after the entries up to a version: one in an entry is of a greater version, one after all entries
 -- up to a version is of that version or a greater one.
 abbrev pub IsAfterVersion : ℕ → Spot → Type 0
 IsAfterVersion v (spot.Entry entry place version) = v < version
 IsAfterVersion v (spot.ReadOnly version) = v ≤ version
 
 -- A transaction that is acknowledged in the later machine, and hadn't begun where another was acknowledged, reads
--- at that one's version or a greater one, and stands after it.
+-- at that one's version or a greater one, and is ordered after it.
 abbrev pub AreAfterEarlier : Machine → Machine → Type 0
 AreAfterEarlier m later =
     (i j : ℕ) (placed other : Placed) → slice_get m.acknowledged i ≡ Some placed → slice_get later.acknowledged j ≡ Some other

@@ -17,12 +17,7 @@ use std::alloc::{AllocError, Global};
 fn has_points(set: &RangeSet) -> bool
     ensures { result ≡ has_points set.now }
 {
-    for range in set.iter() {
-        if !range.is_empty() {
-            return true;
-        }
-    }
-    false
+    set.iter().any(|range| !range.is_empty())
 }
 
 fn is_judged(txn: &Sealed) -> bool
@@ -35,12 +30,7 @@ fn is_judged(txn: &Sealed) -> bool
 pub(crate) fn are_any_judged(batch: &[Sealed]) -> bool
     ensures { result ≡ list_any is_judged batch.now }
 {
-    for txn in batch {
-        if is_judged(txn) {
-            return true;
-        }
-    }
-    false
+    batch.iter().any(is_judged)
 }
 
 fn item_of(place: u32, txn: &Sealed) -> Result<Item, AllocError>

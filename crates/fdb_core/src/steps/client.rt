@@ -12,7 +12,7 @@ ghost use Rattle.fdb_core.specs.machine.Steps.{answer_of, after};
 
 use crate::book::last_version;
 use crate::cluster::Cluster;
-use crate::roles::client::commit_request::{commit_request, has_ranges};
+use crate::roles::client::commit_request::commit_request;
 use crate::roles::client::program::{Op, Reply, Transcript};
 use crate::roles::client::sessions::{add_operation, drop_opened, is_busy, position_of};
 use crate::roles::client::{Placed, Submission};
@@ -126,7 +126,7 @@ impl Cluster {
         };
         let sealed = commit_request(self.alloc, &self.opened[place])?;
         let transcript = self.opened.remove(place);
-        if sealed.mutations().is_empty() && !has_ranges(sealed.writes()) {
+        if sealed.mutations().is_empty() && sealed.writes().is_empty() {
             let version = transcript.read_version;
             let spot = Spot::ReadOnly { version };
             self.acknowledged.push(Placed { spot, transcript })?;

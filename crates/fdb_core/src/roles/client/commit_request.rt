@@ -64,13 +64,6 @@ pub(crate) fn mutations_of(alloc: Global, ops: &[(Op, Reply)]) -> Result<Items<M
     Ok(mutations)
 }
 
-/// Whether the set has a range.
-pub(crate) fn has_ranges(set: &RangeSet) -> bool
-    ensures { result ≡ not (is_nil set.now) }
-{
-    set.iter().as_slice().len() != 0
-}
-
 fn parts_of(alloc: Global, ops: &[(Op, Reply)]) -> Result<(RangeSet, Items<Mutation>), Refusal>
     ensures { Answers result None (λ parts. (parts.0 ≡ read_ranges (program ops.now)) × (parts.1 ≡ mutations_of (program ops.now))) }
 {

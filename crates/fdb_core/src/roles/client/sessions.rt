@@ -39,58 +39,43 @@ pub(crate) fn drop_opened(opened: &mut Vec<Transcript>, session: u32)
 fn waits_at_grv_proxy(there: &[u32], session: u32) -> bool
     ensures { result ≡ waits_at_grv_proxy session there.now }
 {
-    for asker in there {
-        if *asker == session {
-            return true;
-        }
-    }
-    false
-}
-
-fn waits_at_some_grv_proxy(grv_proxies: &[Items<u32>], session: u32) -> bool
-    ensures { result ≡ list_any (waits_at_grv_proxy session) grv_proxies.now }
-{
-    for there in grv_proxies {
-        if waits_at_grv_proxy(there.as_slice(), session) {
-            return true;
-        }
-    }
-    false
+    there.iter().any(|asker| *asker == session)
 }
 
 fn is_waiting(waiting: &[Submission], session: u32) -> bool
     ensures { result ≡ list_any (λ submission. is_of session submission.transcript) waiting.now }
 {
-    for submission in waiting {
-        if is_of(submission.transcript(), session) {
-            return true;
-        }
-    }
-    false
+    waiting
+        .iter()
+        .any(|submission| is_of(submission.transcript(), session))
 }
 
 fn is_in_flight(in_flight: &[Transcript], session: u32) -> bool
     ensures { result ≡ list_any (is_of session) in_flight.now }
 {
-    for transcript in in_flight {
-        if is_of(transcript, session) {
-            return true;
-        }
-    }
-    false
+    in_flight
+        .iter()
+        .any(|transcript| is_of(transcript, session))
+}
+
+fn waits_at_commit_proxy(commit_proxy: &CommitProxy, session: u32) -> bool
+    ensures { result ≡ waits_at_commit_proxy session commit_proxy.now }
+{
+    is_waiting(commit_proxy.waiting(), session) || is_in_flight(commit_proxy.in_flight(), session)
+}
+
+fn waits_at_some_grv_proxy(grv_proxies: &[Items<u32>], session: u32) -> bool
+    ensures { result ≡ list_any (waits_at_grv_proxy session) grv_proxies.now }
+{
+    grv_proxies
+        .iter()
+        .any(|there| waits_at_grv_proxy(there.as_slice(), session))
 }
 
 fn waits_at_some_commit_proxy(commit_proxies: &[CommitProxy], session: u32) -> bool
     ensures { result ≡ list_any (waits_at_commit_proxy session) commit_proxies.now }
 {
-    for commit_proxy in commit_proxies {
-        if is_waiting(commit_proxy.waiting(), session)
-            || is_in_flight(commit_proxy.in_flight(), session)
-        {
-            return true;
-        }
-    }
-    false
+    commit_proxies.iter().any(|commit_proxy| waits_at_commit_proxy(commit_proxy, session))
 }
 
 /// Whether the session asks, or waits for an answer.

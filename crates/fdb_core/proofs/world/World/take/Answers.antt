@@ -1,5 +1,5 @@
 use Rattle.std.proofs.Common.{sym, subst}
-use Rattle.fdb_core.specs.refinement.Invariant.{Invariant}
+use Rattle.fdb_core.specs.invariant.Invariant.{Invariant}
 use Rattle.fdb_core.proofs.headline.HeadlineLaws.{sound-after}
 use Rattle.fdb_core.proofs.headline.ServingLaws.{roles_keep}
 use Rattle.fdb_core.proofs.world.World.take.Goals as goal

@@ -37,7 +37,7 @@ IsInFlight m commit_proxy =
 abbrev pub CommitProxyIsSound : Machine → CommitProxy → Type 0
 CommitProxyIsSound m commit_proxy = AllByRecursion (Waits m) commit_proxy.waiting × AllByRecursion (IsReplied m) commit_proxy.in_flight × IsInFlight m commit_proxy
 
--- an acknowledged transaction stands at a spot of at most the committed version, after the version that it read at
+-- an acknowledged transaction is at a spot of at most the committed version, after the version that it read at
 abbrev pub IsReported : Machine → Placed → Type 0
 IsReported m placed = (spot_version placed.spot ≤ m.committed) × IsAfterVersion placed.transcript.read_version placed.spot
 
