@@ -1,5 +1,5 @@
 -- The ties between the machine and the roles' own lists, kept through the steps.
-use Rattle.std.proofs.Common.{◌≡◌, sym, ap, refl, ℕ, Bool, List, [], ◌∷◌, ◌++◌, fold, Option, Some, None, Ok, Err, arith}
+use Rattle.std.proofs.Common.{◌≡◌, sym, ap, refl, ℕ, Bool, List, [], ◌∷◌, ◌++◌, fold, Option, Some, None, Ok, Err, arith, Vec, Global}
 use Rattle.std.specs.List.{AllByRecursion, slice_get}
 use Rattle.std.specs.Prelude.{position}
 use Rattle.fdb_keys.specs.declared.refusal.Refusal.{Refusal}
@@ -12,10 +12,12 @@ use Rattle.fdb_core.specs.machine.Roles.{LastTransaction}
 use Rattle.fdb_core.specs.declared.roles.client.program.Transcript.{Transcript}
 use Rattle.fdb_core.specs.machine.ClientSteps.{with_operation}
 use Rattle.fdb_core.specs.machine.GrvProxySteps.{without, without_at, serve, begin_next, first_of}
-use Rattle.fdb_core.specs.refinement.Cluster.{OpenRefines}
+use Rattle.fdb_core.specs.refinement.Cluster.{OpenRefines, Refines}
 use Rattle.fdb_core.specs.machine.Machine.{is_of}
 use Rattle.fdb_core.proofs.programs.ProgramLaws.{legal-get, legal-write}
 use Rattle.fdb_core.proofs.common.AllLemmas.{all-at, all-set, all-remove, all-push}
+use Rattle.fdb_core.specs.declared.cluster.Cluster.{Cluster}
+use Rattle.fdb_core.specs.declared.roles.client.Placed.{Placed}
 
 -- dropping an open transaction keeps what holds of the others
 pub opened-without : (committed session : ℕ) (opened : List Transcript) → AllByRecursion (OpenRefines committed) opened → AllByRecursion (OpenRefines committed) (without session opened)
@@ -53,3 +55,18 @@ pub opened-write : (committed : ℕ) (opened : List Transcript) (i : ℕ) (trans
 opened-write committed opened i transcript mutation reply faultless all there =
     let ok = all-at (OpenRefines committed) opened i transcript all there in
     all-set (OpenRefines committed) opened i _ all (record { below = ok.below; legal = legal-write transcript.ops mutation reply faultless ok.legal })
+
+-- where only sessions change, the open transactions alone matter
+pub refines-sessions : (k : Cluster) (grv_proxies : Vec (List ℕ) Global) (opened : Vec Transcript Global) (last_transactions : Vec LastTransaction Global) (acknowledged : Vec Placed Global)
+    → Refines k → AllByRecursion (OpenRefines k.sequencer.committed) opened.items
+    → Refines (record k { grv_proxies = grv_proxies; opened = opened; last_transactions = last_transactions; acknowledged = acknowledged })
+refines-sessions k grv_proxies opened last_transactions acknowledged before all = record {
+  plain = before.plain;
+  room = before.room;
+  sequencer = before.sequencer;
+  book = before.book;
+  resolvers = before.resolvers;
+  log = before.log;
+  commit_proxies = before.commit_proxies;
+  opened = all;
+}

@@ -12,7 +12,7 @@ use Rattle.fdb_core.specs.refinement.Cluster.{machine_of}
 use Rattle.fdb_core.specs.machine.Machine.{is_of}
 use Rattle.fdb_core.specs.programs.Programs.{program, copy}
 use Rattle.fdb_core.specs.machine.Steps.{answer_of}
-use Rattle.fdb_core.proofs.refinement.Ties.{given-fault, opened-read}
+use Rattle.fdb_core.proofs.refinement.Ties.{given-fault, opened-read, refines-sessions}
 use Rattle.fdb_core.proofs.machine.Transitions.{gets-transition}
 use Rattle.fdb_core.proofs.cluster.Cluster.get.Goals as goal
 use Rattle.fdb_core.proofs.cluster.Cluster.get.Goals.{In_ok-add_operation}
@@ -55,13 +55,4 @@ pub returns-clause-refines : goal.returns-clause-refines
 returns-clause-refines c =
     let before = c.requires in
     let read = opened-read c.args.self.now.sequencer.committed c.args.self.now.opened.items c.in-Some.place c.index.result.now c.args.key.now c.args.snapshot (reply.Value c.in-Ok.value) before.opened (there c) in
-    record {
-      plain = before.plain;
-      room = before.room;
-      sequencer = before.sequencer;
-      book = before.book;
-      resolvers = before.resolvers;
-      log = before.log;
-      commit_proxies = before.commit_proxies;
-      opened = rw (noted_as c) read;
-    }
+    refines-sessions c.args.self.now _ _ _ _ before (rw (noted_as c) read)
