@@ -11,7 +11,10 @@ returns-clause-refines c =
     let before = c.requires in
     let within : c.in-Some.place < length c.args.self.now.opened.items = search rules in
     let there = within-item c.args.self.now.opened.items c.in-Some.place within in
-    let faultless : mutation_fault c.args.mutation.now ≡ None = (given-fault (mutation_fault c.args.mutation.now) c.in_default-check.field-0 (λ _. ⊤) c.in_default-check.ensures).0 in
+    let faultless : mutation_fault c.args.mutation.now ≡ None =
+    (given-fault (mutation_fault c.args.mutation.now) c.in_default-check.field-0 (λ _. ⊤)
+    c.in_default-check.ensures).0 in
     let same : c.in_ok-mutation.mutation ≡ c.args.mutation.now = search rules in
-    let written = opened-write c.args.self.now.sequencer.committed c.args.self.now.opened.items c.in-Some.place there.0 c.args.mutation.now reply.Done faultless before.opened there.1 in
+    let written = opened-write c.args.self.now.sequencer.committed c.args.self.now.opened.items c.in-Some.place there.0
+    c.args.mutation.now reply.Done faultless before.opened there.1 in
     refines-sessions c.args.self.now _ _ _ _ before (rw (c.in_ok-add_operation.ensures there.0 there.1, same) written)
