@@ -1,5 +1,5 @@
 -- The steps of the read-version proxies: sessions ask there, and are served.
-use Rattle.std.specs.Prelude.{ℕ, ◌+◌, ◌^◌, ◌-◌, min, Bool, false, ◌==◌, List, [], ◌∷◌, ◌++◌, fold, map, Option, Some, None, Result, Ok, slice_get, slice_set, position, if◌then◌else◌}
+use Rattle.std.specs.Prelude.{ℕ, ◌+◌, ◌^◌, ◌-◌, min, Bool, false, ◌==◌, List, [], ◌∷◌, ◌++◌, fold, map, Option, Some, None, Result, Ok, slice_get, slice_set, position}
 use Rattle.std.specs.List.{list_any, remove}
 use Rattle.fdb_keys.specs.declared.refusal.Refusal.{Refusal}
 use Rattle.fdb_keys.specs.declared.refusal.Refusal.TheVariants.{Exhausted, WrongState}
