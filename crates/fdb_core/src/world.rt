@@ -88,7 +88,8 @@ impl World {
         ensures step { IsStep self.old.machine step result self.new.machine }
         ensures serial { IfSome self.new.machine AllSerialized }
         ensures roles { RolesKeep self.new }
-        ensures headline { (config : Config) (steps : List Step) (answers : List (Result Answered Refusal)) → IsTraceOf config steps answers self.old.machine
+        ensures headline { (config : Config) (steps : List Step) (answers : List (Result Answered Refusal))
+            → IsTraceOf config steps answers self.old.machine
             → IsStrictlySerializable config (steps ++ step ∷ []) (answers ++ result ∷ []) self.new }
     {
         self.take(&step)
@@ -125,7 +126,9 @@ impl World {
     /// that names what differs. As long as memory didn't run out in a step nothing differs, and the check
     /// fails only where it lacks memory itself. After that, transactions alone are compared.
     pub fn check(&self) -> Result<u64, CheckFault>
-        ensures { IfSome self.now.machine (λ machine. MatchResult result (λ count. count ≡ length machine.acknowledged) (λ fault. fault ≡ CheckFault.NoMemory)) }
+        ensures { IfSome self.now.machine
+            (λ machine. MatchResult result (λ count. count ≡ length machine.acknowledged)
+            (λ fault. fault ≡ CheckFault.NoMemory)) }
     {
         check_all(&self.cluster, !self.failed)
     }

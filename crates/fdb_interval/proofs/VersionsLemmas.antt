@@ -14,25 +14,30 @@ abbrev with_mark : Mark → Point → ℕ → ℕ
 with_mark mark x version = if in_range mark.range x then max mark.version version else version
 
 -- two marks count in either order
-with_mark_comm : (a b : Mark) (x : Point) (version : ℕ) → with_mark a x (with_mark b x version) ≡ with_mark b x (with_mark a x version)
+with_mark_comm : (a b : Mark) (x : Point) (version : ℕ)
+    → with_mark a x (with_mark b x version) ≡ with_mark b x (with_mark a x version)
 with_mark_comm a b x version = by_cases (in_range a.range x) (in_range b.range x)
   where
     by_cases : (in_a in_b : Bool)
-        → (if in_a then max a.version (if in_b then max b.version version else version) else (if in_b then max b.version version else version))
-        ≡ (if in_b then max b.version (if in_a then max a.version version else version) else (if in_a then max a.version version else version))
+        → (if in_a then max a.version (if in_b then max b.version version else version)
+        else (if in_b then max b.version version else version))
+        ≡ (if in_b then max b.version (if in_a then max a.version version else version)
+        else (if in_a then max a.version version else version))
     by_cases true true = omega arith
     by_cases true false = refl
     by_cases false true = refl
     by_cases false false = refl
 
 -- one mark more, after the others
-version_at-push : (marks : List Mark) (mark : Mark) (x : Point) → version_at (marks ++ mark ∷ []) x ≡ with_mark mark x (version_at marks x)
+version_at-push : (marks : List Mark) (mark : Mark) (x : Point)
+    → version_at (marks ++ mark ∷ []) x ≡ with_mark mark x (version_at marks x)
 version_at-push [] mark x = refl
 version_at-push (first ∷ marks) mark x =
     ap (with_mark first x) (version_at-push marks mark x) ∙ with_mark_comm first mark x (version_at marks x)
 
 -- a mark of a version that no point's exceeds sets the points of its range
-pub version_at-mark : (marks new : List Mark) (range : Range) (version : ℕ) (x : Point) → new ≡ marks ++ record { range = range; version = version } ∷ []
+pub version_at-mark : (marks new : List Mark) (range : Range) (version : ℕ) (x : Point)
+    → new ≡ marks ++ record { range = range; version = version } ∷ []
     → version_at marks x ≤ version → version_at new x ≡ (if in_range range x then version else version_at marks x)
 version_at-mark marks new range version x is below =
     let greater : max version (version_at marks x) ≡ version = omega (arith, below) in
@@ -40,8 +45,10 @@ version_at-mark marks new range version x is below =
     ∙ ap (λ (n : ℕ). if in_range range x then n else version_at marks x) greater
 
 -- an empty range holds no point
-pub version_at-empty : (range : Range) (x : Point) (version kept : ℕ) → is_empty_range range ≡ true → kept ≡ (if in_range range x then version else kept)
-version_at-empty range x version kept empty = sym (cond-false (in_range range x) version kept (in_range-empty range x empty))
+pub version_at-empty : (range : Range) (x : Point) (version kept : ℕ) → is_empty_range range ≡ true
+    → kept ≡ (if in_range range x then version else kept)
+version_at-empty range x version kept empty = sym
+    (cond-false (in_range range x) version kept (in_range-empty range x empty))
 
 -- the mark is above the version and meets the range
 abbrev pub is_newer : Range → ℕ → Mark → Bool
@@ -49,18 +56,22 @@ is_newer range version mark = nat_lt version mark.version && ranges_meet mark.ra
 
 -- a mark more lowers no version
 at_least_others : (mark : Mark) (x : Point) (version : ℕ) → version ≤ with_mark mark x version
-at_least_others mark x version = cond_both (in_range mark.range x) _ _ (λ n. version ≤ n) (λ inside. omega arith) (λ outside. omega arith)
+at_least_others mark x version = cond_both (in_range mark.range x) _ _ (λ n. version ≤ n) (λ inside. omega arith)
+    (λ outside. omega arith)
 
 -- where its range holds the point, the version is at least the mark's
-at_least_mark : (mark : Mark) (x : Point) (version : ℕ) → in_range mark.range x ≡ true → mark.version ≤ with_mark mark x version
-at_least_mark mark x version inside = let is = cond-true (in_range mark.range x) (max mark.version version) version inside in omega (arith, is)
+at_least_mark : (mark : Mark) (x : Point) (version : ℕ) → in_range mark.range x ≡ true
+    → mark.version ≤ with_mark mark x version
+at_least_mark mark x version inside = let is = cond-true (in_range mark.range x) (max mark.version version) version
+    inside in omega (arith, is)
 
 -- a point of the range has a version above this one
 abbrev pub HasNewer : List Mark → Range → ℕ → Type 0
 HasNewer marks range version = (x : Point) × (in_range range x ≡ true) × (version < version_at marks x)
 
 -- a newer mark that meets the range gives a point a newer version
-pub newer_from_marks : (marks : List Mark) (range : Range) (version : ℕ) → list_any (is_newer range version) marks ≡ true → HasNewer marks range version
+pub newer_from_marks : (marks : List Mark) (range : Range) (version : ℕ)
+    → list_any (is_newer range version) marks ≡ true → HasNewer marks range version
 newer_from_marks [] range version found = absurd (both_ways _ refl found)
 newer_from_marks (mark ∷ marks) range version found = ⊎_elim
     (λ here.
@@ -76,7 +87,8 @@ newer_from_marks (mark ∷ marks) range version found = ⊎_elim
     (or_cases (is_newer range version mark) _ found)
 
 -- a point's newer version is of a newer mark that meets the range
-pub marks_from_newer : (marks : List Mark) (range : Range) (version : ℕ) (x : Point) → in_range range x ≡ true → version < version_at marks x
+pub marks_from_newer : (marks : List Mark) (range : Range) (version : ℕ) (x : Point) → in_range range x ≡ true
+    → version < version_at marks x
     → list_any (is_newer range version) marks ≡ true
 marks_from_newer [] range version x inside newer = absurd (omega (arith, newer))
 marks_from_newer (mark ∷ marks) range version x inside newer = ⊎_elim
@@ -125,18 +137,22 @@ same_either_way false version = refl
 
 -- a mark is dropped where it isn't above the floor
 above-mark : (floor : ℕ) (mark : Mark) (x : Point) (version : ℕ)
-    → (if nat_lt floor mark.version then with_mark mark x (above floor version) else above floor version) ≡ above floor (with_mark mark x version)
+    → (if nat_lt floor mark.version then with_mark mark x (above floor version) else above floor version) ≡ above floor
+    (with_mark mark x version)
 above-mark floor mark x version = by_cases (in_range mark.range x)
   where
     by_cases : (inside : Bool)
-        → (if nat_lt floor mark.version then (if inside then max mark.version (above floor version) else above floor version) else above floor version)
+        → (if nat_lt floor mark.version
+        then (if inside then max mark.version (above floor version) else above floor version) else above floor
+        version)
         ≡ above floor (if inside then max mark.version version else version)
     by_cases true = above-max floor mark.version version
     by_cases false = same_either_way (nat_lt floor mark.version) (above floor version)
 
 -- a mark before others, where it is kept
 version_at-kept : (kept : Bool) (mark : Mark) (marks : List Mark) (x : Point)
-    → version_at (if kept then mark ∷ marks else marks) x ≡ (if kept then with_mark mark x (version_at marks x) else version_at marks x)
+    → version_at (if kept then mark ∷ marks else marks)
+    x ≡ (if kept then with_mark mark x (version_at marks x) else version_at marks x)
 version_at-kept true mark marks x = refl
 version_at-kept false mark marks x = refl
 
@@ -145,7 +161,8 @@ abbrev pub is_above : ℕ → Mark → Bool
 is_above floor mark = nat_lt floor mark.version
 
 -- the marks above a floor leave the versions above it
-version_at-above : (floor : ℕ) (marks : List Mark) (x : Point) → version_at (filter (is_above floor) marks) x ≡ above floor (version_at marks x)
+version_at-above : (floor : ℕ) (marks : List Mark) (x : Point)
+    → version_at (filter (is_above floor) marks) x ≡ above floor (version_at marks x)
 version_at-above floor [] x = sym (above-older floor 0 (omega arith))
 version_at-above floor (mark ∷ marks) x =
     version_at-kept (is_above floor mark) mark (filter (is_above floor) marks) x
@@ -174,5 +191,6 @@ module _ (floor : ℕ) (marks left : List Mark) (are_left : left ≡ filter (is_
       (λ newer. ap (λ (n : ℕ). nat_lt bound n) (kept_above newer))
       (λ older.
       let none = no_greater_left in
-      le-ltb bound (version_at left x) (omega (arith, none, older, reached)) ∙ sym (le-ltb bound (version_at marks x) (omega (arith, older, reached))))
+      le-ltb bound (version_at left x) (omega (arith, none, older, reached))
+      ∙ sym (le-ltb bound (version_at marks x) (omega (arith, older, reached))))
       (cases_lt floor (version_at marks x))

@@ -46,7 +46,9 @@ impl LastCommit {
     /// theirs. Refused only as `NoMemory`, and then nothing changes.
     pub fn mark(&mut self, range: &KeyRange, version: u64) -> Result<(), Refusal>
         requires { (x : Point) → version_at self.old x ≤ version }
-        ensures answers { Answers result None (λ _. (x : Point) → version_at self.new x ≡ (if in_range range.now x then version else version_at self.old x)) }
+        ensures answers { Answers result None
+            (λ _. (x : Point)
+            → version_at self.new x ≡ (if in_range range.now x then version else version_at self.old x)) }
         ensures err { OnErr result (self.new ≡ self.old) }
     {
         if range.is_empty() {
@@ -60,7 +62,8 @@ impl LastCommit {
     /// Forgets the versions up to `version`, of which no bound from `version` on can tell: whether a point's
     /// version is above such a bound stays as it was. It takes no memory.
     pub fn expire(&mut self, version: u64)
-        ensures answers { (x : Point) (bound : ℕ) → version ≤ bound → nat_lt bound (version_at self.new x) ≡ nat_lt bound (version_at self.old x) }
+        ensures answers { (x : Point) (bound : ℕ) → version ≤ bound
+            → nat_lt bound (version_at self.new x) ≡ nat_lt bound (version_at self.old x) }
         ensures kept { (x : Point) → version < version_at self.old x → version_at self.new x ≡ version_at self.old x }
         ensures no_greater { (x : Point) → version_at self.new x ≤ version_at self.old x }
     {

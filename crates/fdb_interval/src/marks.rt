@@ -14,7 +14,8 @@ pub(crate) struct Mark {
 
 // Whether a mark above the version meets the range.
 pub(crate) fn is_any_newer(marks: &[Mark], range: &KeyRange, version: u64) -> bool
-    ensures { result ≡ list_any (λ (mark : AMark). nat_lt version mark.version && ranges_meet mark.range range.now) marks.now }
+    ensures { result ≡ list_any (λ (mark : AMark). nat_lt version mark.version && ranges_meet mark.range range.now)
+        marks.now }
 {
     marks
         .iter()

@@ -65,12 +65,15 @@ greater_below x y z x_below y_below =
     (cases_Bool (point_lt x y))
 
 -- from the begin of `a` on, where `b` begins no later than `a` ends
-in_either : (a b : Range) (x : Point) → point_lt x a.begin ≡ false → (point_lt x a.end ≡ true) ⊎ (point_lt x b.end ≡ true)
+in_either : (a b : Range) (x : Point) → point_lt x a.begin ≡ false → (point_lt x a.end ≡ true)
+    ⊎ (point_lt x b.end ≡ true)
     → point_lt a.end b.begin ≡ false → (in_range a x || in_range b x) ≡ true
 in_either a b x from until touching =
     ⊎_elim
     (λ inside. or_left _ _ (in_range_from a x from inside))
-    (λ after. or_right _ _ (in_range_from b x (le_chain b.begin a.end x touching after) (⊎_elim (λ inside. absurd (both_ways _ after inside)) (λ inside. inside) until)))
+    (λ after. or_right _ _
+    (in_range_from b x (le_chain b.begin a.end x touching after)
+    (⊎_elim (λ inside. absurd (both_ways _ after inside)) (λ inside. inside) until)))
     (cases_Bool (point_lt x a.end))
 
 in_either-joined : (a b : Range) (x : Point) → point_lt b.end a.begin ≡ false → point_lt a.end b.begin ≡ false
@@ -105,8 +108,12 @@ in_joined-right a b x inside =
 pub in_joined : (a b : Range) (x : Point) → point_lt b.end a.begin ≡ false → point_lt a.end b.begin ≡ false
     → in_range (joined_range a b) x ≡ (in_range a x || in_range b x)
 in_joined a b x b_reaches a_reaches =
-    same_from_decides {P = (in_range a x || in_range b x) ≡ true} (in_range (joined_range a b) x) (in_range a x || in_range b x)
-    (in_either-joined a b x b_reaches a_reaches, λ inside. ⊎_elim (in_joined-left a b x) (in_joined-right a b x) (or_cases _ _ inside))
+    same_from_decides {P = (in_range a x || in_range b x) ≡ true} (in_range (joined_range a b) x)
+    (in_range a x || in_range b x) (
+      in_either-joined a b x b_reaches a_reaches,
+      λ inside. ⊎_elim (in_joined-left a b x) (in_joined-right a b x)
+          (or_cases _ _ inside),
+    )
     (λ inside. inside, λ inside. inside)
 
 -- where the carried range is put down
@@ -115,18 +122,21 @@ pub inserted-before : (carried range : Range) (ranges : List Range) → point_lt
 unfolding inserted
 inserted-before carried range ranges before = cond-true _ _ _ before
 
-pub inserted-after : (carried range : Range) (ranges : List Range) → point_lt range.end carried.begin ≡ false → point_lt carried.end range.begin ≡ true
+pub inserted-after : (carried range : Range) (ranges : List Range) → point_lt range.end carried.begin ≡ false
+    → point_lt carried.end range.begin ≡ true
     → inserted carried (range ∷ ranges) ≡ carried ∷ inserted range ranges
 unfolding inserted
 inserted-after carried range ranges reaches after = cond-false _ _ _ reaches ∙ cond-true _ _ _ after
 
-pub inserted-joined : (carried range : Range) (ranges : List Range) → point_lt range.end carried.begin ≡ false → point_lt carried.end range.begin ≡ false
+pub inserted-joined : (carried range : Range) (ranges : List Range) → point_lt range.end carried.begin ≡ false
+    → point_lt carried.end range.begin ≡ false
     → inserted carried (range ∷ ranges) ≡ inserted (joined_range carried range) ranges
 unfolding inserted
 inserted-joined carried range ranges reaches reached = cond-false _ _ _ reaches ∙ cond-false _ _ _ reached
 
 -- the list has the points of the range and of the ranges that were there
-pub in_inserted : (carried : Range) (ranges : List Range) (x : Point) → in_set (inserted carried ranges) x ≡ (in_range carried x || in_set ranges x)
+pub in_inserted : (carried : Range) (ranges : List Range) (x : Point)
+    → in_set (inserted carried ranges) x ≡ (in_range carried x || in_set ranges x)
 unfolding inserted
 in_inserted carried [] x = refl
 in_inserted carried (range ∷ ranges) x =
@@ -153,28 +163,35 @@ in_inserted carried (range ∷ ranges) x =
 pub apart_parts : (range : Range) (ranges : List Range) → is_apart (range ∷ ranges) ≡ true
     → (point_lt range.begin range.end ≡ true) × (begins_after range.end ranges ≡ true) × (is_apart ranges ≡ true)
 apart_parts range ranges apart =
-    let parts : (point_lt range.begin range.end && begins_after range.end ranges ≡ true) × (is_apart ranges ≡ true) = and_parts _ _ apart in
-    let of_range : (point_lt range.begin range.end ≡ true) × (begins_after range.end ranges ≡ true) = and_parts _ _ parts.0 in
+    let parts : (point_lt range.begin range.end && begins_after range.end ranges ≡ true)
+    × (is_apart ranges ≡ true) = and_parts _ _ apart in
+    let of_range : (point_lt range.begin range.end ≡ true)
+    × (begins_after range.end ranges ≡ true) = and_parts _ _ parts.0 in
     (of_range.0, of_range.1, parts.1)
 
-apart_from : (range : Range) (ranges : List Range) → point_lt range.begin range.end ≡ true → begins_after range.end ranges ≡ true → is_apart ranges ≡ true
+apart_from : (range : Range) (ranges : List Range) → point_lt range.begin range.end ≡ true
+    → begins_after range.end ranges ≡ true → is_apart ranges ≡ true
     → is_apart (range ∷ ranges) ≡ true
 apart_from range ranges some after apart =
     and_from (point_lt range.begin range.end && begins_after range.end ranges) (is_apart ranges)
     (and_from (point_lt range.begin range.end) (begins_after range.end ranges) some after) apart
 
-pub begins_after-sooner : (x y : Point) (ranges : List Range) → point_lt x y ≡ true → begins_after y ranges ≡ true → begins_after x ranges ≡ true
+pub begins_after-sooner : (x y : Point) (ranges : List Range) → point_lt x y ≡ true → begins_after y ranges ≡ true
+    → begins_after x ranges ≡ true
 begins_after-sooner x y [] sooner after = refl
 begins_after-sooner x y (range ∷ ranges) sooner after = lt_chain x y range.begin sooner after
 
 -- a range that has a point, joined with another one, has one
-some_joined : (a b : Range) → point_lt a.begin a.end ≡ true → point_lt (lesser_point a.begin b.begin) (greater_point a.end b.end) ≡ true
+some_joined : (a b : Range) → point_lt a.begin a.end ≡ true
+    → point_lt (lesser_point a.begin b.begin) (greater_point a.end b.end) ≡ true
 some_joined a b some =
     lt_le_chain (lesser_point a.begin b.begin) a.end (greater_point a.end b.end)
-    (le_lt_chain (lesser_point a.begin b.begin) a.begin a.end (lesser-left a.begin b.begin) some) (greater-left a.end b.end)
+    (le_lt_chain (lesser_point a.begin b.begin) a.begin a.end (lesser-left a.begin b.begin) some)
+    (greater-left a.end b.end)
 
 -- what comes before the range and before the list comes before what they make
-begins_after-inserted : (x : Point) (carried : Range) (ranges : List Range) → point_lt x carried.begin ≡ true → begins_after x ranges ≡ true → is_apart ranges ≡ true
+begins_after-inserted : (x : Point) (carried : Range) (ranges : List Range) → point_lt x carried.begin ≡ true
+    → begins_after x ranges ≡ true → is_apart ranges ≡ true
     → begins_after x (inserted carried ranges) ≡ true
 unfolding inserted
 begins_after-inserted x carried [] first rest apart = first
@@ -193,7 +210,8 @@ begins_after-inserted x carried (range ∷ ranges) first rest apart =
     (cases_Bool (point_lt range.end carried.begin))
 
 -- a range that has a point is inserted into a sorted list, and the list stays one
-pub apart-inserted : (carried : Range) (ranges : List Range) → point_lt carried.begin carried.end ≡ true → is_apart ranges ≡ true → is_apart (inserted carried ranges) ≡ true
+pub apart-inserted : (carried : Range) (ranges : List Range) → point_lt carried.begin carried.end ≡ true
+    → is_apart ranges ≡ true → is_apart (inserted carried ranges) ≡ true
 unfolding inserted
 apart-inserted carried [] some apart = apart_from carried [] some refl refl
 apart-inserted carried (range ∷ ranges) some apart =
@@ -201,15 +219,20 @@ apart-inserted carried (range ∷ ranges) some apart =
     ⊎_elim
     (λ before.
     ap is_apart (inserted-before carried range ranges before)
-    ∙ apart_from range (inserted carried ranges) parts.0 (begins_after-inserted range.end carried ranges before parts.1 parts.2) (apart-inserted carried ranges some parts.2))
+    ∙ apart_from range (inserted carried ranges) parts.0
+    (begins_after-inserted range.end carried ranges before parts.1 parts.2)
+    (apart-inserted carried ranges some parts.2))
     (λ reaches.
     ⊎_elim
     (λ after.
     ap is_apart (inserted-after carried range ranges reaches after)
     ∙ apart_from carried (inserted range ranges) some
-    (begins_after-inserted carried.end range ranges after (begins_after-sooner carried.end range.end ranges (lt_chain carried.end range.begin range.end after parts.0) parts.1) parts.2)
+    (begins_after-inserted carried.end range ranges after
+    (begins_after-sooner carried.end range.end ranges (lt_chain carried.end range.begin range.end after parts.0)
+    parts.1) parts.2)
     (apart-inserted range ranges parts.0 parts.2))
-    (λ reached. ap is_apart (inserted-joined carried range ranges reaches reached) ∙ apart-inserted (joined_range carried range) ranges (some_joined carried range some) parts.2)
+    (λ reached. ap is_apart (inserted-joined carried range ranges reaches reached)
+    ∙ apart-inserted (joined_range carried range) ranges (some_joined carried range some) parts.2)
     (cases_Bool (point_lt carried.end range.begin)))
     (cases_Bool (point_lt range.end carried.begin))
 
@@ -241,8 +264,10 @@ is_bound-greater x y of_x of_y =
 -- two legal ranges, joined, are a legal range
 pub joined_is_legal : (a b : Range) → HasLegalBounds a → HasLegalBounds b → HasLegalBounds (joined_range a b)
 joined_is_legal a b legal_a legal_b =
-    let parts_a : (is_bound a.begin && is_bound a.end ≡ true) × (not (point_lt a.end a.begin) ≡ true) = and_parts _ _ legal_a in
-    let parts_b : (is_bound b.begin && is_bound b.end ≡ true) × (not (point_lt b.end b.begin) ≡ true) = and_parts _ _ legal_b in
+    let parts_a : (is_bound a.begin && is_bound a.end ≡ true)
+    × (not (point_lt a.end a.begin) ≡ true) = and_parts _ _ legal_a in
+    let parts_b : (is_bound b.begin && is_bound b.end ≡ true)
+    × (not (point_lt b.end b.begin) ≡ true) = and_parts _ _ legal_b in
     let bounds_a : (is_bound a.begin ≡ true) × (is_bound a.end ≡ true) = and_parts _ _ parts_a.0 in
     let bounds_b : (is_bound b.begin ≡ true) × (is_bound b.end ≡ true) = and_parts _ _ parts_b.0 in
     let ordered : point_lt (greater_point a.end b.end) (lesser_point a.begin b.begin) ≡ false =

@@ -6,12 +6,14 @@ use Rattle.fdb_keys.specs.Ranges.{Range, in_range, ranges_meet}
 use Rattle.fdb_keys.proofs.PointOrder.{lt-itself, lt_one_way, le_lt_chain}
 
 -- a point that lies in a range comes neither before its begin nor at or after its end
-pub in_range_parts : (range : Range) (x : Point) → in_range range x ≡ true → (point_lt x range.begin ≡ false) × (point_lt x range.end ≡ true)
+pub in_range_parts : (range : Range) (x : Point) → in_range range x ≡ true → (point_lt x range.begin ≡ false)
+    × (point_lt x range.end ≡ true)
 in_range_parts range x inside =
     let parts : (not (point_lt x range.begin) ≡ true) × (point_lt x range.end ≡ true) = and_parts _ _ inside in
     (not-true _ parts.0, parts.1)
 
-pub in_range_from : (range : Range) (x : Point) → point_lt x range.begin ≡ false → point_lt x range.end ≡ true → in_range range x ≡ true
+pub in_range_from : (range : Range) (x : Point) → point_lt x range.begin ≡ false → point_lt x range.end ≡ true
+    → in_range range x ≡ true
 in_range_from range x from until = and_from _ _ (not_from_false _ from) until
 
 -- the ranges have a point in common
@@ -21,11 +23,17 @@ HaveCommonPoint a b = (x : Point) × (in_range a x ≡ true) × (in_range b x �
 -- their common point is the greater of their begins
 pub common_from_meet : (a b : Range) → ranges_meet a b ≡ true → HaveCommonPoint a b
 common_from_meet a b meet =
-    let parts : (point_lt a.begin a.end && point_lt a.begin b.end ≡ true) × (point_lt b.begin a.end && point_lt b.begin b.end ≡ true) = and_parts _ _ meet in
+    let parts : (point_lt a.begin a.end && point_lt a.begin b.end ≡ true)
+    × (point_lt b.begin a.end && point_lt b.begin b.end ≡ true) = and_parts _ _ meet in
     let of_a : (point_lt a.begin a.end ≡ true) × (point_lt a.begin b.end ≡ true) = and_parts _ _ parts.0 in
     let of_b : (point_lt b.begin a.end ≡ true) × (point_lt b.begin b.end ≡ true) = and_parts _ _ parts.1 in
     ⊎_elim
-    (λ a_first. (b.begin, in_range_from a b.begin (lt_one_way _ _ a_first) of_b.0, in_range_from b b.begin (lt-itself b.begin) of_b.1))
+    (λ a_first. (
+      b.begin,
+      in_range_from a b.begin (lt_one_way _ _ a_first) of_b.0,
+      in_range_from b b.begin
+          (lt-itself b.begin) of_b.1,
+    ))
     (λ b_first. (a.begin, in_range_from a a.begin (lt-itself a.begin) of_a.0, in_range_from b a.begin b_first of_a.1))
     (cases_Bool (point_lt a.begin b.begin))
 

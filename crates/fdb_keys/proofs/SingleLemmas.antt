@@ -11,7 +11,8 @@ use Rattle.fdb_keys.specs.Ranges.{single_range, in_range}
 -- what two texts with first bytes compared by `first` and rests compared by `rest` answer
 first_less : (x y : ℕ) (xs ys : List ℕ) → x < y → point_lt (x ∷ xs) (y ∷ ys) ≡ true
 unfolding point_lt
-first_less x y xs ys less = ap (λ first. is_lt (ordering_then first (slice_cmp nat_cmp xs ys))) (sym (nat_cmp_is x y Less less))
+first_less x y xs ys less = ap (λ first. is_lt (ordering_then first (slice_cmp nat_cmp xs ys)))
+    (sym (nat_cmp_is x y Less less))
 
 first_equal : (x : ℕ) (xs ys : List ℕ) → point_lt (x ∷ xs) (x ∷ ys) ≡ point_lt xs ys
 unfolding point_lt
@@ -19,7 +20,8 @@ first_equal x xs ys = ap (λ first. is_lt (ordering_then first (slice_cmp nat_cm
 
 first_greater : (x y : ℕ) (xs ys : List ℕ) → y < x → point_lt (x ∷ xs) (y ∷ ys) ≡ false
 unfolding point_lt
-first_greater x y xs ys greater = ap (λ first. is_lt (ordering_then first (slice_cmp nat_cmp xs ys))) (sym (nat_cmp_is x y Greater greater))
+first_greater x y xs ys greater = ap (λ first. is_lt (ordering_then first (slice_cmp nat_cmp xs ys)))
+    (sym (nat_cmp_is x y Greater greater))
 
 empty_less : (y : ℕ) (ys : List ℕ) → point_lt [] (y ∷ ys) ≡ true
 unfolding point_lt
@@ -36,11 +38,13 @@ longer_not_less (suc x) xs = first_greater (suc x) 0 xs [] (omega arith)
 
 pub in_range-single : (key x : Point) → in_range (single_range key) x ≡ point_eq x key
 in_range-single [] [] = ap (λ before. not before && point_lt [] (0 ∷ [])) (empty_not_less []) ∙ empty_less 0 []
-in_range-single [] (x ∷ xs) = ap (λ before. not before && point_lt (x ∷ xs) (0 ∷ [])) (empty_not_less (x ∷ xs)) ∙ longer_not_less x xs
+in_range-single [] (x ∷ xs) = ap (λ before. not before && point_lt (x ∷ xs) (0 ∷ [])) (empty_not_less (x ∷ xs))
+    ∙ longer_not_less x xs
 in_range-single (k ∷ ks) [] = ap (λ before. not before && point_lt [] ((k ∷ ks) ++ 0 ∷ [])) (empty_less k ks)
 in_range-single (k ∷ ks) (x ∷ xs) =
     ⊎_elim
-    (λ (same : x ≡ k). subst (λ (y : ℕ). in_range (single_range (k ∷ ks)) (y ∷ xs) ≡ point_eq (y ∷ xs) (k ∷ ks)) (sym same)
+    (λ (same : x ≡ k). subst (λ (y : ℕ). in_range (single_range (k ∷ ks)) (y ∷ xs) ≡ point_eq (y ∷ xs) (k ∷ ks))
+    (sym same)
     (ap (λ before. not before && point_lt (k ∷ xs) ((k ∷ ks) ++ 0 ∷ [])) (first_equal k xs ks)
     ∙ ap (λ until. not (point_lt xs ks) && until) (first_equal k xs (ks ++ 0 ∷ []))
     ∙ in_range-single ks xs

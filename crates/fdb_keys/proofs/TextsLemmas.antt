@@ -15,12 +15,14 @@ pub lt-after : (text : Point) → point_lt text (text ++ 0 ∷ []) ≡ true
 unfolding point_lt
 lt-after [] = refl
 lt-after (byte ∷ bytes) =
-    ap (λ first. is_lt (ordering_then first (slice_cmp nat_cmp bytes (bytes ++ 0 ∷ [])))) (tied_itself nat_cmp_total byte) ∙ lt-after bytes
+    ap (λ first. is_lt (ordering_then first (slice_cmp nat_cmp bytes (bytes ++ 0 ∷ []))))
+    (tied_itself nat_cmp_total byte) ∙ lt-after bytes
 
 first_below_ff : (byte : ℕ) (bytes : List ℕ) → nat_le 255 byte ≡ false → is_after_ff (byte ∷ bytes) ≡ false
 unfolding point_lt
 first_below_ff byte bytes below =
-    ap (λ first. is_lt (ordering_then first (slice_cmp nat_cmp [] bytes))) (sym (nat_cmp_is 255 byte Greater (leb-false _ _ below)))
+    ap (λ first. is_lt (ordering_then first (slice_cmp nat_cmp [] bytes)))
+    (sym (nat_cmp_is 255 byte Greater (leb-false _ _ below)))
 
 after_ff-key : (text : Point) → begins_with_ff text ≡ false → is_after_ff text ≡ false
 unfolding point_lt
@@ -39,7 +41,8 @@ range_fault-single text legal =
     let below : begins_with_ff text ≡ false = not-true _ parts.1 in
     let short : length text ≤ 10000 = leb-true _ _ parts.0 in
     let short_begin : nat_lt 10001 (length text) ≡ false = le-ltb _ _ (omega (arith, short)) in
-    let short_end : nat_lt 10001 (length (text ++ 0 ∷ [])) ≡ false = le-ltb _ _ (omega (arith, short, length-append text (0 ∷ []))) in
+    let short_end : nat_lt 10001 (length (text ++ 0 ∷ [])) ≡ false = le-ltb _ _
+    (omega (arith, short, length-append text (0 ∷ []))) in
     cond-false _ _ _ (or_from _ _ short_begin short_end)
     ∙ cond-false _ _ _ (or_from _ _ (after_ff-key text below) (after_ff-append text below))
     ∙ cond-false _ _ _ (lt_one_way _ _ (lt-after text))

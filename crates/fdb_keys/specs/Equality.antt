@@ -26,13 +26,15 @@ range_eq = (of_ranges.ghosts).eq
 
 pub range_eq_decides : (a b : KeyRange) → Decides (range_eq a b) (a ≡ b)
 range_eq_decides a b =
-    let parts = Decides-and (pointwise nat_eq a.begin b.begin) (pointwise nat_eq a.end b.end) (bytes_decides a.begin b.begin) (bytes_decides a.end b.end) in (
+    let parts = Decides-and (pointwise nat_eq a.begin b.begin) (pointwise nat_eq a.end b.end)
+    (bytes_decides a.begin b.begin) (bytes_decides a.end b.end) in (
       λ equal. let same = parts.0 equal in λ i. record { begin = same.0 i; end = same.1 i },
       λ same. parts.1 (ap (λ (range : KeyRange). range.begin) same, ap (λ (range : KeyRange). range.end) same),
     )
 
 -- `==` of two lists of items, where `==` of two items says the same
-pub items_eq_decides : {T : Type 0} (E : T → T → Bool) → ((a b : T) → Decides (E a b) (a ≡ b)) → (a b : List T) → Decides (pointwise E a b) (a ≡ b)
+pub items_eq_decides : {T : Type 0} (E : T → T → Bool) → ((a b : T) → Decides (E a b) (a ≡ b)) → (a b : List T)
+    → Decides (pointwise E a b) (a ≡ b)
 items_eq_decides E decides a b = pointwise_decides decides a b
 
 -- `==` of two sets of ranges

@@ -22,7 +22,9 @@ pub(crate) fn join(ranges: &[KeyRange], range: &KeyRange) -> Result<Joined, Allo
     requires { IsTrue (is_apart ranges.now) }
     ensures order { IfOk result (λ joined. joined.start ≤ joined.end) }
     ensures within { IfOk result (λ joined. joined.end ≤ length ranges.now) }
-    ensures list { IfOk result (λ joined. take joined.start ranges.now ++ joined.range ∷ drop joined.end ranges.now ≡ inserted range.now ranges.now) }
+    ensures list { IfOk result
+        (λ joined. take joined.start ranges.now ++ joined.range ∷ drop joined.end ranges.now ≡ inserted range.now
+        ranges.now) }
 {
     let start = count_before(ranges, range.begin());
     let (_before, rest) = ranges.split_at(start);

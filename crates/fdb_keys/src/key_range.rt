@@ -43,7 +43,8 @@ impl KeyRange {
     /// exceeds 10,001 bytes, as `KeyOutsideLegalRange` where one comes after the one byte `FF`, and as
     /// `InvertedRange` where the end comes before the begin. Equal bounds give the empty range.
     pub fn new(alloc: Global, begin: &[u8], end: &[u8]) -> Result<Self, Refusal>
-        ensures { Answers result (range_fault begin.now end.now) (λ range. range ≡ record { begin = begin.now; end = end.now }) }
+        ensures { Answers result (range_fault begin.now end.now)
+            (λ range. range ≡ record { begin = begin.now; end = end.now }) }
     {
         if begin.len() > BOUND_LIMIT || end.len() > BOUND_LIMIT {
             return Err(Refusal::KeyTooLarge);

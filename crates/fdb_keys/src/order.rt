@@ -32,7 +32,8 @@ pub(crate) fn is_after_ff(text: &[u8]) -> bool
 
 // Whether the ranges from a begin to an end have a point in common.
 pub(crate) fn have_common_point(a_begin: &[u8], a_end: &[u8], b_begin: &[u8], b_end: &[u8]) -> bool
-    ensures { result ≡ ranges_meet (record { begin = a_begin.now; end = a_end.now }) (record { begin = b_begin.now; end = b_end.now }) }
+    ensures { result ≡ ranges_meet (record { begin = a_begin.now; end = a_end.now })
+        (record { begin = b_begin.now; end = b_end.now }) }
 {
     is_before(a_begin, a_end)
         && is_before(a_begin, b_end)

@@ -10,6 +10,7 @@ use Rattle.fdb_mutations.specs.Mutations.{EffectAtEveryPoint, effect}
 pub at_every_point : EffectAtEveryPoint
 unfolding effect
 at_every_point map (Set key value) x =
-    get-insert nat_list_cmp_total map key value x ∙ ap (λ same. cond same (Some value) (get map x)) (is_eq-slice_cmp x key)
+    get-insert nat_list_cmp_total map key value x
+    ∙ ap (λ same. cond same (Some value) (get map x)) (is_eq-slice_cmp x key)
 at_every_point map (Clear key) x =
     get-remove nat_list_cmp_total map key x ∙ ap (λ same. cond same None (get map x)) (is_eq-slice_cmp x key)

@@ -19,7 +19,8 @@ find_value [] x = refl
 find_value (pair ∷ pairs) x = ap (cond (is_at (slice_cmp nat_cmp x) pair.0) (Some pair.1)) (find_value pairs x)
 
 -- what the map that the pairs make has at a point
-pub get-pairs : (pairs : List (List ℕ × List ℕ)) (x : Point) → get (from_entries {R = slice_cmp nat_cmp} pairs) x ≡ value_at pairs x
+pub get-pairs : (pairs : List (List ℕ × List ℕ)) (x : Point)
+    → get (from_entries {R = slice_cmp nat_cmp} pairs) x ≡ value_at pairs x
 get-pairs pairs x = get-from_entries nat_list_cmp_total pairs x ∙ find_value pairs x
 
 -- maps with equal values at every point are one
@@ -31,12 +32,16 @@ pub one_set : (pairs after : List (List ℕ × List ℕ)) (key value : List ℕ)
     → ((x : Point) → value_at after x ≡ cond (is_at (slice_cmp nat_cmp key) x) (Some value) (value_at pairs x))
     → from_entries {R = slice_cmp nat_cmp} after ≡ insert (from_entries pairs) key value
 one_set pairs after key value there = same_points _ _ (λ x.
-    get-pairs after x ∙ there x ∙ ap (λ b. cond b (Some value) (value_at pairs x)) ((eq_by_cmp_equiv nat_list_cmp_total).symm key x)
-    ∙ sym (get-insert nat_list_cmp_total (from_entries pairs) key value x ∙ ap (cond (is_at (slice_cmp nat_cmp x) key) (Some value)) (get-pairs pairs x)))
+    get-pairs after x ∙ there x
+    ∙ ap (λ b. cond b (Some value) (value_at pairs x)) ((eq_by_cmp_equiv nat_list_cmp_total).symm key x)
+    ∙ sym (get-insert nat_list_cmp_total (from_entries pairs) key value x
+    ∙ ap (cond (is_at (slice_cmp nat_cmp x) key) (Some value)) (get-pairs pairs x)))
 
 pub one_cleared : (pairs after : List (List ℕ × List ℕ)) (key : List ℕ)
     → ((x : Point) → value_at after x ≡ cond (is_at (slice_cmp nat_cmp key) x) None (value_at pairs x))
     → from_entries {R = slice_cmp nat_cmp} after ≡ remove (from_entries pairs) key
 one_cleared pairs after key there = same_points _ _ (λ x.
-    get-pairs after x ∙ there x ∙ ap (λ b. cond b None (value_at pairs x)) ((eq_by_cmp_equiv nat_list_cmp_total).symm key x)
-    ∙ sym (get-remove nat_list_cmp_total (from_entries pairs) key x ∙ ap (cond (is_at (slice_cmp nat_cmp x) key) None) (get-pairs pairs x)))
+    get-pairs after x ∙ there x
+    ∙ ap (λ b. cond b None (value_at pairs x)) ((eq_by_cmp_equiv nat_list_cmp_total).symm key x)
+    ∙ sym (get-remove nat_list_cmp_total (from_entries pairs) key x
+    ∙ ap (cond (is_at (slice_cmp nat_cmp x) key) None) (get-pairs pairs x)))

@@ -14,9 +14,11 @@ use Rattle.fdb_resolver.specs.Rule.{is_old, IsVerdict, versions_with}
 use Rattle.fdb_resolver.specs.RuleLaws.{IsItemOf, VerdictsAreByTheBook, PlacesKeepState}
 
 -- a place is fresh just where its item isn't old
-fresh-item : (splits : List Point) (i : ℕ) (place : Place) (item : Item) → IsItemOf splits i place item → is_fresh place ≡ not (is_old place.version item)
+fresh-item : (splits : List Point) (i : ℕ) (place : Place) (item : Item) → IsItemOf splits i place item
+    → is_fresh place ≡ not (is_old place.version item)
 fresh-item splits i place item of_place =
-    ap₂ (λ (has_reads : Bool) (read : ℕ). not (has_reads && nat_lt (read + window) place.version)) (sym of_place.has_reads) (sym of_place.read)
+    ap₂ (λ (has_reads : Bool) (read : ℕ). not (has_reads && nat_lt (read + window) place.version))
+    (sym of_place.has_reads) (sym of_place.read)
 
 -- whether a verdict is yes
 abbrev is_yes : Verdict → Bool
@@ -25,32 +27,42 @@ is_yes Conflict = false
 is_yes Old = false
 
 -- By the versions that decide, the verdict is yes just where the place is admitted.
-yes-admits : (splits : List Point) (i : ℕ) (place : Place) (earlier : List Place) (f : Point → ℕ) (item : Item) (verdict : Verdict)
-    → ((admits splits i earlier place ≡ true) ↔ IsAdmittedBy splits i f place) → IsItemOf splits i place item → IsVerdict place.version f item verdict
+yes-admits : (splits : List Point) (i : ℕ) (place : Place) (earlier : List Place) (f : Point → ℕ) (item : Item)
+    (verdict : Verdict)
+    → ((admits splits i earlier place ≡ true) ↔ IsAdmittedBy splits i f place) → IsItemOf splits i place item
+    → IsVerdict place.version f item verdict
     → is_yes verdict ≡ admits splits i earlier place
 yes-admits splits i place earlier f item Yes decides of_place is =
     sym (decides.1 (
       fresh-item splits i place item of_place ∙ not_from_false _ is.0,
-      λ x of_part. let bounded = is.1 x (of_place.reads x ∙ of_part) in let read = of_place.read in omega (arith, bounded, read),
+      λ x of_part. let bounded = is.1 x (of_place.reads x ∙ of_part) in let read = of_place.read in omega
+          (arith, bounded, read),
     ))
 yes-admits splits i place earlier f item Conflict decides of_place is =
     sym (false_from_ne_true _ (λ admitted.
     let bounded = (decides.0 admitted).1 is.1.0 (sym (of_place.reads is.1.0) ∙ is.1.1) in
     let newer = is.1.2 in let read = of_place.read in omega (arith, bounded, newer, read)))
 yes-admits splits i place earlier f item Old decides of_place is =
-    sym (false_from_ne_true _ (λ admitted. both_ways _ (fresh-item splits i place item of_place ∙ not_from_true _ is) (decides.0 admitted).0))
+    sym (false_from_ne_true _
+    (λ admitted. both_ways _ (fresh-item splits i place item of_place ∙ not_from_true _ is) (decides.0 admitted).0))
 
 -- the verdict by whether the place is fresh and admitted
-by-parts : (splits : List Point) (i : ℕ) (place : Place) (f : Point → ℕ) (item : Item) (verdict : Verdict) → IsItemOf splits i place item → IsVerdict place.version f item verdict
+by-parts : (splits : List Point) (i : ℕ) (place : Place) (f : Point → ℕ) (item : Item) (verdict : Verdict)
+    → IsItemOf splits i place item → IsVerdict place.version f item verdict
     → verdict ≡ (if is_fresh place then (if is_yes verdict then Yes else Conflict) else Old)
-by-parts splits i place f item Yes of_place is = sym (cond-true _ Yes Old (fresh-item splits i place item of_place ∙ not_from_false _ is.0))
-by-parts splits i place f item Conflict of_place is = sym (cond-true _ Conflict Old (fresh-item splits i place item of_place ∙ not_from_false _ is.0))
-by-parts splits i place f item Old of_place is = sym (cond-false _ Conflict Old (fresh-item splits i place item of_place ∙ not_from_true _ is))
+by-parts splits i place f item Yes of_place is = sym
+    (cond-true _ Yes Old (fresh-item splits i place item of_place ∙ not_from_false _ is.0))
+by-parts splits i place f item Conflict of_place is = sym
+    (cond-true _ Conflict Old (fresh-item splits i place item of_place ∙ not_from_false _ is.0))
+by-parts splits i place f item Old of_place is = sym
+    (cond-false _ Conflict Old (fresh-item splits i place item of_place ∙ not_from_true _ is))
 
 -- what the verdict leaves at a point is what the place leaves where it is admitted
-versions-with_place : (splits : List Point) (i : ℕ) (place : Place) (f : Point → ℕ) (item : Item) (verdict : Verdict) → IsItemOf splits i place item
+versions-with_place : (splits : List Point) (i : ℕ) (place : Place) (f : Point → ℕ) (item : Item) (verdict : Verdict)
+    → IsItemOf splits i place item
     → (x : Point) → versions_with place.version item verdict f x ≡ with_place splits i (is_yes verdict) place f x
-versions-with_place splits i place f item Yes of_place x = ap (λ (written : Bool). if written then place.version else f x) (of_place.writes x)
+versions-with_place splits i place f item Yes of_place x =
+    ap (λ (written : Bool). if written then place.version else f x) (of_place.writes x)
 versions-with_place splits i place f item Conflict of_place x = refl
 versions-with_place splits i place f item Old of_place x = refl
 
@@ -58,11 +70,13 @@ pub verdicts_are_by_the_book : VerdictsAreByTheBook
 verdicts_are_by_the_book splits i place earlier floor f item verdict history state in_window of_place is =
     by-parts splits i place f item verdict of_place is
     ∙ ap (λ (yes : Bool). if is_fresh place then (if yes then Yes else Conflict) else Old)
-    (yes-admits splits i place earlier f item verdict (state_decides splits i place earlier floor f history state in_window) of_place is)
+    (yes-admits splits i place earlier f item verdict
+    (state_decides splits i place earlier floor f history state in_window) of_place is)
 
 pub places_keep_state : PlacesKeepState
 places_keep_state splits i place earlier floor f item verdict history state in_window of_place is x v reached =
-    let yes = yes-admits splits i place earlier f item verdict (state_decides splits i place earlier floor f history state in_window) of_place is in
+    let yes = yes-admits splits i place earlier f item verdict
+    (state_decides splits i place earlier floor f history state in_window) of_place is in
     ap (λ (n : ℕ). nat_lt v n) (versions-with_place splits i place f item verdict of_place x)
     ∙ ap (λ (admitted : Bool). nat_lt v (with_place splits i admitted place f x)) yes
     ∙ state_takes_place splits i place earlier floor f history state x v reached

@@ -15,23 +15,34 @@ pub newer-rest : (f : Point → ℕ) (range : Range) (rest set : List Range) (ve
     → HasNewer f rest version ↔ HasNewer f set version
 newer-rest f range rest set version whole none = (
   (λ found. whole.0 (found.0, or_right (in_range range found.0) (in_set rest found.0) found.1, found.2)),
-  (λ found. let here : HasNewer f (range ∷ rest) version = whole.1 found in
-      (here.0, ⊎_elim (λ inside. absurd (none (here.0, inside, here.2))) (λ after. after) (or_cases (in_range range here.0) (in_set rest here.0) here.1), here.2)),
+  (λ found. let here : HasNewer f (range ∷ rest) version = whole.1 found in (
+    here.0,
+    ⊎_elim (λ inside. absurd (none (here.0, inside, here.2))) (λ after. after)
+        (or_cases (in_range range here.0) (in_set rest here.0) here.1),
+    here.2,
+  )),
 )
 
 -- one place more, by the versions after those before it
-AreVerdicts-push : (version : ℕ) (f : Point → ℕ) (items : List Item) (answers : List (ℕ × Verdict)) (item : Item) (verdict : Verdict)
+AreVerdicts-push : (version : ℕ) (f : Point → ℕ) (items : List Item) (answers : List (ℕ × Verdict)) (item : Item)
+    (verdict : Verdict)
     → AreVerdicts version f items answers → IsVerdict version (versions_after version f items answers) item verdict
     → AreVerdicts version f (items ++ item ∷ []) (answers ++ (item.place, verdict) ∷ [])
 AreVerdicts-push version f [] [] item verdict all here = (refl, here, tt)
 AreVerdicts-push version f [] (answer ∷ answers) item verdict all here = absurd all
 AreVerdicts-push version f (first ∷ items) [] item verdict all here = absurd all
-AreVerdicts-push version f (first ∷ items) (answer ∷ answers) item verdict all here =
-    (all.0, all.1, AreVerdicts-push version (versions_with version first answer.1 f) items answers item verdict all.2 here)
+AreVerdicts-push version f (first ∷ items) (answer ∷ answers) item verdict all here = (
+  all.0,
+  all.1,
+  AreVerdicts-push version (versions_with version first answer.1 f) items answers item verdict all.2
+      here,
+)
 
-versions_after-push : (version : ℕ) (f : Point → ℕ) (items : List Item) (answers : List (ℕ × Verdict)) (item : Item) (verdict : Verdict)
+versions_after-push : (version : ℕ) (f : Point → ℕ) (items : List Item) (answers : List (ℕ × Verdict)) (item : Item)
+    (verdict : Verdict)
     → AreVerdicts version f items answers
-    → versions_after version f (items ++ item ∷ []) (answers ++ (item.place, verdict) ∷ []) ≡ versions_with version item verdict (versions_after version f items answers)
+    → versions_after version f (items ++ item ∷ []) (answers ++ (item.place, verdict) ∷ []) ≡ versions_with version item
+    verdict (versions_after version f items answers)
 versions_after-push version f [] [] item verdict all = refl
 versions_after-push version f [] (answer ∷ answers) item verdict all = absurd all
 versions_after-push version f (first ∷ items) [] item verdict all = absurd all
@@ -39,29 +50,37 @@ versions_after-push version f (first ∷ items) (answer ∷ answers) item verdic
     versions_after-push version (versions_with version first answer.1 f) items answers item verdict all.2
 
 -- a place leaves no version above its entry's
-with-below : (version : ℕ) (f : Point → ℕ) (item : Item) (verdict : Verdict) → ((x : Point) → f x ≤ version) → (x : Point) → versions_with version item verdict f x ≤ version
-with-below version f item Yes below x = cond_both (in_set item.writes x) _ _ (λ n. n ≤ version) (λ written. omega arith) (λ kept. below x)
+with-below : (version : ℕ) (f : Point → ℕ) (item : Item) (verdict : Verdict) → ((x : Point) → f x ≤ version)
+    → (x : Point) → versions_with version item verdict f x ≤ version
+with-below version f item Yes below x = cond_both (in_set item.writes x) _ _ (λ n. n ≤ version) (λ written. omega arith)
+    (λ kept. below x)
 with-below version f item Conflict below x = below x
 with-below version f item Old below x = below x
 
 -- The places were judged by the versions f, and left the versions g.
-pub record AreJudged (version : ℕ) (f : Point → ℕ) (items : List Item) (answers : List (ℕ × Verdict)) (g : Point → ℕ) : Type 0 where
+pub record AreJudged (version : ℕ) (f : Point → ℕ) (items : List Item) (answers : List (ℕ × Verdict)) (g : Point → ℕ) :
+    Type 0 where
   pub verdicts : AreVerdicts version f items answers
   pub versions : (x : Point) → g x ≡ versions_after version f items answers x
   pub below : (x : Point) → g x ≤ version
 
 -- one place more is judged
-pub judged-push : (version : ℕ) (f g h : Point → ℕ) (items more : List Item) (answers said : List (ℕ × Verdict)) (item : Item) (verdict : Verdict)
+pub judged-push : (version : ℕ) (f g h : Point → ℕ) (items more : List Item) (answers said : List (ℕ × Verdict))
+    (item : Item) (verdict : Verdict)
     → more ≡ items ++ item ∷ [] → said ≡ answers ++ (item.place, verdict) ∷ []
-    → AreJudged version f items answers g → IsVerdict version g item verdict → ((x : Point) → h x ≡ versions_with version item verdict g x)
+    → AreJudged version f items answers g → IsVerdict version g item verdict
+    → ((x : Point) → h x ≡ versions_with version item verdict g x)
     → AreJudged version f more said h
 judged-push version f g h items more answers said item verdict is_more is_said judged here left =
     let after : g ≡ versions_after version f items answers = λ i x. judged.versions x i in
     subst (λ (ms : List Item). AreJudged version f ms said h) (sym is_more)
     (subst (λ (ns : List (ℕ × Verdict)). AreJudged version f (items ++ item ∷ []) ns h) (sym is_said)
     record {
-      verdicts = AreVerdicts-push version f items answers item verdict judged.verdicts (subst (λ (k : Point → ℕ). IsVerdict version k item verdict) after here);
+      verdicts = AreVerdicts-push version f items answers item verdict judged.verdicts
+          (subst (λ (k : Point → ℕ). IsVerdict version k item verdict) after here);
       versions = λ x. left x ∙ ap (λ (k : Point → ℕ). versions_with version item verdict k x) after
-          ∙ sym (ap (λ (k : Point → ℕ). k x) (versions_after-push version f items answers item verdict judged.verdicts));
-      below = λ x. let is = left x in let bounded = with-below version g item verdict judged.below x in omega (arith, is, bounded);
+          ∙ sym (ap (λ (k : Point → ℕ). k x)
+          (versions_after-push version f items answers item verdict judged.verdicts));
+      below = λ x. let is = left x in let bounded = with-below version g item verdict judged.below x in omega
+          (arith, is, bounded);
     })

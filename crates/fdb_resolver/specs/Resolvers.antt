@@ -46,7 +46,8 @@ pub record HasTaken (old : Resolver) (part : Part) (verdicts : Verdicts) (new : 
   pub index : new.index ≡ old.index
   pub last : new.last ≡ part.version
   pub works : new.is_failed ≡ false
-  pub versions : AgreeFrom (part.version - window) (version_at new.versions) (versions_after part.version (version_at old.versions) part.items verdicts.answers)
+  pub versions : AgreeFrom (part.version - window) (version_at new.versions)
+      (versions_after part.version (version_at old.versions) part.items verdicts.answers)
 
 -- it is the same resolver, and refuses every further part
 pub record HasFailed (old new : Resolver) : Type 0 where

@@ -28,14 +28,19 @@ verdict_by_book splits i earlier place =
 -- place's window, is what the rule over the book says.
 abbrev pub VerdictsAreByTheBook : Type 0
 VerdictsAreByTheBook =
-    (splits : List Point) (i : ℕ) (place : Place) (earlier : List Place) (floor : ℕ) (f : Point → ℕ) (item : Item) (verdict : Verdict)
-    → IsHistory (suc (length splits)) (place ∷ earlier) → IsStateOf splits i earlier floor f → floor ≤ place.version - window
-    → IsItemOf splits i place item → IsVerdict place.version f item verdict → verdict ≡ verdict_by_book splits i earlier place
+    (splits : List Point) (i : ℕ) (place : Place) (earlier : List Place) (floor : ℕ) (f : Point → ℕ) (item : Item)
+    (verdict : Verdict)
+    → IsHistory (suc (length splits)) (place ∷ earlier) → IsStateOf splits i earlier floor f
+    → floor ≤ place.version - window
+    → IsItemOf splits i place item → IsVerdict place.version f item verdict
+    → verdict ≡ verdict_by_book splits i earlier place
 
 -- And the versions after the place are again such a state.
 abbrev pub PlacesKeepState : Type 0
 PlacesKeepState =
-    (splits : List Point) (i : ℕ) (place : Place) (earlier : List Place) (floor : ℕ) (f : Point → ℕ) (item : Item) (verdict : Verdict)
-    → IsHistory (suc (length splits)) (place ∷ earlier) → IsStateOf splits i earlier floor f → floor ≤ place.version - window
+    (splits : List Point) (i : ℕ) (place : Place) (earlier : List Place) (floor : ℕ) (f : Point → ℕ) (item : Item)
+    (verdict : Verdict)
+    → IsHistory (suc (length splits)) (place ∷ earlier) → IsStateOf splits i earlier floor f
+    → floor ≤ place.version - window
     → IsItemOf splits i place item → IsVerdict place.version f item verdict
     → IsStateOf splits i (place ∷ earlier) floor (versions_with place.version item verdict f)

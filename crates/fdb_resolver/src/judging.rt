@@ -41,7 +41,9 @@ fn judge(versions: &LastCommit, version: u64, item: &Item) -> Verdict
 
 fn mark_all(versions: &mut LastCommit, writes: &RangeSet, version: u64) -> Result<(), Refusal>
     requires { (x : Point) → version_at versions.old x ≤ version }
-    ensures { Answers result None (λ _. (x : Point) → version_at versions.new x ≡ (if in_set writes.now x then version else version_at versions.old x)) }
+    ensures { Answers result None
+        (λ _. (x : Point)
+        → version_at versions.new x ≡ (if in_set writes.now x then version else version_at versions.old x)) }
 {
     for range in writes.iter() {
         versions.mark(range, version)?;
@@ -53,7 +55,9 @@ fn mark_all(versions: &mut LastCommit, writes: &RangeSet, version: u64) -> Resul
 fn judge_item(versions: &mut LastCommit, version: u64, item: &Item) -> Result<Verdict, Refusal>
     requires { (x : Point) → version_at versions.old x ≤ version }
     ensures verdict { Answers result None (λ verdict. IsVerdict version (version_at versions.old) item.now verdict) }
-    ensures versions { IfOk result (λ verdict. (x : Point) → version_at versions.new x ≡ versions_with version item.now verdict (version_at versions.old) x) }
+    ensures versions { IfOk result
+        (λ verdict. (x : Point)
+        → version_at versions.new x ≡ versions_with version item.now verdict (version_at versions.old) x) }
 {
     let verdict = judge(versions, version, item);
     if verdict == Verdict::Yes {
@@ -71,7 +75,9 @@ pub(crate) fn judge_items(
 ) -> Result<Items<(u32, Verdict)>, Refusal>
     requires { (x : Point) → version_at versions.old x ≤ version }
     ensures verdicts { Answers result None (λ answers. AreVerdicts version (version_at versions.old) items.now answers) }
-    ensures versions { IfOk result (λ answers. (x : Point) → version_at versions.new x ≡ versions_after version (version_at versions.old) items.now answers x) }
+    ensures versions { IfOk result
+        (λ answers. (x : Point)
+        → version_at versions.new x ≡ versions_after version (version_at versions.old) items.now answers x) }
     ensures below { OnOk result ((x : Point) → version_at versions.new x ≤ version) }
 {
     let mut answers = Items::new(alloc);

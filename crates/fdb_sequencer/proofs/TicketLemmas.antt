@@ -44,12 +44,14 @@ is_now s ticket test =
     }
 
 -- an advance within the limit brings the version that far
-next_version-at : (last version : ℕ) → last < version → version ≤ last + greatest_advance → version ≡ next_version last (version - last)
+next_version-at : (last version : ℕ) → last < version → version ≤ last + greatest_advance
+    → version ≡ next_version last (version - last)
 next_version-at last version above near = omega arith
 
 accepted_by_test : (s : Sequencer) (ticket : Ticket) → accept_fault s ticket ≡ None → is_planned s ticket ≡ true
 accepted_by_test s ticket accepted =
-    ⊎_elim (λ e. e) (λ e. absurd (let refused : Some Stale ≡ None = rw e at accepted in cc)) (cases_Bool (is_planned s ticket))
+    ⊎_elim (λ e. e) (λ e. absurd (let refused : Some Stale ≡ None = rw e at accepted in cc))
+    (cases_Bool (is_planned s ticket))
 
 pub accepted_are_planned : AcceptedArePlanned
 accepted_are_planned s ticket accepted =

@@ -31,11 +31,13 @@ is_count limit n = nat_le 1 n && nat_le n limit
 -- why there is no sequencer of these numbers
 abbrev pub new_fault : ℕ → ℕ → ℕ → Option Refusal
 new_fault proxies resolvers last =
-    if is_count proxy_limit proxies && is_count resolver_limit resolvers && nat_le last version_limit then None else Some BadConfig
+    if is_count proxy_limit proxies && is_count resolver_limit resolvers && nat_le last version_limit then None
+    else Some BadConfig
 
 -- before the first ticket and the first report
 abbrev pub fresh : ℕ → ℕ → ℕ → Sequencer
-fresh proxies resolvers last = record { proxies = proxies; resolvers = resolvers; accepted = 0; last = last; committed = 0 }
+fresh proxies resolvers last = record
+    { proxies = proxies; resolvers = resolvers; accepted = 0; last = last; committed = 0 }
 
 -- the version an advance above the last one, but at least 1 and at most the greatest advance above it
 abbrev pub next_version : ℕ → ℕ → ℕ
@@ -57,7 +59,8 @@ planned s proxy advance =
 abbrev pub plan_fault : Sequencer → ℕ → ℕ → Option Refusal
 plan_fault s proxy advance =
     if nat_le s.proxies proxy then Some BadConfig
-    else (if nat_lt version_limit (next_version s.last advance) || nat_le ticket_limit s.accepted then Some Exhausted else None)
+    else (if nat_lt version_limit (next_version s.last advance) || nat_le ticket_limit s.accepted then Some Exhausted
+    else None)
 
 -- the version is above the last one by at most the greatest advance, and isn't above the limit
 abbrev pub is_next : ℕ → ℕ → Bool
@@ -66,7 +69,8 @@ is_next last version = nat_lt last version && nat_le version (last + greatest_ad
 -- some proxy gets just this ticket for some advance
 abbrev pub is_planned : Sequencer → Ticket → Bool
 is_planned s ticket =
-    nat_lt ticket.proxy s.proxies && (ticket.index == s.accepted) && nat_lt ticket.index ticket_limit && (ticket.prev == s.last)
+    nat_lt ticket.proxy s.proxies && (ticket.index == s.accepted) && nat_lt ticket.index ticket_limit
+    && (ticket.prev == s.last)
     && is_next s.last ticket.version && ((length ticket.moves == 0) && (length ticket.pending == 0))
 
 -- why a ticket isn't accepted

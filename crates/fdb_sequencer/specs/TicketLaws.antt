@@ -12,18 +12,22 @@ use Rattle.fdb_sequencer.specs.Sequencer.{Sequencer, planned, plan_fault, accept
 -- what a proxy gets for an advance is accepted
 abbrev pub PlannedAreAccepted : Type 0
 PlannedAreAccepted =
-    (s : Sequencer) (proxy advance : ℕ) → plan_fault s proxy advance ≡ None → accept_fault s (planned s proxy advance) ≡ None
+    (s : Sequencer) (proxy advance : ℕ) → plan_fault s proxy advance ≡ None
+    → accept_fault s (planned s proxy advance) ≡ None
 
 -- what is accepted is what its proxy gets for some advance
 abbrev pub AcceptedArePlanned : Type 0
 AcceptedArePlanned =
     (s : Sequencer) (ticket : Ticket) → accept_fault s ticket ≡ None
-    → (advance : ℕ) × ((advance ≤ greatest_advance) × (plan_fault s ticket.proxy advance ≡ None) × (ticket ≡ planned s ticket.proxy advance))
+    → (advance : ℕ)
+    × ((advance ≤ greatest_advance) × (plan_fault s ticket.proxy advance ≡ None)
+    × (ticket ≡ planned s ticket.proxy advance))
 
 -- once a ticket was accepted, one of its index or a lower one is stale, whatever was accepted in between
 abbrev pub AcceptedOnce : Type 0
 AcceptedOnce =
-    (s : Sequencer) (ticket other : Ticket) (between : List Ticket) → accept_fault s ticket ≡ None → other.index ≤ ticket.index
+    (s : Sequencer) (ticket other : Ticket) (between : List Ticket) → accept_fault s ticket ≡ None
+    → other.index ≤ ticket.index
     → accept_fault (fold accepting (accepting s ticket) between) other ≡ Some Stale
 
 -- tickets that are accepted one after another
@@ -46,10 +50,12 @@ abbrev pub ReadsBelow : Issued → Type 0
 ReadsBelow issued = AllByRecursion (λ (t : Transaction). (t.read < issued.0.version) × NamesWrites t) issued.1
 
 abbrev pub entry_of : Issued → Entry
-entry_of issued = record { version = issued.0.version; prev = issued.0.prev; moves = issued.0.pending; batch = issued.1 }
+entry_of issued = record
+    { version = issued.0.version; prev = issued.0.prev; moves = issued.0.pending; batch = issued.1 }
 
 -- batches at tickets that are accepted one after another are entries of a book, after the last version
 abbrev pub TicketsMakeABook : Type 0
 TicketsMakeABook =
-    (s : Sequencer) (issued : List Issued) → AreAccepted s (map (λ (one : Issued). one.0) issued) → AllByRecursion ReadsBelow issued
+    (s : Sequencer) (issued : List Issued) → AreAccepted s (map (λ (one : Issued). one.0) issued)
+    → AllByRecursion ReadsBelow issued
     → AreEntries s.resolvers s.last (map entry_of issued)

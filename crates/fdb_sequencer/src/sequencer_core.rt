@@ -55,7 +55,8 @@ impl SequencerCore {
     /// Refused as `BadConfig` unless there are 1 to 16 commit proxies and 1 to 64 resolvers, and the last
     /// version is at most 2^62.
     pub fn new(alloc: Global, proxies: u32, resolvers: u32, last: u64) -> Result<Self, Refusal>
-        ensures { AnswersExactly result (new_fault proxies resolvers last) (λ core. core ≡ fresh proxies resolvers last) }
+        ensures { AnswersExactly result (new_fault proxies resolvers last)
+            (λ core. core ≡ fresh proxies resolvers last) }
     {
         let is_legal = (1..=PROXY_LIMIT).contains(&proxies)
             && (1..=RESOLVER_LIMIT).contains(&resolvers)
@@ -80,7 +81,8 @@ impl SequencerCore {
     /// Refused as `BadConfig` where no proxy has the number, and then as `Exhausted` where the version would
     /// exceed 2^62 or 2^32 tickets were accepted.
     pub fn plan(&self, proxy: u32, advance: u64) -> Result<Ticket, Refusal>
-        ensures { AnswersExactly result (plan_fault self.now proxy advance) (λ ticket. ticket ≡ planned self.now proxy advance) }
+        ensures { AnswersExactly result (plan_fault self.now proxy advance)
+            (λ ticket. ticket ≡ planned self.now proxy advance) }
     {
         if proxy >= self.proxies {
             return Err(Refusal::BadConfig);

@@ -6,7 +6,9 @@ use Rattle.fdb_sim.specs.play.Scripts.{Knows, Plays, Printed}
 
 -- one command, `run`, which must be given; the program's own name is not among the words
 abbrev pub commands : App
-commands = with_subcommand (record named { top = record named.top { no_binary_name = true; subcommand_required = true } }) (new_app (codes "run")).top
+commands = with_subcommand
+    (record named { top = record named.top { no_binary_name = true; subcommand_required = true } })
+    (new_app (codes "run")).top
   where
     named : App
     named = new_app (codes "fdb_sim")

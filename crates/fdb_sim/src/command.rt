@@ -27,7 +27,9 @@ pub fn run_words<R: Read, O: Write, E: Write>(
     err: &mut E,
 ) -> Result<u8, io::Error>
     ensures bound { IfOk result (λ status. status ≤ 2) }
-    ensures obeys { IfOk result (λ status. Obeys (map (λ word. word.now) words.now) (R.remaining reader.old) (O.contents out.old) (O.contents out.new) status) }
+    ensures obeys { IfOk result
+        (λ status. Obeys (map (λ word. word.now) words.now) (R.remaining reader.old) (O.contents out.old)
+        (O.contents out.new) status) }
 {
     match read_command(alloc, words) {
         Ok(()) => run_script(alloc, reader, out),
@@ -60,7 +62,9 @@ fn commands<'a>(alloc: Global) -> Result<Command<'a>, Error>
 // Prints a fault to where it belongs. Help is none of the words' faults, and goes to the output.
 fn print_fault<O: Write, E: Write>(fault: &Error, out: &mut O, err: &mut E) -> Result<u8, io::Error>
     ensures bound { IfOk result (λ status. status ≤ 2) }
-    ensures fault { IfOk result (λ status. ((status ≡ 2) × Keeps (O.contents out.old) (O.contents out.new)) ⊎ ((status ≡ 0) × (kind_of fault.now ≢ ErrorKind.OutOfMemory))) }
+    ensures fault { IfOk result
+        (λ status. ((status ≡ 2) × Keeps (O.contents out.old) (O.contents out.new))
+        ⊎ ((status ≡ 0) × (kind_of fault.now ≢ ErrorKind.OutOfMemory))) }
 {
     if fault.use_stderr() {
         write!(err, "{fault}")?;

@@ -69,17 +69,28 @@ sealed_eq_decides a b =
     Decides-and _ _ (txn_id_eq_decides a.id b.id)
     (Decides-and _ _ (Decides-eqb a.read b.read)
     (Decides-and _ _ (range_set_eq_decides a.reads b.reads)
-    (Decides-and _ _ (range_set_eq_decides a.writes b.writes) (items_eq_decides mutation_eq mutation_eq_decides a.mutations b.mutations))))
+    (Decides-and _ _ (range_set_eq_decides a.writes b.writes)
+    (items_eq_decides mutation_eq mutation_eq_decides a.mutations b.mutations))))
     in (
       λ equal.
           let same = parts.0 equal in
-          λ i. record { id = same.0 i; read = same.1.0 i; reads = same.1.1.0 i; writes = same.1.1.1.0 i; mutations = same.1.1.1.1 i },
+          λ i. record {
+            id = same.0 i;
+            read = same.1.0 i;
+            reads = same.1.1.0 i;
+            writes = same.1.1.1.0 i;
+            mutations =
+                same.1.1.1.1 i;
+          },
       λ same.
           parts.1 (
             ap (λ (t : Sealed). t.id) same,
             (
               ap (λ (t : Sealed). t.read) same,
-              (ap (λ (t : Sealed). t.reads) same, (ap (λ (t : Sealed). t.writes) same, ap (λ (t : Sealed). t.mutations) same)),
+              (
+                ap (λ (t : Sealed). t.reads) same,
+                (ap (λ (t : Sealed). t.writes) same, ap (λ (t : Sealed). t.mutations) same),
+              ),
             ),
           ),
     )
@@ -102,10 +113,14 @@ entry_eq_decides a b =
     (Decides-and _ _ (Decides-eqb a.prev b.prev)
     (Decides-and _ _ (items_eq_decides move_eq move_eq_decides a.moves b.moves) (batch_eq_decides a.batch b.batch)))
     in (
-      λ equal. let same = parts.0 equal in λ i. record { version = same.0 i; prev = same.1.0 i; moves = same.1.1.0 i; batch = same.1.1.1 i },
+      λ equal. let same = parts.0 equal in λ i. record
+          { version = same.0 i; prev = same.1.0 i; moves = same.1.1.0 i; batch = same.1.1.1 i },
       λ same.
           parts.1 (
             ap (λ (entry : Entry). entry.version) same,
-            (ap (λ (entry : Entry). entry.prev) same, (ap (λ (entry : Entry). entry.moves) same, ap (λ (entry : Entry). entry.batch) same)),
+            (
+              ap (λ (entry : Entry). entry.prev) same,
+              (ap (λ (entry : Entry). entry.moves) same, ap (λ (entry : Entry). entry.batch) same),
+            ),
           ),
     )

@@ -59,8 +59,16 @@ impl Sealed {
     ) -> Result<Self, Refused<Unsealed>>
         requires { All (λ mutation. mutation_fault mutation ≡ None) mutations }
         ensures answers { AnswersOrHandsBack result (record { reads = reads; writes = writes; mutations = mutations }) None
-            (λ sealed. sealed ≡ record { id = id; read = read_version; reads = reads; writes = with_named writes mutations; mutations = mutations }) }
-        ensures points { IfOk result (λ sealed. (x : Point) → in_set sealed.writes x ≡ (some_names mutations x || in_set writes x)) }
+            (λ sealed. sealed ≡ record {
+              id = id;
+              read = read_version;
+              reads = reads;
+              writes = with_named writes mutations;
+              mutations =
+                  mutations;
+            }) }
+        ensures points { IfOk result
+            (λ sealed. (x : Point) → in_set sealed.writes x ≡ (some_names mutations x || in_set writes x)) }
     {
         match joined(alloc, &writes, mutations.as_slice()) {
             Ok(writes) => Ok(Sealed {

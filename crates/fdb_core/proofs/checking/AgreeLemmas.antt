@@ -1,4 +1,5 @@
--- Who stands between two entries or in one agrees with the book just where he was answered as on the maps of the run there.
+-- Who stands between two entries or in one agrees with the book just where he was answered as on the maps of the run
+-- there.
 use Rattle.std.proofs.Common.{◌≡◌, ◌∙◌, sym, ap, ap₂, subst, refl, ℕ, zero, suc, ◌+◌, ◌<◌, ◌≤◌, le_refl, add-one, arith, true, false, ◌&&◌, nat_lt, nat_le, List, [], ◌∷◌, ◌++◌, take, length, Option, Some, None, Result, Ok, Err, MatchResult, inl, inr, ⊎_elim}
 use Rattle.std.specs.List.{AllByRecursion, slice_get}
 use Rattle.std.specs.Prelude.{OnOk}
@@ -36,15 +37,19 @@ use Rattle.fdb_core.proofs.refinement.RoleTies.{take-next, seen_before-next, las
 use Rattle.fdb_core.proofs.refinement.RunLaws.{entries-rising, map-between}
 
 -- a fault that names one of whom the claim isn't true also does so for whatever would make it true
-pub stops-weaken : (Claim Other : Placed → Type 0) → ((placed : Placed) → Other placed → Claim placed) → (acknowledged : List Placed) (fault : CheckFault)
+pub stops-weaken : (Claim Other : Placed → Type 0) → ((placed : Placed) → Other placed → Claim placed)
+    → (acknowledged : List Placed) (fault : CheckFault)
     → StopsBy Claim acknowledged fault → StopsBy Other acknowledged fault
 stops-weaken Claim Other follows acknowledged fault stops = ⊎_elim inl
-    (λ (differs : Differs Claim acknowledged fault). inr (differs.0, differs.1, differs.2, differs.3, (differs.4.0, λ other. differs.4.1 (follows differs.1 other))))
+    (λ (differs : Differs Claim acknowledged fault). inr
+    (differs.0, differs.1, differs.2, differs.3, (differs.4.0, λ other. differs.4.1 (follows differs.1 other))))
     stops
 
 -- of a call that is the last one, too
-pub ends-weaken : {T New All : Type 0} {Stop : CheckFault → Type 0} (r : Result T CheckFault) (Come : Type 0) (Other : CheckFault → Type 0) → OnOk r New
-    → MatchResult r (λ _. All) Stop → (New → All → Come) → ((fault : CheckFault) → Stop fault → Other fault) → MatchResult r (λ _. Come) Other
+pub ends-weaken : {T New All : Type 0} {Stop : CheckFault → Type 0} (r : Result T CheckFault) (Come : Type 0)
+    (Other : CheckFault → Type 0) → OnOk r New
+    → MatchResult r (λ _. All) Stop → (New → All → Come) → ((fault : CheckFault) → Stop fault → Other fault)
+    → MatchResult r (λ _. Come) Other
 ends-weaken (Ok done) Come Other new all comes stops = comes new all
 ends-weaken (Err fault) Come Other new all comes stops = stops fault all
 
@@ -61,7 +66,8 @@ IsUntil book n until = (entry : Entry) → slice_get book n ≡ Some entry → u
 -- below the version of the next entry
 below-next : (v : ℕ) (until : Option ℕ) (end : ℕ) → until ≡ Some end → is_below v until ≡ true → v < end
 below-next v None end is below = cc
-below-next v (Some version) end is below = let same : version ≡ end = cc in subst (λ n. v < n) same (ltb-true v version below)
+below-next v (Some version) end is below = let same : version ≡ end = cc in subst (λ n. v < n) same
+    (ltb-true v version below)
 
 module _ (book : List Entry) (plain : IsPlainBook book) (n : ℕ) where
   -- the run's map after the first n entries
@@ -69,21 +75,26 @@ module _ (book : List Entry) (plain : IsPlainBook book) (n : ℕ) where
   after = serial_map [] (seen_before book n).places
 
   -- it is the map at each version from that of the last one of them up to the next one's
-  map-here : (until : Option ℕ) (v : ℕ) → IsUntil book n until → nat_le (last_version (take n book)) v && is_below v until ≡ true
+  map-here : (until : Option ℕ) (v : ℕ) → IsUntil book n until
+      → nat_le (last_version (take n book)) v && is_below v until ≡ true
       → serial_map_at [] v (seen_of book).places ≡ after
   map-here until v next between =
       let parts = and_parts _ _ between in
-      map-between [] book (entries-rising 1 book plain.entries) n v (leb-true _ v parts.0) (λ entry there. below-next v until entry.version (next entry there) parts.1)
+      map-between [] book (entries-rising 1 book plain.entries) n v (leb-true _ v parts.0)
+      (λ entry there. below-next v until entry.version (next entry there) parts.1)
 
-  pub agrees-between : (until : Option ℕ) → IsUntil book n until → (transcript : Transcript) (at : Spot) → AgreesAt book transcript at
+  pub agrees-between : (until : Option ℕ) → IsUntil book n until → (transcript : Transcript) (at : Spot)
+      → AgreesAt book transcript at
       → is_at (Between (last_version (take n book)) until) at ≡ true → AnsweredOn after transcript
   agrees-between until next transcript (spot.Entry i p version) agrees never = absurd (both_ways _ refl never)
   agrees-between until next transcript (spot.ReadOnly version) agrees between =
       subst (λ (map : Map). AnsweredOn map transcript) (map-here until version next between) agrees
 
   pub between-agrees : (until : Option ℕ) → IsUntil book n until → (transcript : Transcript) (version : ℕ)
-      → (is_at (Between (last_version (take n book)) until) (spot.ReadOnly version) ≡ true → AnsweredOn after transcript)
-      → nat_le (last_version (take n book)) version && is_below version until ≡ true → AgreesAt book transcript (spot.ReadOnly version)
+      → (is_at (Between (last_version (take n book)) until) (spot.ReadOnly version) ≡ true
+      → AnsweredOn after transcript)
+      → nat_le (last_version (take n book)) version && is_below version until ≡ true
+      → AgreesAt book transcript (spot.ReadOnly version)
   between-agrees until next transcript version answered between =
       subst (λ (map : Map). AnsweredOn map transcript) (sym (map-here until version next between)) (answered between)
 
@@ -103,11 +114,13 @@ module _ (book : List Entry) (plain : IsPlainBook book) (n : ℕ) where
     decided = outcomes_on [] before entry
 
     -- the map after all its places is the run's after the entry
-    pub map-after : map_after after entry.batch decided (length entry.batch) ≡ serial_map [] (seen_before book (n + 1)).places
+    pub map-after : map_after after entry.batch decided (length entry.batch) ≡ serial_map []
+        (seen_before book (n + 1)).places
     map-after =
         let as_many = length-outcomes_on [] before entry in
         ap₂ (λ (batch : List Transaction) (outcomes : List Outcome). effects after (body_by batch outcomes))
-        (take_all (length entry.batch) entry.batch (le_refl (length entry.batch))) (take_all (length entry.batch) decided (omega (arith, as_many)))
+        (take_all (length entry.batch) entry.batch (le_refl (length entry.batch)))
+        (take_all (length entry.batch) decided (omega (arith, as_many)))
         ∙ ap (effects after) (body-committed [] before entry)
         ∙ sym (serial_map-add_places [] entry.version (moves_through before entry) entry.batch before.places)
         ∙ ap (λ (seen : Seen). serial_map [] seen.places) (sym next-seen)
@@ -117,18 +130,22 @@ module _ (book : List Entry) (plain : IsPlainBook book) (n : ℕ) where
     places-here i p same = ap (λ (j : ℕ). place_at book j p) same ∙ ap (place_of before p) there
 
     pub agrees-in : (transcript : Transcript) (at : Spot) → AgreesAt book transcript at
-        → (p : ℕ) → p < length entry.batch → is_at (Before n p) at ≡ true → AnsweredOn (map_after after entry.batch decided p) transcript
+        → (p : ℕ) → p < length entry.batch → is_at (Before n p) at ≡ true
+        → AnsweredOn (map_after after entry.batch decided p) transcript
     agrees-in transcript (spot.ReadOnly version) agrees p within never = absurd (both_ways _ refl never)
     agrees-in transcript (spot.Entry i q version) agrees p within here =
         let parts = and_parts _ _ here in
         let found = place-there entry.version (moves_through before entry) entry.batch before.places p within in
-        subst (λ (map : Map). AnsweredOn map transcript) (place-map entry.version (moves_through before entry) entry.batch before.places 0 p found.0 found.1)
-        (agrees found.0 (ap (place_at book i) (eqb-true q p parts.1) ∙ places-here i p (eqb-true i n parts.0) ∙ found.1))
+        subst (λ (map : Map). AnsweredOn map transcript)
+        (place-map entry.version (moves_through before entry) entry.batch before.places 0 p found.0 found.1)
+        (agrees found.0
+        (ap (place_at book i) (eqb-true q p parts.1) ∙ places-here i p (eqb-true i n parts.0) ∙ found.1))
 
     -- who stands before the next entry and agrees where he stands before this one, between, or in it, agrees
     pub agrees-next : (transcript : Transcript) (at : Spot) → (is_before book n at ≡ true → AgreesAt book transcript at)
         → (is_at (Between (last_version (take n book)) (Some entry.version)) at ≡ true → AnsweredOn after transcript)
-        → ((p : ℕ) → p < length entry.batch → is_at (Before n p) at ≡ true → AnsweredOn (map_after after entry.batch decided p) transcript)
+        → ((p : ℕ) → p < length entry.batch → is_at (Before n p) at ≡ true
+        → AnsweredOn (map_after after entry.batch decided p) transcript)
         → is_before book (n + 1) at ≡ true → AgreesAt book transcript at
     agrees-next transcript (spot.Entry i q version) earlier between inside is_earlier = ⊎_elim earlier
         (λ (later : nat_lt i n ≡ false) found at.
@@ -136,21 +153,29 @@ module _ (book : List Entry) (plain : IsPlainBook book) (n : ℕ) where
         let other = ltb-false i n later in
         let same : i ≡ n = omega (arith, bound, other) in
         let place = sym (places-here i q same) ∙ at in
-        subst (λ (map : Map). AnsweredOn map transcript) (sym (place-map entry.version (moves_through before entry) entry.batch before.places 0 q found place))
-        (inside q (place-within entry.version (moves_through before entry) entry.batch before.places q found place) (and_from _ _ (eq-eqb i n same) (eq-eqb q q refl))))
+        subst (λ (map : Map). AnsweredOn map transcript)
+        (sym (place-map entry.version (moves_through before entry) entry.batch before.places 0 q found place))
+        (inside q (place-within entry.version (moves_through before entry) entry.batch before.places q found place)
+        (and_from _ _ (eq-eqb i n same) (eq-eqb q q refl))))
         (cases_Bool (nat_lt i n))
     agrees-next transcript (spot.ReadOnly version) earlier between inside is_earlier = ⊎_elim earlier
         (λ (later : nat_lt version (last_version (take n book)) ≡ false).
         let last : last_version (take (n + 1) book) ≡ entry.version =
-        ap (λ (k : ℕ). last_version (take k book)) (add-one n) ∙ ap last_version (take-next book n entry there) ∙ last-push (take n book) entry in
+        ap (λ (k : ℕ). last_version (take k book)) (add-one n) ∙ ap last_version (take-next book n entry there)
+        ∙ last-push (take n book) entry in
         let below = ltb-true version (last_version (take (n + 1) book)) is_earlier in
         let above = ltb-false version (last_version (take n book)) later in
-        between-agrees (Some entry.version) (λ other at. ap (λ (e : Entry). Some e.version) (same_Some entry other (sym there ∙ at))) transcript version between
-        (and_from _ _ (le-leb (last_version (take n book)) version above) (lt-ltb version entry.version (omega (arith, below, last)))))
+        between-agrees (Some entry.version)
+        (λ other at. ap (λ (e : Entry). Some e.version) (same_Some entry other (sym there ∙ at))) transcript version
+        between
+        (and_from _ _ (le-leb (last_version (take n book)) version above)
+        (lt-ltb version entry.version (omega (arith, below, last)))))
         (cases_Bool (nat_lt version (last_version (take n book))))
 
-    -- a check that has come to the entry and finds no fault between it and the one before, and none in it, comes to the next one
-    pub comes-next : (acknowledged : List Placed) (old new : Replay) (from : ℕ) (outcomes : List Outcome) → HasCome book acknowledged n old
+    -- a check that has come to the entry and finds no fault between it and the one before, and none in it, comes to the
+    -- next one
+    pub comes-next : (acknowledged : List Placed) (old new : Replay) (from : ℕ) (outcomes : List Outcome)
+        → HasCome book acknowledged n old
         → from ≡ last_version (take n book)
         → outcomes ≡ decided → ResolverAt (take n book ++ entry ∷ []) new.resolver
         → new.map ≡ map_after old.map entry.batch outcomes (length entry.batch)
@@ -158,11 +183,15 @@ module _ (book : List Entry) (plain : IsPlainBook book) (n : ℕ) where
         → AllByRecursion (AnsweredIn old.map entry.batch outcomes n (length entry.batch)) acknowledged
         → HasCome book acknowledged (n + 1) new
     comes-next acknowledged old new from outcomes come is_last are_decided resolver map between inside = record {
-      resolver = subst (λ (front : List Entry). ResolverAt front new.resolver) (sym (ap (λ (k : ℕ). take k book) (add-one n) ∙ take-next book n entry there)) resolver;
-      map = map ∙ ap₂ (λ (m : Map) (os : List Outcome). map_after m entry.batch os (length entry.batch)) come.map are_decided ∙ map-after;
-      compared = all-both (λ placed. AgreesBefore n placed × AnsweredAt (Between from (Some entry.version)) old.map placed)
+      resolver = subst (λ (front : List Entry). ResolverAt front new.resolver)
+          (sym (ap (λ (k : ℕ). take k book) (add-one n) ∙ take-next book n entry there)) resolver;
+      map = map ∙ ap₂ (λ (m : Map) (os : List Outcome). map_after m entry.batch os (length entry.batch)) come.map
+          are_decided ∙ map-after;
+      compared = all-both
+          (λ placed. AgreesBefore n placed × AnsweredAt (Between from (Some entry.version)) old.map placed)
           (AnsweredIn old.map entry.batch outcomes n (length entry.batch)) (AgreesBefore (n + 1))
-          (λ placed before here. agrees-next placed.transcript placed.spot before.0 (between_now placed before.1) (inside_now placed here))
+          (λ placed before here. agrees-next placed.transcript placed.spot before.0 (between_now placed before.1)
+          (inside_now placed here))
           acknowledged
           (all-both (AgreesBefore n) (AnsweredAt (Between from (Some entry.version)) old.map)
           (λ placed. AgreesBefore n placed × AnsweredAt (Between from (Some entry.version)) old.map placed)
@@ -175,23 +204,29 @@ module _ (book : List Entry) (plain : IsPlainBook book) (n : ℕ) where
         between_now placed here = subst (λ (v : ℕ). AnsweredAt (Between v (Some entry.version)) after placed) is_last
             (subst (λ (m : Map). AnsweredAt (Between from (Some entry.version)) m placed) come.map here)
 
-        inside_now : (placed : Placed) → AnsweredIn old.map entry.batch outcomes n (length entry.batch) placed → AnsweredIn after entry.batch decided n (length entry.batch) placed
-        inside_now placed here = subst (λ (os : List Outcome). AnsweredIn after entry.batch os n (length entry.batch) placed) are_decided
+        inside_now : (placed : Placed) → AnsweredIn old.map entry.batch outcomes n (length entry.batch) placed
+            → AnsweredIn after entry.batch decided n (length entry.batch) placed
+        inside_now placed here = subst
+            (λ (os : List Outcome). AnsweredIn after entry.batch os n (length entry.batch) placed) are_decided
             (subst (λ (m : Map). AnsweredIn m entry.batch outcomes n (length entry.batch) placed) come.map here)
 
     -- whom it finds in the entry answered otherwise doesn't agree
-    pub stops-in : (acknowledged : List Placed) (old : Replay) (outcomes : List Outcome) (fault : CheckFault) → HasCome book acknowledged n old
+    pub stops-in : (acknowledged : List Placed) (old : Replay) (outcomes : List Outcome) (fault : CheckFault)
+        → HasCome book acknowledged n old
         → outcomes ≡ decided
-        → StopsBy (AnsweredIn old.map entry.batch outcomes n (length entry.batch)) acknowledged fault → StopsBy (Agrees book) acknowledged fault
+        → StopsBy (AnsweredIn old.map entry.batch outcomes n (length entry.batch)) acknowledged fault
+        → StopsBy (Agrees book) acknowledged fault
     stops-in acknowledged old outcomes fault come are =
         stops-weaken (AnsweredIn old.map entry.batch outcomes n (length entry.batch)) (Agrees book)
-        (λ placed agrees. subst (λ (m : Map). AnsweredIn m entry.batch outcomes n (length entry.batch) placed) (sym come.map)
+        (λ placed agrees. subst (λ (m : Map). AnsweredIn m entry.batch outcomes n (length entry.batch) placed)
+        (sym come.map)
         (subst (λ (os : List Outcome). AnsweredIn after entry.batch os n (length entry.batch) placed) (sym are)
         (agrees-in placed.transcript placed.spot agrees)))
         acknowledged fault
 
   -- whom it finds between the entries answered otherwise doesn't agree
-  pub stops-between : (acknowledged : List Placed) (old : Replay) (from : ℕ) (until : Option ℕ) (fault : CheckFault) → HasCome book acknowledged n old
+  pub stops-between : (acknowledged : List Placed) (old : Replay) (from : ℕ) (until : Option ℕ) (fault : CheckFault)
+      → HasCome book acknowledged n old
       → from ≡ last_version (take n book) → IsUntil book n until
       → Differs (AnsweredAt (Between from until) old.map) acknowledged fault → StopsBy (Agrees book) acknowledged fault
   stops-between acknowledged old from until fault come is_last next differs =
@@ -202,8 +237,10 @@ module _ (book : List Entry) (plain : IsPlainBook book) (n : ℕ) where
       acknowledged fault (inr differs)
 
   -- who agrees where he stands before the end of the book, and at its last version or above, agrees
-  agrees-last : length book ≤ n → (transcript : Transcript) (at : Spot) → (is_before book n at ≡ true → AgreesAt book transcript at)
-      → (is_at (Between (last_version (take n book)) None) at ≡ true → AnsweredOn after transcript) → AgreesAt book transcript at
+  agrees-last : length book ≤ n → (transcript : Transcript) (at : Spot)
+      → (is_before book n at ≡ true → AgreesAt book transcript at)
+      → (is_at (Between (last_version (take n book)) None) at ≡ true → AnsweredOn after transcript)
+      → AgreesAt book transcript at
   agrees-last all transcript (spot.Entry i p version) earlier between = ⊎_elim earlier
       (λ (later : nat_lt i n ≡ false) found at.
       let beyond = ltb-false i n later in
@@ -212,33 +249,45 @@ module _ (book : List Entry) (plain : IsPlainBook book) (n : ℕ) where
       (cases_Bool (nat_lt i n))
   agrees-last all transcript (spot.ReadOnly version) earlier between = ⊎_elim earlier
       (λ (later : nat_lt version (last_version (take n book)) ≡ false).
-      between-agrees None (λ entry there. let gone = sym there ∙ nothing-after book n all in cc) transcript version between
-      (and_from _ _ (le-leb (last_version (take n book)) version (ltb-false version (last_version (take n book)) later)) refl))
+      between-agrees None (λ entry there. let gone = sym there ∙ nothing-after book n all in cc) transcript version
+      between
+      (and_from _ _ (le-leb (last_version (take n book)) version (ltb-false version (last_version (take n book)) later))
+      refl))
       (cases_Bool (nat_lt version (last_version (take n book))))
 
   -- so does everyone at the end of a check that finds no fault
-  pub comes-last : length book ≤ n → (acknowledged : List Placed) (old : Replay) (from : ℕ) → HasCome book acknowledged n old → from ≡ last_version (take n book)
+  pub comes-last : length book ≤ n → (acknowledged : List Placed) (old : Replay) (from : ℕ)
+      → HasCome book acknowledged n old → from ≡ last_version (take n book)
       → AllByRecursion (AnsweredAt (Between from None) old.map) acknowledged → AllByRecursion (Agrees book) acknowledged
   comes-last all acknowledged old from come is_last =
-      all-both (λ placed. is_before book n placed.spot ≡ true → Agrees book placed) (AnsweredAt (Between from None) old.map) (Agrees book)
+      all-both (λ placed. is_before book n placed.spot ≡ true → Agrees book placed)
+      (AnsweredAt (Between from None) old.map) (Agrees book)
       (λ placed earlier between. agrees-last all placed.transcript placed.spot earlier
       (subst (λ (v : ℕ). AnsweredAt (Between v None) after placed) is_last
       (subst (λ (m : Map). AnsweredAt (Between from None) m placed) come.map between)))
       acknowledged come.compared
 
-  pub stops-last : length book ≤ n → (acknowledged : List Placed) (old : Replay) (from : ℕ) (fault : CheckFault) → HasCome book acknowledged n old
-      → from ≡ last_version (take n book) → Differs (AnsweredAt (Between from None) old.map) acknowledged fault → StopsBy (Agrees book) acknowledged fault
+  pub stops-last : length book ≤ n → (acknowledged : List Placed) (old : Replay) (from : ℕ) (fault : CheckFault)
+      → HasCome book acknowledged n old
+      → from ≡ last_version (take n book) → Differs (AnsweredAt (Between from None) old.map) acknowledged fault
+      → StopsBy (Agrees book) acknowledged fault
   stops-last all acknowledged old from fault come is_last =
-      stops-between acknowledged old from None fault come is_last (λ entry there. let gone = sym there ∙ nothing-after book n all in cc)
+      stops-between acknowledged old from None fault come is_last
+      (λ entry there. let gone = sym there ∙ nothing-after book n all in cc)
 
 -- before the first entry there is nothing to compare
-comes-first : (book : List Entry) (acknowledged : List Placed) → AllByRecursion (λ placed. is_before book 0 placed.spot ≡ true → Agrees book placed) acknowledged
+comes-first : (book : List Entry) (acknowledged : List Placed)
+    → AllByRecursion (λ placed. is_before book 0 placed.spot ≡ true → Agrees book placed) acknowledged
 comes-first book [] = tt
 comes-first book (placed ∷ acknowledged) = (at_none placed.transcript placed.spot, comes-first book acknowledged)
   where
     at_none : (transcript : Transcript) (at : Spot) → is_before book 0 at ≡ true → AgreesAt book transcript at
-    at_none transcript (spot.Entry i p version) before = let never = ltb-true i 0 before in absurd (omega (arith, never))
-    at_none transcript (spot.ReadOnly version) before = let never = ltb-true version 0 before in absurd (omega (arith, never))
+    at_none transcript (spot.Entry i p version) before = let never = ltb-true i 0 before in absurd
+        (omega (arith, never))
+    at_none transcript (spot.ReadOnly version) before = let never = ltb-true version 0 before in absurd
+        (omega (arith, never))
 
-pub begins : (book : List Entry) (acknowledged : List Placed) (replay : Replay) → ResolverAt [] replay.resolver → replay.map ≡ empty → HasCome book acknowledged 0 replay
-begins book acknowledged replay none nothing = record { resolver = none; map = nothing; compared = comes-first book acknowledged }
+pub begins : (book : List Entry) (acknowledged : List Placed) (replay : Replay) → ResolverAt [] replay.resolver
+    → replay.map ≡ empty → HasCome book acknowledged 0 replay
+begins book acknowledged replay none nothing = record
+    { resolver = none; map = nothing; compared = comes-first book acknowledged }

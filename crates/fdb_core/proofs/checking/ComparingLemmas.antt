@@ -15,9 +15,12 @@ use Rattle.fdb_core.proofs.programs.ProgramLaws.{get-copy, program-push}
 use Rattle.fdb_core.proofs.refinement.RoleTies.{take-next}
 use Rattle.fdb_core.proofs.invariant.SoundLemmas.{replies_of-push}
 
--- a read that isn't a snapshot read was answered as on the copy just where it was told what the operations leave at its key
-pub answered-read : (map : Map) (earlier : List (Op × Reply)) (op : Op) (reply : Reply) (key : List ℕ) (value : Option (List ℕ)) (same : Bool)
-    → op ≡ Get key false → value ≡ fold (value_after_op key) (get map key) earlier → (same ≡ true) ↔ (reply ≡ Value value)
+-- a read that isn't a snapshot read was answered as on the copy just where it was told what the operations leave at its
+-- key
+pub answered-read : (map : Map) (earlier : List (Op × Reply)) (op : Op) (reply : Reply) (key : List ℕ)
+    (value : Option (List ℕ)) (same : Bool)
+    → op ≡ Get key false → value ≡ fold (value_after_op key) (get map key) earlier
+    → (same ≡ true) ↔ (reply ≡ Value value)
     → (same ≡ true) ↔ IsAnswered map earlier (op, reply)
 answered-read map earlier op reply key value same is left told =
     subst (λ (read : Op). (same ≡ true) ↔ IsAnswered map earlier (read, reply)) (sym is) (
@@ -39,21 +42,26 @@ answered-parts : (map : Map) (ops : List (Op × Reply)) (done : Op × Reply) →
 answered-parts map ops done all = rw (program-push ops done, replies_of-push ops done) at all
 
 -- and the first ones
-answered-front : (map : Map) (first later : List (Op × Reply)) → AnsweredSoFar map (first ++ later) → AnsweredSoFar map first
+answered-front : (map : Map) (first later : List (Op × Reply)) → AnsweredSoFar map (first ++ later)
+    → AnsweredSoFar map first
 answered-front map first [] all = subst (AnsweredSoFar map) (append-nil first) all
 answered-front map first (done ∷ later) all =
     (answered-parts map first done
-    (answered-front map (first ++ done ∷ []) later (subst (AnsweredSoFar map) (sym (append_assoc first (done ∷ []) later)) all))).1
+    (answered-front map (first ++ done ∷ []) later
+    (subst (AnsweredSoFar map) (sym (append_assoc first (done ∷ []) later)) all))).1
 
 pub answered-next : (map : Map) (ops : List (Op × Reply)) (i : ℕ) (done : Op × Reply) → slice_get ops i ≡ Some done
     → IsAnswered map (take i ops) done → AnsweredSoFar map (take i ops) → AnsweredSoFar map (take (i + 1) ops)
 answered-next map ops i done there here before =
-    subst (AnsweredSoFar map) (sym (ap (λ (n : ℕ). take n ops) (add-one i) ∙ take-next ops i done there)) (answered-push map (take i ops) done here before)
+    subst (AnsweredSoFar map) (sym (ap (λ (n : ℕ). take n ops) (add-one i) ∙ take-next ops i done there))
+    (answered-push map (take i ops) done here before)
 
 -- and so each one after those before it
-pub answered-at : (map : Map) (ops : List (Op × Reply)) (i : ℕ) (done : Op × Reply) → slice_get ops i ≡ Some done → AnsweredSoFar map ops
+pub answered-at : (map : Map) (ops : List (Op × Reply)) (i : ℕ) (done : Op × Reply) → slice_get ops i ≡ Some done
+    → AnsweredSoFar map ops
     → IsAnswered map (take i ops) done
 answered-at map ops i done there all =
     (answered-parts map (take i ops) done
     (subst (AnsweredSoFar map) (take-next ops i done there)
-    (answered-front map (take (suc i) ops) (drop (suc i) ops) (subst (AnsweredSoFar map) (sym (take-append-drop (suc i) ops)) all)))).0
+    (answered-front map (take (suc i) ops) (drop (suc i) ops)
+    (subst (AnsweredSoFar map) (sym (take-append-drop (suc i) ops)) all)))).0

@@ -32,29 +32,35 @@ module _ {A : Type 0} (map : Map) (shard : List Message) (v : ℕ) (named : A �
   AlikeAt items = AreAlike map shard v (λ x. list_any (λ item. named item x) items)
 
   -- one item more
-  pub alike-next : (items : List A) (i : ℕ) (item : A) → slice_get items i ≡ Some item → AreAlike map shard v (named item) → AlikeAt (take i items)
+  pub alike-next : (items : List A) (i : ℕ) (item : A) → slice_get items i ≡ Some item
+      → AreAlike map shard v (named item) → AlikeAt (take i items)
       → AlikeAt (take (i + 1) items)
   alike-next items i item there here before x is_named = ⊎_elim
       (λ (earlier : list_any (λ one. named one x) (take i items) ≡ true). before x earlier)
-      (λ last. here x (⊎_elim (λ yes. yes) (λ never. absurd (both_ways _ refl never)) (or_cases (named item x) false last)))
+      (λ last. here x
+      (⊎_elim (λ yes. yes) (λ never. absurd (both_ways _ refl never)) (or_cases (named item x) false last)))
       (or_cases (list_any (λ one. named one x) (take i items)) (list_any (λ one. named one x) (item ∷ []))
       (sym (list_any-append (λ one. named one x) (take i items) (item ∷ []))
-      ∙ ap (list_any (λ one. named one x)) (sym (ap (λ (n : ℕ). take n items) (add-one i) ∙ take-next items i item there))
+      ∙ ap (list_any (λ one. named one x))
+      (sym (ap (λ (n : ℕ). take n items) (add-one i) ∙ take-next items i item there))
       ∙ is_named))
 
   -- what an item names, the items name
-  named-by : (items : List A) (i : ℕ) (item : A) (x : Point) → slice_get items i ≡ Some item → named item x ≡ true → list_any (λ one. named one x) items ≡ true
+  named-by : (items : List A) (i : ℕ) (item : A) (x : Point) → slice_get items i ≡ Some item → named item x ≡ true
+      → list_any (λ one. named one x) items ≡ true
   named-by [] i item x there is_named = cc
   named-by (first ∷ items) zero item x there is_named =
       let same : item ≡ first = cc in or_left _ _ (subst (λ (one : A). named one x ≡ true) same is_named)
   named-by (first ∷ items) (suc i) item x there is_named = or_right _ _ (named-by items i item x there is_named)
 
   -- and so they are alike where each one names
-  alike-at : (items : List A) (i : ℕ) (item : A) → slice_get items i ≡ Some item → AlikeAt items → AreAlike map shard v (named item)
+  alike-at : (items : List A) (i : ℕ) (item : A) → slice_get items i ≡ Some item → AlikeAt items
+      → AreAlike map shard v (named item)
   alike-at items i item there all x is_named = all x (named-by items i item x there is_named)
 
   -- an item at which they aren't settles that for all of them
-  pub unlike-at : (items : List A) (i : ℕ) (item : A) (answer : Bool) → slice_get items i ≡ Some item → (answer ≡ true) ↔ AreAlike map shard v (named item)
+  pub unlike-at : (items : List A) (i : ℕ) (item : A) (answer : Bool) → slice_get items i ≡ Some item
+      → (answer ≡ true) ↔ AreAlike map shard v (named item)
       → answer ≡ false → (false ≡ true) ↔ AlikeAt items
   unlike-at items i item answer there decides unlike = (
     λ never. absurd (both_ways _ refl never),
@@ -66,37 +72,46 @@ pub alike-key : (map : Map) (shard : List Message) (v : ℕ) (mutation : Mutatio
     → ((x : Point) → names mutation x ≡ point_eq x key) → (answer ≡ true) ↔ (value_in v key shard ≡ get map key)
     → (answer ≡ true) ↔ AreAlike map shard v (names mutation)
 alike-key map shard v mutation key answer its decides = (
-  λ yes x is_named. subst (λ (y : Point). value_in v y shard ≡ get map y) (sym ((bytes_decides x key).0 (sym (its x) ∙ is_named))) (decides.0 yes),
+  λ yes x is_named. subst (λ (y : Point). value_in v y shard ≡ get map y)
+      (sym ((bytes_decides x key).0 (sym (its x) ∙ is_named))) (decides.0 yes),
   λ alike. decides.1 (alike key (its key ∙ (bytes_decides key key).1 refl)),
 )
 
 -- mutations that don't name a point leave what stands there
-unnamed-value : (x : Point) (value : Option (List ℕ)) (mutations : List Mutation) → some_names mutations x ≡ false → fold (value_after x) value mutations ≡ value
+unnamed-value : (x : Point) (value : Option (List ℕ)) (mutations : List Mutation) → some_names mutations x ≡ false
+    → fold (value_after x) value mutations ≡ value
 unnamed-value x value [] unnamed = refl
 unnamed-value x value (mutation ∷ mutations) unnamed =
     let parts = or_parts (names mutation x) (some_names mutations x) unnamed in
-    ap (λ (now : Option (List ℕ)). fold (value_after x) now mutations) (cond-false (names mutation x) (new_value mutation value) value parts.0)
+    ap (λ (now : Option (List ℕ)). fold (value_after x) now mutations)
+    (cond-false (names mutation x) (new_value mutation value) value parts.0)
     ∙ unnamed-value x value mutations parts.1
 
-unnamed-messages : (v : ℕ) (x : Point) (value : Option (List ℕ)) (messages : List Message) → messages_name messages x ≡ false → fold (value_with v x) value messages ≡ value
+unnamed-messages : (v : ℕ) (x : Point) (value : Option (List ℕ)) (messages : List Message)
+    → messages_name messages x ≡ false → fold (value_with v x) value messages ≡ value
 unnamed-messages v x value [] unnamed = refl
 unnamed-messages v x value (message ∷ messages) unnamed =
     let parts = or_parts (some_names message.body x) (messages_name messages x) unnamed in
     ap (λ (now : Option (List ℕ)). fold (value_with v x) now messages)
-    (⊎_elim (λ reached. cond-true _ _ _ reached ∙ unnamed-value x value message.body parts.0) (λ above. cond-false _ _ _ above) (cases_Bool (nat_le message.version v)))
+    (⊎_elim (λ reached. cond-true _ _ _ reached ∙ unnamed-value x value message.body parts.0)
+    (λ above. cond-false _ _ _ above) (cases_Bool (nat_le message.version v)))
     ∙ unnamed-messages v x value messages parts.1
 
 -- nor do those of a batch's committed transactions name it
-unnamed-committed : (version : ℕ) (moves : List Stamped) (batch : List Transaction) (earlier : List Place) (x : Point) → batch_names batch x ≡ false
+unnamed-committed : (version : ℕ) (moves : List Stamped) (batch : List Transaction) (earlier : List Place) (x : Point)
+    → batch_names batch x ≡ false
     → some_names (committed_from [] version moves batch earlier) x ≡ false
 unnamed-committed version moves [] earlier x unnamed = refl
 unnamed-committed version moves (t ∷ ts) earlier x unnamed =
     let parts = or_parts (some_names t.mutations x) (batch_names ts x) unnamed in
-    list_any-append (λ (mutation : Mutation). names mutation x) (if committed [] earlier (placed version moves t) then t.mutations else [])
+    list_any-append (λ (mutation : Mutation). names mutation x)
+    (if committed [] earlier (placed version moves t) then t.mutations else [])
     (committed_from [] version moves ts (placed version moves t ∷ earlier))
-    ∙ ap₂ ◌||◌ (by_cases (committed [] earlier (placed version moves t)) parts.0) (unnamed-committed version moves ts (placed version moves t ∷ earlier) x parts.1)
+    ∙ ap₂ ◌||◌ (by_cases (committed [] earlier (placed version moves t)) parts.0)
+    (unnamed-committed version moves ts (placed version moves t ∷ earlier) x parts.1)
   where
-    by_cases : (commits : Bool) → some_names t.mutations x ≡ false → some_names (if commits then t.mutations else []) x ≡ false
+    by_cases : (commits : Bool) → some_names t.mutations x ≡ false
+        → some_names (if commits then t.mutations else []) x ≡ false
     by_cases true own = own
     by_cases false own = refl
 
@@ -110,20 +125,25 @@ unnamed-serial_map seen (entry ∷ entries) x unnamed =
     unnamed-serial_map (add_entry seen entry) entries x parts.1
     ∙ ap (λ (map : Map). get map x) (serial_map-add_places [] entry.version moves entry.batch seen.places)
     ∙ get-effects (serial_map [] seen.places) (committed_from [] entry.version moves entry.batch seen.places) x
-    ∙ unnamed-value x (get (serial_map [] seen.places) x) (committed_from [] entry.version moves entry.batch seen.places)
+    ∙ unnamed-value x (get (serial_map [] seen.places) x)
+    (committed_from [] entry.version moves entry.batch seen.places)
     (unnamed-committed entry.version moves entry.batch seen.places x parts.0)
 
--- a shard has the run's map where it answers as that map at the points that its messages name and the entries through its version
-pub held-where-named : (book : List Entry) → IsPlainBook book → (shard : List Message) (map : Map) (applied : ℕ) → applied ≡ min (length shard) (length book)
+-- a shard has the run's map where it answers as that map at the points that its messages name and the entries through
+-- its version
+pub held-where-named : (book : List Entry) → IsPlainBook book → (shard : List Message) (map : Map) (applied : ℕ)
+    → applied ≡ min (length shard) (length book)
     → map ≡ serial_map [] (seen_before book applied).places
     → (AreAlike map shard (last_version (take applied book)) (messages_name shard)
     × AreAlike map shard (last_version (take applied book)) (entries_name (take applied book)))
     ↔ HoldsTheRun book shard
 held-where-named book plain shard map applied least after = (
-  λ alike x. subst (λ (v : ℕ). value_in v x shard ≡ get (serial_map_at [] v (seen_of book).places) x) (ap last_version its)
+  λ alike x. subst (λ (v : ℕ). value_in v x shard ≡ get (serial_map_at [] v (seen_of book).places) x)
+      (ap last_version its)
       (by_names alike x ∙ ap (λ (now : Map). get now x) same),
   λ holds.
-      let here = subst (λ (v : ℕ). (x : Point) → value_in v x shard ≡ get (serial_map_at [] v (seen_of book).places) x) (sym (ap last_version its)) holds in
+      let here = subst (λ (v : ℕ). (x : Point) → value_in v x shard ≡ get (serial_map_at [] v (seen_of book).places) x)
+      (sym (ap last_version its)) holds in
       let all = λ (x : Point). here x ∙ ap (λ (now : Map). get now x) (sym same) in
       (λ x named. all x, λ x named. all x),
 )
@@ -135,7 +155,9 @@ held-where-named book plain shard map applied least after = (
     its = ap (λ (n : ℕ). take n book) least ∙ take_min (length shard) book
 
     same : map ≡ serial_map_at [] (last_version (take applied book)) (seen_of book).places
-    same = after ∙ sym (map-between [] book (entries-rising 1 book plain.entries) applied (last_version (take applied book)) (le_refl (last_version (take applied book)))
+    same = after ∙ sym
+        (map-between [] book (entries-rising 1 book plain.entries) applied (last_version (take applied book))
+        (le_refl (last_version (take applied book)))
         (λ entry there. entries-rising 1 book plain.entries applied entry there))
 
     nothing_there : (x : Point) → messages_name shard x ≡ false → entries_name (take applied book) x ≡ false
@@ -151,5 +173,6 @@ held-where-named book plain shard map applied least after = (
         → (x : Point) → value_in (last_version (take applied book)) x shard ≡ get map x
     by_names alike x = ⊎_elim
         (λ sent. alike.0 x sent)
-        (λ unsent. ⊎_elim (λ written. alike.1 x written) (λ unwritten. nothing_there x unsent unwritten) (cases_Bool (entries_name (take applied book) x)))
+        (λ unsent. ⊎_elim (λ written. alike.1 x written) (λ unwritten. nothing_there x unsent unwritten)
+        (cases_Bool (entries_name (take applied book) x)))
         (cases_Bool (messages_name shard x))

@@ -19,11 +19,13 @@ use Rattle.fdb_core.proofs.refinement.BatchLaws.{commit-at}
 use Rattle.fdb_core.proofs.refinement.RoleTies.{take-next}
 
 -- mutations one after another
-effects-append : (map : Map) (first later : List Mutation) → effects map (first ++ later) ≡ effects (effects map first) later
+effects-append : (map : Map) (first later : List Mutation)
+    → effects map (first ++ later) ≡ effects (effects map first) later
 effects-append map first later = fold-append effect map first later
 
 -- one mutation more
-pub effects-next : (map : Map) (mutations : List Mutation) (i : ℕ) (mutation : Mutation) → slice_get mutations i ≡ Some mutation
+pub effects-next : (map : Map) (mutations : List Mutation) (i : ℕ) (mutation : Mutation)
+    → slice_get mutations i ≡ Some mutation
     → effects map (take (i + 1) mutations) ≡ effect (effects map (take i mutations)) mutation
 effects-next map mutations i mutation there =
     ap (effects map) (ap (λ (n : ℕ). take n mutations) (add-one i) ∙ take-next mutations i mutation there)
@@ -42,11 +44,14 @@ body-next (first ∷ batch) (o ∷ outcomes) zero t outcome there at =
     append-nil (if is_commit o then first.mutations else [])
     ∙ ap₂ (λ (one : Outcome) (of : Transaction). if is_commit one then of.mutations else []) same_outcome same
 body-next (first ∷ batch) (o ∷ outcomes) (suc p) t outcome there at =
-    ap (λ others. (if is_commit o then first.mutations else []) ++ others) (body-next batch outcomes p t outcome there at)
-    ∙ sym (append_assoc (if is_commit o then first.mutations else []) (body_by (take p batch) (take p outcomes)) (if is_commit outcome then t.mutations else []))
+    ap (λ others. (if is_commit o then first.mutations else []) ++ others)
+    (body-next batch outcomes p t outcome there at)
+    ∙ sym (append_assoc (if is_commit o then first.mutations else []) (body_by (take p batch) (take p outcomes))
+    (if is_commit outcome then t.mutations else []))
 
 -- the map after one place more
-pub after-next : (map old new : Map) (batch : List Transaction) (outcomes : List Outcome) (p : ℕ) (t : Transaction) (other : Outcome)
+pub after-next : (map old new : Map) (batch : List Transaction) (outcomes : List Outcome) (p : ℕ) (t : Transaction)
+    (other : Outcome)
     → slice_get batch p ≡ Some t → p < length outcomes → old ≡ map_after map batch outcomes p
     → new ≡ effects old (if is_commit (get_or outcomes p other) then t.mutations else [])
     → new ≡ map_after map batch outcomes (p + 1)
@@ -54,32 +59,39 @@ after-next map old new batch outcomes p t other there within before after =
     let outcome = get_or outcomes p other in
     after
     ∙ ap (λ (at : Map). effects at (if is_commit outcome then t.mutations else [])) before
-    ∙ sym (effects-append map (body_by (take p batch) (take p outcomes)) (if is_commit outcome then t.mutations else []))
+    ∙ sym (effects-append map (body_by (take p batch) (take p outcomes))
+    (if is_commit outcome then t.mutations else []))
     ∙ ap (effects map) (sym (body-next batch outcomes p t outcome there (slice_get-get_or outcomes p other within)))
     ∙ ap (map_after map batch outcomes) (sym (add-one p))
 
 -- the run goes on by a place just as by its outcome
 serial_map-place : (earlier : List Place) (place : Place) (p : ℕ)
-    → serial_map [] (place ∷ earlier) ≡ effects (serial_map [] earlier) (if is_commit (outcome_at [] earlier place p) then place.transaction.mutations else [])
+    → serial_map [] (place ∷ earlier) ≡ effects (serial_map [] earlier)
+    (if is_commit (outcome_at [] earlier place p) then place.transaction.mutations else [])
 serial_map-place earlier place p =
     by_cases (committed [] earlier place)
-    ∙ ap (λ (commits : Bool). effects (serial_map [] earlier) (if commits then place.transaction.mutations else [])) (sym (commit-at [] earlier place p))
+    ∙ ap (λ (commits : Bool). effects (serial_map [] earlier) (if commits then place.transaction.mutations else []))
+    (sym (commit-at [] earlier place p))
   where
-    by_cases : (commits : Bool) → (if commits then effects (serial_map [] earlier) place.transaction.mutations else serial_map [] earlier)
+    by_cases : (commits : Bool)
+        → (if commits then effects (serial_map [] earlier) place.transaction.mutations else serial_map [] earlier)
         ≡ effects (serial_map [] earlier) (if commits then place.transaction.mutations else [])
     by_cases true = refl
     by_cases false = refl
 
 -- the run's map right before a place of a batch
-pub place-map : (version : ℕ) (moves : List Stamped) (batch : List Transaction) (earlier : List Place) (n p : ℕ) (there : Place × List Place)
+pub place-map : (version : ℕ) (moves : List Stamped) (batch : List Transaction) (earlier : List Place) (n p : ℕ)
+    (there : Place × List Place)
     → place_in version moves batch earlier p ≡ Some there
     → serial_map [] there.1 ≡ map_after (serial_map [] earlier) batch (outcomes_from [] version moves batch earlier n) p
 place-map version moves [] earlier n p there at = cc
-place-map version moves (t ∷ ts) earlier n zero there at = let same : there ≡ (placed version moves t, earlier) = cc in ap (λ (one : Place × List Place). serial_map [] one.1) same
+place-map version moves (t ∷ ts) earlier n zero there at = let same : there ≡ (placed version moves t, earlier) = cc in
+    ap (λ (one : Place × List Place). serial_map [] one.1) same
 place-map version moves (t ∷ ts) earlier n (suc p) there at =
     place-map version moves ts (place ∷ earlier) (suc n) p there at
     ∙ ap (λ (map : Map). effects map others) (serial_map-place earlier place n)
-    ∙ sym (effects-append (serial_map [] earlier) (if is_commit (outcome_at [] earlier place n) then t.mutations else []) others)
+    ∙ sym (effects-append (serial_map [] earlier)
+    (if is_commit (outcome_at [] earlier place n) then t.mutations else []) others)
   where
     place : Place
     place = placed version moves t
@@ -88,13 +100,16 @@ place-map version moves (t ∷ ts) earlier n (suc p) there at =
     others = body_by (take p ts) (take p (outcomes_from [] version moves ts (place ∷ earlier) (suc n)))
 
 -- there is a place for each transaction of a batch, and no other
-pub place-there : (version : ℕ) (moves : List Stamped) (batch : List Transaction) (earlier : List Place) (p : ℕ) → p < length batch
+pub place-there : (version : ℕ) (moves : List Stamped) (batch : List Transaction) (earlier : List Place) (p : ℕ)
+    → p < length batch
     → (there : Place × List Place) × (place_in version moves batch earlier p ≡ Some there)
 place-there version moves [] earlier p within = absurd (omega (arith, within))
 place-there version moves (t ∷ ts) earlier zero within = ((placed version moves t, earlier), refl)
-place-there version moves (t ∷ ts) earlier (suc p) within = place-there version moves ts (placed version moves t ∷ earlier) p (omega (arith, within))
+place-there version moves (t ∷ ts) earlier (suc p) within = place-there version moves ts
+    (placed version moves t ∷ earlier) p (omega (arith, within))
 
-pub place-within : (version : ℕ) (moves : List Stamped) (batch : List Transaction) (earlier : List Place) (p : ℕ) (there : Place × List Place)
+pub place-within : (version : ℕ) (moves : List Stamped) (batch : List Transaction) (earlier : List Place) (p : ℕ)
+    (there : Place × List Place)
     → place_in version moves batch earlier p ≡ Some there → p < length batch
 place-within version moves [] earlier p there at = cc
 place-within version moves (t ∷ ts) earlier zero there at = omega arith

@@ -29,13 +29,16 @@ module _ (k : Cluster) (refines : Refines k) where
   plain-book = record { no_moves = refines.book.no_moves; entries = refines.book.entries }
 
   -- who is at a spot agrees with the book there
-  agrees-where-stands : (transcript : Transcript) (at : Spot) → IsSerializedAtSpot (machine_of k) transcript at → AgreesAt k.book.items transcript at
+  agrees-where-stands : (transcript : Transcript) (at : Spot) → IsSerializedAtSpot (machine_of k) transcript at
+      → AgreesAt k.book.items transcript at
   agrees-where-stands transcript (spot.Entry i p version) stands = λ found at.
       let same : stands.0 ≡ found = same_Some stands.0 found (sym stands.1 ∙ at) in
       subst (λ (there : Place × List Place). AnsweredOn (serial_map [] there.1) transcript) same
-      (subst (λ (splits : List Point). AnsweredOn (serial_map splits stands.0.1) transcript) refines.plain.resolver_splits stands.5)
+      (subst (λ (splits : List Point). AnsweredOn (serial_map splits stands.0.1) transcript)
+      refines.plain.resolver_splits stands.5)
   agrees-where-stands transcript (spot.ReadOnly version) stands =
-      subst (λ (splits : List Point). AnsweredOn (serial_map_at splits version (seen_of k.book.items).places) transcript) refines.plain.resolver_splits stands.3
+      subst (λ (splits : List Point). AnsweredOn (serial_map_at splits version (seen_of k.book.items).places)
+      transcript) refines.plain.resolver_splits stands.3
 
   -- its shard has the run's map
   shard-holds : HoldsTheRun k.book.items k.shard.items
@@ -44,32 +47,44 @@ module _ (k : Cluster) (refines : Refines k) where
       let messages = along (message_on []) k.book.items in
       let each : length messages ≡ length k.book.items = length-along (message_on []) k.book.items in
       let all : length k.shard.items ≡ log.applied =
-      ap (λ (ms : List Message). length ms) log.kept ∙ length-take-le log.applied messages (omega (arith, each, log.after, log.within)) in
-      let reached : last_version (take (length k.shard.items) k.book.items) ≤ last_version (take log.applied k.book.items) =
-      subst (λ (n : ℕ). last_version (take n k.book.items) ≤ last_version (take log.applied k.book.items)) (sym all) (le_refl (last_version (take log.applied k.book.items))) in
+      ap (λ (ms : List Message). length ms) log.kept
+      ∙ length-take-le log.applied messages (omega (arith, each, log.after, log.within)) in
+      let reached : last_version (take (length k.shard.items) k.book.items) ≤ last_version
+      (take log.applied k.book.items) =
+      subst (λ (n : ℕ). last_version (take n k.book.items) ≤ last_version (take log.applied k.book.items)) (sym all)
+      (le_refl (last_version (take log.applied k.book.items))) in
       ap (λ (ms : List Message). value_in (last_version (take (length k.shard.items) k.book.items)) x ms) log.kept
-      ∙ value-of-serial_map [] k.book.items (entries-rising 1 k.book.items refines.book.entries) log.applied (last_version (take (length k.shard.items) k.book.items)) reached x
+      ∙ value-of-serial_map [] k.book.items (entries-rising 1 k.book.items refines.book.entries) log.applied
+      (last_version (take (length k.shard.items) k.book.items)) reached x
 
   -- so whatever is found is the number of acknowledged transactions, or want of memory
-  sound-finds : Invariant (machine_of k) → (result : Result ℕ CheckFault) → Finds result k.book.items k.acknowledged.items true k.shard.items
+  sound-finds : Invariant (machine_of k) → (result : Result ℕ CheckFault)
+      → Finds result k.book.items k.acknowledged.items true k.shard.items
       → MatchResult result (λ count. count ≡ length k.acknowledged.items) (λ fault. fault ≡ NoMemory)
   sound-finds sound (Ok count) finds = finds.0
   sound-finds sound (Err fault) finds = ⊎_elim
       (⊎_elim (λ waits_for. waits_for) (λ (differs : Differs (Agrees k.book.items) k.acknowledged.items fault).
-      let there = slice_get_read k.acknowledged.items (length k.acknowledged.items) differs.0 differs.1 refl differs.2 (sym differs.3) in
-      let stands = all-at (IsSerialized (machine_of k)) k.acknowledged.items differs.0 differs.1 sound.acknowledged there in
+      let there = slice_get_read k.acknowledged.items (length k.acknowledged.items) differs.0 differs.1 refl differs.2
+      (sym differs.3) in
+      let stands = all-at (IsSerialized (machine_of k)) k.acknowledged.items differs.0 differs.1 sound.acknowledged
+      there in
       absurd (differs.4.1 (agrees-where-stands differs.1.transcript differs.1.spot stands))))
       (λ unlike. absurd (unlike.2 shard-holds))
       finds
 
 -- and so of a world, unless memory ran out in a step
-pub world-finds : (k : Cluster) (failed : Bool) (world : Option Machine) (result : Result ℕ CheckFault) → (if failed then None else Some (machine_of k)) ≡ world
+pub world-finds : (k : Cluster) (failed : Bool) (world : Option Machine) (result : Result ℕ CheckFault)
+    → (if failed then None else Some (machine_of k)) ≡ world
     → (failed ≡ false → Refines k × Invariant (machine_of k))
     → (IsPlainBook k.book.items → Finds result k.book.items k.acknowledged.items (not failed) k.shard.items)
-    → IfSome world (λ machine. MatchResult result (λ count. count ≡ length machine.acknowledged) (λ fault. fault ≡ NoMemory))
+    → IfSome world
+    (λ machine. MatchResult result (λ count. count ≡ length machine.acknowledged) (λ fault. fault ≡ NoMemory))
 world-finds k true world result is holds finds =
-    subst (λ (now : Option Machine). IfSome now (λ machine. MatchResult result (λ count. count ≡ length machine.acknowledged) (λ fault. fault ≡ NoMemory))) is tt
+    subst (λ (now : Option Machine). IfSome now
+    (λ machine. MatchResult result (λ count. count ≡ length machine.acknowledged) (λ fault. fault ≡ NoMemory))) is
+    tt
 world-finds k false world result is holds finds =
     let sound = holds refl in
-    subst (λ (now : Option Machine). IfSome now (λ machine. MatchResult result (λ count. count ≡ length machine.acknowledged) (λ fault. fault ≡ NoMemory))) is
+    subst (λ (now : Option Machine). IfSome now
+    (λ machine. MatchResult result (λ count. count ≡ length machine.acknowledged) (λ fault. fault ≡ NoMemory))) is
     (sound-finds k sound.0 sound.1 result (finds (plain-book k sound.0)))

@@ -47,7 +47,8 @@ pub all-replicate : {A : Type 0} (P : A → Type 0) (x : A) (n : ℕ) → P x �
 all-replicate P x zero here = tt
 all-replicate P x (suc n) here = (here, all-replicate P x n here)
 
-pub all-both : {A : Type 0} (P Q R : A → Type 0) → ((x : A) → P x → Q x → R x) → (xs : List A) → AllByRecursion P xs → AllByRecursion Q xs → AllByRecursion R xs
+pub all-both : {A : Type 0} (P Q R : A → Type 0) → ((x : A) → P x → Q x → R x) → (xs : List A) → AllByRecursion P xs
+    → AllByRecursion Q xs → AllByRecursion R xs
 all-both P Q R both [] all others = tt
 all-both P Q R both (x ∷ xs) all others = (both x all.0 others.0, all-both P Q R both xs all.1 others.1)
 

@@ -6,7 +6,8 @@ use Rattle.std.proofs.lemmas.Bool.{or_parts}
 
 module _ {X : Type 0} (f : X → ℕ) where
   -- one item in the place of another
-  pub sum-set : (xs : List X) (i : ℕ) (x y : X) → slice_get xs i ≡ Some x → sum_by f (slice_set xs i y) + f x ≡ sum_by f xs + f y
+  pub sum-set : (xs : List X) (i : ℕ) (x y : X) → slice_get xs i ≡ Some x
+      → sum_by f (slice_set xs i y) + f x ≡ sum_by f xs + f y
   sum-set [] i x y there = cc
   sum-set (z ∷ zs) zero x y there =
       let same : z ≡ x = cc in
@@ -32,9 +33,11 @@ module _ {X : Type 0} (f : X → ℕ) where
       omega (arith, sum_by-cons f z (remove zs i), sum_by-cons f z zs, sum-remove-le zs i)
 
 -- a sum over what items are made to
-pub sum-made : {X Y : Type 0} (f : Y → ℕ) (g : X → Y) (xs : List X) → sum_by f (map g xs) ≡ sum_by (λ (x : X). f (g x)) xs
+pub sum-made : {X Y : Type 0} (f : Y → ℕ) (g : X → Y) (xs : List X)
+    → sum_by f (map g xs) ≡ sum_by (λ (x : X). f (g x)) xs
 sum-made f g [] = refl
-sum-made {X} f g (x ∷ xs) = omega (arith, sum_by-cons f (g x) (map g xs), sum_by-cons (λ (x : X). f (g x)) x xs, sum-made f g xs)
+sum-made {X} f g (x ∷ xs) = omega
+    (arith, sum_by-cons f (g x) (map g xs), sum_by-cons (λ (x : X). f (g x)) x xs, sum-made f g xs)
 
 -- where none passes, none is counted
 pub count-none : {X : Type 0} (p : X → Bool) (xs : List X) → list_any p xs ≡ false → count_by p xs ≡ 0
@@ -45,7 +48,9 @@ count-none {X} p (x ∷ xs) none =
     omega (arith, sum_by-cons (λ (x : X). cond (p x) 1 0) x xs, here, count-none p xs parts.1)
 
 -- where none passes, what is found does not
-pub none-at : {X : Type 0} (p : X → Bool) (xs : List X) (i : ℕ) (x : X) → list_any p xs ≡ false → slice_get xs i ≡ Some x → p x ≡ false
+pub none-at : {X : Type 0} (p : X → Bool) (xs : List X) (i : ℕ) (x : X) → list_any p xs ≡ false
+    → slice_get xs i ≡ Some x → p x ≡ false
 none-at p [] i x none there = cc
-none-at p (y ∷ ys) zero x none there = let same : y ≡ x = cc in subst (λ z. p z ≡ false) same (or_parts (p y) (list_any p ys) none).0
+none-at p (y ∷ ys) zero x none there = let same : y ≡ x = cc in subst (λ z. p z ≡ false) same
+    (or_parts (p y) (list_any p ys) none).0
 none-at p (y ∷ ys) (suc i) x none there = none-at p ys i x (or_parts (p y) (list_any p ys) none).1 there

@@ -39,17 +39,25 @@ only_the_first_stands = (
   ((first, []), refl, refl, refl, refl, ((λ write. refl), ((λ read. ap reply.Value (sym nothing_there)), tt))),
   (λ stands.
       let same : Path (Place × List Place) (second, first ∷ []) stands.0 = cc (stands.1) in
-      omega (arith, ap (λ (found : Place × List Place). found.0.transaction.id.session) same ∙ ap (λ (t : Transaction). t.id.session) stands.3)),
+      omega (
+        arith,
+        ap (λ (found : Place × List Place). found.0.transaction.id.session) same
+            ∙ ap (λ (t : Transaction). t.id.session) stands.3,
+      )),
   (λ stands.
       let same : Path (Place × List Place) (first, []) stands.0 = cc (stands.1) in
       omega (arith, ap (λ (found : Place × List Place). found.0.version) same ∙ stands.2)),
   (λ stands.
       let same : Path (Place × List Place) (first, []) stands.0 = cc (stands.1) in
-      let answers = subst (λ (found : Place × List Place). AnsweredOn (serial_map [] found.1) (reads_and_sets 0 (Some (codes "1")))) (sym same) stands.5 in
-      let told : reply.Value (Some (codes "1")) ≡ reply.Value None = answers.1.0 refl ∙ ap reply.Value nothing_there in different told),
+      let answers = subst
+      (λ (found : Place × List Place). AnsweredOn (serial_map [] found.1) (reads_and_sets 0 (Some (codes "1"))))
+      (sym same) stands.5 in
+      let told : reply.Value (Some (codes "1")) ≡ reply.Value None = answers.1.0 refl
+      ∙ ap reply.Value nothing_there in different told),
   (λ stands.
       let same : Path (Place × List Place) (second, first ∷ []) stands.0 = cc (stands.1) in
-      let wrong : false ≡ true = subst (λ (found : Place × List Place). committed [] found.1 found.0 ≡ true) (sym same) stands.4 in cc),
+      let wrong : false ≡ true = subst (λ (found : Place × List Place). committed [] found.1 found.0 ≡ true) (sym same)
+      stands.4 in cc),
 )
 
 pub read_only_at_its_version : ReadOnlyAtItsVersion
@@ -68,7 +76,8 @@ pub an_empty_shard_does_not_serve : AnEmptyShardDoesNotServe
 unfolding point_lt insertion.inserted
 an_empty_shard_does_not_serve serves =
     let nothing = serves 100 (codes "a") (omega arith) (omega arith) refl in
-    let something : get (effects empty (commit_request_of (reads_and_sets 0 None)).mutations) (codes "a") ≡ Some (codes "1") =
+    let something : get (effects empty (commit_request_of (reads_and_sets 0 None)).mutations) (codes "a") ≡ Some
+    (codes "1") =
     get-effects empty (commit_request_of (reads_and_sets 0 None)).mutations (codes "a") in
     let wrong : None ≡ Some (codes "1") = nothing ∙ something in cc
 

@@ -28,7 +28,8 @@ pub acknowledged_stand : AcknowledgedAreSerialized
 acknowledged_stand config steps given = (sound-trace config steps given).acknowledged
 
 -- a world that stands for a trace, and whose shards answer from the run's map, is strictly serializable
-pub strictly_serializable : (config : Config) (steps : List Step) (given : List (Result Answered Refusal)) (system : System)
+pub strictly_serializable : (config : Config) (steps : List Step) (given : List (Result Answered Refusal))
+    (system : System)
     → IsTraceOf config steps given system.machine → RolesKeep system → IsStrictlySerializable config steps given system
 strictly_serializable config steps given system stands keep = record {
   is_trace_of = stands;
@@ -39,12 +40,14 @@ strictly_serializable config steps given system stands keep = record {
   served = served system.machine keep;
 }
   where
-    served : (machine : Option Machine) → RolesKeep (record system { machine = machine }) → IfSome machine (λ (m : Machine). AllServe m system.shards)
+    served : (machine : Option Machine) → RolesKeep (record system { machine = machine })
+        → IfSome machine (λ (m : Machine). AllServe m system.shards)
     served None keep = tt
     served (Some m) keep = keep.2
 
 -- where a world stands for a trace, it then stands for that trace with the next step and its answer
-pub serializable-step : (config : Config) (steps : List Step) (given : List (Result Answered Refusal)) (old new : System) (taken : Step) (answer : Result Answered Refusal)
+pub serializable-step : (config : Config) (steps : List Step) (given : List (Result Answered Refusal))
+    (old new : System) (taken : Step) (answer : Result Answered Refusal)
     → IsStep old.machine taken answer new.machine → RolesKeep new → IsTraceOf config steps given old.machine
     → IsStrictlySerializable config (steps ++ taken ∷ []) (given ++ answer ∷ []) new
 serializable-step config steps given old new taken answer stepped keep stands =

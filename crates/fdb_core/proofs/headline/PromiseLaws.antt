@@ -28,7 +28,8 @@ refusals_change_nothing m step refusal refused = ap (after m) refused
 pub grants_committed : GrantsCommitted
 unfolding grants
 grants_committed m proxy transition accepted =
-    of-accepted Told (grants m proxy) transition accepted (past-found Told (slice_get m.grv_proxies proxy) _ (λ there at.
+    of-accepted Told (grants m proxy) transition accepted
+    (past-found Told (slice_get m.grv_proxies proxy) _ (λ there at.
     past-test Told (list_any (has_no_number m.last_transactions) there) Exhausted _ (λ _. (there, at, refl))))
   where
     Told : Transition → Type 0
@@ -40,39 +41,53 @@ grants_committed m proxy transition accepted =
 pub gets_from_the_run : GetsFromTheRun
 unfolding gets
 gets_from_the_run m session key snapshot transition accepted =
-    of-accepted Read (gets m session key snapshot) transition accepted (past-opened Read session m.opened _ (λ i transcript at there.
-    past-fault Read (read_fault m (program transcript.ops) transcript.read_version key) _ (λ _. (i, transcript, at, there, refl))))
+    of-accepted Read (gets m session key snapshot) transition accepted
+    (past-opened Read session m.opened _ (λ i transcript at there.
+    past-fault Read (read_fault m (program transcript.ops) transcript.read_version key) _
+    (λ _. (i, transcript, at, there, refl))))
   where
     Read : Transition → Type 0
     Read given =
-        (i : ℕ) × (transcript : Transcript) × (position (is_of session) m.opened ≡ Some i) × (slice_get m.opened i ≡ Some transcript)
-        × (given.answer ≡ answered.Value (get (copy (serial_map_at m.config.resolver_splits transcript.read_version (seen_of m.book).places) (program transcript.ops)) key))
+        (i : ℕ) × (transcript : Transcript) × (position (is_of session) m.opened ≡ Some i)
+        × (slice_get m.opened i ≡ Some transcript)
+        × (given.answer ≡ answered.Value
+        (get (copy (serial_map_at m.config.resolver_splits transcript.read_version (seen_of m.book).places)
+        (program transcript.ops)) key))
 
 -- why a read of an open transaction is refused
-gets-refused : (m : Machine) (session : ℕ) (key : List ℕ) (snapshot : Bool) (i : ℕ) (transcript : Transcript) (why : Refusal)
+gets-refused : (m : Machine) (session : ℕ) (key : List ℕ) (snapshot : Bool) (i : ℕ) (transcript : Transcript)
+    (why : Refusal)
     → position (is_of session) m.opened ≡ Some i → slice_get m.opened i ≡ Some transcript
-    → (gets m session key snapshot ≡ Err why) ↔ (read_fault m (program transcript.ops) transcript.read_version key ≡ Some why)
+    → (gets m session key snapshot ≡ Err why) ↔
+    (read_fault m (program transcript.ops) transcript.read_version key ≡ Some why)
 unfolding gets
 gets-refused m session key snapshot i transcript why at there =
     rw (at, there) (by_fault (read_fault m (program transcript.ops) transcript.read_version key) _)
   where
-    by_fault : (fault : Option Refusal) (transition : Transition) → (refused_by fault (Ok transition) ≡ Err why) ↔ (fault ≡ Some why)
+    by_fault : (fault : Option Refusal) (transition : Transition)
+        → (refused_by fault (Ok transition) ≡ Err why) ↔ (fault ≡ Some why)
     by_fault None transition = ((λ refused. cc), (λ faulty. cc))
     by_fault (Some other) transition = ((λ refused. cc), (λ faulty. cc))
 
 -- a shard is ahead of a version exactly where it has it and is not there yet
 shard-after : (m : Machine) (version : ℕ) (there : Option ShardProgress)
     → (shard_fault m.book version there ≡ Some FutureVersion)
-    ↔ ((progress : ShardProgress) × (there ≡ Some progress) × (nat_lt version progress.floor ≡ false) × (nat_lt (version_of_shard m.book progress) version ≡ true))
+    ↔ ((progress : ShardProgress) × (there ≡ Some progress) × (nat_lt version progress.floor ≡ false)
+    × (nat_lt (version_of_shard m.book progress) version ≡ true))
 shard-after m version None = ((λ faulty. cc), (λ after. let h = after.1 in cc))
 shard-after m version (Some progress) = (
   (λ faulty. let tests = (by_tests _ _).0 faulty in (progress, refl, tests.0, tests.1)),
   (λ after. let same : after.0 ≡ progress = cc (after.1) in
-      (by_tests _ _).1 (ap (λ (r : ShardProgress). nat_lt version r.floor) (sym same) ∙ after.2, ap (λ (r : ShardProgress). nat_lt (version_of_shard m.book r) version) (sym same) ∙ after.3)),
+      (by_tests _ _).1 (
+        ap (λ (r : ShardProgress). nat_lt version r.floor) (sym same)
+            ∙ after.2,
+        ap (λ (r : ShardProgress). nat_lt (version_of_shard m.book r) version) (sym same) ∙ after.3,
+      )),
 )
   where
     by_tests : (old late : Bool)
-        → ((if old then Some TransactionTooOld else (if late then Some FutureVersion else None)) ≡ Some FutureVersion) ↔ ((old ≡ false) × (late ≡ true))
+        → ((if old then Some TransactionTooOld else (if late then Some FutureVersion else None)) ≡ Some FutureVersion) ↔
+        ((old ≡ false) × (late ≡ true))
     by_tests true late = ((λ faulty. cc), (λ tests. let h = tests.0 in cc))
     by_tests false true = ((λ faulty. (refl, refl)), (λ tests. refl))
     by_tests false false = ((λ faulty. cc), (λ tests. let h = tests.1 in cc))
@@ -84,13 +99,15 @@ gets_refused m session key snapshot i transcript at there = (
   (λ after. answer.1 ((by_decided (decided (program transcript.ops) key)).1 after)),
 )
   where
-    answer : (gets m session key snapshot ≡ Err FutureVersion) ↔ (read_fault m (program transcript.ops) transcript.read_version key ≡ Some FutureVersion)
+    answer : (gets m session key snapshot ≡ Err FutureVersion) ↔
+        (read_fault m (program transcript.ops) transcript.read_version key ≡ Some FutureVersion)
     answer = gets-refused m session key snapshot i transcript FutureVersion at there
 
     After : Type 0
     After =
         (progress : ShardProgress) × (slice_get m.shards (first_owner m.config.shard_splits key) ≡ Some progress)
-        × (nat_lt transcript.read_version progress.floor ≡ false) × (nat_lt (version_of_shard m.book progress) transcript.read_version ≡ true)
+        × (nat_lt transcript.read_version progress.floor ≡ false)
+        × (nat_lt (version_of_shard m.book progress) transcript.read_version ≡ true)
 
     shard : Option Refusal
     shard = shard_fault m.book transcript.read_version (slice_get m.shards (first_owner m.config.shard_splits key))
@@ -98,5 +115,6 @@ gets_refused m session key snapshot i transcript at there = (
     by_decided : (own : Bool) → ((if own then None else shard) ≡ Some FutureVersion) ↔ ((own ≡ false) × After)
     by_decided true = ((λ faulty. cc), (λ after. let h = after.0 in cc))
     by_decided false =
-        let there_after = shard-after m transcript.read_version (slice_get m.shards (first_owner m.config.shard_splits key)) in
+        let there_after = shard-after m transcript.read_version
+        (slice_get m.shards (first_owner m.config.shard_splits key)) in
         ((λ faulty. (refl, there_after.0 faulty)), (λ after. there_after.1 after.1))

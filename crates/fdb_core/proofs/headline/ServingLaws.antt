@@ -22,7 +22,8 @@ use Rattle.fdb_core.specs.refinement.Resolving.{taken_by}
 each-one : {A B : Type 0} (P : ℕ → A → B → Type 0) (a : A) (b : B) → P 0 a b → EachKeeps P (a ∷ []) (b ∷ [])
 each-one {A} {B} P a b keeps = (refl, at)
   where
-    at : (i : ℕ) (far : A) (kept : B) → slice_get (a ∷ []) i ≡ Some far → slice_get (b ∷ []) i ≡ Some kept → P i far kept
+    at : (i : ℕ) (far : A) (kept : B) → slice_get (a ∷ []) i ≡ Some far → slice_get (b ∷ []) i ≡ Some kept
+        → P i far kept
     at zero far kept at_far at_kept =
         let same_far : a ≡ far = cc in
         let same_kept : b ≡ kept = cc in
@@ -43,16 +44,19 @@ roles_keep k refines = (resolver, log, shard)
         let keeps : ResolverKeeps m 0 role.taken role.core = (
           ok.state.last,
           subst (λ (splits : List Point). IsStateOf splits 0 (seen_before k.book.items role.taken).places
-              (last_version (take role.taken k.book.items) - window) (version_at role.core.versions)) (sym refines.plain.resolver_splits) ok.state.state,
+              (last_version (take role.taken k.book.items) - window) (version_at role.core.versions))
+              (sym refines.plain.resolver_splits) ok.state.state,
         ) in
-        subst (λ (roles : List ResolverRole). EachKeeps (ResolverKeeps m) (taken_by roles) (map (λ (one : ResolverRole). one.core) roles)) (sym refines.resolvers.one)
+        subst (λ (roles : List ResolverRole). EachKeeps (ResolverKeeps m) (taken_by roles)
+        (map (λ (one : ResolverRole). one.core) roles)) (sym refines.resolvers.one)
         (each-one (ResolverKeeps m) role.taken role.core keeps)
 
     log : EachKeeps (LogKeeps m) m.logs (k.log.items ∷ [])
     log =
         let ok = refines.log in
         let keeps : LogKeeps m 0 ok.taken k.log.items =
-        ok.logged ∙ ap (λ splits. take ok.taken (along (message_on splits) k.book.items)) (sym refines.plain.resolver_splits)
+        ok.logged ∙ ap (λ splits. take ok.taken (along (message_on splits) k.book.items))
+        (sym refines.plain.resolver_splits)
         ∙ take-along (message_on k.config.resolver_splits) ok.taken k.book.items in
         subst (λ (far : List ℕ). EachKeeps (LogKeeps m) far (k.log.items ∷ [])) (sym ok.one_log)
         (each-one (LogKeeps m) ok.taken k.log.items keeps)
@@ -63,8 +67,12 @@ roles_keep k refines = (resolver, log, shard)
         let progress : ShardProgress = record { applied = ok.applied; floor = 0 } in
         let serves : ShardServes m 0 progress k.shard.items =
         λ v x above reached held.
-        subst (λ (messages : List Message). value_in v x messages ≡ get (serial_map_at k.config.resolver_splits v (seen_of k.book.items).places) x)
-        (sym (ok.kept ∙ ap (λ splits. take ok.applied (along (message_on splits) k.book.items)) (sym refines.plain.resolver_splits)))
-        (value-of-serial_map k.config.resolver_splits k.book.items (entries-rising 1 k.book.items refines.book.entries) ok.applied v reached x) in
+        subst (λ (messages : List Message). value_in v x messages ≡ get
+        (serial_map_at k.config.resolver_splits v (seen_of k.book.items).places) x)
+        (sym (ok.kept
+        ∙ ap (λ splits. take ok.applied (along (message_on splits) k.book.items))
+        (sym refines.plain.resolver_splits)))
+        (value-of-serial_map k.config.resolver_splits k.book.items (entries-rising 1 k.book.items refines.book.entries)
+        ok.applied v reached x) in
         subst (λ (far : List ShardProgress). EachKeeps (ShardServes m) far (k.shard.items ∷ [])) (sym ok.one_shard)
         (each-one (ShardServes m) progress k.shard.items serves)

@@ -32,19 +32,23 @@ after_steps-unanswered m (taken ∷ steps) = refl
 
 -- a trace is its first steps, and then the others
 pub after_steps-parts : (n : ℕ) (m : Machine) (steps : List Step) (given : List (Result Answered Refusal))
-    → after_steps (after_steps m (take n steps) (take n given)) (drop n steps) (drop n given) ≡ after_steps m steps given
+    → after_steps (after_steps m (take n steps) (take n given)) (drop n steps) (drop n given) ≡ after_steps m steps
+    given
 after_steps-parts zero m steps given = refl
 after_steps-parts (suc n) m [] given = refl
 after_steps-parts (suc n) m (taken ∷ steps) [] = after_steps-unanswered m (drop n steps)
-after_steps-parts (suc n) m (taken ∷ steps) (answer ∷ given) = after_steps-parts n (after_step m taken answer) steps given
+after_steps-parts (suc n) m (taken ∷ steps) (answer ∷ given) = after_steps-parts n (after_step m taken answer) steps
+    given
 
 -- with the machine's own answer a step takes the machine on
-after_step-answered : (m : Machine) (taken : Step) (transition : Result Transition Refusal) → next m taken ≡ transition → after_step m taken (answer_of transition) ≡ after m (next m taken)
+after_step-answered : (m : Machine) (taken : Step) (transition : Result Transition Refusal) → next m taken ≡ transition
+    → after_step m taken (answer_of transition) ≡ after m (next m taken)
 after_step-answered m taken (Ok transition) is = refl
 after_step-answered m taken (Err refusal) is = ap (after m) (sym is)
 
 -- a run leaves the machine to which its steps with their answers take it
-run-after_steps : (m new : Machine) (steps : List Step) (given : List (Result Answered Refusal)) → IsRun (Some m) steps given (Some new) → new ≡ after_steps m steps given
+run-after_steps : (m new : Machine) (steps : List Step) (given : List (Result Answered Refusal))
+    → IsRun (Some m) steps given (Some new) → new ≡ after_steps m steps given
 run-after_steps m new [] [] ran = cc
 run-after_steps m new [] (answer ∷ given) ran = absurd ran
 run-after_steps m new (taken ∷ steps) [] ran = absurd ran
@@ -58,7 +62,8 @@ pub traces_tell : TracesDetermineTheMachine
 traces_tell config steps given m stands = run-after_steps (start config) m steps given stands
 
 -- the same of a world that may have run out of memory
-pub shows : (config : Config) (steps : List Step) (given : List (Result Answered Refusal)) (world : Option Machine) → IsTraceOf config steps given world
+pub shows : (config : Config) (steps : List Step) (given : List (Result Answered Refusal)) (world : Option Machine)
+    → IsTraceOf config steps given world
     → IfSome world (λ (m : Machine). m ≡ machine_of_trace config steps given)
 shows config steps given None stands = tt
 shows config steps given (Some m) stands = traces_tell config steps given m stands

@@ -28,7 +28,8 @@ raise = record {
   read_only = λ m i transcript there empty. max-zero m.committed;
   submitted = λ m proxy commit_proxy i transcript at there writes. max-zero m.committed;
   sealed = λ m proxy advance commit_proxy at idle few room. max-zero m.committed;
-  went_on = λ m proxy commit_proxy stage decided verdicts acknowledgements at busy goes_on unreported. max-zero m.committed;
+  went_on = λ m proxy commit_proxy stage decided verdicts acknowledgements at busy goes_on unreported. max-zero
+      m.committed;
   reported_version = λ m proxy commit_proxy entry at logging there. twice m.committed entry.version;
   told = λ m proxy commit_proxy entry at reported there. max-zero m.committed;
 }
@@ -37,22 +38,27 @@ raise = record {
     twice old one = omega arith
 
 -- and so does any step
-raises-next : (m : Machine) (taken : Step) → Raises m (reported taken (answer_of (next m taken))) (after m (next m taken))
+raises-next : (m : Machine) (taken : Step)
+    → Raises m (reported taken (answer_of (next m taken))) (after m (next m taken))
 raises-next = holds-after Raises raise (λ m. max-zero m.committed)
 
 -- two raises one after the other are one
-max-step : (now then old one others answered : ℕ) → now ≡ max then others → then ≡ max old one → answered ≡ one → now ≡ max old (max answered others)
+max-step : (now then old one others answered : ℕ) → now ≡ max then others → then ≡ max old one → answered ≡ one
+    → now ≡ max old (max answered others)
 max-step now then old one others answered last first same = omega arith
 
 -- a run raises the committed version to the greatest one that it reports
-committed-run : (old new : Machine) (steps : List Step) (given : List (Result Answered Refusal)) → IsRun (Some old) steps given (Some new)
+committed-run : (old new : Machine) (steps : List Step) (given : List (Result Answered Refusal))
+    → IsRun (Some old) steps given (Some new)
     → new.committed ≡ max old.committed (greatest_reported steps given)
-committed-run old new [] [] ran = let same : new ≡ old = cc in ap (λ (m : Machine). m.committed) same ∙ max-zero old.committed
+committed-run old new [] [] ran = let same : new ≡ old = cc in ap (λ (m : Machine). m.committed) same
+    ∙ max-zero old.committed
 committed-run old new [] (answer ∷ given) ran = absurd ran
 committed-run old new (taken ∷ steps) [] ran = absurd ran
 committed-run old new (taken ∷ steps) (answer ∷ given) ran =
     let went = run-next old new taken answer steps given ran in
-    max-step _ _ _ _ _ _ (committed-run (after old (next old taken)) new steps given went.1) (raises-next old taken) (ap (reported taken) went.0)
+    max-step _ _ _ _ _ _ (committed-run (after old (next old taken)) new steps given went.1) (raises-next old taken)
+    (ap (reported taken) went.0)
 
 -- over every run the committed version is the greatest one that was reported
 pub committed_is_greatest_reported : CommittedIsGreatestReported

@@ -45,20 +45,27 @@ counts-equal number next =
 counts-next : (number : ℕ) (last : Option ℕ) → unwrap_or last 0 ≤ greatest_number → has_used_up last ≡ false
     → up_to number last + cond (next_number last == number) 1 0 ≤ up_to number (Some (next_number last))
 counts-next number None within left = omega (arith, counts-equal number 0)
-counts-next number (Some last) within left = up number last (next_number (Some last)) (more last greatest_number within (eqb-false last greatest_number left))
+counts-next number (Some last) within left = up number last (next_number (Some last))
+    (more last greatest_number within (eqb-false last greatest_number left))
   where
     more : (last greatest : ℕ) → last ≤ greatest → (last ≡ greatest → ⊥) → last < min (last + 1) greatest
     more last greatest within left = omega (arith, within, left)
 
-    up : (number last next : ℕ) → last < next → cond (nat_le number last) 1 0 + cond (next == number) 1 0 ≤ cond (nat_le number next) 1 0
+    up : (number last next : ℕ) → last < next
+        → cond (nat_le number last) 1 0 + cond (next == number) 1 0 ≤ cond (nat_le number next) 1 0
     up number last next above =
         cond_both (nat_le number last) 1 0 (λ n. n + cond (next == number) 1 0 ≤ cond (nat_le number next) 1 0)
         (λ below. let at_most = leb-true number last below in
-        rw (ne_eqb next number (λ same. omega (arith, at_most, above, same)), le-leb number next (omega (arith, at_most, above))) (omega arith))
+        rw (
+          ne_eqb next number (λ same. omega (arith, at_most, above, same)),
+          le-leb number next
+              (omega (arith, at_most, above)),
+        ) (omega arith))
         (λ _. omega (arith, counts-equal number next))
 
 module _ (id : TxnId) where
-  -- how often there is a transaction of the name: 1 or 0 for one transaction, then at a proxy, at all of them, and among the open ones
+  -- how often there is a transaction of the name: 1 or 0 for one transaction, then at a proxy, at all of them, and
+  -- among the open ones
   abbrev once_for : TxnId → ℕ
   once_for other = cond (same_name id other) 1 0
 
@@ -86,20 +93,24 @@ module _ (id : TxnId) where
   abbrev Within : List LastTransaction → Type 0
   Within last_transactions = unwrap_or (last_number id.session last_transactions) 0 ≤ greatest_number
 
--- In the book, at the proxies and among the open ones there is one transaction of the name at most, and none before it has
+-- In the book, at the proxies and among the open ones there is one transaction of the name at most, and none before it
+-- has
 -- begun; at each read-version proxy its session asks once at most.
-record Once (id : TxnId) (book : List Entry) (commit_proxies : List CommitProxy) (opened : List Transcript) (grv_proxies : List (List ℕ))
+record Once (id : TxnId) (book : List Entry) (commit_proxies : List CommitProxy) (opened : List Transcript)
+    (grv_proxies : List (List ℕ))
     (last_transactions : List LastTransaction) : Type 0 where
   within : Within id last_transactions
   asks_once : AllByRecursion (AsksOnce id) grv_proxies
-  stands : times_in_book id book + times_waiting id commit_proxies + times_opened id opened ≤ times_begun id last_transactions
+  stands : times_in_book id book + times_waiting id commit_proxies + times_opened id opened ≤ times_begun id
+      last_transactions
 
 abbrev IsOnce : TxnId → Machine → Type 0
 IsOnce id m = Once id m.book m.commit_proxies m.opened m.grv_proxies m.last_transactions
 
 module _ (id : TxnId) where
   -- one who asks and isn't the session doesn't count
-  asks-elsewhere : (session : ℕ) (sessions : List ℕ) → session == id.session ≡ false → asks_in id (session ∷ sessions) ≡ asks_in id sessions
+  asks-elsewhere : (session : ℕ) (sessions : List ℕ) → session == id.session ≡ false
+      → asks_in id (session ∷ sessions) ≡ asks_in id sessions
   asks-elsewhere session sessions test =
       let none : cond {A = ℕ} (session == id.session) 1 0 ≡ 0 = rw test refl in
       omega (arith, none, sum_by-cons (λ (asker : ℕ). cond (asker == id.session) 1 0) session sessions)
@@ -108,13 +119,16 @@ module _ (id : TxnId) where
   abbrev Able : List LastTransaction → List ℕ → Type 0
   Able last_transactions sessions = 0 < asks_in id sessions → has_no_number last_transactions id.session ≡ false
 
-  able : (last_transactions : List LastTransaction) (sessions : List ℕ) → list_any (has_no_number last_transactions) sessions ≡ false
+  able : (last_transactions : List LastTransaction) (sessions : List ℕ)
+      → list_any (has_no_number last_transactions) sessions ≡ false
       → Able last_transactions sessions
   able last_transactions [] free some = absurd (omega (arith, some))
   able last_transactions (session ∷ sessions) free some =
-      let parts = or_parts (has_no_number last_transactions session) (list_any (has_no_number last_transactions) sessions) free in
+      let parts = or_parts (has_no_number last_transactions session)
+      (list_any (has_no_number last_transactions) sessions) free in
       ⊎_elim
-      (λ (is : (session == id.session ≡ true) × (session ≡ id.session)). subst (λ (s : ℕ). has_no_number last_transactions s ≡ false) is.1 parts.0)
+      (λ (is : (session == id.session ≡ true) × (session ≡ id.session)). subst
+      (λ (s : ℕ). has_no_number last_transactions s ≡ false) is.1 parts.0)
       (λ (is : (session == id.session ≡ false) × (session ≢ id.session)).
       able last_transactions sessions parts.1 (omega (arith, some, asks-elsewhere session sessions is.0)))
       (eqb_tells session id.session)
@@ -126,9 +140,11 @@ module _ (id : TxnId) where
       × (elsewhere + times_opened id opened ≤ times_begun id last_transactions)
 
   -- it stays so when one of them begins: the session itself
-  ready-here : (version elsewhere : ℕ) (sessions : List ℕ) (last_transactions : List LastTransaction) (opened : List Transcript)
+  ready-here : (version elsewhere : ℕ) (sessions : List ℕ) (last_transactions : List LastTransaction)
+      (opened : List Transcript)
       → Ready elsewhere (id.session ∷ sessions) last_transactions opened
-      → Ready elsewhere sessions (begin_next last_transactions id.session) (opened ++ first_of last_transactions version id.session ∷ [])
+      → Ready elsewhere sessions (begin_next last_transactions id.session)
+      (opened ++ first_of last_transactions version id.session ∷ [])
   ready-here version elsewhere sessions last_transactions opened ready =
       let last = last_number id.session last_transactions in
       let first = first_of last_transactions version id.session in
@@ -139,46 +155,70 @@ module _ (id : TxnId) where
       let now = last-next last_transactions id.session in
       let counts = counts-next id.number last ready.0 (ready.2 (omega (arith, asks))) in
       let one : once_for id first.id ≡ cond (next_number last == id.number) 1 0 = rw itself refl in
-      let begun : times_begun id (begin_next last_transactions id.session) ≡ up_to id.number (Some (next_number last)) = ap (up_to id.number) now in (
+      let begun : times_begun id (begin_next last_transactions id.session) ≡ up_to id.number (Some (next_number last)) =
+      ap (up_to id.number) now in (
         rw now (next-within last),
         omega (arith, none),
         λ some. absurd (omega (arith, some, none)),
-        omega (arith, ready.3, sum_by_push (λ (transcript : Transcript). once_for id transcript.id) opened first, one, counts, begun),
+        omega (
+          arith,
+          ready.3,
+          sum_by_push (λ (transcript : Transcript). once_for id transcript.id) opened first,
+          one,
+          counts,
+          begun,
+        ),
       )
 
   -- or another one
-  ready-elsewhere : (version elsewhere session : ℕ) (sessions : List ℕ) (last_transactions : List LastTransaction) (opened : List Transcript)
-      → (session == id.session ≡ false) × (session ≢ id.session) → Ready elsewhere (session ∷ sessions) last_transactions opened
-      → Ready elsewhere sessions (begin_next last_transactions session) (opened ++ first_of last_transactions version session ∷ [])
+  ready-elsewhere : (version elsewhere session : ℕ) (sessions : List ℕ) (last_transactions : List LastTransaction)
+      (opened : List Transcript)
+      → (session == id.session ≡ false) × (session ≢ id.session)
+      → Ready elsewhere (session ∷ sessions) last_transactions opened
+      → Ready elsewhere sessions (begin_next last_transactions session)
+      (opened ++ first_of last_transactions version session ∷ [])
   ready-elsewhere version elsewhere session sessions last_transactions opened is ready =
       let first = first_of last_transactions version session in
       let asks = asks-elsewhere session sessions is.0 in
       let now = last-others last_transactions session id.session (λ same. is.1 (sym same)) in
       let none : once_for id first.id ≡ 0 = rw is.0 refl in
-      let begun : times_begun id (begin_next last_transactions session) ≡ times_begun id last_transactions = ap (up_to id.number) now in (
+      let begun : times_begun id (begin_next last_transactions session) ≡ times_begun id last_transactions =
+      ap (up_to id.number) now in (
         rw now ready.0,
         omega (arith, asks, ready.1),
         λ some. ap has_used_up now ∙ ready.2 (omega (arith, some, asks)),
-        omega (arith, ready.3, sum_by_push (λ (transcript : Transcript). once_for id transcript.id) opened first, none, begun),
+        omega (
+          arith,
+          ready.3,
+          sum_by_push (λ (transcript : Transcript). once_for id transcript.id) opened first,
+          none,
+          begun,
+        ),
       )
 
   -- and so when all of them do
-  served-once : (version elsewhere : ℕ) (sessions : List ℕ) (last_transactions : List LastTransaction) (opened : List Transcript)
+  served-once : (version elsewhere : ℕ) (sessions : List ℕ) (last_transactions : List LastTransaction)
+      (opened : List Transcript)
       → Ready elsewhere sessions last_transactions opened
-      → Ready elsewhere [] (fold (serve version) (last_transactions, opened) sessions).0 (fold (serve version) (last_transactions, opened) sessions).1
+      → Ready elsewhere [] (fold (serve version) (last_transactions, opened) sessions).0
+      (fold (serve version) (last_transactions, opened) sessions).1
   served-once version elsewhere [] last_transactions opened ready = ready
   served-once version elsewhere (session ∷ sessions) last_transactions opened ready =
-      served-once version elsewhere sessions (begin_next last_transactions session) (opened ++ first_of last_transactions version session ∷ []) (⊎_elim
+      served-once version elsewhere sessions (begin_next last_transactions session)
+      (opened ++ first_of last_transactions version session ∷ []) (⊎_elim
       (λ (is : (session == id.session ≡ true) × (session ≡ id.session)).
       subst (λ (s : ℕ). Ready elsewhere (s ∷ sessions) last_transactions opened
       → Ready elsewhere sessions (begin_next last_transactions s) (opened ++ first_of last_transactions version s ∷ []))
       (sym is.1) (ready-here version elsewhere sessions last_transactions opened) ready)
-      (λ (is : (session == id.session ≡ false) × (session ≢ id.session)). ready-elsewhere version elsewhere session sessions last_transactions opened is ready)
+      (λ (is : (session == id.session ≡ false) × (session ≢ id.session)). ready-elsewhere version elsewhere session
+      sessions last_transactions opened is ready)
       (eqb_tells session id.session))
 
   -- where those who ask and the last transactions stay, the counts are kept
-  still : (m : Machine) → IsOnce id m → {book : List Entry} {commit_proxies : List CommitProxy} {opened : List Transcript}
-      → times_in_book id book + times_waiting id commit_proxies + times_opened id opened ≤ times_begun id m.last_transactions
+  still : (m : Machine) → IsOnce id m
+      → {book : List Entry} {commit_proxies : List CommitProxy} {opened : List Transcript}
+      → times_in_book id book + times_waiting id commit_proxies + times_opened id opened ≤ times_begun id
+      m.last_transactions
       → Once id book commit_proxies opened m.grv_proxies m.last_transactions
   still m once stands = record { within = once.within; asks_once = once.asks_once; stands = stands }
 
@@ -187,22 +227,31 @@ module _ (id : TxnId) where
       → slice_get m.commit_proxies proxy ≡ Some commit_proxy → waiting_in id new ≡ waiting_in id commit_proxy
       → Once id m.book (slice_set m.commit_proxies proxy new) m.opened m.grv_proxies m.last_transactions
   with-commit_proxy m proxy commit_proxy new once at same =
-      still m once (omega (arith, once.stands, sum-set (waiting_in id) m.commit_proxies proxy commit_proxy new at, same))
+      still m once (omega
+      (arith, once.stands, sum-set (waiting_in id) m.commit_proxies proxy commit_proxy new at, same))
 
   -- an open transaction goes on under its name
-  with-transcript : (m : Machine) (i : ℕ) (transcript new : Transcript) → IsOnce id m → slice_get m.opened i ≡ Some transcript → new.id ≡ transcript.id
+  with-transcript : (m : Machine) (i : ℕ) (transcript new : Transcript) → IsOnce id m
+      → slice_get m.opened i ≡ Some transcript → new.id ≡ transcript.id
       → Once id m.book m.commit_proxies (slice_set m.opened i new) m.grv_proxies m.last_transactions
   with-transcript m i transcript new once there same =
-      still m once (omega (arith, once.stands, sum-set (λ (t : Transcript). once_for id t.id) m.opened i transcript new there, ap (once_for id) same))
+      still m once (omega (
+        arith,
+        once.stands,
+        sum-set (λ (t : Transcript). once_for id t.id) m.opened i transcript new there,
+        ap (once_for id) same,
+      ))
 
   -- those who leave a proxy stand in the new entry
-  sealed-once : (m : Machine) (proxy advance : ℕ) (commit_proxy : CommitProxy) → IsOnce id m → slice_get m.commit_proxies proxy ≡ Some commit_proxy
+  sealed-once : (m : Machine) (proxy advance : ℕ) (commit_proxy : CommitProxy) → IsOnce id m
+      → slice_get m.commit_proxies proxy ≡ Some commit_proxy
       → IsOnce id (sealed_machine m proxy advance commit_proxy)
   sealed-once m proxy advance commit_proxy once at =
       let weight : Submission → ℕ = λ s. once_for id s.sealed.id in
       let entry = sealed_entry m advance commit_proxy in
       let sealed : times_named id entry.batch ≡ sum_by weight (take PLACE_LIMIT commit_proxy.waiting)
-      = sum-made (λ (t : Transaction). once_for id t.id) (λ (submission : Submission). submission.sealed) (take PLACE_LIMIT commit_proxy.waiting) in
+      = sum-made (λ (t : Transaction). once_for id t.id) (λ (submission : Submission). submission.sealed)
+      (take PLACE_LIMIT commit_proxy.waiting) in
       still m once (omega (
         arith,
         once.stands,
@@ -213,20 +262,24 @@ module _ (id : TxnId) where
       ))
 
   -- without the session's open transaction there are no more
-  without-le : (session : ℕ) (opened : List Transcript) → times_opened id (without session opened) ≤ times_opened id opened
+  without-le : (session : ℕ) (opened : List Transcript)
+      → times_opened id (without session opened) ≤ times_opened id opened
   without-le session opened =
-      elim (position (is_of session) opened) as (λ there. times_opened id (without_at opened there) ≤ times_opened id opened)
+      elim (position (is_of session) opened)
+      as (λ there. times_opened id (without_at opened there) ≤ times_opened id opened)
       [ None ↦ omega arith | Some i ↦ sum-remove-le (λ (t : Transcript). once_for id t.id) opened i ]
 
   -- one who doesn't ask goes on to ask once
-  asks-more : (session : ℕ) (there : List ℕ) → waits_at_grv_proxy session there ≡ false → AsksOnce id there → AsksOnce id (there ++ session ∷ [])
+  asks-more : (session : ℕ) (there : List ℕ) → waits_at_grv_proxy session there ≡ false → AsksOnce id there
+      → AsksOnce id (there ++ session ∷ [])
   asks-more session there free once =
       let more : asks_in id (there ++ session ∷ []) ≡ asks_in id there + cond (session == id.session) 1 0
       = sum_by_push (λ (asker : ℕ). cond (asker == id.session) 1 0) there session in
       ⊎_elim
       (λ (is : (session == id.session ≡ true) × (session ≡ id.session)).
       let none : asks_in id there ≡ 0
-      = subst (λ (s : ℕ). count_by (λ (asker : ℕ). asker == s) there ≡ 0) is.1 (count-none (λ (asker : ℕ). asker == session) there free) in
+      = subst (λ (s : ℕ). count_by (λ (asker : ℕ). asker == s) there ≡ 0) is.1
+      (count-none (λ (asker : ℕ). asker == session) there free) in
       let one : cond {A = ℕ} (session == id.session) 1 0 ≡ 1 = rw is.0 refl in
       omega (arith, more, none, one))
       (λ (is : (session == id.session ≡ false) × (session ≢ id.session)).
@@ -239,7 +292,8 @@ module _ (id : TxnId) where
   once_steps = record {
     roles = λ m resolvers logs shards once. once;
     asked = λ m session proxy there at free once.
-        let parts = or_parts (list_any (waits_at_grv_proxy session) m.grv_proxies) (list_any (waits_at_commit_proxy session) m.commit_proxies) free in
+        let parts = or_parts (list_any (waits_at_grv_proxy session) m.grv_proxies)
+        (list_any (waits_at_commit_proxy session) m.commit_proxies) free in
         let waits = none-at (waits_at_grv_proxy session) m.grv_proxies proxy there parts.0 at in
         let asks = all-at (AsksOnce id) m.grv_proxies proxy there once.asks_once at in
         record {
@@ -252,23 +306,30 @@ module _ (id : TxnId) where
         let elsewhere = times_in_book id m.book + times_waiting id m.commit_proxies in
         let served = served-once m.committed elsewhere there m.last_transactions m.opened
         (once.within, asks, able m.last_transactions there left, once.stands) in
-        record { within = served.0; asks_once = all-set (AsksOnce id) m.grv_proxies proxy [] once.asks_once served.1; stands = served.3 };
+        record {
+          within = served.0;
+          asks_once = all-set (AsksOnce id) m.grv_proxies proxy [] once.asks_once served.1;
+          stands = served.3;
+        };
     operated = λ m i transcript operation there once. with-transcript m i transcript _ once there refl;
     read_only = λ m i transcript there empty once.
-        still m once (omega (arith, once.stands, sum-remove (λ (t : Transcript). once_for id t.id) m.opened i transcript there));
+        still m once (omega
+        (arith, once.stands, sum-remove (λ (t : Transcript). once_for id t.id) m.opened i transcript there));
     submitted = λ m proxy commit_proxy i transcript at there writes once.
         let waits : Submission = record { sealed = commit_request_of transcript; transcript = transcript } in
         still m once (omega (
           arith,
           once.stands,
           sum-remove (λ (t : Transcript). once_for id t.id) m.opened i transcript there,
-          sum-set (waiting_in id) m.commit_proxies proxy commit_proxy (record commit_proxy { waiting = commit_proxy.waiting ++ waits ∷ [] }) at,
+          sum-set (waiting_in id) m.commit_proxies proxy commit_proxy
+              (record commit_proxy { waiting = commit_proxy.waiting ++ waits ∷ [] }) at,
           sum_by_push (λ (s : Submission). once_for id s.sealed.id) commit_proxy.waiting waits,
         ));
     sealed = λ m proxy advance commit_proxy at idle few room once. sealed-once m proxy advance commit_proxy once at;
     went_on = λ m proxy commit_proxy stage decided verdicts acknowledgements at busy goes_on unreported once.
         with-commit_proxy m proxy commit_proxy _ once at refl;
-    reported_version = λ m proxy commit_proxy entry at logging there once. with-commit_proxy m proxy commit_proxy _ once at refl;
+    reported_version = λ m proxy commit_proxy entry at logging there once. with-commit_proxy m proxy commit_proxy _ once
+        at refl;
     told = λ m proxy commit_proxy entry at reported there once. with-commit_proxy m proxy commit_proxy _ once at refl;
   }
 
@@ -286,6 +347,7 @@ module _ (id : TxnId) where
 -- and so it is after every trace
 pub no_id_twice : NoTraceHasAnIdTwice
 no_id_twice config steps given id =
-    let once : IsOnce id (machine_of_trace config steps given) = kept-by_trace (IsOnce id) (once_steps id) (start config) steps given (once-start id config) in
+    let once : IsOnce id (machine_of_trace config steps given) = kept-by_trace (IsOnce id) (once_steps id)
+    (start config) steps given (once-start id config) in
     let m = machine_of_trace config steps given in
     omega (arith, once.stands, up_to-one id.number (last_number id.session m.last_transactions))

@@ -33,7 +33,8 @@ use Rattle.fdb_core.proofs.machine.Steps.{KeptBySteps, kept-by_trace}
 
 -- the name's number is one that there is, and its session has begun it
 abbrev Begins : List LastTransaction → TxnId → Type 0
-Begins last_transactions id = (id.number ≤ greatest_number) × ((last : ℕ) × (last_number id.session last_transactions ≡ Some last) × (id.number ≤ last))
+Begins last_transactions id = (id.number ≤ greatest_number)
+    × ((last : ℕ) × (last_number id.session last_transactions ≡ Some last) × (id.number ≤ last))
 
 -- what has begun stays so
 begins-more : (last_transactions : List LastTransaction) (session : ℕ) (id : TxnId) → Begins last_transactions id
@@ -41,7 +42,8 @@ begins-more : (last_transactions : List LastTransaction) (session : ℕ) (id : T
 begins-more last_transactions session id begins = ⊎_elim
     (λ (is : (id.session == session ≡ true) × (id.session ≡ session)).
     let next = next_number (last_number id.session last_transactions) in
-    let there = subst (λ (s : ℕ). last_number id.session (begin_next last_transactions s) ≡ Some next) is.1 (last-next last_transactions id.session) in
+    let there = subst (λ (s : ℕ). last_number id.session (begin_next last_transactions s) ≡ Some next) is.1
+    (last-next last_transactions id.session) in
     (begins.0, (next, there, rw begins.1.1 (next-above id.number begins.1.0 greatest_number begins.0 begins.1.2))))
     (λ (is : (id.session == session ≡ false) × (id.session ≢ session)).
     (begins.0, (begins.1.0, last-others last_transactions session id.session is.1 ∙ begins.1.1, begins.1.2)))
@@ -59,16 +61,20 @@ begins-new last_transactions session version =
 
 -- what holds of each transaction that a commit proxy has
 abbrev AllAtProxy : (Transcript → Type 0) → CommitProxy → Type 0
-AllAtProxy Q commit_proxy = AllByRecursion (λ (submission : Submission). Q submission.transcript) commit_proxy.waiting × AllByRecursion Q commit_proxy.in_flight
+AllAtProxy Q commit_proxy = AllByRecursion (λ (submission : Submission). Q submission.transcript) commit_proxy.waiting
+    × AllByRecursion Q commit_proxy.in_flight
 
 -- what holds of each transaction that is open, at a commit proxy or acknowledged
 abbrev All : (Transcript → Type 0) → List Transcript → List CommitProxy → List Placed → Type 0
 All Q opened commit_proxies acknowledged =
-    AllByRecursion Q opened × AllByRecursion (AllAtProxy Q) commit_proxies × AllByRecursion (λ (placed : Placed). Q placed.transcript) acknowledged
+    AllByRecursion Q opened × AllByRecursion (AllAtProxy Q) commit_proxies
+    × AllByRecursion (λ (placed : Placed). Q placed.transcript) acknowledged
 
 -- the same of what is weaker
-all-more : (Q R : Transcript → Type 0) (opened : List Transcript) (commit_proxies : List CommitProxy) (acknowledged : List Placed)
-    → ((t : Transcript) → Q t → R t) → All Q opened commit_proxies acknowledged → All R opened commit_proxies acknowledged
+all-more : (Q R : Transcript → Type 0) (opened : List Transcript) (commit_proxies : List CommitProxy)
+    (acknowledged : List Placed)
+    → ((t : Transcript) → Q t → R t) → All Q opened commit_proxies acknowledged
+    → All R opened commit_proxies acknowledged
 all-more Q R opened commit_proxies acknowledged more all = (
   all-weaken Q R more opened all.0,
   all-weaken (AllAtProxy Q) (AllAtProxy R) (λ (proxy : CommitProxy) has. (
@@ -79,11 +85,13 @@ all-more Q R opened commit_proxies acknowledged more all = (
 )
 
 -- those of a batch that are committed
-all-placed : (Q : Transcript → Type 0) (index : ℕ) (ts : List Transcript) (outcomes : List Outcome) → AllByRecursion Q ts
+all-placed : (Q : Transcript → Type 0) (index : ℕ) (ts : List Transcript) (outcomes : List Outcome)
+    → AllByRecursion Q ts
     → AllByRecursion (λ (placed : Placed). Q placed.transcript) (placed_from index ts outcomes)
 all-placed Q index [] outcomes all = tt
 all-placed Q index (t ∷ ts) [] all = tt
-all-placed Q index (t ∷ ts) (outcome.Commit version place ∷ outcomes) all = (all.0, all-placed Q index ts outcomes all.1)
+all-placed Q index (t ∷ ts) (outcome.Commit version place ∷ outcomes) all =
+    (all.0, all-placed Q index ts outcomes all.1)
 all-placed Q index (t ∷ ts) (outcome.Conflict ∷ outcomes) all = all-placed Q index ts outcomes all.1
 all-placed Q index (t ∷ ts) (outcome.Old ∷ outcomes) all = all-placed Q index ts outcomes all.1
 
@@ -97,52 +105,71 @@ module _ (P : List LastTransaction → TxnId → ℕ → Type 0) (low : ℕ) whe
 
   module _ (m : Machine) (kept : Kept m) where
     -- an open transaction has the property
-    opened-has : (i : ℕ) (transcript : Transcript) → slice_get m.opened i ≡ Some transcript → Has m.last_transactions transcript
+    opened-has : (i : ℕ) (transcript : Transcript) → slice_get m.opened i ≡ Some transcript
+        → Has m.last_transactions transcript
     opened-has i transcript = all-at (Has m.last_transactions) m.opened i transcript kept.1.0
 
     -- and so have those at a commit proxy
-    proxy-has : (proxy : ℕ) (commit_proxy : CommitProxy) → slice_get m.commit_proxies proxy ≡ Some commit_proxy → AllAtProxy (Has m.last_transactions) commit_proxy
-    proxy-has proxy commit_proxy = all-at (AllAtProxy (Has m.last_transactions)) m.commit_proxies proxy commit_proxy kept.1.1
+    proxy-has : (proxy : ℕ) (commit_proxy : CommitProxy) → slice_get m.commit_proxies proxy ≡ Some commit_proxy
+        → AllAtProxy (Has m.last_transactions) commit_proxy
+    proxy-has proxy commit_proxy = all-at (AllAtProxy (Has m.last_transactions)) m.commit_proxies proxy commit_proxy
+        kept.1.1
 
     -- where a commit proxy of transactions that have it stands in the place of another, all have it
-    set-proxy : (proxy : ℕ) (new : CommitProxy) → AllAtProxy (Has m.last_transactions) new → AllByRecursion (AllAtProxy (Has m.last_transactions)) (slice_set m.commit_proxies proxy new)
+    set-proxy : (proxy : ℕ) (new : CommitProxy) → AllAtProxy (Has m.last_transactions) new
+        → AllByRecursion (AllAtProxy (Has m.last_transactions)) (slice_set m.commit_proxies proxy new)
     set-proxy proxy new = all-set (AllAtProxy (Has m.last_transactions)) m.commit_proxies proxy new kept.1.1
 
   -- Where more that begins takes nothing from the property, and what begins at a version from the bound on has it,
   -- every step keeps it.
-  kept_steps : ((last_transactions : List LastTransaction) (session : ℕ) (t : Transcript) → Has last_transactions t → Has (begin_next last_transactions session) t)
+  kept_steps : ((last_transactions : List LastTransaction) (session : ℕ) (t : Transcript) → Has last_transactions t
+      → Has (begin_next last_transactions session) t)
       → ((last_transactions : List LastTransaction) (session version : ℕ) → low ≤ version
       → Has (begin_next last_transactions session) (first_of last_transactions version session))
       → KeptBySteps Kept
   kept_steps more new = record {
     roles = λ m resolvers logs shards kept. kept;
-    asked = λ m session proxy there at free kept. (kept.0, (all-without (Has m.last_transactions) session m.opened kept.1.0, kept.1.1, kept.1.2));
+    asked = λ m session proxy there at free kept.
+        (kept.0, (all-without (Has m.last_transactions) session m.opened kept.1.0, kept.1.1, kept.1.2));
     granted = λ m proxy there at left kept.
         let later = served-more Has m.committed more there m.last_transactions m.opened in
-        let opened = all-served Has m.committed more (λ last_transactions session. new last_transactions session m.committed kept.0) there m.last_transactions m.opened kept.1.0 in
-        let others = all-more (Has m.last_transactions) _ [] m.commit_proxies m.acknowledged later (tt, kept.1.1, kept.1.2) in
+        let opened = all-served Has m.committed more
+        (λ last_transactions session. new last_transactions session m.committed kept.0) there m.last_transactions
+        m.opened kept.1.0 in
+        let others = all-more (Has m.last_transactions) _ [] m.commit_proxies m.acknowledged later
+        (tt, kept.1.1, kept.1.2) in
         (kept.0, (opened, others.1, others.2));
-    operated = λ m i transcript operation there kept.
-        (kept.0, (all-set (Has m.last_transactions) m.opened i _ kept.1.0 (opened-has m kept i transcript there), kept.1.1, kept.1.2));
+    operated = λ m i transcript operation there kept. (
+      kept.0,
+      (
+        all-set (Has m.last_transactions) m.opened i _ kept.1.0 (opened-has m kept i transcript there),
+        kept.1.1,
+        kept.1.2,
+      ),
+    );
     read_only = λ m i transcript there empty kept.
         let placed = all-push _ m.acknowledged _ kept.1.2 (opened-has m kept i transcript there) in
         (kept.0, (all-remove (Has m.last_transactions) m.opened i kept.1.0, kept.1.1, placed));
     submitted = λ m proxy commit_proxy i transcript at there writes kept.
         let was = proxy-has m kept proxy commit_proxy at in
-        let proxies = set-proxy m kept proxy _ (all-push _ commit_proxy.waiting _ was.0 (opened-has m kept i transcript there), was.1) in
+        let proxies = set-proxy m kept proxy _
+        (all-push _ commit_proxy.waiting _ was.0 (opened-has m kept i transcript there), was.1) in
         (kept.0, (all-remove (Has m.last_transactions) m.opened i kept.1.0, proxies, kept.1.2));
     sealed = λ m proxy advance commit_proxy at idle few room kept.
         let waiting = (proxy-has m kept proxy commit_proxy at).0 in
         let proxies = set-proxy m kept proxy _ (
           all-drop _ PLACE_LIMIT commit_proxy.waiting waiting,
-          all-map _ (Has m.last_transactions) (λ (submission : Submission). submission.transcript) (λ submission has. has) _
+          all-map _ (Has m.last_transactions) (λ (submission : Submission). submission.transcript)
+              (λ submission has. has) _
               (all-take _ PLACE_LIMIT commit_proxy.waiting waiting),
         ) in
         (kept.0, (kept.1.0, proxies, kept.1.2));
     went_on = λ m proxy commit_proxy stage decided verdicts acknowledgements at busy goes_on unreported kept.
         (kept.0, (kept.1.0, set-proxy m kept proxy _ (proxy-has m kept proxy commit_proxy at), kept.1.2));
-    reported_version = λ m proxy commit_proxy entry at logging there kept.
-        (omega (arith, kept.0), (kept.1.0, set-proxy m kept proxy _ (proxy-has m kept proxy commit_proxy at), kept.1.2));
+    reported_version = λ m proxy commit_proxy entry at logging there kept. (
+      omega (arith, kept.0),
+      (kept.1.0, set-proxy m kept proxy _ (proxy-has m kept proxy commit_proxy at), kept.1.2),
+    );
     told = λ m proxy commit_proxy entry at reported there kept.
         let was = proxy-has m kept proxy commit_proxy at in
         let placed = all-placed (Has m.last_transactions) commit_proxy.entry commit_proxy.in_flight _ was.1 in
@@ -166,17 +193,20 @@ stands-after v read (spot.Entry entry place version) below is = omega (arith, is
 stands-after v read (spot.ReadOnly version) below is = omega (arith, is, below)
 
 -- after a machine and those after it
-after-earlier : (m : Machine) (steps : List Step) (given : List (Result Answered Refusal)) → Invariant m → Kept HasBegunThere 0 m
+after-earlier : (m : Machine) (steps : List Step) (given : List (Result Answered Refusal)) → Invariant m
+    → Kept HasBegunThere 0 m
     → AreAfterEarlier m (after_steps m steps given)
 after-earlier m steps given sound begun i j one other at_one at_other fresh =
     let later = after_steps m steps given in
     let now : Kept (HadBegun m) m.committed m = (
       le_refl m.committed,
-      all-more (Has HasBegunThere 0 m.last_transactions) (Has (HadBegun m) m.committed m.last_transactions) m.opened m.commit_proxies m.acknowledged
+      all-more (Has HasBegunThere 0 m.last_transactions) (Has (HadBegun m) m.committed m.last_transactions) m.opened
+          m.commit_proxies m.acknowledged
           (λ t begins. inl begins.1) begun.1,
     ) in
     let had = kept-by_trace (Kept (HadBegun m) m.committed)
-    (kept_steps (HadBegun m) m.committed (λ last_transactions session t had. had) (λ last_transactions session version above. inr above)) m steps given now in
+    (kept_steps (HadBegun m) m.committed (λ last_transactions session t had. had)
+    (λ last_transactions session version above. inr above)) m steps given now in
     let reads : m.committed ≤ other.transcript.read_version
     = ⊎_elim (λ has. absurd (fresh has)) (λ above. above) (all-at _ later.acknowledged j other had.1.2 at_other) in
     let after : spot_version one.spot ≤ other.transcript.read_version

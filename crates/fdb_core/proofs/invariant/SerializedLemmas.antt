@@ -47,17 +47,20 @@ agree-itself map (op ∷ earlier) = (λ ordinary. refl, agree-itself map earlier
 -- a list that is tested as empty has nothing
 nil-is : {A : Type 0} (xs : List A) → is_nil xs ≡ true → xs ≡ []
 nil-is [] none = refl
-nil-is (x ∷ xs) none = let counted : length (x ∷ xs) ≡ 0 = eqb-true (length (x ∷ xs)) 0 none in absurd (omega (arith, counted))
+nil-is (x ∷ xs) none = let counted : length (x ∷ xs) ≡ 0 = eqb-true (length (x ∷ xs)) 0 none in absurd
+    (omega (arith, counted))
 
 -- an answered transaction that writes nothing is serialized at its read version
-pub read_only_serialized : (m : Machine) (transcript : Transcript) → m.committed ≤ last_version m.book → IsReplied m transcript
+pub read_only_serialized : (m : Machine) (transcript : Transcript) → m.committed ≤ last_version m.book
+    → IsReplied m transcript
     → is_nil (commit_request_of transcript).mutations && is_nil (commit_request_of transcript).writes ≡ true
     → IsSerialized m (record { spot = spot.ReadOnly transcript.read_version; transcript = transcript })
 read_only_serialized m transcript reached told empty = (
   refl,
   le_trans told.0 reached,
   nil-is (mutations_of (program transcript.ops)) (and_parts _ _ empty).0,
-  subst (λ (replies : List Reply). AgreeWhereOrdinary (program transcript.ops) replies (exec there (program transcript.ops)))
+  subst (λ (replies : List Reply). AgreeWhereOrdinary (program transcript.ops) replies
+      (exec there (program transcript.ops)))
       (sym told.1) (agree-itself there (program transcript.ops)),
 )
   where
@@ -74,7 +77,8 @@ place-stays seen (first ∷ book) entry zero p there at = at
 place-stays seen (first ∷ book) entry (suc n) p there at = place-stays (add_entry seen first) book entry n p there at
 
 -- one more entry leaves everyone at his spot
-pub spot-stays : (m : Machine) (entry : Entry) (transcript : Transcript) (at : Spot) → last_version m.book < entry.version
+pub spot-stays : (m : Machine) (entry : Entry) (transcript : Transcript) (at : Spot)
+    → last_version m.book < entry.version
     → IsSerializedAtSpot m transcript at → IsSerializedAtSpot (record m { book = m.book ++ entry ∷ [] }) transcript at
 spot-stays m entry transcript (spot.Entry n p version) above stands =
     (stands.0, place-stays nothing m.book entry n p stands.0 stands.1, stands.2, stands.3, stands.4, stands.5)
@@ -83,16 +87,19 @@ spot-stays m entry transcript (spot.ReadOnly version) above stands =
       stands.0,
       rw (last-push m.book entry) (le_of_lt below),
       stands.2,
-      subst (λ (now : Map). AnsweredOn now transcript) (sym (earlier_maps_stay m.config.resolver_splits m.book entry version below)) stands.3,
+      subst (λ (now : Map). AnsweredOn now transcript)
+          (sym (earlier_maps_stay m.config.resolver_splits m.book entry version below)) stands.3,
     )
 
 -- the places are the earlier ones after newer ones of at least the version
 abbrev Extends : ℕ → List Place → List Place → Type 0
 Extends version places earlier =
-    (newer : List Place) × (places ≡ newer ++ earlier) × AllByRecursion (λ (place : Place). version ≤ place.version) newer
+    (newer : List Place) × (places ≡ newer ++ earlier)
+    × AllByRecursion (λ (place : Place). version ≤ place.version) newer
 
 -- what extends places that extend the earlier ones extends those, too
-extends-further : (version : ℕ) (places middle earlier : List Place) → Extends version places middle → Extends version middle earlier → Extends version places earlier
+extends-further : (version : ℕ) (places middle earlier : List Place) → Extends version places middle
+    → Extends version middle earlier → Extends version places earlier
 extends-further version places middle earlier later here = (
   later.0 ++ here.0,
   later.1 ∙ ap (λ (rest : List Place). later.0 ++ rest) here.1 ∙ sym (append_assoc later.0 here.0 earlier),
@@ -100,14 +107,20 @@ extends-further version places middle earlier later here = (
 )
 
 -- the transactions of an entry extend the places by ones of its version
-extends-batch : (least version : ℕ) (moves : List Stamped) (batch : List Transaction) (earlier : List Place) → least ≤ version
+extends-batch : (least version : ℕ) (moves : List Stamped) (batch : List Transaction) (earlier : List Place)
+    → least ≤ version
     → Extends least (add_places version moves batch earlier) earlier
 extends-batch least version moves batch earlier reached =
-    let added = add_places-newer version moves batch earlier in
-    (added.0, added.1, all-weaken _ (λ (place : Place). least ≤ place.version) (λ (place : Place) is. omega (arith, is, reached)) added.0 added.2)
+    let added = add_places-newer version moves batch earlier in (
+      added.0,
+      added.1,
+      all-weaken _ (λ (place : Place). least ≤ place.version)
+          (λ (place : Place) is. omega (arith, is, reached)) added.0 added.2,
+    )
 
 -- entries after a version extend the places
-extends-entries : (resolvers least last : ℕ) (seen : Seen) (book : List Entry) → least ≤ last → AreEntries resolvers last book
+extends-entries : (resolvers least last : ℕ) (seen : Seen) (book : List Entry) → least ≤ last
+    → AreEntries resolvers last book
     → Extends least (fold add_entry seen book).places seen.places
 extends-entries resolvers least last seen [] reached entries = ([], refl, tt)
 extends-entries resolvers least last seen (entry ∷ book) reached entries =
@@ -117,45 +130,56 @@ extends-entries resolvers least last seen (entry ∷ book) reached entries =
     (extends-batch least entry.version (moves_through seen entry) entry.batch seen.places here)
 
 -- a book extends what was seen through one of its entries by places of at least its version
-extends-through : (resolvers last : ℕ) (seen : Seen) (book : List Entry) (n : ℕ) (entry : Entry) → AreEntries resolvers last book → slice_get book n ≡ Some entry
-    → Extends entry.version (fold add_entry seen book).places (add_entry (fold add_entry seen (take n book)) entry).places
+extends-through : (resolvers last : ℕ) (seen : Seen) (book : List Entry) (n : ℕ) (entry : Entry)
+    → AreEntries resolvers last book → slice_get book n ≡ Some entry
+    → Extends entry.version (fold add_entry seen book).places
+    (add_entry (fold add_entry seen (take n book)) entry).places
 extends-through resolvers last seen [] n entry entries there = cc
 extends-through resolvers last seen (first ∷ book) zero entry entries there =
     let same : first ≡ entry = cc in
     subst (λ (e : Entry). Extends e.version (fold add_entry seen (first ∷ book)).places (add_entry seen e).places) same
-    (extends-entries resolvers first.version first.version (add_entry seen first) book (le_refl first.version) entries.4)
+    (extends-entries resolvers first.version first.version (add_entry seen first) book (le_refl first.version)
+    entries.4)
 extends-through resolvers last seen (first ∷ book) (suc n) entry entries there =
     extends-through resolvers first.version (add_entry seen first) book n entry entries.4 there
 
 -- newer places of greater versions are left out
-up_to-newer : (v version : ℕ) (newer earlier : List Place) → v < version → AllByRecursion (λ (place : Place). version ≤ place.version) newer
+up_to-newer : (v version : ℕ) (newer earlier : List Place) → v < version
+    → AllByRecursion (λ (place : Place). version ≤ place.version) newer
     → up_to v (newer ++ earlier) ≡ up_to v earlier
 up_to-newer v version [] earlier above all = refl
 up_to-newer v version (place ∷ newer) earlier above all =
-    cond-false _ (place ∷ up_to v (newer ++ earlier)) (up_to v (newer ++ earlier)) (lt-leb place.version v (omega (arith, all.0)))
+    cond-false _ (place ∷ up_to v (newer ++ earlier)) (up_to v (newer ++ earlier))
+    (lt-leb place.version v (omega (arith, all.0)))
     ∙ up_to-newer v version newer earlier above all.1
 
 -- so below the version the map is that of the earlier places
-map-extends : (splits : List Point) (v version : ℕ) (places earlier : List Place) → v < version → Extends version places earlier
+map-extends : (splits : List Point) (v version : ℕ) (places earlier : List Place) → v < version
+    → Extends version places earlier
     → serial_map_at splits v places ≡ serial_map_at splits v earlier
 map-extends splits v version places earlier above extends =
-    ap (serial_map_at splits v) extends.1 ∙ ap (serial_map splits) (up_to-newer v version extends.0 earlier above extends.2)
+    ap (serial_map_at splits v) extends.1
+    ∙ ap (serial_map splits) (up_to-newer v version extends.0 earlier above extends.2)
 
 -- the earlier places of a history are one
-history-earlier : (resolvers : ℕ) (newer earlier : List Place) → IsHistory resolvers (newer ++ earlier) → IsHistory resolvers earlier
+history-earlier : (resolvers : ℕ) (newer earlier : List Place) → IsHistory resolvers (newer ++ earlier)
+    → IsHistory resolvers earlier
 history-earlier resolvers [] earlier history = history
 history-earlier resolvers (place ∷ newer) earlier history = history-earlier resolvers newer earlier history.2
 
 -- a transaction that was answered on the map at its read version was answered as on the map right before its
 -- place, where it is committed
-answered-there : (splits : List Point) (transcript : Transcript) (version : ℕ) (moves : List Stamped) (earlier : List Place)
+answered-there : (splits : List Point) (transcript : Transcript) (version : ℕ) (moves : List Stamped)
+    (earlier : List Place)
     → IsHistory (suc (length splits)) (placed version moves (commit_request_of transcript) ∷ earlier)
     → committed splits earlier (placed version moves (commit_request_of transcript)) ≡ true
     → replies_of transcript.ops
-    ≡ exec (serial_map_at splits transcript.read_version (placed version moves (commit_request_of transcript) ∷ earlier)) (program transcript.ops)
+    ≡ exec (serial_map_at splits transcript.read_version
+    (placed version moves (commit_request_of transcript) ∷ earlier)) (program transcript.ops)
     → AnsweredOn (serial_map splits earlier) transcript
 answered-there splits transcript version moves earlier history commits answered =
-    subst (λ (replies : List Reply). AgreeWhereOrdinary ops replies (exec (serial_map splits earlier) ops)) (sym answered)
+    subst (λ (replies : List Reply). AgreeWhereOrdinary ops replies (exec (serial_map splits earlier) ops))
+    (sym answered)
     (programs_agree read (serial_map splits earlier) ops
     (λ x is_read. reads_stand splits earlier place history commits x (in_read_ranges read ops x ∙ is_read))).0
   where
@@ -169,7 +193,8 @@ answered-there splits transcript version moves earlier history commits answered 
     read = serial_map_at splits transcript.read_version (place ∷ earlier)
 
 -- one transaction more of a batch stands, if it is committed, and so do the others
-first-stands : (m : Machine) (n p version : ℕ) (transcript : Transcript) (transcripts : List Transcript) (outcomes : List Outcome) (fresh commits : Bool)
+first-stands : (m : Machine) (n p version : ℕ) (transcript : Transcript) (transcripts : List Transcript)
+    (outcomes : List Outcome) (fresh commits : Bool)
     → (commits ≡ true → Stands m (record { spot = spot.Entry n p version; transcript = transcript }))
     → AllByRecursion (Stands m) (placed_from n transcripts outcomes)
     → AllByRecursion (Stands m) (placed_from n (transcript ∷ transcripts)
@@ -182,13 +207,17 @@ first-stands m n p version transcript transcripts outcomes true true here others
 module _ (m : Machine) (n version : ℕ) (moves : List Stamped) (reported : version ≤ m.committed)
     (history : IsHistory (suc (length m.config.resolver_splits)) (seen_of m.book).places) where
   -- those that are committed stand, from place p on
-  stands-from : (transcripts : List Transcript) (earlier : List Place) (p : ℕ) → AllByRecursion (IsReplied m) transcripts
+  stands-from : (transcripts : List Transcript) (earlier : List Place) (p : ℕ)
+      → AllByRecursion (IsReplied m) transcripts
       → Extends version (seen_of m.book).places (add_places version moves (map commit_request_of transcripts) earlier)
       → ((q : ℕ) → place_at m.book n (p + q) ≡ place_in version moves (map commit_request_of transcripts) earlier q)
-      → AllByRecursion (Stands m) (placed_from n transcripts (outcomes_from m.config.resolver_splits version moves (map commit_request_of transcripts) earlier p))
+      → AllByRecursion (Stands m)
+      (placed_from n transcripts
+      (outcomes_from m.config.resolver_splits version moves (map commit_request_of transcripts) earlier p))
   stands-from [] earlier p told extends at = tt
   stands-from (transcript ∷ transcripts) earlier p told extends at =
-      first-stands m n p version transcript transcripts _ (is_fresh place) (committed m.config.resolver_splits earlier place)
+      first-stands m n p version transcript transcripts _ (is_fresh place)
+      (committed m.config.resolver_splits earlier place)
       (λ commits. (
         (
           (place, earlier),
@@ -198,7 +227,8 @@ module _ (m : Machine) (n version : ℕ) (moves : List Stamped) (reported : vers
           commits,
           answered-there m.config.resolver_splits transcript version moves earlier here commits
               (told.0.1 ∙ ap (λ (read : Map). exec read (program transcript.ops))
-              (map-extends m.config.resolver_splits transcript.read_version version (seen_of m.book).places (place ∷ earlier) here.0.0 through)),
+              (map-extends m.config.resolver_splits transcript.read_version version (seen_of m.book).places
+              (place ∷ earlier) here.0.0 through)),
         ),
         (reported, here.0.0),
       ))
@@ -209,25 +239,33 @@ module _ (m : Machine) (n version : ℕ) (moves : List Stamped) (reported : vers
       place = placed version moves (commit_request_of transcript)
 
       through : Extends version (seen_of m.book).places (place ∷ earlier)
-      through = extends-further version (seen_of m.book).places (add_places version moves (map commit_request_of transcripts) (place ∷ earlier)) (place ∷ earlier)
-          extends (extends-batch version version moves (map commit_request_of transcripts) (place ∷ earlier) (le_refl version))
+      through = extends-further version (seen_of m.book).places
+          (add_places version moves (map commit_request_of transcripts) (place ∷ earlier)) (place ∷ earlier)
+          extends (extends-batch version version moves (map commit_request_of transcripts) (place ∷ earlier)
+          (le_refl version))
 
       here : IsHistory (suc (length m.config.resolver_splits)) (place ∷ earlier)
       here = history-earlier (suc (length m.config.resolver_splits)) through.0 (place ∷ earlier)
           (subst (IsHistory (suc (length m.config.resolver_splits))) through.1 history)
 
 -- those of a reported batch that are committed are serialized at their places
-pub batch_serialized : (m : Machine) (commit_proxy : CommitProxy) (entry : Entry) → AreEntries (suc (length m.config.resolver_splits)) 0 m.book
+pub batch_serialized : (m : Machine) (commit_proxy : CommitProxy) (entry : Entry)
+    → AreEntries (suc (length m.config.resolver_splits)) 0 m.book
     → AllByRecursion (IsReplied m) commit_proxy.in_flight → slice_get m.book commit_proxy.entry ≡ Some entry
     → entry.batch ≡ map commit_request_of commit_proxy.in_flight → entry.version ≤ m.committed
-    → AllByRecursion (Stands m) (placed_from commit_proxy.entry commit_proxy.in_flight (outcomes_on m.config.resolver_splits (seen_before m.book commit_proxy.entry) entry))
+    → AllByRecursion (Stands m)
+    (placed_from commit_proxy.entry commit_proxy.in_flight
+    (outcomes_on m.config.resolver_splits (seen_before m.book commit_proxy.entry) entry))
 batch_serialized m commit_proxy entry entries told there batch reported =
     subst (λ (ts : List Transaction). AllByRecursion (Stands m)
-    (placed_from commit_proxy.entry commit_proxy.in_flight (outcomes_from m.config.resolver_splits entry.version moves ts before.places 0)))
+    (placed_from commit_proxy.entry commit_proxy.in_flight
+    (outcomes_from m.config.resolver_splits entry.version moves ts before.places 0)))
     (sym batch)
-    (stands-from m commit_proxy.entry entry.version moves reported (places_are_history (suc (length m.config.resolver_splits)) m.book entries)
+    (stands-from m commit_proxy.entry entry.version moves reported
+    (places_are_history (suc (length m.config.resolver_splits)) m.book entries)
     commit_proxy.in_flight before.places 0 told
-    (subst (λ (ts : List Transaction). Extends entry.version (seen_of m.book).places (add_places entry.version moves ts before.places)) batch
+    (subst (λ (ts : List Transaction). Extends entry.version (seen_of m.book).places
+    (add_places entry.version moves ts before.places)) batch
     (extends-through (suc (length m.config.resolver_splits)) 0 nothing m.book commit_proxy.entry entry entries there))
     (λ q. ap (place_at m.book commit_proxy.entry) (zero-add q)
     ∙ ap (place_of before q) there

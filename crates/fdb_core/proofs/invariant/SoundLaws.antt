@@ -27,8 +27,10 @@ use Rattle.fdb_core.proofs.refinement.SealLemmas.{last-at, sealed_entry, sealed_
 
 module _ (m : Machine) (sound : Invariant m) where
   -- where the book, what is pending and the committed version stay, a machine is sound by its transactions
-  same_book : {decided : List Bool} {resolvers logs : List ℕ} {shards : List ShardProgress} {grv_proxies : List (List ℕ)}
-      {last_transactions : List LastTransaction} {opened : List Transcript} {commit_proxies : List CommitProxy} {acknowledged : List Placed}
+  same_book : {decided : List Bool} {resolvers logs : List ℕ} {shards : List ShardProgress}
+      {grv_proxies : List (List ℕ)}
+      {last_transactions : List LastTransaction} {opened : List Transcript} {commit_proxies : List CommitProxy}
+      {acknowledged : List Placed}
       → AllByRecursion (IsReplied m) opened → AllByRecursion (CommitProxyIsSound m) commit_proxies
       → AllByRecursion (IsSerialized m) acknowledged → AllByRecursion (IsReported m) acknowledged
       → Invariant (record m {
@@ -56,40 +58,56 @@ module _ (m : Machine) (sound : Invariant m) where
   opened-at : (i : ℕ) (transcript : Transcript) → slice_get m.opened i ≡ Some transcript → IsReplied m transcript
   opened-at i transcript = all-at (IsReplied m) m.opened i transcript sound.opened
 
-  commit_proxy-at : (proxy : ℕ) (commit_proxy : CommitProxy) → slice_get m.commit_proxies proxy ≡ Some commit_proxy → CommitProxyIsSound m commit_proxy
-  commit_proxy-at proxy commit_proxy = all-at (CommitProxyIsSound m) m.commit_proxies proxy commit_proxy sound.commit_proxies
+  commit_proxy-at : (proxy : ℕ) (commit_proxy : CommitProxy) → slice_get m.commit_proxies proxy ≡ Some commit_proxy
+      → CommitProxyIsSound m commit_proxy
+  commit_proxy-at proxy commit_proxy = all-at (CommitProxyIsSound m) m.commit_proxies proxy commit_proxy
+      sound.commit_proxies
 
   -- with one commit proxy in the place of another
   with-commit_proxy : (proxy : ℕ) (commit_proxy : CommitProxy) → CommitProxyIsSound m commit_proxy
       → AllByRecursion (CommitProxyIsSound m) (slice_set m.commit_proxies proxy commit_proxy)
-  with-commit_proxy proxy commit_proxy = all-set (CommitProxyIsSound m) m.commit_proxies proxy commit_proxy sound.commit_proxies
+  with-commit_proxy proxy commit_proxy = all-set (CommitProxyIsSound m) m.commit_proxies proxy commit_proxy
+      sound.commit_proxies
 
 -- the entry of a batch in flight
-in_flight-at : (m : Machine) (commit_proxy : CommitProxy) (entry : Entry) → CommitProxyIsSound m commit_proxy → is_idle commit_proxy.stage ≡ false
+in_flight-at : (m : Machine) (commit_proxy : CommitProxy) (entry : Entry) → CommitProxyIsSound m commit_proxy
+    → is_idle commit_proxy.stage ≡ false
     → slice_get m.book commit_proxy.entry ≡ Some entry
-    → (entry.batch ≡ map commit_request_of commit_proxy.in_flight) × (is_reported commit_proxy.stage ≡ true → entry.version ≤ m.committed)
+    → (entry.batch ≡ map commit_request_of commit_proxy.in_flight)
+    × (is_reported commit_proxy.stage ≡ true → entry.version ≤ m.committed)
 in_flight-at m commit_proxy entry sound busy there =
     let flies = sound.2 busy in
-    let same : flies.0 ≡ entry = cc (there, flies.1) in
-    (ap (λ (e : Entry). e.batch) (sym same) ∙ flies.2, λ reported. subst (λ (e : Entry). e.version ≤ m.committed) same (flies.3 reported))
+    let same : flies.0 ≡ entry = cc (there, flies.1) in (
+      ap (λ (e : Entry). e.batch) (sym same)
+          ∙ flies.2,
+      λ reported. subst (λ (e : Entry). e.version ≤ m.committed) same (flies.3 reported),
+    )
 
 -- the batch of a new entry is that of those who waited first at an idle proxy
-sound-sealed : (m : Machine) (proxy advance : ℕ) (commit_proxy : CommitProxy) → Invariant m → slice_get m.commit_proxies proxy ≡ Some commit_proxy
+sound-sealed : (m : Machine) (proxy advance : ℕ) (commit_proxy : CommitProxy) → Invariant m
+    → slice_get m.commit_proxies proxy ≡ Some commit_proxy
     → Invariant (sealed_machine m proxy advance commit_proxy)
 sound-sealed m proxy advance commit_proxy sound at = record {
-  entries = entries_go_on (suc (length m.config.resolver_splits)) 0 m.book entry sound.entries
-      (above, refl, sound.pending, sealed-batch m entry.version sealing (omega (arith, above, sound.committed)) waits, tt);
+  entries = entries_go_on (suc (length m.config.resolver_splits)) 0 m.book entry sound.entries (
+    above,
+    refl,
+    sound.pending,
+    sealed-batch m entry.version sealing (omega (arith, above, sound.committed)) waits,
+    tt,
+  );
   pending = tt;
   committed = let last = last-push m.book entry in omega (arith, above, sound.committed, last);
   opened = all-weaken (IsReplied m) (IsReplied after) told m.opened sound.opened;
   commit_proxies = all-set (CommitProxyIsSound after) m.commit_proxies proxy (sealed_proxy m commit_proxy)
       (all-weaken (CommitProxyIsSound m) (CommitProxyIsSound after) kept m.commit_proxies sound.commit_proxies) (
         all-drop (Waits after) PLACE_LIMIT commit_proxy.waiting now.0,
-        all-map (Waits after) (IsReplied after) (λ (submission : Submission). submission.transcript) (λ submission waiting. waiting.1) sealing
+        all-map (Waits after) (IsReplied after) (λ (submission : Submission). submission.transcript)
+            (λ submission waiting. waiting.1) sealing
             (all-take (Waits after) PLACE_LIMIT commit_proxy.waiting now.0),
         λ _. (entry, last-at m.book entry, sealed-in_flight m sealing waits, λ reported. cc),
       );
-  acknowledged = all-weaken (IsSerialized m) (IsSerialized after) (λ placed. spot-stays m entry placed.transcript placed.spot above)
+  acknowledged = all-weaken (IsSerialized m) (IsSerialized after)
+      (λ placed. spot-stays m entry placed.transcript placed.spot above)
       m.acknowledged sound.acknowledged;
   reported = sound.reported;
 }
@@ -110,7 +128,8 @@ sound-sealed m proxy advance commit_proxy sound at = record {
     told transcript = told-entry m entry transcript (omega (arith, above, sound.committed))
 
     kept : (other : CommitProxy) → CommitProxyIsSound m other → CommitProxyIsSound after other
-    kept = commit_proxy-kept m after (le_refl m.committed) told (λ i other there. found-front m.book (entry ∷ []) i other there)
+    kept = commit_proxy-kept m after (le_refl m.committed) told
+        (λ i other there. found-front m.book (entry ∷ []) i other there)
 
     waits : AllByRecursion (Waits m) sealing
     waits = all-take (Waits m) PLACE_LIMIT commit_proxy.waiting (commit_proxy-at m sound proxy commit_proxy at).0
@@ -120,7 +139,8 @@ sound-sealed m proxy advance commit_proxy sound at = record {
 
 -- a proxy that is done logging reports its batch
 sound-reported : (m : Machine) (proxy : ℕ) (commit_proxy : CommitProxy) (entry : Entry) → Invariant m
-    → slice_get m.commit_proxies proxy ≡ Some commit_proxy → is_idle commit_proxy.stage ≡ false → slice_get m.book commit_proxy.entry ≡ Some entry
+    → slice_get m.commit_proxies proxy ≡ Some commit_proxy → is_idle commit_proxy.stage ≡ false
+    → slice_get m.book commit_proxy.entry ≡ Some entry
     → Invariant (record m {
       committed = max m.committed entry.version;
       commit_proxies = slice_set m.commit_proxies proxy (record commit_proxy { stage = Reported });
@@ -128,13 +148,19 @@ sound-reported : (m : Machine) (proxy : ℕ) (commit_proxy : CommitProxy) (entry
 sound-reported m proxy commit_proxy entry sound at busy there = record {
   entries = sound.entries;
   pending = sound.pending;
-  committed = omega (arith, sound.committed, version-within (suc (length m.config.resolver_splits)) 0 m.book commit_proxy.entry entry sound.entries there);
+  committed = omega (
+    arith,
+    sound.committed,
+    version-within (suc (length m.config.resolver_splits)) 0 m.book commit_proxy.entry entry
+        sound.entries there,
+  );
   opened = all-weaken (IsReplied m) (IsReplied raised) told m.opened sound.opened;
   commit_proxies = all-set (CommitProxyIsSound raised) m.commit_proxies proxy (record commit_proxy { stage = Reported })
       (all-weaken (CommitProxyIsSound m) (CommitProxyIsSound raised) kept m.commit_proxies sound.commit_proxies)
       (now.0, now.1, λ _. (entry, there, (in_flight-at m commit_proxy entry was busy there).0, λ _. omega arith));
   acknowledged = sound.acknowledged;
-  reported = all-weaken (IsReported m) (IsReported raised) (λ placed is. (le_trans is.0 up, is.1)) m.acknowledged sound.reported;
+  reported = all-weaken (IsReported m) (IsReported raised) (λ placed is. (le_trans is.0 up, is.1)) m.acknowledged
+      sound.reported;
 }
   where
     raised : Machine
@@ -158,40 +184,53 @@ sound-reported m proxy commit_proxy entry sound at busy there = record {
 -- every step keeps a machine sound
 pub sound_steps : KeptBySteps Invariant
 sound_steps = record {
-  roles = λ m resolvers logs shards sound. same_book m sound sound.opened sound.commit_proxies sound.acknowledged sound.reported;
+  roles = λ m resolvers logs shards sound. same_book m sound sound.opened sound.commit_proxies sound.acknowledged
+      sound.reported;
   asked = λ m session proxy there at free sound.
-      same_book m sound (all-without (IsReplied m) session m.opened sound.opened) sound.commit_proxies sound.acknowledged sound.reported;
+      same_book m sound (all-without (IsReplied m) session m.opened sound.opened) sound.commit_proxies
+      sound.acknowledged sound.reported;
   granted = λ m proxy there at left sound.
-      let first = all-served (λ last_transactions. IsReplied m) m.committed (λ last_transactions session t told. told) (λ last_transactions session. (le_refl m.committed, refl)) in
-      same_book m sound (first there m.last_transactions m.opened sound.opened) sound.commit_proxies sound.acknowledged sound.reported;
+      let first = all-served (λ last_transactions. IsReplied m) m.committed (λ last_transactions session t told. told)
+      (λ last_transactions session. (le_refl m.committed, refl)) in
+      same_book m sound (first there m.last_transactions m.opened sound.opened) sound.commit_proxies sound.acknowledged
+      sound.reported;
   operated = λ m i transcript operation there sound.
-      same_book m sound (all-set (IsReplied m) m.opened i _ sound.opened (told-push m transcript operation _ refl (opened-at m sound i transcript there)))
+      same_book m sound
+      (all-set (IsReplied m) m.opened i _ sound.opened
+      (told-push m transcript operation _ refl (opened-at m sound i transcript there)))
       sound.commit_proxies sound.acknowledged sound.reported;
   read_only = λ m i transcript there empty sound.
       let told = opened-at m sound i transcript there in
       same_book m sound (all-remove (IsReplied m) m.opened i sound.opened) sound.commit_proxies
-      (all-push (IsSerialized m) m.acknowledged _ sound.acknowledged (read_only_serialized m transcript sound.committed told empty))
+      (all-push (IsSerialized m) m.acknowledged _ sound.acknowledged
+      (read_only_serialized m transcript sound.committed told empty))
       (all-push (IsReported m) m.acknowledged _ sound.reported (told.0, le_refl transcript.read_version));
   submitted = λ m proxy commit_proxy i transcript at there writes sound.
       let was = commit_proxy-at m sound proxy commit_proxy at in
       let waits : Submission = record { sealed = commit_request_of transcript; transcript = transcript } in
       let waiting = all-push (Waits m) commit_proxy.waiting waits was.0 (refl, opened-at m sound i transcript there) in
-      same_book m sound (all-remove (IsReplied m) m.opened i sound.opened) (with-commit_proxy m sound proxy _ (waiting, was.1, was.2))
+      same_book m sound (all-remove (IsReplied m) m.opened i sound.opened)
+      (with-commit_proxy m sound proxy _ (waiting, was.1, was.2))
       sound.acknowledged sound.reported;
   sealed = λ m proxy advance commit_proxy at idle few room sound. sound-sealed m proxy advance commit_proxy sound at;
   went_on = λ m proxy commit_proxy stage decided verdicts acknowledgements at busy goes_on unreported sound.
       let was = commit_proxy-at m sound proxy commit_proxy at in
       let flies = was.2 busy in
-      same_book m sound sound.opened (with-commit_proxy m sound proxy _ (was.0, was.1, λ _. (flies.0, flies.1, flies.2, λ reported. cc)))
+      same_book m sound sound.opened
+      (with-commit_proxy m sound proxy _ (was.0, was.1, λ _. (flies.0, flies.1, flies.2, λ reported. cc)))
       sound.acknowledged sound.reported;
-  reported_version = λ m proxy commit_proxy entry at logging there sound. sound-reported m proxy commit_proxy entry sound at (ap is_idle logging) there;
+  reported_version = λ m proxy commit_proxy entry at logging there sound. sound-reported m proxy commit_proxy entry
+      sound at (ap is_idle logging) there;
   told = λ m proxy commit_proxy entry at reported there sound.
       let was = commit_proxy-at m sound proxy commit_proxy at in
       let flies = in_flight-at m commit_proxy entry was (ap is_idle reported) there in
-      let stand = batch_serialized m commit_proxy entry sound.entries was.1 there flies.0 (flies.1 (ap is_reported reported)) in
+      let stand = batch_serialized m commit_proxy entry sound.entries was.1 there flies.0
+      (flies.1 (ap is_reported reported)) in
       same_book m sound sound.opened (with-commit_proxy m sound proxy _ (was.0, tt, λ busy. cc))
-      (all-append (IsSerialized m) m.acknowledged _ sound.acknowledged (all-weaken (Stands m) (IsSerialized m) (λ placed stands. stands.0) _ stand))
-      (all-append (IsReported m) m.acknowledged _ sound.reported (all-weaken (Stands m) (IsReported m) (λ placed stands. stands.1) _ stand));
+      (all-append (IsSerialized m) m.acknowledged _ sound.acknowledged
+      (all-weaken (Stands m) (IsSerialized m) (λ placed stands. stands.0) _ stand))
+      (all-append (IsReported m) m.acknowledged _ sound.reported
+      (all-weaken (Stands m) (IsReported m) (λ placed stands. stands.1) _ stand));
 }
 
 -- the machine before its first step is sound
@@ -207,5 +246,6 @@ sound-start config = record {
 }
 
 -- and so it is after any trace
-pub sound-trace : (config : Config) (steps : List Step) (given : List (Result Answered Refusal)) → Invariant (machine_of_trace config steps given)
+pub sound-trace : (config : Config) (steps : List Step) (given : List (Result Answered Refusal))
+    → Invariant (machine_of_trace config steps given)
 sound-trace config steps given = kept-by_trace Invariant sound_steps (start config) steps given (sound-start config)

@@ -1,4 +1,5 @@
--- What it takes to keep the machine sound: tests that accepted steps passed, transcripts, the book, and parts that change.
+-- What it takes to keep the machine sound: tests that accepted steps passed, transcripts, the book, and parts that
+-- change.
 use Rattle.std.proofs.Common.{◌≡◌, ◌∙◌, refl, sym, ap, ap₂, subst, arith, ◌<◌, ◌≤◌, le_refl, le_trans, ℕ, zero, suc, Bool, true, false, ◌||◌, List, [], ◌∷◌, ◌++◌, fold, map, Some, None, position}
 use Rattle.std.specs.List.{AllByRecursion, slice_get}
 use Rattle.std.proofs.lemmas.List.Sums.{fold-append}
@@ -32,38 +33,51 @@ use Rattle.fdb_core.proofs.programs.ReadSetLemmas.{in_with_range}
 use Rattle.fdb_core.proofs.programs.ProgramLaws.{program-push}
 
 -- what holds of the open transactions holds of those but the session's
-pub all-without : (P : Transcript → Type 0) (session : ℕ) (opened : List Transcript) → AllByRecursion P opened → AllByRecursion P (without session opened)
+pub all-without : (P : Transcript → Type 0) (session : ℕ) (opened : List Transcript) → AllByRecursion P opened
+    → AllByRecursion P (without session opened)
 all-without P session opened all =
-    elim (position (is_of session) opened) as (λ there. AllByRecursion P (without_at opened there)) [ None ↦ all | Some i ↦ all-remove P opened i all ]
+    elim (position (is_of session) opened) as (λ there. AllByRecursion P (without_at opened there))
+    [ None ↦ all | Some i ↦ all-remove P opened i all ]
 
--- what holds of transactions at their begin, and stays so when sessions begin more, holds still when sessions are served
+-- what holds of transactions at their begin, and stays so when sessions begin more, holds still when sessions are
+-- served
 module _ (P : List LastTransaction → Transcript → Type 0) (version : ℕ)
-    (more : (last_transactions : List LastTransaction) (session : ℕ) (t : Transcript) → P last_transactions t → P (begin_next last_transactions session) t) where
-  pub served-more : (sessions : List ℕ) (last_transactions : List LastTransaction) (opened : List Transcript) (t : Transcript)
+    (more : (last_transactions : List LastTransaction) (session : ℕ) (t : Transcript) → P last_transactions t
+    → P (begin_next last_transactions session) t) where
+  pub served-more : (sessions : List ℕ) (last_transactions : List LastTransaction) (opened : List Transcript)
+      (t : Transcript)
       → P last_transactions t → P (fold (serve version) (last_transactions, opened) sessions).0 t
   served-more [] last_transactions opened t holds = holds
   served-more (session ∷ sessions) last_transactions opened t holds =
-      served-more sessions (begin_next last_transactions session) (opened ++ first_of last_transactions version session ∷ []) t
+      served-more sessions (begin_next last_transactions session)
+      (opened ++ first_of last_transactions version session ∷ []) t
       (more last_transactions session t holds)
 
   pub all-served : ((last_transactions : List LastTransaction) (session : ℕ)
       → P (begin_next last_transactions session) (first_of last_transactions version session))
-      → (sessions : List ℕ) (last_transactions : List LastTransaction) (opened : List Transcript) → AllByRecursion (P last_transactions) opened
-      → AllByRecursion (P (fold (serve version) (last_transactions, opened) sessions).0) (fold (serve version) (last_transactions, opened) sessions).1
+      → (sessions : List ℕ) (last_transactions : List LastTransaction) (opened : List Transcript)
+      → AllByRecursion (P last_transactions) opened
+      → AllByRecursion (P (fold (serve version) (last_transactions, opened) sessions).0)
+      (fold (serve version) (last_transactions, opened) sessions).1
   all-served first [] last_transactions opened all = all
   all-served first (session ∷ sessions) last_transactions opened all =
-      all-served first sessions (begin_next last_transactions session) (opened ++ first_of last_transactions version session ∷ [])
+      all-served first sessions (begin_next last_transactions session)
+      (opened ++ first_of last_transactions version session ∷ [])
       (all-push (P (begin_next last_transactions session)) opened (first_of last_transactions version session)
-      (all-weaken (P last_transactions) (P (begin_next last_transactions session)) (more last_transactions session) opened all)
+      (all-weaken (P last_transactions) (P (begin_next last_transactions session)) (more last_transactions session)
+      opened all)
       (first last_transactions session))
 
 -- the reply to one more operation is the newest
-pub replies_of-push : (ops : List (Op × Reply)) (done : Op × Reply) → replies_of (ops ++ done ∷ []) ≡ done.1 ∷ replies_of ops
+pub replies_of-push : (ops : List (Op × Reply)) (done : Op × Reply)
+    → replies_of (ops ++ done ∷ []) ≡ done.1 ∷ replies_of ops
 replies_of-push ops done = fold-append (λ (earlier : List Reply) (one : Op × Reply). one.1 ∷ earlier) [] ops (done ∷ [])
 
 -- a transcript stays told with one more operation that is replied from the copy after the earlier ones
 pub told-push : (m : Machine) (transcript : Transcript) (op : Op) (reply : Reply)
-    → reply ≡ reply_on (copy (serial_map_at m.config.resolver_splits transcript.read_version (seen_of m.book).places) (program transcript.ops)) op
+    → reply ≡ reply_on
+    (copy (serial_map_at m.config.resolver_splits transcript.read_version (seen_of m.book).places)
+    (program transcript.ops)) op
     → IsReplied m transcript → IsReplied m (record transcript { ops = transcript.ops ++ (op, reply) ∷ [] })
 told-push m transcript op reply is told = (
   told.0,
@@ -103,23 +117,29 @@ commit_request_of-names transcript x named =
     in_with_named mutations [] x ∙ ap (λ (some : Bool). some || false) named
 
 -- those who wait may be the batch of an entry of a version above the committed one
-pub sealed-batch : (m : Machine) (version : ℕ) (submissions : List Submission) → m.committed < version → AllByRecursion (Waits m) submissions
-    → AllByRecursion (λ (t : Transaction). (t.read < version) × NamesWrites t) (map (λ (submission : Submission). submission.sealed) submissions)
+pub sealed-batch : (m : Machine) (version : ℕ) (submissions : List Submission) → m.committed < version
+    → AllByRecursion (Waits m) submissions
+    → AllByRecursion (λ (t : Transaction). (t.read < version) × NamesWrites t)
+    (map (λ (submission : Submission). submission.sealed) submissions)
 sealed-batch m version submissions above waits =
     all-map (Waits m) May (λ (submission : Submission). submission.sealed)
-    (λ submission waiting. subst May (sym waiting.0) (omega (arith, waiting.1.0, above), commit_request_of-names submission.transcript)) submissions waits
+    (λ submission waiting. subst May (sym waiting.0)
+    (omega (arith, waiting.1.0, above), commit_request_of-names submission.transcript)) submissions waits
   where
     May : Transaction → Type 0
     May t = (t.read < version) × NamesWrites t
 
 -- and what is judged of them is what is submitted of their transcripts
 pub sealed-in_flight : (m : Machine) (submissions : List Submission) → AllByRecursion (Waits m) submissions
-    → map (λ (submission : Submission). submission.sealed) submissions ≡ map commit_request_of (map (λ (submission : Submission). submission.transcript) submissions)
+    → map (λ (submission : Submission). submission.sealed) submissions ≡ map commit_request_of
+    (map (λ (submission : Submission). submission.transcript) submissions)
 sealed-in_flight m [] waits = refl
-sealed-in_flight m (submission ∷ submissions) waits = ap₂ (λ first others. first ∷ others) waits.0.0 (sealed-in_flight m submissions waits.1)
+sealed-in_flight m (submission ∷ submissions) waits = ap₂ (λ first others. first ∷ others) waits.0.0
+    (sealed-in_flight m submissions waits.1)
 
 -- what is found in a list is found there with more after it
-pub found-front : {A : Type 0} (xs ys : List A) (i : ℕ) (x : A) → slice_get xs i ≡ Some x → slice_get (xs ++ ys) i ≡ Some x
+pub found-front : {A : Type 0} (xs ys : List A) (i : ℕ) (x : A) → slice_get xs i ≡ Some x
+    → slice_get (xs ++ ys) i ≡ Some x
 found-front [] ys i x there = cc
 found-front (y ∷ xs) ys zero x there = there
 found-front (y ∷ xs) ys (suc i) x there = found-front xs ys i x there
@@ -131,29 +151,37 @@ last-above resolvers last (entry ∷ book) entries =
     let rest = last-above resolvers entry.version book entries.4 in
     omega (arith, entries.0, rest)
 
-pub version-within : (resolvers last : ℕ) (book : List Entry) (i : ℕ) (entry : Entry) → AreEntries resolvers last book → slice_get book i ≡ Some entry
+pub version-within : (resolvers last : ℕ) (book : List Entry) (i : ℕ) (entry : Entry) → AreEntries resolvers last book
+    → slice_get book i ≡ Some entry
     → entry.version ≤ version_after last book
 version-within resolvers last [] i entry entries there = cc
 version-within resolvers last (first ∷ book) zero entry entries there =
     let same : first ≡ entry = cc in
-    subst (λ (e : Entry). e.version ≤ version_after first.version book) same (last-above resolvers first.version book entries.4)
-version-within resolvers last (first ∷ book) (suc i) entry entries there = version-within resolvers first.version book i entry entries.4 there
+    subst (λ (e : Entry). e.version ≤ version_after first.version book) same
+    (last-above resolvers first.version book entries.4)
+version-within resolvers last (first ∷ book) (suc i) entry entries there = version-within resolvers first.version book i
+    entry entries.4 there
 
 -- with one more entry of a version above the committed one each transcript stays told
-pub told-entry : (m : Machine) (entry : Entry) (transcript : Transcript) → m.committed < entry.version → IsReplied m transcript
+pub told-entry : (m : Machine) (entry : Entry) (transcript : Transcript) → m.committed < entry.version
+    → IsReplied m transcript
     → IsReplied (record m { book = m.book ++ entry ∷ [] }) transcript
 told-entry m entry transcript above told = (
   told.0,
   told.1 ∙ ap (λ (there : Map). exec there (program transcript.ops))
-      (sym (earlier_maps_stay m.config.resolver_splits m.book entry transcript.read_version (omega (arith, told.0, above)))),
+      (sym (earlier_maps_stay m.config.resolver_splits m.book entry transcript.read_version
+      (omega (arith, told.0, above)))),
 )
 
 -- what keeps transcripts told and entries found, and lowers nothing, keeps commit proxies sound
-pub commit_proxy-kept : (m after : Machine) → m.committed ≤ after.committed → ((transcript : Transcript) → IsReplied m transcript → IsReplied after transcript)
+pub commit_proxy-kept : (m after : Machine) → m.committed ≤ after.committed
+    → ((transcript : Transcript) → IsReplied m transcript → IsReplied after transcript)
     → ((i : ℕ) (entry : Entry) → slice_get m.book i ≡ Some entry → slice_get after.book i ≡ Some entry)
     → (commit_proxy : CommitProxy) → CommitProxyIsSound m commit_proxy → CommitProxyIsSound after commit_proxy
 commit_proxy-kept m after raised told found commit_proxy sound = (
-  all-weaken (Waits m) (Waits after) (λ (submission : Submission) waits. (waits.0, told submission.transcript waits.1)) commit_proxy.waiting sound.0,
+  all-weaken (Waits m) (Waits after) (λ (submission : Submission) waits. (waits.0, told submission.transcript waits.1))
+      commit_proxy.waiting sound.0,
   all-weaken (IsReplied m) (IsReplied after) told commit_proxy.in_flight sound.1,
-  λ busy. let there = sound.2 busy in (there.0, found commit_proxy.entry there.0 there.1, there.2, λ reported. le_trans (there.3 reported) raised),
+  λ busy. let there = sound.2 busy in
+      (there.0, found commit_proxy.entry there.0 there.1, there.2, λ reported. le_trans (there.3 reported) raised),
 )

@@ -14,54 +14,65 @@ IfAccepted Q (Ok transition) = Q transition
 IfAccepted Q (Err refusal) = ⊤
 
 -- so it holds of what a step is known to go on to
-pub of-accepted : (Q : Transition → Type 0) (result : Result Transition Refusal) (transition : Transition) → result ≡ Ok transition
+pub of-accepted : (Q : Transition → Type 0) (result : Result Transition Refusal) (transition : Transition)
+    → result ≡ Ok transition
     → IfAccepted Q result → Q transition
 of-accepted Q result transition accepted holds = subst (IfAccepted Q) accepted holds
 
 module _ (Q : Transition → Type 0) where
   -- after a number it holds if it does after what has it
-  pub past-found : {A : Type 0} (x : Option A) (next : A → Result Transition Refusal) → ((a : A) → x ≡ Some a → IfAccepted Q (next a))
+  pub past-found : {A : Type 0} (x : Option A) (next : A → Result Transition Refusal)
+      → ((a : A) → x ≡ Some a → IfAccepted Q (next a))
       → IfAccepted Q (found x next)
   past-found None next holds = tt
   past-found (Some a) next holds = holds a refl
 
   -- after a test, if it does where that fails
-  pub past-test : (test : Bool) (refusal : Refusal) (next : Result Transition Refusal) → (test ≡ false → IfAccepted Q next)
+  pub past-test : (test : Bool) (refusal : Refusal) (next : Result Transition Refusal)
+      → (test ≡ false → IfAccepted Q next)
       → IfAccepted Q (refused_where test refusal next)
   past-test true refusal next holds = tt
   past-test false refusal next holds = holds refl
 
   -- after what may be at fault, if it does where nothing is
-  pub past-fault : (fault : Option Refusal) (next : Result Transition Refusal) → (fault ≡ None → IfAccepted Q next) → IfAccepted Q (refused_by fault next)
+  pub past-fault : (fault : Option Refusal) (next : Result Transition Refusal) → (fault ≡ None → IfAccepted Q next)
+      → IfAccepted Q (refused_by fault next)
   past-fault None next holds = holds refl
   past-fault (Some why) next holds = tt
 
   -- after a wait, if it does where none is missing
-  pub past-wait : (missing : Option ℕ) (next : Result Transition Refusal) → (missing ≡ None → IfAccepted Q next) → IfAccepted Q (waits_for missing next)
+  pub past-wait : (missing : Option ℕ) (next : Result Transition Refusal) → (missing ≡ None → IfAccepted Q next)
+      → IfAccepted Q (waits_for missing next)
   past-wait None next holds = holds refl
   past-wait (Some i) next holds = tt
 
   -- after an entry's turn
-  pub past-turn : (taken i : ℕ) (entry : Entry) (next : Result Transition Refusal) → IfAccepted Q next → IfAccepted Q (in_turn taken i entry next)
-  past-turn taken i entry next holds = past-test (nat_lt i taken) Stale _ (λ _. past-test (nat_lt taken i) (NotYet entry.prev) next (λ _. holds))
+  pub past-turn : (taken i : ℕ) (entry : Entry) (next : Result Transition Refusal) → IfAccepted Q next
+      → IfAccepted Q (in_turn taken i entry next)
+  past-turn taken i entry next holds = past-test (nat_lt i taken) Stale _
+      (λ _. past-test (nat_lt taken i) (NotYet entry.prev) next (λ _. holds))
 
   -- after a choice, if it does in both
-  pub past-choice : (test : Bool) (one other : Result Transition Refusal) → (test ≡ true → IfAccepted Q one) → (test ≡ false → IfAccepted Q other)
+  pub past-choice : (test : Bool) (one other : Result Transition Refusal) → (test ≡ true → IfAccepted Q one)
+      → (test ≡ false → IfAccepted Q other)
       → IfAccepted Q (if test then one else other)
   past-choice true one other first second = first refl
   past-choice false one other first second = second refl
 
   -- after a session's open transaction
   pub past-opened : (session : ℕ) (opened : List Transcript) (next : ℕ → Transcript → Result Transition Refusal)
-      → ((i : ℕ) (transcript : Transcript) → position (is_of session) opened ≡ Some i → slice_get opened i ≡ Some transcript → IfAccepted Q (next i transcript))
+      → ((i : ℕ) (transcript : Transcript) → position (is_of session) opened ≡ Some i
+      → slice_get opened i ≡ Some transcript → IfAccepted Q (next i transcript))
       → IfAccepted Q (with_opened session opened next)
   past-opened session opened next holds = at_place (position (is_of session) opened) refl
     where
-      at_transcript : (i : ℕ) → position (is_of session) opened ≡ Some i → (there : Option Transcript) → slice_get opened i ≡ there
+      at_transcript : (i : ℕ) → position (is_of session) opened ≡ Some i → (there : Option Transcript)
+          → slice_get opened i ≡ there
           → IfAccepted Q (with_opened session opened next)
       at_transcript i at None there = rw (at, there) tt
       at_transcript i at (Some transcript) there = rw (at, there) (holds i transcript at there)
 
-      at_place : (place : Option ℕ) → position (is_of session) opened ≡ place → IfAccepted Q (with_opened session opened next)
+      at_place : (place : Option ℕ) → position (is_of session) opened ≡ place
+          → IfAccepted Q (with_opened session opened next)
       at_place None at = rw at tt
       at_place (Some i) at = at_transcript i at (slice_get opened i) refl

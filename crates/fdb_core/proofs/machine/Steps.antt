@@ -34,46 +34,60 @@ use Rattle.fdb_core.proofs.refinement.SealLemmas.{sealed_machine}
 
 -- the transaction writes nothing
 abbrev pub writes_nothing : Transcript → Bool
-writes_nothing transcript = is_nil (commit_request_of transcript).mutations && is_nil (commit_request_of transcript).writes
+writes_nothing transcript = is_nil (commit_request_of transcript).mutations && is_nil
+    (commit_request_of transcript).writes
 
--- What accepted steps do, by the fields that they change. The relation is between the machine, the version that the step
+-- What accepted steps do, by the fields that they change. The relation is between the machine, the version that the
+-- step
 -- reports, which is 0 at all but a report, and the machine after the step.
 pub record HoldsOfSteps (R : Machine → ℕ → Machine → Type 0) : Type 0 where
   -- resolvers, logs and shards went on (Resolve, Push, Pull)
-  pub roles : (m : Machine) (resolvers logs : List ℕ) (shards : List ShardProgress) → R m 0 (record m { resolvers = resolvers; logs = logs; shards = shards })
+  pub roles : (m : Machine) (resolvers logs : List ℕ) (shards : List ShardProgress)
+      → R m 0 (record m { resolvers = resolvers; logs = logs; shards = shards })
   -- a session that waited nowhere asks (Ask)
   pub asked : (m : Machine) (session proxy : ℕ) (there : List ℕ) → slice_get m.grv_proxies proxy ≡ Some there
       → is_busy session m.grv_proxies m.commit_proxies ≡ false
-      → R m 0 (record m { opened = without session m.opened; grv_proxies = slice_set m.grv_proxies proxy (there ++ session ∷ []) })
+      → R m 0 (record m
+      { opened = without session m.opened; grv_proxies = slice_set m.grv_proxies proxy (there ++ session ∷ []) })
   -- those who ask are served, each of whom has a number left (Grant)
   pub granted : (m : Machine) (proxy : ℕ) (there : List ℕ) → slice_get m.grv_proxies proxy ≡ Some there
       → list_any (has_no_number m.last_transactions) there ≡ false
       → let served = fold (serve m.committed) (m.last_transactions, m.opened) there in
-      R m 0 (record m { last_transactions = served.0; opened = served.1; grv_proxies = slice_set m.grv_proxies proxy [] })
+      R m 0 (record m
+      { last_transactions = served.0; opened = served.1; grv_proxies = slice_set m.grv_proxies proxy [] })
   -- an operation went to an open transaction, with its reply (Get, Write)
-  pub operated : (m : Machine) (i : ℕ) (transcript : Transcript) (operation : Op) → slice_get m.opened i ≡ Some transcript
+  pub operated : (m : Machine) (i : ℕ) (transcript : Transcript) (operation : Op)
+      → slice_get m.opened i ≡ Some transcript
       → let there = serial_map_at m.config.resolver_splits transcript.read_version (seen_of m.book).places in
       R m 0 (add_operation m i transcript operation (reply_on (copy there (program transcript.ops)) operation))
   -- a transaction that writes nothing is acknowledged (Submit)
-  pub read_only : (m : Machine) (i : ℕ) (transcript : Transcript) → slice_get m.opened i ≡ Some transcript → writes_nothing transcript ≡ true
+  pub read_only : (m : Machine) (i : ℕ) (transcript : Transcript) → slice_get m.opened i ≡ Some transcript
+      → writes_nothing transcript ≡ true
       → R m 0 (record m {
         opened = remove m.opened i;
-        acknowledged = m.acknowledged ++ record { spot = spot.ReadOnly transcript.read_version; transcript = transcript } ∷ [];
+        acknowledged = m.acknowledged ++ record
+            { spot = spot.ReadOnly transcript.read_version; transcript = transcript } ∷ [];
       })
   -- any other waits at a commit proxy (Submit)
   pub submitted : (m : Machine) (proxy : ℕ) (commit_proxy : CommitProxy) (i : ℕ) (transcript : Transcript)
-      → slice_get m.commit_proxies proxy ≡ Some commit_proxy → slice_get m.opened i ≡ Some transcript → writes_nothing transcript ≡ false
+      → slice_get m.commit_proxies proxy ≡ Some commit_proxy → slice_get m.opened i ≡ Some transcript
+      → writes_nothing transcript ≡ false
       → let submission : Submission = record { sealed = commit_request_of transcript; transcript = transcript } in
       R m 0 (record m {
         opened = remove m.opened i;
-        commit_proxies = slice_set m.commit_proxies proxy (record commit_proxy { waiting = commit_proxy.waiting ++ submission ∷ [] });
+        commit_proxies = slice_set m.commit_proxies proxy
+            (record commit_proxy { waiting = commit_proxy.waiting ++ submission ∷ [] });
       })
   -- a proxy made those who wait the batch of the next entry, where a version and a place in the book are left (Seal)
-  pub sealed : (m : Machine) (proxy advance : ℕ) (commit_proxy : CommitProxy) → slice_get m.commit_proxies proxy ≡ Some commit_proxy → commit_proxy.stage ≡ Idle
-      → next_version (last_version m.book) advance ≤ version_limit → length m.book < m.config.book → R m 0 (sealed_machine m proxy advance commit_proxy)
+  pub sealed : (m : Machine) (proxy advance : ℕ) (commit_proxy : CommitProxy)
+      → slice_get m.commit_proxies proxy ≡ Some commit_proxy → commit_proxy.stage ≡ Idle
+      → next_version (last_version m.book) advance ≤ version_limit → length m.book < m.config.book
+      → R m 0 (sealed_machine m proxy advance commit_proxy)
   -- a proxy went on with its batch, which isn't reported (Verdict, Decide, Logged)
-  pub went_on : (m : Machine) (proxy : ℕ) (commit_proxy : CommitProxy) (stage : Stage) (decided verdicts_received acknowledgements_received : List Bool)
-      → slice_get m.commit_proxies proxy ≡ Some commit_proxy → is_idle commit_proxy.stage ≡ false → is_idle stage ≡ false → is_reported stage ≡ false
+  pub went_on : (m : Machine) (proxy : ℕ) (commit_proxy : CommitProxy) (stage : Stage)
+      (decided verdicts_received acknowledgements_received : List Bool)
+      → slice_get m.commit_proxies proxy ≡ Some commit_proxy → is_idle commit_proxy.stage ≡ false
+      → is_idle stage ≡ false → is_reported stage ≡ false
       → R m 0 (record m {
         decided = decided;
         commit_proxies = slice_set m.commit_proxies proxy (record commit_proxy {
@@ -84,14 +98,16 @@ pub record HoldsOfSteps (R : Machine → ℕ → Machine → Type 0) : Type 0 wh
       })
   -- a proxy reported its batch (Report)
   pub reported_version : (m : Machine) (proxy : ℕ) (commit_proxy : CommitProxy) (entry : Entry)
-      → slice_get m.commit_proxies proxy ≡ Some commit_proxy → commit_proxy.stage ≡ Logging → slice_get m.book commit_proxy.entry ≡ Some entry
+      → slice_get m.commit_proxies proxy ≡ Some commit_proxy → commit_proxy.stage ≡ Logging
+      → slice_get m.book commit_proxy.entry ≡ Some entry
       → R m (max m.committed entry.version) (record m {
         committed = max m.committed entry.version;
         commit_proxies = slice_set m.commit_proxies proxy (record commit_proxy { stage = Reported });
       })
   -- a proxy told the clients of its reported batch (Answer)
   pub told : (m : Machine) (proxy : ℕ) (commit_proxy : CommitProxy) (entry : Entry)
-      → slice_get m.commit_proxies proxy ≡ Some commit_proxy → commit_proxy.stage ≡ Reported → slice_get m.book commit_proxy.entry ≡ Some entry
+      → slice_get m.commit_proxies proxy ≡ Some commit_proxy → commit_proxy.stage ≡ Reported
+      → slice_get m.book commit_proxy.entry ≡ Some entry
       → let outcomes = outcomes_on m.config.resolver_splits (seen_before m.book commit_proxy.entry) entry in
       R m 0 (record m {
         acknowledged = m.acknowledged ++ placed_from commit_proxy.entry commit_proxy.in_flight outcomes;
@@ -113,67 +129,84 @@ module _ (R : Machine → ℕ → Machine → Type 0) (holds : HoldsOfSteps R) w
   Leads m taken transition = R m (reported taken (Ok transition.answer)) transition.next
 
   -- what a proxy waits for comes
-  received : (m : Machine) (proxy : ℕ) (commit_proxy : CommitProxy) (i : ℕ) (sender : Sender) → slice_get m.commit_proxies proxy ≡ Some commit_proxy
-      → awaits commit_proxy i sender ≡ true → R m 0 (record m { commit_proxies = slice_set m.commit_proxies proxy (with_received commit_proxy sender) })
+  received : (m : Machine) (proxy : ℕ) (commit_proxy : CommitProxy) (i : ℕ) (sender : Sender)
+      → slice_get m.commit_proxies proxy ≡ Some commit_proxy
+      → awaits commit_proxy i sender ≡ true
+      → R m 0 (record m { commit_proxies = slice_set m.commit_proxies proxy (with_received commit_proxy sender) })
   received m proxy commit_proxy i (FromResolver resolver) at awaited =
       let stage = (stage-is commit_proxy.stage).1 (and_parts _ _ (and_parts _ _ awaited).0).0 in
-      holds.went_on m proxy commit_proxy commit_proxy.stage m.decided _ _ at (ap is_idle stage) (ap is_idle stage) (ap is_reported stage)
+      holds.went_on m proxy commit_proxy commit_proxy.stage m.decided _ _ at (ap is_idle stage) (ap is_idle stage)
+      (ap is_reported stage)
   received m proxy commit_proxy i (FromLog log) at awaited =
       let stage = (stage-is commit_proxy.stage).2 (and_parts _ _ (and_parts _ _ awaited).0).0 in
-      holds.went_on m proxy commit_proxy commit_proxy.stage m.decided _ _ at (ap is_idle stage) (ap is_idle stage) (ap is_reported stage)
+      holds.went_on m proxy commit_proxy commit_proxy.stage m.decided _ _ at (ap is_idle stage) (ap is_idle stage)
+      (ap is_reported stage)
 
   -- it holds of every accepted step
   holds-next : (m : Machine) (taken : Step) → IfAccepted (Leads m taken) (next m taken)
   unfolding asks grants gets writes submits seals resolves receives decides pushes reports answers pulls
   holds-next m (step.Ask session proxy) =
       past-found _ (slice_get m.grv_proxies proxy) _ (λ there at.
-      past-test _ (is_busy session m.grv_proxies m.commit_proxies) _ _ (λ free. holds.asked m session proxy there at free))
+      past-test _ (is_busy session m.grv_proxies m.commit_proxies) _ _
+      (λ free. holds.asked m session proxy there at free))
   holds-next m (step.Grant proxy) =
       past-found _ (slice_get m.grv_proxies proxy) _ (λ there at.
-      past-test _ (list_any (has_no_number m.last_transactions) there) _ _ (λ left. holds.granted m proxy there at left))
+      past-test _ (list_any (has_no_number m.last_transactions) there) _ _
+      (λ left. holds.granted m proxy there at left))
   holds-next m (step.Get session key snapshot) =
       past-opened _ session m.opened _ (λ i transcript _ there.
-      past-fault _ (read_fault m (program transcript.ops) transcript.read_version key) _ (λ _. holds.operated m i transcript (op.Get key snapshot) there))
+      past-fault _ (read_fault m (program transcript.ops) transcript.read_version key) _
+      (λ _. holds.operated m i transcript (op.Get key snapshot) there))
   holds-next m (step.Write session mutation) =
       past-opened _ session m.opened _ (λ i transcript _ there.
       past-fault _ (mutation_fault mutation) _ (λ _. holds.operated m i transcript (op.Write mutation) there))
   holds-next m (step.Submit session proxy) =
       past-found _ (slice_get m.commit_proxies proxy) _ (λ commit_proxy at.
       past-opened _ session m.opened _ (λ i transcript _ there.
-      past-choice _ (writes_nothing transcript) _ _ (holds.read_only m i transcript there) (holds.submitted m proxy commit_proxy i transcript at there)))
+      past-choice _ (writes_nothing transcript) _ _ (holds.read_only m i transcript there)
+      (holds.submitted m proxy commit_proxy i transcript at there)))
   holds-next m (step.Seal proxy advance) =
       past-found _ (slice_get m.commit_proxies proxy) _ (λ commit_proxy at.
       past-test _ (not (is_idle commit_proxy.stage)) _ _ (λ idle.
       past-test _ (nat_lt version_limit (next_version (last_version m.book) advance)) _ _ (λ few.
       past-test _ (nat_le m.config.book (length m.book)) _ _ (λ room.
-      holds.sealed m proxy advance commit_proxy at ((stage-is commit_proxy.stage).0 (not-false _ idle)) (ltb-false _ _ few) (leb-false _ _ room)))))
+      holds.sealed m proxy advance commit_proxy at ((stage-is commit_proxy.stage).0 (not-false _ idle))
+      (ltb-false _ _ few) (leb-false _ _ room)))))
   holds-next m (step.Resolve i resolver) =
       past-found _ (slice_get m.book i) _ (λ entry _. past-found _ (slice_get m.resolvers resolver) _ (λ taken _.
       past-turn _ taken i entry _ (holds.roles m (slice_set m.resolvers resolver (taken + 1)) m.logs m.shards)))
   holds-next m (step.Verdict i resolver) =
       past-found _ (taken_by_sender m (FromResolver resolver)) _ (λ taken _. past-test _ (nat_le taken i) _ _ (λ _.
-      past-found _ (slice_get m.entry_proxies i) _ (λ proxy _. past-found _ (slice_get m.commit_proxies proxy) _ (λ commit_proxy at.
-      past-test _ (not (awaits commit_proxy i (FromResolver resolver))) _ _ (λ awaited. received m proxy commit_proxy i (FromResolver resolver) at (not-false _ awaited))))))
+      past-found _ (slice_get m.entry_proxies i) _
+      (λ proxy _. past-found _ (slice_get m.commit_proxies proxy) _ (λ commit_proxy at.
+      past-test _ (not (awaits commit_proxy i (FromResolver resolver))) _ _
+      (λ awaited. received m proxy commit_proxy i (FromResolver resolver) at (not-false _ awaited))))))
   holds-next m (step.Decide proxy) =
       past-found _ (slice_get m.commit_proxies proxy) _ (λ commit_proxy at.
       past-test _ (not (is_resolving commit_proxy.stage)) _ _ (λ resolving.
       past-found _ (slice_get m.book commit_proxy.entry) _ (λ entry _.
       let before = seen_before m.book commit_proxy.entry in
-      past-wait _ (first_missing (λ resolver. is_needed m.config.resolver_splits resolver before entry) 0 commit_proxy.verdicts_received) _ (λ _.
-      holds.went_on m proxy commit_proxy Logging _ _ _ at (ap is_idle ((stage-is commit_proxy.stage).1 (not-false _ resolving))) refl refl))))
+      past-wait _ (first_missing (λ resolver. is_needed m.config.resolver_splits resolver before entry) 0
+      commit_proxy.verdicts_received) _ (λ _.
+      holds.went_on m proxy commit_proxy Logging _ _ _ at
+      (ap is_idle ((stage-is commit_proxy.stage).1 (not-false _ resolving))) refl refl))))
   holds-next m (step.Push i log) =
       past-found _ (slice_get m.book i) _ (λ entry _. past-found _ (slice_get m.logs log) _ (λ taken _.
-      past-test _ (not (is_set m.decided i)) _ _ (λ _. past-turn _ taken i entry _ (holds.roles m m.resolvers (slice_set m.logs log (taken + 1)) m.shards))))
+      past-test _ (not (is_set m.decided i)) _ _
+      (λ _. past-turn _ taken i entry _ (holds.roles m m.resolvers (slice_set m.logs log (taken + 1)) m.shards))))
   holds-next m (step.Logged i log) =
       past-found _ (taken_by_sender m (FromLog log)) _ (λ taken _. past-test _ (nat_le taken i) _ _ (λ _.
-      past-found _ (slice_get m.entry_proxies i) _ (λ proxy _. past-found _ (slice_get m.commit_proxies proxy) _ (λ commit_proxy at.
-      past-test _ (not (awaits commit_proxy i (FromLog log))) _ _ (λ awaited. received m proxy commit_proxy i (FromLog log) at (not-false _ awaited))))))
+      past-found _ (slice_get m.entry_proxies i) _
+      (λ proxy _. past-found _ (slice_get m.commit_proxies proxy) _ (λ commit_proxy at.
+      past-test _ (not (awaits commit_proxy i (FromLog log))) _ _
+      (λ awaited. received m proxy commit_proxy i (FromLog log) at (not-false _ awaited))))))
   holds-next m (step.Report proxy) =
       past-found _ (slice_get m.commit_proxies proxy) _ (λ commit_proxy at.
       past-test _ (not (is_logging commit_proxy.stage)) _ _ (λ logging.
       past-found _ (slice_get m.book commit_proxy.entry) _ (λ entry there.
       past-wait _ (first_missing (λ log. true) 0 commit_proxy.acknowledgements_received) _ (λ _.
-      holds.reported_version m proxy commit_proxy entry at ((stage-is commit_proxy.stage).2 (not-false _ logging)) there))))
+      holds.reported_version m proxy commit_proxy entry at ((stage-is commit_proxy.stage).2 (not-false _ logging))
+      there))))
   holds-next m (step.Answer proxy) =
       past-found _ (slice_get m.commit_proxies proxy) _ (λ commit_proxy at.
       past-test _ (is_idle commit_proxy.stage) _ _ (λ _.
@@ -181,18 +214,23 @@ module _ (R : Machine → ℕ → Machine → Type 0) (holds : HoldsOfSteps R) w
       past-test _ (not (is_reported commit_proxy.stage)) _ _ (λ is_reported.
       holds.told m proxy commit_proxy entry at ((stage-is commit_proxy.stage).3 (not-false _ is_reported)) there))))
   holds-next m (step.Pull shard limit) =
-      past-found _ (slice_get m.shards shard) _ (λ progress _. past-found _ (slice_get m.logs (shard % length m.logs)) _ (λ has _.
-      holds.roles m m.resolvers m.logs (slice_set m.shards shard (record progress { applied = max progress.applied (min has (progress.applied + limit)) }))))
+      past-found _ (slice_get m.shards shard) _
+      (λ progress _. past-found _ (slice_get m.logs (shard % length m.logs)) _ (λ has _.
+      holds.roles m m.resolvers m.logs
+      (slice_set m.shards shard
+      (record progress { applied = max progress.applied (min has (progress.applied + limit)) }))))
 
   -- and of every step, where it holds between a machine and itself, since a refused step leaves the machine as it is
-  pub holds-after : ((m : Machine) → R m 0 m) → (m : Machine) (taken : Step) → R m (reported taken (answer_of (next m taken))) (after m (next m taken))
+  pub holds-after : ((m : Machine) → R m 0 m) → (m : Machine) (taken : Step)
+      → R m (reported taken (answer_of (next m taken))) (after m (next m taken))
   holds-after itself m taken = by_result (next m taken) (holds-next m taken)
     where
       none : (taken : Step) (refusal : Refusal) → 0 ≡ reported taken (Err refusal)
       none (step.Report proxy) refusal = refl
       none taken refusal = refl
 
-      by_result : (result : Result Transition Refusal) → IfAccepted (Leads m taken) result → R m (reported taken (answer_of result)) (after m result)
+      by_result : (result : Result Transition Refusal) → IfAccepted (Leads m taken) result
+          → R m (reported taken (answer_of result)) (after m result)
       by_result (Ok transition) leads = leads
       by_result (Err refusal) leads = subst (λ (version : ℕ). R m version m) (none taken refusal) (itself m)
 
@@ -206,5 +244,6 @@ module _ (P : Machine → Type 0) (keep : KeptBySteps P) where
   kept-next = holds-after (λ m version after. P m → P after) keep (λ m holds. holds)
 
   -- and every trace
-  pub kept-by_trace : (m : Machine) (steps : List Step) (given : List (Result Answered Refusal)) → P m → P (after_steps m steps given)
+  pub kept-by_trace : (m : Machine) (steps : List Step) (given : List (Result Answered Refusal)) → P m
+      → P (after_steps m steps given)
   kept-by_trace = kept-after_steps P kept-next

@@ -24,32 +24,50 @@ use Rattle.fdb_core.specs.programs.Programs.{program, copy, decided, value_after
 use Rattle.fdb_core.proofs.programs.ProgramLaws.{get-copy, decided-value}
 
 -- a read that finds the session's transaction, without a fault
-pub gets-transition : (m : Machine) (session : ℕ) (key : List ℕ) (snapshot : Bool) (i : ℕ) (transcript : Transcript) (value : Option (List ℕ))
+pub gets-transition : (m : Machine) (session : ℕ) (key : List ℕ) (snapshot : Bool) (i : ℕ) (transcript : Transcript)
+    (value : Option (List ℕ))
     → position (is_of session) m.opened ≡ Some i → slice_get m.opened i ≡ Some transcript
     → read_fault m (program transcript.ops) transcript.read_version key ≡ None
-    → value ≡ get (copy (serial_map_at m.config.resolver_splits transcript.read_version (seen_of m.book).places) (program transcript.ops)) key
-    → gets m session key snapshot ≡ Ok (record { answer = answered.Value value; next = add_operation m i transcript (op.Get key snapshot) (reply.Value value) })
+    → value ≡ get
+    (copy (serial_map_at m.config.resolver_splits transcript.read_version (seen_of m.book).places)
+    (program transcript.ops)) key
+    → gets m session key snapshot ≡ Ok
+    (record {
+      answer = answered.Value value;
+      next = add_operation m i transcript (op.Get key snapshot)
+          (reply.Value value);
+    })
 unfolding gets
 gets-transition m session key snapshot i transcript value at there fault is =
-    rw (at, there, fault) (ap (λ (v : Option (List ℕ)). Ok (record { answer = answered.Value v; next = add_operation m i transcript (op.Get key snapshot) (reply.Value v) })) (sym is))
+    rw (at, there, fault)
+    (ap (λ (v : Option (List ℕ)). Ok
+    (record {
+      answer = answered.Value v;
+      next = add_operation m i transcript (op.Get key snapshot) (reply.Value v);
+    })) (sym is))
 
 -- a decided key stands as the transaction's own writes leave it, whatever stood there
-pub answers-decided : (m : Machine) (map : Map) (ops : List (Op × Reply)) (version : ℕ) (key : List ℕ) (value : Option (List ℕ))
+pub answers-decided : (m : Machine) (map : Map) (ops : List (Op × Reply)) (version : ℕ) (key : List ℕ)
+    (value : Option (List ℕ))
     → decided (program ops) key ≡ true → value ≡ fold (value_after_op key) None ops
     → AnswersExactly (Ok value) (read_fault m (program ops) version key) (λ v. v ≡ get (copy map (program ops)) key)
 answers-decided m map ops version key value own is =
     rw own (is ∙ decided-value ops key own None (get map key) ∙ sym (get-copy map ops key))
 
 -- any other key stands as those writes leave it on what a shard that serves the version has
-pub answers-undecided : (m : Machine) (map : Map) (ops : List (Op × Reply)) (version : ℕ) (key : List ℕ) (there value : Option (List ℕ))
-    → decided (program ops) key ≡ false → shard_fault m.book version (slice_get m.shards (first_owner m.config.shard_splits key)) ≡ None
+pub answers-undecided : (m : Machine) (map : Map) (ops : List (Op × Reply)) (version : ℕ) (key : List ℕ)
+    (there value : Option (List ℕ))
+    → decided (program ops) key ≡ false
+    → shard_fault m.book version (slice_get m.shards (first_owner m.config.shard_splits key)) ≡ None
     → there ≡ get map key → value ≡ fold (value_after_op key) there ops
     → AnswersExactly (Ok value) (read_fault m (program ops) version key) (λ v. v ≡ get (copy map (program ops)) key)
 answers-undecided m map ops version key there value other served holds is =
-    rw (other, served) (is ∙ ap (λ (base : Option (List ℕ)). fold (value_after_op key) base ops) holds ∙ sym (get-copy map ops key))
+    rw (other, served)
+    (is ∙ ap (λ (base : Option (List ℕ)). fold (value_after_op key) base ops) holds ∙ sym (get-copy map ops key))
 
 -- a resolver takes the entry that is next for it
-pub resolves-transition : (m : Machine) (i r : ℕ) (entry : Entry) → slice_get m.book i ≡ Some entry → slice_get m.resolvers r ≡ Some i
+pub resolves-transition : (m : Machine) (i r : ℕ) (entry : Entry) → slice_get m.book i ≡ Some entry
+    → slice_get m.resolvers r ≡ Some i
     → resolves m i r ≡ Ok (record {
       answer = answered.Verdicts (verdicts_on m.config.resolver_splits r (seen_before m.book i) entry);
       next = record m { resolvers = slice_set m.resolvers r (i + 1) };
@@ -58,7 +76,8 @@ unfolding resolves
 resolves-transition m i r entry there at = rw (there, at, le-ltb i i (omega arith)) refl
 
 -- a log takes the message of the entry that is next for it, once that is decided
-pub pushes-transition : (m : Machine) (i l : ℕ) (entry : Entry) → slice_get m.book i ≡ Some entry → slice_get m.logs l ≡ Some i → is_set m.decided i ≡ true
+pub pushes-transition : (m : Machine) (i l : ℕ) (entry : Entry) → slice_get m.book i ≡ Some entry
+    → slice_get m.logs l ≡ Some i → is_set m.decided i ≡ true
     → pushes m i l ≡ Ok (record { answer = answered.Done; next = record m { logs = slice_set m.logs l (i + 1) } })
 unfolding pushes
 pushes-transition m i l entry there at made = rw (there, at, made, le-ltb i i (omega arith)) refl

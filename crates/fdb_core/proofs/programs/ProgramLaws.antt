@@ -34,7 +34,8 @@ get-after map earlier ((op.Write mutation, reply) ∷ ops) x =
     ∙ ap (λ (value : Option (List ℕ)). fold (value_after_op x) value ops) (at_every_point (copy map earlier) mutation x)
 
 -- a point of the copy after the operations, by what stood there
-pub get-copy : (map : Map) (ops : List (Op × Reply)) (x : Point) → get (copy map (program ops)) x ≡ fold (value_after_op x) (get map x) ops
+pub get-copy : (map : Map) (ops : List (Op × Reply)) (x : Point)
+    → get (copy map (program ops)) x ≡ fold (value_after_op x) (get map x) ops
 get-copy map ops x = get-after map [] ops x
 
 -- a value put there, or two values that are the same
@@ -47,15 +48,19 @@ same-where false earlier put v w same is_so = same is_so
 same-after : (done : Op × Reply) (x : Point) (earlier : Bool) (v w : Option (List ℕ)) → (earlier ≡ true → v ≡ w)
     → decides done.0 x || earlier ≡ true → value_after_op x v done ≡ value_after_op x w done
 same-after (op.Get key snapshot, reply) x earlier v w same is_decided = same is_decided
-same-after (op.Write (Set key value), reply) x earlier v w same is_decided = same-where (point_eq x key) earlier (Some value) v w same is_decided
-same-after (op.Write (Clear key), reply) x earlier v w same is_decided = same-where (point_eq x key) earlier None v w same is_decided
+same-after (op.Write (Set key value), reply) x earlier v w same is_decided = same-where (point_eq x key) earlier
+    (Some value) v w same is_decided
+same-after (op.Write (Clear key), reply) x earlier v w same is_decided = same-where (point_eq x key) earlier None v w
+    same is_decided
 
 -- the same as `decided-value`, after earlier operations: where these decide the point, both values are the same
-same-over : (earlier : List Op) (ops : List (Op × Reply)) (x : Point) (v w : Option (List ℕ)) → (decided earlier x ≡ true → v ≡ w)
+same-over : (earlier : List Op) (ops : List (Op × Reply)) (x : Point) (v w : Option (List ℕ))
+    → (decided earlier x ≡ true → v ≡ w)
     → decided (after earlier ops) x ≡ true → fold (value_after_op x) v ops ≡ fold (value_after_op x) w ops
 same-over earlier [] x v w same is_decided = same is_decided
 same-over earlier (done ∷ ops) x v w same is_decided =
-    same-over (done.0 ∷ earlier) ops x (value_after_op x v done) (value_after_op x w done) (same-after done x (decided earlier x) v w same) is_decided
+    same-over (done.0 ∷ earlier) ops x (value_after_op x v done) (value_after_op x w done)
+    (same-after done x (decided earlier x) v w same) is_decided
 
 -- after operations that decide a point it doesn't matter what stood there
 pub decided-value : (ops : List (Op × Reply)) (x : Point) → decided (program ops) x ≡ true

@@ -16,7 +16,8 @@ use Rattle.fdb_core.specs.programs.Programs.{copy, decided, exec, read_set, read
 use Rattle.fdb_core.specs.programs.ProgramLaws.{AgreeOnReads, AgreeWhereOrdinary, ProgramsAgree, is_ordinary}
 
 -- a blind mutation makes the same of any two values
-blind-new_value : (mutation : Mutation) → is_blind mutation ≡ true → (v w : Option (List ℕ)) → new_value mutation v ≡ new_value mutation w
+blind-new_value : (mutation : Mutation) → is_blind mutation ≡ true → (v w : Option (List ℕ))
+    → new_value mutation v ≡ new_value mutation w
 blind-new_value (Set key value) blind v w = refl
 blind-new_value (Clear key) blind v w = refl
 
@@ -25,7 +26,8 @@ abbrev value_after_message : Mutation → Point → Option (List ℕ) → Option
 value_after_message mutation x value = if names mutation x then new_value mutation value else value
 
 -- a mutation that decides the point makes the same of any two values
-decided-value_after_message : (mutation : Mutation) (x : Point) → (is_blind mutation && names mutation x) ≡ true → (v w : Option (List ℕ))
+decided-value_after_message : (mutation : Mutation) (x : Point) → (is_blind mutation && names mutation x) ≡ true
+    → (v w : Option (List ℕ))
     → value_after_message mutation x v ≡ value_after_message mutation x w
 decided-value_after_message mutation x decides v w =
     let parts = and_parts (is_blind mutation) (names mutation x) decides in
@@ -41,7 +43,8 @@ agree-after m n earlier mutation x same =
     at_every_point (copy m earlier) mutation x ∙ same ∙ sym (at_every_point (copy n earlier) mutation x)
 
 -- the copies agree at a point that the program decides, and where the maps do
-copies-agree : (m n : Map) (ops : List Op) (x : Point) → (decided ops x ≡ true) ⊎ (get m x ≡ get n x) → get (copy m ops) x ≡ get (copy n ops) x
+copies-agree : (m n : Map) (ops : List Op) (x : Point) → (decided ops x ≡ true) ⊎ (get m x ≡ get n x)
+    → get (copy m ops) x ≡ get (copy n ops) x
 copies-agree m n [] x (inl decides) = absurd (both_ways false refl decides)
 copies-agree m n [] x (inr same) = same
 copies-agree m n (Get key snapshot ∷ earlier) x either = copies-agree m n earlier x either
@@ -53,11 +56,14 @@ copies-agree m n (Write mutation ∷ earlier) x (inl decides) = agree-after m n 
     (or_cases (is_blind mutation && names mutation x) (decided earlier x) decides))
 
 -- at the key of an ordinary read the copies agree, since it is decided or read
-read-agrees : (m n : Map) (earlier : List Op) (key : List ℕ) → AgreeOnReads m n (Get key false ∷ earlier) → get (copy m earlier) key ≡ get (copy n earlier) key
+read-agrees : (m n : Map) (earlier : List Op) (key : List ℕ) → AgreeOnReads m n (Get key false ∷ earlier)
+    → get (copy m earlier) key ≡ get (copy n earlier) key
 read-agrees m n earlier key agree = ⊎_elim
     (λ decides. copies-agree m n earlier key (inl decides))
     (λ undecided. copies-agree m n earlier key (inr (agree key
-    (or_left _ (read_set m earlier key) (and_from (point_eq key key) (not (decided earlier key)) ((bytes_decides key key).1 refl) (not_from_false _ undecided))))))
+    (or_left _ (read_set m earlier key)
+    (and_from (point_eq key key) (not (decided earlier key)) ((bytes_decides key key).1 refl)
+    (not_from_false _ undecided))))))
     (cases_Bool (decided earlier key))
 
 -- an ordinary operation replies the same after the copies
@@ -68,18 +74,24 @@ reply-agrees m n (Get key false) earlier agree ordinary = ap Value (read-agrees 
 reply-agrees m n (Write mutation) earlier agree ordinary = refl
 
 -- an operation reads the same points after the copies
-reads-agree : (m n : Map) (op : Op) (earlier : List Op) (x : Point) → reads_on (copy m earlier) earlier op x ≡ reads_on (copy n earlier) earlier op x
+reads-agree : (m n : Map) (op : Op) (earlier : List Op) (x : Point)
+    → reads_on (copy m earlier) earlier op x ≡ reads_on (copy n earlier) earlier op x
 reads-agree m n (Get key snapshot) earlier x = refl
 reads-agree m n (Write mutation) earlier x = refl
 
 -- maps that agree where a program reads agree where its earlier operations do
 agree-earlier : (m n : Map) (op : Op) (earlier : List Op) → AgreeOnReads m n (op ∷ earlier) → AgreeOnReads m n earlier
-agree-earlier m n op earlier agree x is_read = agree x (or_right (reads_on (copy m earlier) earlier op x) (read_set m earlier x) is_read)
+agree-earlier m n op earlier agree x is_read = agree x
+    (or_right (reads_on (copy m earlier) earlier op x) (read_set m earlier x) is_read)
 
 -- on maps that agree where a program reads, its ordinary replies and its read sets are the same
 pub programs_agree : ProgramsAgree
 programs_agree m n [] agree = (tt, λ x. refl)
 programs_agree m n (op ∷ earlier) agree =
-    let before : AgreeWhereOrdinary earlier (exec m earlier) (exec n earlier) × ((x : Point) → read_set m earlier x ≡ read_set n earlier x) =
-    programs_agree m n earlier (agree-earlier m n op earlier agree) in
-    ((reply-agrees m n op earlier agree, before.0), λ x. ap₂ (λ (now others : Bool). now || others) (reads-agree m n op earlier x) (before.1 x))
+    let before : AgreeWhereOrdinary earlier (exec m earlier) (exec n earlier)
+    × ((x : Point) → read_set m earlier x ≡ read_set n earlier x) =
+    programs_agree m n earlier (agree-earlier m n op earlier agree) in (
+      (reply-agrees m n op earlier agree, before.0),
+      λ x. ap₂ (λ (now others : Bool). now || others)
+          (reads-agree m n op earlier x) (before.1 x),
+    )

@@ -14,7 +14,8 @@ use Rattle.fdb_core.specs.declared.roles.client.program.Op.TheVariants.{Get, Wri
 use Rattle.fdb_core.specs.programs.Programs.{decided, read_set, read_ranges, copy, reads_on, add_reads}
 
 -- one range more adds its points
-pub in_with_range : (range : Range) (ranges : List Range) (x : Point) → in_set (with_range range ranges) x ≡ (in_range range x || in_set ranges x)
+pub in_with_range : (range : Range) (ranges : List Range) (x : Point)
+    → in_set (with_range range ranges) x ≡ (in_range range x || in_set ranges x)
 in_with_range range ranges x = ⊎_elim
     (λ empty. ap (λ (set : List Range). in_set set x) (cond-true _ _ _ empty)
     ∙ sym (ap (λ (inside : Bool). inside || in_set ranges x) (in_range-empty range x empty)))
@@ -26,7 +27,8 @@ in_key_read : (is_read is_decided : Bool) (key : Point) (ranges : List Range) (x
     → in_set (if is_read && not is_decided then with_range (single_range key) ranges else ranges) x
     ≡ (is_read && point_eq x key && not is_decided || in_set ranges x)
 in_key_read false is_decided key ranges x = refl
-in_key_read true true key ranges x = sym (ap (λ (here : Bool). here || in_set ranges x) (and_right (point_eq x key) false refl))
+in_key_read true true key ranges x = sym
+    (ap (λ (here : Bool). here || in_set ranges x) (and_right (point_eq x key) false refl))
 in_key_read true false key ranges x =
     in_with_range (single_range key) ranges x
     ∙ ap (λ (here : Bool). here || in_set ranges x) (in_range-single key x ∙ sym (and-true (point_eq x key)))

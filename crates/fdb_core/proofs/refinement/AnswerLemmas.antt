@@ -28,9 +28,11 @@ only_reported Logging reported = cc
 only_reported Reported reported = (refl, refl)
 
 -- the batch whose clients are answered
-module _ (k : Cluster) (proxy : ℕ) (commit_proxy : CommitProxy) (entry : Entry) (refines : Refines k) (found : Answering k proxy commit_proxy entry) where
+module _ (k : Cluster) (proxy : ℕ) (commit_proxy : CommitProxy) (entry : Entry) (refines : Refines k)
+    (found : Answering k proxy commit_proxy entry) where
   ok : CommitProxyRefines k.book.items (taken_by k.resolvers.items) k.sequencer.committed commit_proxy k.outcomes
-  ok = commit_proxy-at k.book.items (taken_by k.resolvers.items) k.sequencer.committed k.commit_proxies.items k.outcomes proxy commit_proxy refines.commit_proxies found.proxy_there
+  ok = commit_proxy-at k.book.items (taken_by k.resolvers.items) k.sequencer.committed k.commit_proxies.items k.outcomes
+      proxy commit_proxy refines.commit_proxies found.proxy_there
 
   -- the outcomes that are kept are what became of the places
   kept : k.outcomes ≡ outcomes_on [] (seen_before k.book.items commit_proxy.entry) entry
@@ -42,7 +44,8 @@ module _ (k : Cluster) (proxy : ℕ) (commit_proxy : CommitProxy) (entry : Entry
   pub outcome-each : length commit_proxy.in_flight ≡ length k.outcomes
   outcome-each =
       ok.aligned entry (only_reported commit_proxy.stage found.reported).0 found.entry_there
-      ∙ sym (ap (λ (outcomes : List Outcome). length outcomes) kept ∙ length-outcomes_on [] (seen_before k.book.items commit_proxy.entry) entry)
+      ∙ sym (ap (λ (outcomes : List Outcome). length outcomes) kept
+      ∙ length-outcomes_on [] (seen_before k.book.items commit_proxy.entry) entry)
 
   -- the transition that the machine makes
   pub answers-transition : answers (machine_of k) proxy ≡ Ok (record {
@@ -53,4 +56,12 @@ module _ (k : Cluster) (proxy : ℕ) (commit_proxy : CommitProxy) (entry : Entry
     };
   })
   unfolding answers
-  answers-transition = rw (found.proxy_there, (only_reported commit_proxy.stage found.reported).0, found.entry_there, found.reported, refines.plain.resolver_splits, kept) refl
+  answers-transition =
+      rw (
+        found.proxy_there,
+        (only_reported commit_proxy.stage found.reported).0,
+        found.entry_there,
+        found.reported,
+        refines.plain.resolver_splits,
+        kept,
+      ) refl

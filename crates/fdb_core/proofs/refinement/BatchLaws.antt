@@ -31,9 +31,11 @@ verdict_if_asked earlier place p = if is_asked [] 0 place then (p, verdict_at []
 -- the verdicts on places are the first one's and then the others'
 first-verdicts : (version : ℕ) (earlier : List Place) (t : Transaction) (ts : List Transaction) (p : ℕ)
     → verdicts_from [] version [] 0 (t ∷ ts) earlier p
-    ≡ verdict_if_asked earlier (placed version [] t) p ++ verdicts_from [] version [] 0 ts (placed version [] t ∷ earlier) (suc p)
+    ≡ verdict_if_asked earlier (placed version [] t) p ++ verdicts_from [] version [] 0 ts
+    (placed version [] t ∷ earlier) (suc p)
 first-verdicts version earlier t ts p =
-    by_cases (is_asked [] 0 place) (p, verdict_at [] 0 earlier place) (verdicts_from [] version [] 0 ts (place ∷ earlier) (suc p))
+    by_cases (is_asked [] 0 place) (p, verdict_at [] 0 earlier place)
+    (verdicts_from [] version [] 0 ts (place ∷ earlier) (suc p))
   where
     place : Place
     place = placed version [] t
@@ -52,7 +54,9 @@ not_its-verdict : (earlier : List Place) (place : Place) (p q : ℕ) (others : L
     → verdict_for (verdict_if_asked earlier place p ++ others) q ≡ verdict_for others q
 not_its-verdict earlier place p q others other = by_cases (is_asked [] 0 place)
   where
-    by_cases : (asked : Bool) → verdict_for ((if asked then (p, verdict_at [] 0 earlier place) ∷ [] else []) ++ others) q ≡ verdict_for others q
+    by_cases : (asked : Bool)
+        → verdict_for ((if asked then (p, verdict_at [] 0 earlier place) ∷ [] else []) ++ others) q ≡ verdict_for others
+        q
     by_cases true = cond-false _ _ _ (ne_eqb p q other)
     by_cases false = refl
 
@@ -86,13 +90,16 @@ its-verdict version t ts earlier p before = ⊎_elim
     (cases_Bool (is_asked [] 0 (placed version [] t)))
 
 -- outcomes by a list of verdicts that agrees with those on the places from p on
-steps-outcomes : (version : ℕ) (said : List (ℕ × Verdict)) (batch : List Transaction) (earlier : List Place) (p : ℕ) → AllBelow version batch
+steps-outcomes : (version : ℕ) (said : List (ℕ × Verdict)) (batch : List Transaction) (earlier : List Place) (p : ℕ)
+    → AllBelow version batch
     → ((q : ℕ) → p ≤ q → verdict_for said q ≡ verdict_for (verdicts_from [] version [] 0 batch earlier p) q)
-    → outcomes_by version said p ++ outcomes_from [] version [] batch earlier p ≡ outcomes_by version said (p + length batch)
+    → outcomes_by version said p ++ outcomes_from [] version [] batch earlier p ≡ outcomes_by version said
+    (p + length batch)
 steps-outcomes version said [] earlier p below agree = append-nil _ ∙ ap (outcomes_by version said) (sym (add-zero p))
 steps-outcomes version said (t ∷ ts) earlier p below agree =
     ap (λ here. outcomes_by version said p ++ here ∷ outcomes_from [] version [] ts (place ∷ earlier) (suc p))
-    (outcome-by earlier place p ∙ ap (outcome_by version p) (sym (agree p (le_refl p) ∙ its-verdict version t ts earlier p below.0)))
+    (outcome-by earlier place p
+    ∙ ap (outcome_by version p) (sym (agree p (le_refl p) ∙ its-verdict version t ts earlier p below.0)))
     ∙ sym (append_assoc (outcomes_by version said p) _ _)
     ∙ steps-outcomes version said ts (place ∷ earlier) (suc p) below.1
     (λ q later. agree q (le_of_lt later)
@@ -107,7 +114,8 @@ steps-outcomes version said (t ∷ ts) earlier p below agree =
 pub outcomes-decided : (before : Seen) (entry : Entry) → before.moves ≡ [] → entry.moves ≡ [] → ReadsBelow entry
     → outcomes_by entry.version (verdicts_on [] 0 before entry) (length entry.batch) ≡ outcomes_on [] before entry
 outcomes-decided before entry still none below = subst
-    (λ (moves : List Stamped). outcomes_by entry.version (verdicts_from [] entry.version moves 0 entry.batch before.places 0) (length entry.batch)
+    (λ (moves : List Stamped). outcomes_by entry.version
+    (verdicts_from [] entry.version moves 0 entry.batch before.places 0) (length entry.batch)
     ≡ outcomes_from [] entry.version moves entry.batch before.places 0)
     (sym (no_moves-through before entry still none))
     (sym (steps-outcomes entry.version said entry.batch before.places 0 below (λ q from_here. refl)
@@ -117,61 +125,79 @@ outcomes-decided before entry still none below = subst
     said = verdicts_from [] entry.version [] 0 entry.batch before.places 0
 
 -- a place's outcome is a commit just where the place is committed
-pub commit-at : (splits : List Point) (earlier : List Place) (place : Place) (p : ℕ) → is_commit (outcome_at splits earlier place p) ≡ committed splits earlier place
+pub commit-at : (splits : List Point) (earlier : List Place) (place : Place) (p : ℕ)
+    → is_commit (outcome_at splits earlier place p) ≡ committed splits earlier place
 commit-at splits earlier place p =
-    by_cases (is_fresh place) (no_conflict splits (length splits) earlier place) (all_below (length splits) (λ i. admits splits i earlier place))
+    by_cases (is_fresh place) (no_conflict splits (length splits) earlier place)
+    (all_below (length splits) (λ i. admits splits i earlier place))
   where
     by_cases : (fresh free others : Bool)
-        → is_commit (if fresh then (if fresh && free && others then outcome.Commit place.version p else outcome.Conflict) else outcome.Old) ≡ (fresh && free && others)
+        → is_commit (if fresh
+        then (if fresh && free && others then outcome.Commit place.version p else outcome.Conflict)
+        else outcome.Old) ≡ (fresh && free && others)
     by_cases false free others = refl
     by_cases true false others = refl
     by_cases true true false = refl
     by_cases true true true = refl
 
 -- the same as `body-committed`, from place p on
-body-from : (splits : List Point) (version : ℕ) (moves : List Stamped) (batch : List Transaction) (earlier : List Place) (p : ℕ)
-    → body_by batch (outcomes_from splits version moves batch earlier p) ≡ committed_from splits version moves batch earlier
+body-from : (splits : List Point) (version : ℕ) (moves : List Stamped) (batch : List Transaction) (earlier : List Place)
+    (p : ℕ)
+    → body_by batch (outcomes_from splits version moves batch earlier p) ≡ committed_from splits version moves batch
+    earlier
 body-from splits version moves [] earlier p = refl
 body-from splits version moves (t ∷ ts) earlier p =
     ap₂ (λ (commits : Bool) (others : List Mutation). (if commits then t.mutations else []) ++ others)
-    (commit-at splits earlier (placed version moves t) p) (body-from splits version moves ts (placed version moves t ∷ earlier) (suc p))
+    (commit-at splits earlier (placed version moves t) p)
+    (body-from splits version moves ts (placed version moves t ∷ earlier) (suc p))
 
 -- the mutations by outcomes are those of the committed transactions
 pub body-committed : (splits : List Point) (before : Seen) (entry : Entry)
-    → body_by entry.batch (outcomes_on splits before entry) ≡ committed_from splits entry.version (moves_through before entry) entry.batch before.places
-body-committed splits before entry = body-from splits entry.version (moves_through before entry) entry.batch before.places 0
+    → body_by entry.batch (outcomes_on splits before entry) ≡ committed_from splits entry.version
+    (moves_through before entry) entry.batch before.places
+body-committed splits before entry = body-from splits entry.version (moves_through before entry) entry.batch
+    before.places 0
 
 -- the same as `needed-points`, without moves
 needed-from : (version : ℕ) (batch : List Transaction) → AllBelow version batch
     → asks_about [] version [] 0 batch ≡ list_any is_judged batch
 needed-from version [] below = refl
-needed-from version (t ∷ ts) below = ap₂ ◌||◌ (asked-points (placed version [] t) refl below.0) (needed-from version ts below.1)
+needed-from version (t ∷ ts) below = ap₂ ◌||◌ (asked-points (placed version [] t) refl below.0)
+    (needed-from version ts below.1)
 
 -- the one resolver is needed just where some transaction has a point in a set
 pub needed-points : (before : Seen) (entry : Entry) → before.moves ≡ [] → entry.moves ≡ [] → ReadsBelow entry
     → is_needed [] 0 before entry ≡ list_any is_judged entry.batch
 needed-points before entry still none below =
-    ap (λ (moves : List Stamped). asks_about [] entry.version moves 0 entry.batch) (no_moves-through before entry still none) ∙ needed-from entry.version entry.batch below
+    ap (λ (moves : List Stamped). asks_about [] entry.version moves 0 entry.batch)
+    (no_moves-through before entry still none) ∙ needed-from entry.version entry.batch below
 
 -- the same as `not_needed-verdicts`, from place p on
-unneeded-from : (splits : List Point) (version : ℕ) (moves : List Stamped) (i : ℕ) (batch : List Transaction) (earlier : List Place) (p : ℕ)
+unneeded-from : (splits : List Point) (version : ℕ) (moves : List Stamped) (i : ℕ) (batch : List Transaction)
+    (earlier : List Place) (p : ℕ)
     → asks_about splits version moves i batch ≡ false → verdicts_from splits version moves i batch earlier p ≡ []
 unneeded-from splits version moves i [] earlier p unneeded = refl
 unneeded-from splits version moves i (t ∷ ts) earlier p unneeded =
-    let none : (is_asked splits i (placed version moves t) ≡ false) × (asks_about splits version moves i ts ≡ false) = or_parts _ _ unneeded in
+    let none : (is_asked splits i (placed version moves t) ≡ false)
+    × (asks_about splits version moves i ts ≡ false) = or_parts _ _ unneeded in
     cond-false _ _ _ none.0 ∙ unneeded-from splits version moves i ts (placed version moves t ∷ earlier) (suc p) none.1
 
 -- a resolver that isn't needed has no verdicts
 pub not_needed-verdicts : (splits : List Point) (i : ℕ) (before : Seen) (entry : Entry)
     → is_needed splits i before entry ≡ false → verdicts_on splits i before entry ≡ []
-not_needed-verdicts splits i before entry unneeded = unneeded-from splits entry.version (moves_through before entry) i entry.batch before.places 0 unneeded
+not_needed-verdicts splits i before entry unneeded = unneeded-from splits entry.version (moves_through before entry) i
+    entry.batch before.places 0 unneeded
 
 -- the same as `length-outcomes_on`, from place p on
-length-outcomes_from : (splits : List Point) (version : ℕ) (moves : List Stamped) (batch : List Transaction) (earlier : List Place) (p : ℕ)
+length-outcomes_from : (splits : List Point) (version : ℕ) (moves : List Stamped) (batch : List Transaction)
+    (earlier : List Place) (p : ℕ)
     → length (outcomes_from splits version moves batch earlier p) ≡ length batch
 length-outcomes_from splits version moves [] earlier p = refl
-length-outcomes_from splits version moves (t ∷ ts) earlier p = ap suc (length-outcomes_from splits version moves ts (placed version moves t ∷ earlier) (suc p))
+length-outcomes_from splits version moves (t ∷ ts) earlier p = ap suc
+    (length-outcomes_from splits version moves ts (placed version moves t ∷ earlier) (suc p))
 
 -- each place has one outcome
-pub length-outcomes_on : (splits : List Point) (before : Seen) (entry : Entry) → length (outcomes_on splits before entry) ≡ length entry.batch
-length-outcomes_on splits before entry = length-outcomes_from splits entry.version (moves_through before entry) entry.batch before.places 0
+pub length-outcomes_on : (splits : List Point) (before : Seen) (entry : Entry)
+    → length (outcomes_on splits before entry) ≡ length entry.batch
+length-outcomes_on splits before entry = length-outcomes_from splits entry.version (moves_through before entry)
+    entry.batch before.places 0

@@ -44,8 +44,10 @@ set-other (y ∷ ys) (suc i) zero x other = refl
 set-other (y ∷ ys) (suc i) (suc j) x other = set-other ys i j x (λ same. other (ap suc same))
 
 -- what an index reads is the item there
-pub one-item : {A : Type 0} (xs : List A) (i : ℕ) (read x : A) → i < length xs → read ≡ get_or xs i read → slice_get xs i ≡ Some x → read ≡ x
-one-item xs i read x within is there = same_Some read x (sym (slice_get_read xs (length xs) i read refl within is) ∙ there)
+pub one-item : {A : Type 0} (xs : List A) (i : ℕ) (read x : A) → i < length xs → read ≡ get_or xs i read
+    → slice_get xs i ≡ Some x → read ≡ x
+one-item xs i read x within is there = same_Some read x
+    (sym (slice_get_read xs (length xs) i read refl within is) ∙ there)
 
 -- a copy of a list, item by item
 pub same-items : {A : Type 0} (xs ys : List A) → AllZip (λ x y. y ≡ x) xs ys → ys ≡ xs
@@ -63,14 +65,16 @@ taken-at (y ∷ ys) (suc n) zero within = refl
 taken-at (y ∷ ys) (suc n) (suc i) within = taken-at ys n i (omega (arith, within))
 
 -- of the one resolver's flag alone
-missing-one : (needed : ℕ → Bool) (verdicts_received : List Bool) (is_received : Bool) → length verdicts_received ≡ 1 → is_set verdicts_received 0 ≡ is_received
+missing-one : (needed : ℕ → Bool) (verdicts_received : List Bool) (is_received : Bool) → length verdicts_received ≡ 1
+    → is_set verdicts_received 0 ≡ is_received
     → first_missing needed 0 verdicts_received ≡ (if needed 0 && not is_received then Some 0 else None)
 missing-one needed [] is_received one is = cc
 missing-one needed (flag ∷ []) is_received one is = ap (λ (b : Bool). if needed 0 && not b then Some 0 else None) is
 missing-one needed (flag ∷ other ∷ more) is_received one is = absurd (omega (arith, one))
 
 -- as many outcomes as places
-pub length-outcomes_by : (version : ℕ) (verdicts : List (ℕ × Verdict)) (count : ℕ) → length (outcomes_by version verdicts count) ≡ count
+pub length-outcomes_by : (version : ℕ) (verdicts : List (ℕ × Verdict)) (count : ℕ)
+    → length (outcomes_by version verdicts count) ≡ count
 length-outcomes_by version verdicts zero = refl
 length-outcomes_by version verdicts (suc place) =
     let before = length-outcomes_by version verdicts place in
@@ -101,18 +105,23 @@ unjudged false none = refl
 -- a message more, for an entry that is decided
 made-set : (decided : List Bool) (made : List Message) (messages : List (Option Message)) (i : ℕ) (new : Message)
     → slice_get made i ≡ Some new → i < length messages
-    → ((j : ℕ) (message : Message) → is_set decided j ≡ true → slice_get made j ≡ Some message → slice_get messages j ≡ Some (Some message))
+    → ((j : ℕ) (message : Message) → is_set decided j ≡ true → slice_get made j ≡ Some message
+    → slice_get messages j ≡ Some (Some message))
     → (j : ℕ) (message : Message) → is_set (slice_set decided i true) j ≡ true → slice_get made j ≡ Some message
     → slice_get (slice_set messages i (Some new)) j ≡ Some (Some message)
 made-set decided made messages i new there within before j message is at = ⊎_elim
-    (λ same. let same_message : new ≡ message = same_Some new message (sym there ∙ ap (slice_get made) (sym same) ∙ at) in
-    ap (slice_get (slice_set messages i (Some new))) same ∙ set-here messages i (Some new) within ∙ ap (λ (m : Message). Some (Some m)) same_message)
+    (λ same. let same_message : new ≡ message = same_Some new message
+    (sym there ∙ ap (slice_get made) (sym same) ∙ at) in
+    ap (slice_get (slice_set messages i (Some new))) same ∙ set-here messages i (Some new) within
+    ∙ ap (λ (m : Message). Some (Some m)) same_message)
     (λ other. set-other messages i j (Some new) other
-    ∙ before j message (ap (λ (flag : Option Bool). unwrap_or flag false) (sym (set-other decided i j true other)) ∙ is) at)
+    ∙ before j message (ap (λ (flag : Option Bool). unwrap_or flag false) (sym (set-other decided i j true other)) ∙ is)
+    at)
     (cases_eq j i)
 
 -- the entry that is decided, without moves and of a version above its read versions
-module _ (k : Cluster) (proxy : ℕ) (commit_proxy : CommitProxy) (entry : Entry) (refines : Refines k) (found : Deciding k proxy commit_proxy entry) where
+module _ (k : Cluster) (proxy : ℕ) (commit_proxy : CommitProxy) (entry : Entry) (refines : Refines k)
+    (found : Deciding k proxy commit_proxy entry) where
   still : (seen_before k.book.items commit_proxy.entry).moves ≡ []
   still = no_moves-before k.book.items refines.book.no_moves commit_proxy.entry
 
@@ -120,30 +129,45 @@ module _ (k : Cluster) (proxy : ℕ) (commit_proxy : CommitProxy) (entry : Entry
   moveless = no_moves-at k.book.items refines.book.no_moves commit_proxy.entry entry found.entry_there
 
   below : ReadsBelow entry
-  below = all-at ReadsBelow k.book.items commit_proxy.entry entry (entries-below 1 0 k.book.items refines.book.entries) found.entry_there
+  below = all-at ReadsBelow k.book.items commit_proxy.entry entry (entries-below 1 0 k.book.items refines.book.entries)
+      found.entry_there
 
   ok : CommitProxyRefines k.book.items (taken_by k.resolvers.items) k.sequencer.committed commit_proxy k.outcomes
-  ok = commit_proxy-at k.book.items (taken_by k.resolvers.items) k.sequencer.committed k.commit_proxies.items k.outcomes proxy commit_proxy refines.commit_proxies found.proxy_there
+  ok = commit_proxy-at k.book.items (taken_by k.resolvers.items) k.sequencer.committed k.commit_proxies.items k.outcomes
+      proxy commit_proxy refines.commit_proxies found.proxy_there
 
   not_idle : is_idle commit_proxy.stage ≡ false
   not_idle = busy commit_proxy.stage found.resolving
 
   -- what is missing
   missing : (is_received : Bool) → is_set commit_proxy.verdicts_received 0 ≡ is_received
-      → first_missing (λ resolver. is_needed [] resolver (seen_before k.book.items commit_proxy.entry) entry) 0 commit_proxy.verdicts_received
+      → first_missing (λ resolver. is_needed [] resolver (seen_before k.book.items commit_proxy.entry) entry) 0
+      commit_proxy.verdicts_received
       ≡ (if is_any_judged entry && not is_received then Some 0 else None)
   missing is_received is =
-      missing-one (λ resolver. is_needed [] resolver (seen_before k.book.items commit_proxy.entry) entry) commit_proxy.verdicts_received is_received (ok.verdicts_received not_idle) is
-      ∙ ap (λ (needed : Bool). if needed && not is_received then Some 0 else None) (needed-points (seen_before k.book.items commit_proxy.entry) entry still moveless below)
+      missing-one (λ resolver. is_needed [] resolver (seen_before k.book.items commit_proxy.entry) entry)
+      commit_proxy.verdicts_received is_received (ok.verdicts_received not_idle) is
+      ∙ ap (λ (needed : Bool). if needed && not is_received then Some 0 else None)
+      (needed-points (seen_before k.book.items commit_proxy.entry) entry still moveless below)
 
   -- the resolver's verdicts are needed, and didn't come
-  pub decides-waits : is_set commit_proxy.verdicts_received 0 ≡ false → is_any_judged entry ≡ true → decides (machine_of k) proxy ≡ Err (NotYet 0)
+  pub decides-waits : is_set commit_proxy.verdicts_received 0 ≡ false → is_any_judged entry ≡ true
+      → decides (machine_of k) proxy ≡ Err (NotYet 0)
   unfolding decides
   decides-waits not_received judged =
-      rw (found.proxy_there, found.resolving, found.entry_there, refines.plain.resolver_splits, missing false not_received, judged) refl
+      rw (
+        found.proxy_there,
+        found.resolving,
+        found.entry_there,
+        refines.plain.resolver_splits,
+        missing false
+            not_received,
+        judged,
+      ) refl
 
   -- nothing is missing
-  pub decides-transition : (is_received : Bool) → is_set commit_proxy.verdicts_received 0 ≡ is_received → (is_any_judged entry && not is_received) ≡ false
+  pub decides-transition : (is_received : Bool) → is_set commit_proxy.verdicts_received 0 ≡ is_received
+      → (is_any_judged entry && not is_received) ≡ false
       → decides (machine_of k) proxy ≡ Ok (record {
         answer = answered.Decided (outcomes_on [] (seen_before k.book.items commit_proxy.entry) entry);
         next = record (machine_of k) {
@@ -153,62 +177,90 @@ module _ (k : Cluster) (proxy : ℕ) (commit_proxy : CommitProxy) (entry : Entry
       })
   unfolding decides
   decides-transition is_received is none =
-      rw (found.proxy_there, found.resolving, found.entry_there, refines.plain.resolver_splits, missing is_received is, none) refl
+      rw (
+        found.proxy_there,
+        found.resolving,
+        found.entry_there,
+        refines.plain.resolver_splits,
+        missing is_received is,
+        none,
+      ) refl
 
   -- a flag that is set tells that the resolver took the entry
   taken : is_set commit_proxy.verdicts_received 0 ≡ true → commit_proxy.entry < refines.resolvers.role.taken
-  taken verdicts_received = ok.delivered refines.resolvers.role.taken not_idle verdicts_received (ap (λ (resolvers : List ResolverRole). slice_get (taken_by resolvers) 0) refines.resolvers.one)
+  taken verdicts_received = ok.delivered refines.resolvers.role.taken not_idle verdicts_received
+      (ap (λ (resolvers : List ResolverRole). slice_get (taken_by resolvers) 0) refines.resolvers.one)
 
   -- and so there are verdicts on it
-  pub verdicts_received-taken : is_set commit_proxy.verdicts_received 0 ≡ true → commit_proxy.entry < length (sent_by k.resolvers.items)
+  pub verdicts_received-taken : is_set commit_proxy.verdicts_received 0 ≡ true
+      → commit_proxy.entry < length (sent_by k.resolvers.items)
   verdicts_received-taken verdicts_received =
       let made : List (List (ℕ × Verdict)) = along (verdicts_on [] 0) k.book.items in
       let all : length made ≡ length k.book.items = length-along (verdicts_on [] 0) k.book.items in
       let inside : refines.resolvers.role.taken ≤ length made = omega (arith, all, refines.resolvers.ok.within) in
       let count : length (sent_by k.resolvers.items) ≡ refines.resolvers.role.taken =
-      ap (λ (verdicts : List (List (ℕ × Verdict))). length verdicts) (sent-is k.book.items k.resolvers.items refines.resolvers) ∙ length-take-le refines.resolvers.role.taken made inside in
+      ap (λ (verdicts : List (List (ℕ × Verdict))). length verdicts)
+      (sent-is k.book.items k.resolvers.items refines.resolvers)
+      ∙ length-take-le refines.resolvers.role.taken made inside in
       omega (arith, count, taken verdicts_received)
 
   -- the verdicts that the resolver sent
-  sent : is_set commit_proxy.verdicts_received 0 ≡ true → slice_get (sent_by k.resolvers.items) commit_proxy.entry ≡ Some (verdicts_on [] 0 (seen_before k.book.items commit_proxy.entry) entry)
+  sent : is_set commit_proxy.verdicts_received 0 ≡ true
+      → slice_get (sent_by k.resolvers.items) commit_proxy.entry ≡ Some
+      (verdicts_on [] 0 (seen_before k.book.items commit_proxy.entry) entry)
   sent verdicts_received =
-      ap (λ (verdicts : List (List (ℕ × Verdict))). slice_get verdicts commit_proxy.entry) (sent-is k.book.items k.resolvers.items refines.resolvers)
-      ∙ taken-at (along (verdicts_on [] 0) k.book.items) refines.resolvers.role.taken commit_proxy.entry (taken verdicts_received)
+      ap (λ (verdicts : List (List (ℕ × Verdict))). slice_get verdicts commit_proxy.entry)
+      (sent-is k.book.items k.resolvers.items refines.resolvers)
+      ∙ taken-at (along (verdicts_on [] 0) k.book.items) refines.resolvers.role.taken commit_proxy.entry
+      (taken verdicts_received)
       ∙ slice_get-along (verdicts_on [] 0) k.book.items commit_proxy.entry entry found.entry_there
 
   -- what is decided is what becomes of the places
-  pub decision-outcomes : (is_received : Bool) (decision : List Outcome × Message) → is_set commit_proxy.verdicts_received 0 ≡ is_received → (is_any_judged entry && not is_received) ≡ false
+  pub decision-outcomes : (is_received : Bool) (decision : List Outcome × Message)
+      → is_set commit_proxy.verdicts_received 0 ≡ is_received → (is_any_judged entry && not is_received) ≡ false
       → IsDecision k.book.items (sent_by k.resolvers.items) commit_proxy.entry is_received decision
       → decision.0 ≡ outcomes_on [] (seen_before k.book.items commit_proxy.entry) entry
   decision-outcomes true decision is none made =
-      (made entry (verdicts_on [] 0 (seen_before k.book.items commit_proxy.entry) entry) found.entry_there (λ verdicts_received. sent is)).0
+      (made entry (verdicts_on [] 0 (seen_before k.book.items commit_proxy.entry) entry) found.entry_there
+      (λ verdicts_received. sent is)).0
       ∙ outcomes-decided (seen_before k.book.items commit_proxy.entry) entry still moveless below
   decision-outcomes false decision is none made =
       let before : Seen = seen_before k.book.items commit_proxy.entry in
-      let unneeded : is_needed [] 0 before entry ≡ false = needed-points before entry still moveless below ∙ unjudged (is_any_judged entry) none in
+      let unneeded : is_needed [] 0 before entry ≡ false = needed-points before entry still moveless below
+      ∙ unjudged (is_any_judged entry) none in
       (made entry [] found.entry_there (λ verdicts_received. absurd (true≢false (sym verdicts_received)))).0
-      ∙ ap (λ (said : List (ℕ × Verdict)). outcomes_by entry.version said (length entry.batch)) (sym (not_needed-verdicts [] 0 before entry unneeded))
+      ∙ ap (λ (said : List (ℕ × Verdict)). outcomes_by entry.version said (length entry.batch))
+      (sym (not_needed-verdicts [] 0 before entry unneeded))
       ∙ outcomes-decided before entry still moveless below
 
   -- and its message is what the log gets
-  pub decision-message : (is_received : Bool) (decision : List Outcome × Message) → is_set commit_proxy.verdicts_received 0 ≡ is_received → (is_any_judged entry && not is_received) ≡ false
+  pub decision-message : (is_received : Bool) (decision : List Outcome × Message)
+      → is_set commit_proxy.verdicts_received 0 ≡ is_received → (is_any_judged entry && not is_received) ≡ false
       → IsDecision k.book.items (sent_by k.resolvers.items) commit_proxy.entry is_received decision
       → decision.1 ≡ message_on [] (seen_before k.book.items commit_proxy.entry) entry
   decision-message is_received decision is none made = by_heard is_received is made
       ∙ ap (λ (outcomes : List Outcome). message_by outcomes) (decision-outcomes is_received decision is none made)
-      ∙ ap (λ (body : List Mutation). record { version = entry.version; body = body }) (body-committed [] (seen_before k.book.items commit_proxy.entry) entry)
+      ∙ ap (λ (body : List Mutation). record { version = entry.version; body = body })
+      (body-committed [] (seen_before k.book.items commit_proxy.entry) entry)
     where
       message_by : List Outcome → Message
       message_by outcomes = record { version = entry.version; body = body_by entry.batch outcomes }
 
-      by_heard : (verdicts_received : Bool) → is_set commit_proxy.verdicts_received 0 ≡ verdicts_received → IsDecision k.book.items (sent_by k.resolvers.items) commit_proxy.entry verdicts_received decision → decision.1 ≡ message_by decision.0
-      by_heard true is made = (made entry (verdicts_on [] 0 (seen_before k.book.items commit_proxy.entry) entry) found.entry_there (λ verdicts_received. sent is)).1
-      by_heard false is made = (made entry [] found.entry_there (λ verdicts_received. absurd (true≢false (sym verdicts_received)))).1
+      by_heard : (verdicts_received : Bool) → is_set commit_proxy.verdicts_received 0 ≡ verdicts_received
+          → IsDecision k.book.items (sent_by k.resolvers.items) commit_proxy.entry verdicts_received decision
+          → decision.1 ≡ message_by decision.0
+      by_heard true is made =
+          (made entry (verdicts_on [] 0 (seen_before k.book.items commit_proxy.entry) entry) found.entry_there
+          (λ verdicts_received. sent is)).1
+      by_heard false is made =
+          (made entry [] found.entry_there (λ verdicts_received. absurd (true≢false (sym verdicts_received)))).1
 
   -- the commit proxy goes on with its outcomes
-  commit_proxy-decided : (outcomes : List Outcome) → outcomes ≡ outcomes_on [] (seen_before k.book.items commit_proxy.entry) entry
+  commit_proxy-decided : (outcomes : List Outcome)
+      → outcomes ≡ outcomes_on [] (seen_before k.book.items commit_proxy.entry) entry
       → CommitProxyRefines k.book.items (taken_by k.resolvers.items) k.sequencer.committed commit_proxy k.outcomes
-      → CommitProxyRefines k.book.items (taken_by k.resolvers.items) k.sequencer.committed (record commit_proxy { stage = Logging }) outcomes
+      → CommitProxyRefines k.book.items (taken_by k.resolvers.items) k.sequencer.committed
+      (record commit_proxy { stage = Logging }) outcomes
   commit_proxy-decided outcomes are held = record {
     waiting = held.waiting;
     in_book = λ busy_now. held.in_book not_idle;
@@ -216,12 +268,14 @@ module _ (k : Cluster) (proxy : ℕ) (commit_proxy : CommitProxy) (entry : Entry
     verdicts_received = λ busy_now. held.verdicts_received not_idle;
     delivered = λ n busy_now verdicts_received there. held.delivered n not_idle verdicts_received there;
     decision = λ other busy_now decided_now there.
-        are ∙ ap (λ (e : Entry). outcomes_on [] (seen_before k.book.items commit_proxy.entry) e) (same_Some entry other (sym found.entry_there ∙ there));
+        are ∙ ap (λ (e : Entry). outcomes_on [] (seen_before k.book.items commit_proxy.entry) e)
+        (same_Some entry other (sym found.entry_there ∙ there));
   }
 
   -- what stays tied
   pub decided-refines : (outcomes : List Outcome) (message : Message)
-      → outcomes ≡ outcomes_on [] (seen_before k.book.items commit_proxy.entry) entry → message ≡ message_on [] (seen_before k.book.items commit_proxy.entry) entry
+      → outcomes ≡ outcomes_on [] (seen_before k.book.items commit_proxy.entry) entry
+      → message ≡ message_on [] (seen_before k.book.items commit_proxy.entry) entry
       → Refines (record k {
         decided = with_item k.decided commit_proxy.entry true;
         commit_proxies = with_item k.commit_proxies proxy (record commit_proxy { stage = Logging });
@@ -231,8 +285,10 @@ module _ (k : Cluster) (proxy : ℕ) (commit_proxy : CommitProxy) (entry : Entry
   decided-refines outcomes message are is =
       let book = refines.book in
       let made : slice_get (along (message_on []) k.book.items) commit_proxy.entry ≡ Some message =
-      slice_get-along (message_on []) k.book.items commit_proxy.entry entry found.entry_there ∙ ap (λ (m : Message). Some m) (sym is) in
-      let within : commit_proxy.entry < length k.messages.items = omega (arith, book.each_pooled, slice_get_within k.book.items commit_proxy.entry entry found.entry_there) in
+      slice_get-along (message_on []) k.book.items commit_proxy.entry entry found.entry_there
+      ∙ ap (λ (m : Message). Some m) (sym is) in
+      let within : commit_proxy.entry < length k.messages.items = omega
+      (arith, book.each_pooled, slice_get_within k.book.items commit_proxy.entry entry found.entry_there) in
       record {
         plain = refines.plain;
         room = refines.room;
@@ -243,11 +299,15 @@ module _ (k : Cluster) (proxy : ℕ) (commit_proxy : CommitProxy) (entry : Entry
           each_has_proxy = book.each_has_proxy;
           each_flagged = length-set k.decided.items commit_proxy.entry true ∙ book.each_flagged;
           each_pooled = length-set k.messages.items commit_proxy.entry (Some message) ∙ book.each_pooled;
-          made = made-set k.decided.items (along (message_on []) k.book.items) k.messages.items commit_proxy.entry message made within book.made;
+          made = made-set k.decided.items (along (message_on []) k.book.items) k.messages.items commit_proxy.entry
+              message made within book.made;
         };
         resolvers = refines.resolvers;
         log = refines.log;
-        commit_proxies = commit_proxies-set k.book.items k.book.items (taken_by k.resolvers.items) (taken_by k.resolvers.items) k.sequencer.committed k.sequencer.committed k.outcomes outcomes k.commit_proxies.items proxy commit_proxy
-            (record commit_proxy { stage = Logging }) refines.commit_proxies found.proxy_there (commit_proxy-decided outcomes are);
+        commit_proxies = commit_proxies-set k.book.items k.book.items (taken_by k.resolvers.items)
+            (taken_by k.resolvers.items) k.sequencer.committed k.sequencer.committed k.outcomes outcomes
+            k.commit_proxies.items proxy commit_proxy
+            (record commit_proxy { stage = Logging }) refines.commit_proxies found.proxy_there
+            (commit_proxy-decided outcomes are);
         opened = refines.opened;
       }

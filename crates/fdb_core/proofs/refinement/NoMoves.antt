@@ -8,13 +8,17 @@ use Rattle.fdb_core.specs.refinement.Resolving.{NoMovesIn}
 use Rattle.fdb_core.specs.machine.Verdicts.{moves_through}
 
 -- without moves there are none through an entry
-pub no_moves-through : (before : Seen) (entry : Entry) → before.moves ≡ [] → entry.moves ≡ [] → moves_through before entry ≡ []
-no_moves-through before entry still none = ap (λ (moves : List Move). add_moves entry.version moves before.moves) none ∙ still
+pub no_moves-through : (before : Seen) (entry : Entry) → before.moves ≡ [] → entry.moves ≡ []
+    → moves_through before entry ≡ []
+no_moves-through before entry still none = ap (λ (moves : List Move). add_moves entry.version moves before.moves) none
+    ∙ still
 
 -- nor through further entries
-no_moves-from : (seen : Seen) (book : List Entry) → seen.moves ≡ [] → NoMovesIn book → (fold add_entry seen book).moves ≡ []
+no_moves-from : (seen : Seen) (book : List Entry) → seen.moves ≡ [] → NoMovesIn book
+    → (fold add_entry seen book).moves ≡ []
 no_moves-from seen [] still none = still
-no_moves-from seen (entry ∷ book) still none = no_moves-from (add_entry seen entry) book (no_moves-through seen entry still none.0) none.1
+no_moves-from seen (entry ∷ book) still none = no_moves-from (add_entry seen entry) book
+    (no_moves-through seen entry still none.0) none.1
 
 -- what was seen of a book without moves
 pub no_moves-seen : (book : List Entry) → NoMovesIn book → (seen_of book).moves ≡ []
@@ -31,17 +35,22 @@ pub no_moves-before : (book : List Entry) → NoMovesIn book → (i : ℕ) → (
 no_moves-before book still i = no_moves-seen (take i book) (no_moves-take i book still)
 
 -- one more entry without moves
-pub no_moves-push : (book : List Entry) (entry : Entry) → NoMovesIn book → entry.moves ≡ [] → NoMovesIn (book ++ entry ∷ [])
+pub no_moves-push : (book : List Entry) (entry : Entry) → NoMovesIn book → entry.moves ≡ []
+    → NoMovesIn (book ++ entry ∷ [])
 no_moves-push [] entry still none = (none, tt)
 no_moves-push (first ∷ book) entry still none = (still.0, no_moves-push book entry still.1 none)
 
 -- and of the front without it
-pub no_moves-front : (book : List Entry) (entry : Entry) → NoMovesIn (book ++ entry ∷ []) → NoMovesIn book × (entry.moves ≡ [])
+pub no_moves-front : (book : List Entry) (entry : Entry) → NoMovesIn (book ++ entry ∷ []) → NoMovesIn book
+    × (entry.moves ≡ [])
 no_moves-front [] entry still = (tt, still.0)
-no_moves-front (first ∷ book) entry still = let front = no_moves-front book entry still.1 in ((still.0, front.0), front.1)
+no_moves-front (first ∷ book) entry still = let front = no_moves-front book entry still.1 in
+    ((still.0, front.0), front.1)
 
 -- each entry of a book without moves has none
-pub no_moves-at : (book : List Entry) → NoMovesIn book → (i : ℕ) (entry : Entry) → slice_get book i ≡ Some entry → entry.moves ≡ []
+pub no_moves-at : (book : List Entry) → NoMovesIn book → (i : ℕ) (entry : Entry) → slice_get book i ≡ Some entry
+    → entry.moves ≡ []
 no_moves-at [] still i entry there = cc
-no_moves-at (first ∷ book) still zero entry there = let same : first ≡ entry = cc in ap (λ (e : Entry). e.moves) (sym same) ∙ still.0
+no_moves-at (first ∷ book) still zero entry there = let same : first ≡ entry = cc in ap (λ (e : Entry). e.moves)
+    (sym same) ∙ still.0
 no_moves-at (first ∷ book) still (suc i) entry there = no_moves-at book still.1 i entry there

@@ -25,13 +25,15 @@ use Rattle.fdb_txn.proofs.book.HistoryLemmas.{seen_of-push}
 use Rattle.fdb_core.proofs.refinement.RunLaws.{slice_get-along, length-along}
 
 -- a front of a list with the next item
-pub take-next : {A : Type 0} (xs : List A) (i : ℕ) (x : A) → slice_get xs i ≡ Some x → take (suc i) xs ≡ take i xs ++ x ∷ []
+pub take-next : {A : Type 0} (xs : List A) (i : ℕ) (x : A) → slice_get xs i ≡ Some x
+    → take (suc i) xs ≡ take i xs ++ x ∷ []
 take-next [] i x there = cc
 take-next (y ∷ ys) zero x there = let same : y ≡ x = cc in ap (λ z. z ∷ []) same
 take-next (y ∷ ys) (suc i) x there = ap (λ zs. y ∷ zs) (take-next ys i x there)
 
 -- what was seen before the next entry
-pub seen_before-next : (book : List Entry) (i : ℕ) (entry : Entry) → slice_get book i ≡ Some entry → seen_before book (suc i) ≡ add_entry (seen_before book i) entry
+pub seen_before-next : (book : List Entry) (i : ℕ) (entry : Entry) → slice_get book i ≡ Some entry
+    → seen_before book (suc i) ≡ add_entry (seen_before book i) entry
 seen_before-next book i entry there = ap seen_of (take-next book i entry there) ∙ seen_of-push (take i book) entry
 
 -- the one number of a list is found under 0 alone
@@ -40,13 +42,16 @@ one-at one x zero there = (refl, cc)
 one-at one x (suc r) there = cc
 
 -- a front of entries
-entries-take : (resolvers last n : ℕ) (book : List Entry) → AreEntries resolvers last book → AreEntries resolvers last (take n book)
+entries-take : (resolvers last n : ℕ) (book : List Entry) → AreEntries resolvers last book
+    → AreEntries resolvers last (take n book)
 entries-take resolvers last zero book entries = tt
 entries-take resolvers last (suc n) [] entries = tt
-entries-take resolvers last (suc n) (entry ∷ book) entries = (entries.0, entries.1, entries.2, entries.3, entries-take resolvers entry.version n book entries.4)
+entries-take resolvers last (suc n) (entry ∷ book) entries =
+    (entries.0, entries.1, entries.2, entries.3, entries-take resolvers entry.version n book entries.4)
 
 -- a resolver that took the entries before one awaits that one
-pub awaits : (book : List Entry) (resolver : Resolver) (i : ℕ) (entry : Entry) → NoMovesIn book → AreEntries 1 0 book → slice_get book i ≡ Some entry
+pub awaits : (book : List Entry) (resolver : Resolver) (i : ℕ) (entry : Entry) → NoMovesIn book → AreEntries 1 0 book
+    → slice_get book i ≡ Some entry
     → ResolverAt (take i book) resolver → IsNext (take i book) resolver entry
 awaits book resolver i entry still entries there at =
     let front = take-next book i entry there in
@@ -62,8 +67,10 @@ pub sent-is : (book : List Entry) (resolvers : List ResolverRole) (ok : Resolver
 sent-is book resolvers ok = ap sent_by ok.one ∙ ok.ok.sent
 
 -- the resolver takes the next entry
-module _ (book : List Entry) (resolvers : List ResolverRole) (r i : ℕ) (entry : Entry) (role : ResolverRole) (ok : ResolversRefine book resolvers) (still : NoMovesIn book)
-    (entries : AreEntries 1 0 book) (there : slice_get book i ≡ Some entry) (at : slice_get resolvers r ≡ Some role) (due : role.taken ≡ i) where
+module _ (book : List Entry) (resolvers : List ResolverRole) (r i : ℕ) (entry : Entry) (role : ResolverRole)
+    (ok : ResolversRefine book resolvers) (still : NoMovesIn book)
+    (entries : AreEntries 1 0 book) (there : slice_get book i ≡ Some entry) (at : slice_get resolvers r ≡ Some role)
+    (due : role.taken ≡ i) where
   pub resolver-is : (r ≡ 0) × (ok.role ≡ role)
   resolver-is = one-at ok.role role r (rw ok.one at at)
 
@@ -77,9 +84,11 @@ module _ (book : List Entry) (resolvers : List ResolverRole) (r i : ℕ) (entry 
   resolver-number = rw (numbers, resolver-is.0) refl
 
   pub resolver-awaits : IsNext (take i book) role.core entry
-  resolver-awaits = awaits book role.core i entry still entries there (subst (λ (n : ℕ). ResolverAt (take n book) role.core) due its.state)
+  resolver-awaits = awaits book role.core i entry still entries there
+      (subst (λ (n : ℕ). ResolverAt (take n book) role.core) due its.state)
 
-  module _ (answer : List (ℕ × Verdict)) (later : ResolverRole) (takes : TakesNext (take i book) entry role answer later) where
+  module _ (answer : List (ℕ × Verdict)) (later : ResolverRole)
+      (takes : TakesNext (take i book) entry role answer later) where
     count : later.taken ≡ suc i
     count = omega (arith, takes.taken, due)
 
@@ -90,19 +99,24 @@ module _ (book : List Entry) (resolvers : List ResolverRole) (r i : ℕ) (entry 
       ok = record {
         within = let inside = slice_get_within book i entry there in omega (arith, inside, count);
         state = subst (λ (n : ℕ). ResolverAt (take n book) later.core) (sym count)
-            (subst (λ (front : List Entry). ResolverAt front later.core) (sym (take-next book i entry there)) takes.state);
-        sent = takes.sent ∙ ap (λ vs. vs ++ answer ∷ []) (its.sent ∙ ap (λ (n : ℕ). take n (along (verdicts_on [] 0) book)) due)
+            (subst (λ (front : List Entry). ResolverAt front later.core) (sym (take-next book i entry there))
+            takes.state);
+        sent = takes.sent
+            ∙ ap (λ vs. vs ++ answer ∷ []) (its.sent ∙ ap (λ (n : ℕ). take n (along (verdicts_on [] 0) book)) due)
             ∙ ap (λ v. take i (along (verdicts_on [] 0) book) ++ v ∷ []) takes.rule
-            ∙ sym (take-next (along (verdicts_on [] 0) book) i _ (slice_get-along (verdicts_on [] 0) book i entry there))
+            ∙ sym (take-next (along (verdicts_on [] 0) book) i _
+            (slice_get-along (verdicts_on [] 0) book i entry there))
             ∙ ap (λ (n : ℕ). take n (along (verdicts_on [] 0) book)) (sym count);
       };
     }
 
     pub numbers-next : taken_by (slice_set resolvers r later) ≡ slice_set (taken_by resolvers) r (i + 1)
-    numbers-next = rw (ok.one, resolver-is.0) (let same : later.taken ≡ i + 1 = omega (arith, count) in ap (λ (n : ℕ). n ∷ []) same)
+    numbers-next = rw (ok.one, resolver-is.0)
+        (let same : later.taken ≡ i + 1 = omega (arith, count) in ap (λ (n : ℕ). n ∷ []) same)
 
   -- what was delivered stays delivered
-  pub commit_proxy-resolved : (committed : ℕ) (commit_proxy : CommitProxy) (outcomes : List Outcome) → CommitProxyRefines book (taken_by resolvers) committed commit_proxy outcomes
+  pub commit_proxy-resolved : (committed : ℕ) (commit_proxy : CommitProxy) (outcomes : List Outcome)
+      → CommitProxyRefines book (taken_by resolvers) committed commit_proxy outcomes
       → CommitProxyRefines book (slice_set (taken_by resolvers) r (i + 1)) committed commit_proxy outcomes
   commit_proxy-resolved committed commit_proxy outcomes refines = record {
     waiting = refines.waiting;
@@ -117,17 +131,26 @@ module _ (book : List Entry) (resolvers : List ResolverRole) (r i : ℕ) (entry 
         omega (arith, before, same);
   }
 
-  pub commit_proxies-resolved : (committed : ℕ) (commit_proxies : List CommitProxy) (outcomes : List Outcome) → CommitProxiesRefine book (taken_by resolvers) committed commit_proxies outcomes
+  pub commit_proxies-resolved : (committed : ℕ) (commit_proxies : List CommitProxy) (outcomes : List Outcome)
+      → CommitProxiesRefine book (taken_by resolvers) committed commit_proxies outcomes
       → CommitProxiesRefine book (slice_set (taken_by resolvers) r (i + 1)) committed commit_proxies outcomes
-  commit_proxies-resolved committed commit_proxies outcomes refines = record { commit_proxy = refines.commit_proxy; one = refines.one; ok = commit_proxy-resolved committed refines.commit_proxy outcomes refines.ok }
+  commit_proxies-resolved committed commit_proxies outcomes refines = record {
+    commit_proxy = refines.commit_proxy;
+    one = refines.one;
+    ok = commit_proxy-resolved committed
+        refines.commit_proxy outcomes refines.ok;
+  }
 
 -- the log takes the message of the next entry
-module _ (book : List Entry) (logs : List ℕ) (shards : List ShardProgress) (log shard : List Message) (l i : ℕ) (entry : Entry)
-    (ok : LogRefines book logs shards log shard) (there : slice_get book i ≡ Some entry) (at : slice_get logs l ≡ Some i) where
+module _ (book : List Entry) (logs : List ℕ) (shards : List ShardProgress) (log shard : List Message) (l i : ℕ)
+    (entry : Entry)
+    (ok : LogRefines book logs shards log shard) (there : slice_get book i ≡ Some entry)
+    (at : slice_get logs l ≡ Some i) where
   log-is : (l ≡ 0) × (ok.taken ≡ i)
   log-is = one-at ok.taken i l (rw ok.one_log at at)
 
-  pub log-next : (message : Message) → message ≡ message_on [] (seen_before book i) entry → LogRefines book (slice_set logs l (i + 1)) shards (log ++ message ∷ []) shard
+  pub log-next : (message : Message) → message ≡ message_on [] (seen_before book i) entry
+      → LogRefines book (slice_set logs l (i + 1)) shards (log ++ message ∷ []) shard
   log-next message is = record {
     taken = suc i;
     applied = ok.applied;
@@ -153,14 +176,17 @@ take-take (x ∷ xs) zero (suc t) h = refl
 take-take (x ∷ xs) (suc p) (suc t) h = ap (λ ys. x ∷ ys) (take-take xs p t (omega (arith, h)))
 
 -- the shard applies further messages of the log
-module _ (book : List Entry) (logs : List ℕ) (shards : List ShardProgress) (log shard : List Message) (ok : LogRefines book logs shards log shard) where
+module _ (book : List Entry) (logs : List ℕ) (shards : List ShardProgress) (log shard : List Message)
+    (ok : LogRefines book logs shards log shard) where
   pub length-log : length log ≡ ok.taken
   length-log =
-      let through : length log ≡ min ok.taken (length (along (message_on []) book)) = ap length ok.logged ∙ length-take ok.taken (along (message_on []) book) in
+      let through : length log ≡ min ok.taken (length (along (message_on []) book)) = ap length ok.logged
+      ∙ length-take ok.taken (along (message_on []) book) in
       omega (arith, through, length-along (message_on []) book, ok.within)
 
   -- what is applied is in the log
-  pub applied-until : (i has s n q : ℕ) (progress : ShardProgress) → slice_get logs i ≡ Some has → slice_get shards s ≡ Some progress
+  pub applied-until : (i has s n q : ℕ) (progress : ShardProgress) → slice_get logs i ≡ Some has
+      → slice_get shards s ≡ Some progress
       → q ≡ max progress.applied (min has n) → q ≤ length log
   applied-until i has s n q progress at there is =
       let found = one-at (record { applied = ok.applied; floor = 0 }) progress s (rw ok.one_shard at there) in
@@ -168,8 +194,10 @@ module _ (book : List Entry) (logs : List ℕ) (shards : List ShardProgress) (lo
       let same = (one-at ok.taken has i (rw ok.one_log at at)).1 in
       omega (arith, is, from_there, same, length-log, ok.after)
 
-  pub applied-next : (s q : ℕ) (progress : ShardProgress) → slice_get shards s ≡ Some progress → progress.applied ≤ q → q ≤ length log
-      → LogRefines book logs (slice_set shards s (record { applied = q; floor = progress.floor })) log (shard ++ take (q - progress.applied) (drop progress.applied log))
+  pub applied-next : (s q : ℕ) (progress : ShardProgress) → slice_get shards s ≡ Some progress → progress.applied ≤ q
+      → q ≤ length log
+      → LogRefines book logs (slice_set shards s (record { applied = q; floor = progress.floor })) log
+      (shard ++ take (q - progress.applied) (drop progress.applied log))
   applied-next s q progress there from until =
       let found = one-at (record { applied = ok.applied; floor = 0 }) progress s (rw ok.one_shard at there) in
       let from_there : ok.applied ≡ progress.applied = ap (λ (r : ShardProgress). r.applied) found.1 in
@@ -187,7 +215,8 @@ module _ (book : List Entry) (logs : List ℕ) (shards : List ShardProgress) (lo
         kept =
             ap (λ ms. ms ++ take (q - progress.applied) (drop progress.applied log))
             (ok.kept ∙ ap (λ (n : ℕ). take n (along (message_on []) book)) from_there
-            ∙ sym (take-take (along (message_on []) book) progress.applied ok.taken (omega (arith, ok.after, from_there)))
+            ∙ sym (take-take (along (message_on []) book) progress.applied ok.taken
+            (omega (arith, ok.after, from_there)))
             ∙ ap (λ (ms : List Message). take progress.applied ms) (sym ok.logged))
             ∙ sym (take-add progress.applied (q - progress.applied) log)
             ∙ ap (λ (n : ℕ). take n log) whole
@@ -200,23 +229,26 @@ pub last-push : (book : List Entry) (entry : Entry) → last_version (book ++ en
 last-push book entry = fold-append (λ (last : ℕ) (e : Entry). e.version) 0 book (entry ∷ [])
 
 -- no entry's version is above the last
-module _ (book : List Entry) (rising : IsRising book) (i : ℕ) (entry : Entry) (there : slice_get book i ≡ Some entry) where
-  below-later : (d : ℕ) → i + suc d ≤ length book → entry.version ≤ last_version (take (i + suc d) book)
-  below-later zero within =
-      let last : last_version (take (suc i) book) ≡ entry.version = ap last_version (take-next book i entry there) ∙ last-push (take i book) entry in
-      let next : i + 1 ≡ suc i = omega arith in
-      rw (next, last) (omega arith)
-  below-later (suc d) within =
-      let later = within-item book (i + suc d) (omega (arith, within)) in
-      let last : last_version (take (suc (i + suc d)) book) ≡ later.0.version = ap last_version (take-next book (i + suc d) later.0 later.1) ∙ last-push (take (i + suc d) book) later.0 in
-      let next : i + suc (suc d) ≡ suc (i + suc d) = omega arith in
-      let before = below-later d (omega (arith, within)) in
-      let above = rising (i + suc d) later.0 later.1 in
-      rw (next, last) (omega (arith, before, above))
+module _ (book : List Entry) (rising : IsRising book) (i : ℕ) (entry : Entry) (there : slice_get book i ≡ Some entry)
+  where
+    below-later : (d : ℕ) → i + suc d ≤ length book → entry.version ≤ last_version (take (i + suc d) book)
+    below-later zero within =
+        let last : last_version (take (suc i) book) ≡ entry.version = ap last_version (take-next book i entry there)
+        ∙ last-push (take i book) entry in
+        let next : i + 1 ≡ suc i = omega arith in
+        rw (next, last) (omega arith)
+    below-later (suc d) within =
+        let later = within-item book (i + suc d) (omega (arith, within)) in
+        let last : last_version (take (suc (i + suc d)) book) ≡ later.0.version = ap last_version
+        (take-next book (i + suc d) later.0 later.1) ∙ last-push (take (i + suc d) book) later.0 in
+        let next : i + suc (suc d) ≡ suc (i + suc d) = omega arith in
+        let before = below-later d (omega (arith, within)) in
+        let above = rising (i + suc d) later.0 later.1 in
+        rw (next, last) (omega (arith, before, above))
 
-  pub below-last : entry.version ≤ last_version book
-  below-last =
-      let within = slice_get_within book i entry there in
-      let count : i + suc (length book - suc i) ≡ length book = omega (arith, within) in
-      let before = below-later (length book - suc i) (omega (arith, count)) in
-      rw (count, take_all (length book) book (omega arith)) at before
+    pub below-last : entry.version ≤ last_version book
+    below-last =
+        let within = slice_get_within book i entry there in
+        let count : i + suc (length book - suc i) ≡ length book = omega (arith, within) in
+        let before = below-later (length book - suc i) (omega (arith, count)) in
+        rw (count, take_all (length book) book (omega arith)) at before

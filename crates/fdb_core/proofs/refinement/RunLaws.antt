@@ -37,14 +37,16 @@ steps-along : {A : Type 0} (f : Seen → Entry → A) (seen : Seen) (made : List
 unfolding along_from
 steps-along f seen made [] = sym (append-nil made)
 steps-along f seen made (entry ∷ book) =
-    steps-along f (add_entry seen entry) (made ++ f seen entry ∷ []) book ∙ append_assoc made (f seen entry ∷ []) (along_from f (add_entry seen entry) book)
+    steps-along f (add_entry seen entry) (made ++ f seen entry ∷ []) book
+    ∙ append_assoc made (f seen entry ∷ []) (along_from f (add_entry seen entry) book)
 
 -- `along` is the recursion
 along-is : {A : Type 0} (f : Seen → Entry → A) (book : List Entry) → along f book ≡ along_from f nothing book
 along-is f book = steps-along f nothing [] book
 
 -- one for each entry
-length-from : {A : Type 0} (f : Seen → Entry → A) (seen : Seen) (book : List Entry) → length (along_from f seen book) ≡ length book
+length-from : {A : Type 0} (f : Seen → Entry → A) (seen : Seen) (book : List Entry)
+    → length (along_from f seen book) ≡ length book
 unfolding along_from
 length-from f seen [] = refl
 length-from f seen (entry ∷ book) = ap suc (length-from f (add_entry seen entry) book)
@@ -64,30 +66,36 @@ push-from f seen (first ∷ book) entry = ap (λ made. f seen first ∷ made) (p
 pub along-push : {A : Type 0} (f : Seen → Entry → A) (book : List Entry) (entry : Entry)
     → along f (book ++ entry ∷ []) ≡ along f book ++ f (seen_of book) entry ∷ []
 along-push f book entry =
-    along-is f (book ++ entry ∷ []) ∙ push-from f nothing book entry ∙ ap (λ made. made ++ f (seen_of book) entry ∷ []) (sym (along-is f book))
+    along-is f (book ++ entry ∷ []) ∙ push-from f nothing book entry
+    ∙ ap (λ made. made ++ f (seen_of book) entry ∷ []) (sym (along-is f book))
 
 -- what stands at a number is made of the entry there and of what was seen before it
 slice_get-from : {A : Type 0} (f : Seen → Entry → A) (seen : Seen) (book : List Entry) (i : ℕ) (entry : Entry)
-    → slice_get book i ≡ Some entry → slice_get (along_from f seen book) i ≡ Some (f (fold add_entry seen (take i book)) entry)
+    → slice_get book i ≡ Some entry
+    → slice_get (along_from f seen book) i ≡ Some (f (fold add_entry seen (take i book)) entry)
 unfolding along_from
 slice_get-from f seen [] i entry there = cc
-slice_get-from f seen (first ∷ book) zero entry there = let same : first ≡ entry = cc in ap (λ (e : Entry). Some (f seen e)) same
+slice_get-from f seen (first ∷ book) zero entry there = let same : first ≡ entry = cc in
+    ap (λ (e : Entry). Some (f seen e)) same
 slice_get-from f seen (first ∷ book) (suc i) entry there = slice_get-from f (add_entry seen first) book i entry there
 
 -- what stands at a number is made of the entry there and of what was seen before it
 pub slice_get-along : {A : Type 0} (f : Seen → Entry → A) (book : List Entry) (i : ℕ) (entry : Entry)
     → slice_get book i ≡ Some entry → slice_get (along f book) i ≡ Some (f (seen_before book i) entry)
-slice_get-along f book i entry there = ap (λ made. slice_get made i) (along-is f book) ∙ slice_get-from f nothing book i entry there
+slice_get-along f book i entry there = ap (λ made. slice_get made i) (along-is f book)
+    ∙ slice_get-from f nothing book i entry there
 
 -- the first ones are those of the first entries
-take-from : {A : Type 0} (f : Seen → Entry → A) (seen : Seen) (n : ℕ) (book : List Entry) → take n (along_from f seen book) ≡ along_from f seen (take n book)
+take-from : {A : Type 0} (f : Seen → Entry → A) (seen : Seen) (n : ℕ) (book : List Entry)
+    → take n (along_from f seen book) ≡ along_from f seen (take n book)
 unfolding along_from
 take-from f seen zero book = refl
 take-from f seen (suc n) [] = refl
 take-from f seen (suc n) (entry ∷ book) = ap (λ made. f seen entry ∷ made) (take-from f (add_entry seen entry) n book)
 
 -- the first ones are those of the first entries
-pub take-along : {A : Type 0} (f : Seen → Entry → A) (n : ℕ) (book : List Entry) → take n (along f book) ≡ along f (take n book)
+pub take-along : {A : Type 0} (f : Seen → Entry → A) (n : ℕ) (book : List Entry)
+    → take n (along f book) ≡ along f (take n book)
 take-along f n book = ap (take n) (along-is f book) ∙ take-from f nothing n book ∙ sym (along-is f (take n book))
 
 -- each entry's version is greater than that of the entry before it, and the first one's greater than the least
@@ -100,10 +108,12 @@ abbrev last_from : ℕ → List Entry → ℕ
 last_from least book = fold (λ (last : ℕ) (entry : Entry). entry.version) least book
 
 -- a rising book in this form
-rises : (least : ℕ) (book : List Entry) → ((i : ℕ) (entry : Entry) → slice_get book i ≡ Some entry → last_from least (take i book) < entry.version)
+rises : (least : ℕ) (book : List Entry)
+    → ((i : ℕ) (entry : Entry) → slice_get book i ≡ Some entry → last_from least (take i book) < entry.version)
     → RisesFrom least book
 rises least [] rising = tt
-rises least (entry ∷ book) rising = (rising 0 entry refl, rises entry.version book (λ i other there. rising (suc i) other there))
+rises least (entry ∷ book) rising =
+    (rising 0 entry refl, rises entry.version book (λ i other there. rising (suc i) other there))
 
 -- its first entries rise
 rises-take : (least n : ℕ) (book : List Entry) → RisesFrom least book → RisesFrom least (take n book)
@@ -112,13 +122,15 @@ rises-take least (suc n) [] rising = tt
 rises-take least (suc n) (entry ∷ book) rising = (rising.0, rises-take entry.version n book rising.1)
 
 -- its other entries rise from the last one of those
-rises-drop : (least n : ℕ) (book : List Entry) → RisesFrom least book → RisesFrom (last_from least (take n book)) (drop n book)
+rises-drop : (least n : ℕ) (book : List Entry) → RisesFrom least book
+    → RisesFrom (last_from least (take n book)) (drop n book)
 rises-drop least zero book rising = rising
 rises-drop least (suc n) [] rising = tt
 rises-drop least (suc n) (entry ∷ book) rising = rises-drop entry.version n book rising.1
 
 -- a book that rises stays so with an entry of a greater version
-rises-push : (least : ℕ) (book : List Entry) (entry : Entry) → RisesFrom least book → last_from least book < entry.version → RisesFrom least (book ++ entry ∷ [])
+rises-push : (least : ℕ) (book : List Entry) (entry : Entry) → RisesFrom least book
+    → last_from least book < entry.version → RisesFrom least (book ++ entry ∷ [])
 rises-push least [] entry rising above = (above, tt)
 rises-push least (first ∷ book) entry rising above = (rising.0, rises-push first.version book entry rising.1 above)
 
@@ -139,28 +151,35 @@ pub entries-rising : (resolvers : ℕ) (book : List Entry) → AreEntries resolv
 entries-rising resolvers book entries = rises-at 0 book (entries-rise resolvers 0 book entries)
 
 -- and their transactions read below their versions
-pub entries-below : (resolvers least : ℕ) (book : List Entry) → AreEntries resolvers least book → AllByRecursion ReadsBelow book
+pub entries-below : (resolvers least : ℕ) (book : List Entry) → AreEntries resolvers least book
+    → AllByRecursion ReadsBelow book
 entries-below resolvers least [] entries = tt
-entries-below resolvers least (entry ∷ book) entries =
-    (all-weaken _ (λ (t : Transaction). t.read < entry.version) (λ (t : Transaction) may. may.0) entry.batch entries.3, entries-below resolvers entry.version book entries.4)
+entries-below resolvers least (entry ∷ book) entries = (
+  all-weaken _ (λ (t : Transaction). t.read < entry.version) (λ (t : Transaction) may. may.0) entry.batch entries.3,
+  entries-below resolvers entry.version book entries.4,
+)
 
 -- the empty book rises
 pub rising-nil : IsRising []
 rising-nil = rises-at 0 [] tt
 
 -- a rising book goes on with an entry of a greater version than the last one's
-pub rising-push : (book : List Entry) (entry : Entry) → IsRising book → last_version book < entry.version → IsRising (book ++ entry ∷ [])
-rising-push book entry rising above = rises-at 0 (book ++ entry ∷ []) (rises-push 0 book entry (rises 0 book rising) above)
+pub rising-push : (book : List Entry) (entry : Entry) → IsRising book → last_version book < entry.version
+    → IsRising (book ++ entry ∷ [])
+rising-push book entry rising above = rises-at 0 (book ++ entry ∷ [])
+    (rises-push 0 book entry (rises 0 book rising) above)
 
 -- the first entries of a rising book rise
 pub rising-take : (n : ℕ) (book : List Entry) → IsRising book → IsRising (take n book)
 rising-take n book rising = rises-at 0 (take n book) (rises-take 0 n book (rises 0 book rising))
 
 -- places of a version at most v come in
-at_most-places : (v version : ℕ) (moves : List Stamped) (batch : List Transaction) (earlier : List Place) → version ≤ v → AtMost v earlier
+at_most-places : (v version : ℕ) (moves : List Stamped) (batch : List Transaction) (earlier : List Place) → version ≤ v
+    → AtMost v earlier
     → AtMost v (add_places version moves batch earlier)
 at_most-places v version moves [] earlier reached at_most = at_most
-at_most-places v version moves (t ∷ ts) earlier reached at_most = at_most-places v version moves ts (placed version moves t ∷ earlier) reached (reached, at_most)
+at_most-places v version moves (t ∷ ts) earlier reached at_most = at_most-places v version moves ts
+    (placed version moves t ∷ earlier) reached (reached, at_most)
 
 -- the places of an entry of a greater version are left out
 up_to-entry : (v version : ℕ) (moves : List Stamped) (batch : List Transaction) (earlier : List Place) → v < version
@@ -178,20 +197,26 @@ up_to-after v least seen (entry ∷ book) reached rising =
     ∙ up_to-entry v entry.version (moves_through seen entry) entry.batch seen.places (omega (arith, rising.0))
 
 -- an entry's message answers as the run through the entry
-value-message : (splits : List Point) (v : ℕ) (x : Point) (seen : Seen) (entry : Entry) → AtMost entry.version seen.places
-    → value_with v x (get (serial_map_at splits v seen.places) x) (message_on splits seen entry) ≡ get (serial_map_at splits v (add_entry seen entry).places) x
+value-message : (splits : List Point) (v : ℕ) (x : Point) (seen : Seen) (entry : Entry)
+    → AtMost entry.version seen.places
+    → value_with v x (get (serial_map_at splits v seen.places) x) (message_on splits seen entry) ≡ get
+    (serial_map_at splits v (add_entry seen entry).places) x
 value-message splits v x seen entry at_most = ⊎_elim
     (λ reached. let up : entry.version ≤ v = leb-true entry.version v reached in
-    let older : up_to v seen.places ≡ seen.places = up_to-all v seen.places (at_most-more entry.version v seen.places up at_most) in
+    let older : up_to v seen.places ≡ seen.places = up_to-all v seen.places
+    (at_most-more entry.version v seen.places up at_most) in
     let all : up_to v places ≡ places =
-    up_to-all v places (at_most-places v entry.version moves entry.batch seen.places up (at_most-more entry.version v seen.places up at_most)) in
+    up_to-all v places
+    (at_most-places v entry.version moves entry.batch seen.places up
+    (at_most-more entry.version v seen.places up at_most)) in
     cond-true _ _ _ reached
     ∙ ap (λ (now : List Place). fold (value_after x) (get (serial_map splits now) x) body) older
     ∙ sym (get-effects (serial_map splits seen.places) body x)
     ∙ ap (λ (map : Map). get map x) (sym (serial_map-add_places splits entry.version moves entry.batch seen.places))
     ∙ ap (λ (now : List Place). get (serial_map splits now) x) (sym all))
     (λ above. cond-false _ _ _ above
-    ∙ ap (λ (now : List Place). get (serial_map splits now) x) (sym (up_to-entry v entry.version moves entry.batch seen.places (leb-false entry.version v above))))
+    ∙ ap (λ (now : List Place). get (serial_map splits now) x)
+    (sym (up_to-entry v entry.version moves entry.batch seen.places (leb-false entry.version v above))))
     (cases_Bool (nat_le entry.version v))
   where
     moves : List Stamped
@@ -204,32 +229,43 @@ value-message splits v x seen entry at_most = ⊎_elim
     body = committed_from splits entry.version moves entry.batch seen.places
 
 -- so do the messages of a rising book
-value-messages : (splits : List Point) (v : ℕ) (x : Point) (least : ℕ) (seen : Seen) (book : List Entry) → AtMost least seen.places → RisesFrom least book
+value-messages : (splits : List Point) (v : ℕ) (x : Point) (least : ℕ) (seen : Seen) (book : List Entry)
+    → AtMost least seen.places → RisesFrom least book
     → fold (value_with v x) (get (serial_map_at splits v seen.places) x) (along_from (message_on splits) seen book)
     ≡ get (serial_map_at splits v (fold add_entry seen book).places) x
 unfolding along_from
 value-messages splits v x least seen [] at_most rising = refl
 value-messages splits v x least seen (entry ∷ book) at_most rising =
-    let here : AtMost entry.version seen.places = at_most-more least entry.version seen.places (le_of_lt rising.0) at_most in
-    ap (λ (value : Option (List ℕ)). fold (value_with v x) value (along_from (message_on splits) (add_entry seen entry) book))
+    let here : AtMost entry.version seen.places = at_most-more least entry.version seen.places (le_of_lt rising.0)
+    at_most in
+    ap (λ (value : Option (List ℕ)). fold (value_with v x) value
+    (along_from (message_on splits) (add_entry seen entry) book))
     (value-message splits v x seen entry here)
     ∙ value-messages splits v x entry.version (add_entry seen entry) book
-    (at_most-places entry.version entry.version (moves_through seen entry) entry.batch seen.places (le_refl entry.version) here) rising.1
+    (at_most-places entry.version entry.version (moves_through seen entry) entry.batch seen.places
+    (le_refl entry.version) here) rising.1
 
 -- the messages that a shard applied answer, at any version up to its own, as the run's map at that version
-pub value-of-serial_map : (splits : List Point) (book : List Entry) → IsRising book → (applied v : ℕ) → v ≤ last_version (take applied book)
-    → (x : Point) → value_in v x (take applied (along (message_on splits) book)) ≡ get (serial_map_at splits v (seen_of book).places) x
+pub value-of-serial_map : (splits : List Point) (book : List Entry) → IsRising book → (applied v : ℕ)
+    → v ≤ last_version (take applied book)
+    → (x : Point)
+    → value_in v x (take applied (along (message_on splits) book)) ≡ get (serial_map_at splits v (seen_of book).places)
+    x
 value-of-serial_map splits book rising applied v reached x =
     let whole : RisesFrom 0 book = rises 0 book rising in
     let parts : seen_of book ≡ fold add_entry (seen_of (take applied book)) (drop applied book) =
-    ap seen_of (sym (take-append-drop applied book)) ∙ fold-append add_entry nothing (take applied book) (drop applied book) in
-    ap (λ (messages : List Message). value_in v x messages) (take-along (message_on splits) applied book ∙ along-is (message_on splits) (take applied book))
-    ∙ ap (λ (value : Option (List ℕ)). fold (value_with v x) value (along_from (message_on splits) nothing (take applied book)))
+    ap seen_of (sym (take-append-drop applied book))
+    ∙ fold-append add_entry nothing (take applied book) (drop applied book) in
+    ap (λ (messages : List Message). value_in v x messages)
+    (take-along (message_on splits) applied book ∙ along-is (message_on splits) (take applied book))
+    ∙ ap (λ (value : Option (List ℕ)). fold (value_with v x) value
+    (along_from (message_on splits) nothing (take applied book)))
     (sym (get-empty {X = List ℕ} (slice_cmp nat_cmp) x))
     ∙ value-messages splits v x 0 nothing (take applied book) tt (rises-take 0 applied book whole)
     ∙ ap (λ (now : List Place). get (serial_map splits now) x)
     (sym (ap (λ (seen : Seen). up_to v seen.places) parts
-    ∙ up_to-after v (last_version (take applied book)) (seen_of (take applied book)) (drop applied book) reached (rises-drop 0 applied book whole)))
+    ∙ up_to-after v (last_version (take applied book)) (seen_of (take applied book)) (drop applied book) reached
+    (rises-drop 0 applied book whole)))
 
 -- with the places of a rising book none is above its last version
 at_most-book : (least : ℕ) (seen : Seen) (book : List Entry) → AtMost least seen.places → RisesFrom least book
@@ -237,11 +273,13 @@ at_most-book : (least : ℕ) (seen : Seen) (book : List Entry) → AtMost least 
 at_most-book least seen [] at_most rising = at_most
 at_most-book least seen (entry ∷ book) at_most rising =
     at_most-book entry.version (add_entry seen entry) book
-    (at_most-places entry.version entry.version (moves_through seen entry) entry.batch seen.places (le_refl entry.version)
+    (at_most-places entry.version entry.version (moves_through seen entry) entry.batch seen.places
+    (le_refl entry.version)
     (at_most-more least entry.version seen.places (le_of_lt rising.0) at_most)) rising.1
 
 -- the entries of a rising book of which the first is above v are left out
-up_to-later : (v least : ℕ) (seen : Seen) (book : List Entry) → ((entry : Entry) → slice_get book 0 ≡ Some entry → v < entry.version) → RisesFrom least book
+up_to-later : (v least : ℕ) (seen : Seen) (book : List Entry)
+    → ((entry : Entry) → slice_get book 0 ≡ Some entry → v < entry.version) → RisesFrom least book
     → up_to v (fold add_entry seen book).places ≡ up_to v seen.places
 up_to-later v least seen [] later rising = refl
 up_to-later v least seen (entry ∷ book) later rising =
@@ -255,7 +293,8 @@ first-drop zero book = refl
 first-drop (suc n) [] = refl
 first-drop (suc n) (entry ∷ book) = first-drop n book
 
--- from the version of the last of the first n entries on, and below that of the next one, the map is that after those entries
+-- from the version of the last of the first n entries on, and below that of the next one, the map is that after those
+-- entries
 pub map-between : (splits : List Point) (book : List Entry) → IsRising book → (n v : ℕ) → last_version (take n book) ≤ v
     → ((entry : Entry) → slice_get book n ≡ Some entry → v < entry.version)
     → serial_map_at splits v (seen_of book).places ≡ serial_map splits (seen_before book n).places
@@ -268,4 +307,5 @@ map-between splits book rising n v reached next =
     ∙ up_to-later v (last_version (take n book)) (seen_of (take n book)) (drop n book)
     (λ entry there. next entry (sym (first-drop n book) ∙ there)) (rises-drop 0 n book whole)
     ∙ up_to-all v (seen_before book n).places
-    (at_most-more (last_version (take n book)) v (seen_before book n).places reached (at_most-book 0 nothing (take n book) tt (rises-take 0 n book whole))))
+    (at_most-more (last_version (take n book)) v (seen_before book n).places reached
+    (at_most-book 0 nothing (take n book) tt (rises-take 0 n book whole))))

@@ -51,23 +51,34 @@ sealed_machine m proxy advance commit_proxy = record m {
 }
 
 -- a proxy without a batch in flight seals, where there are versions and places in the book left
-pub seals-transition : (m : Machine) (proxy advance : ℕ) (commit_proxy : CommitProxy) → slice_get m.commit_proxies proxy ≡ Some commit_proxy → is_idle commit_proxy.stage ≡ true
+pub seals-transition : (m : Machine) (proxy advance : ℕ) (commit_proxy : CommitProxy)
+    → slice_get m.commit_proxies proxy ≡ Some commit_proxy → is_idle commit_proxy.stage ≡ true
     → next_version (last_version m.book) advance ≤ version_limit → length m.book < m.config.book
     → seals m proxy advance ≡ Ok (record {
-      answer = answered.Issued (length m.book) (next_version (last_version m.book) advance) (last_version m.book) (length (take PLACE_LIMIT commit_proxy.waiting));
+      answer = answered.Issued (length m.book) (next_version (last_version m.book) advance) (last_version m.book)
+          (length (take PLACE_LIMIT commit_proxy.waiting));
       next = sealed_machine m proxy advance commit_proxy;
     })
 unfolding seals
 seals-transition m proxy advance commit_proxy there idle few room =
-    rw (there, idle, le-ltb version_limit (next_version (last_version m.book) advance) few, lt-leb m.config.book (length m.book) room) refl
+    rw (
+      there,
+      idle,
+      le-ltb version_limit (next_version (last_version m.book) advance) few,
+      lt-leb m.config.book
+          (length m.book) room,
+    ) refl
 
 -- as many transactions as transcripts, and at most as many as a batch may have
 pub length-sealed : (waiting : List Submission) (batch : List Transaction)
-    → batch ≡ map (λ (submission : Submission). submission.sealed) (take PLACE_LIMIT waiting) → length batch ≡ length (take PLACE_LIMIT waiting)
-length-sealed waiting batch is = ap length is ∙ length-map (take PLACE_LIMIT waiting) (λ (submission : Submission). submission.sealed)
+    → batch ≡ map (λ (submission : Submission). submission.sealed) (take PLACE_LIMIT waiting)
+    → length batch ≡ length (take PLACE_LIMIT waiting)
+length-sealed waiting batch is = ap length is
+    ∙ length-map (take PLACE_LIMIT waiting) (λ (submission : Submission). submission.sealed)
 
 pub batch-fits : (waiting : List Submission) (batch : List Transaction)
-    → batch ≡ map (λ (submission : Submission). submission.sealed) (take PLACE_LIMIT waiting) → length batch ≤ PLACE_LIMIT
+    → batch ≡ map (λ (submission : Submission). submission.sealed) (take PLACE_LIMIT waiting)
+    → length batch ≤ PLACE_LIMIT
 batch-fits waiting batch is = omega (arith, length-sealed waiting batch is, length-take PLACE_LIMIT waiting)
 
 -- what comes at the end of a list leaves what stands before it
@@ -89,7 +100,8 @@ last-at [] x = refl
 last-at (y ∷ ys) x = last-at ys x
 
 -- a flag that is set with one more that isn't was set before
-set-before : (flags : List Bool) (i : ℕ) → is_set (flags ++ false ∷ []) i ≡ true → (i < length flags) × (is_set flags i ≡ true)
+set-before : (flags : List Bool) (i : ℕ) → is_set (flags ++ false ∷ []) i ≡ true → (i < length flags)
+    × (is_set flags i ≡ true)
 set-before [] zero set = cc
 set-before [] (suc i) set = cc
 set-before (flag ∷ flags) zero set = (omega arith, set)
@@ -102,19 +114,24 @@ none-set (suc n) zero = refl
 none-set (suc n) (suc i) = none-set n i
 
 -- what waits reads below a version above the committed one
-pub sealed-below : (committed version : ℕ) (submissions : List Submission) → committed < version → AllByRecursion (WaitsRefines committed) submissions
-    → AllByRecursion (λ (t : Transaction). (t.read < version) × NamesWrites t) (map (λ (submission : Submission). submission.sealed) submissions)
+pub sealed-below : (committed version : ℕ) (submissions : List Submission) → committed < version
+    → AllByRecursion (WaitsRefines committed) submissions
+    → AllByRecursion (λ (t : Transaction). (t.read < version) × NamesWrites t)
+    (map (λ (submission : Submission). submission.sealed) submissions)
 sealed-below committed version [] above all = tt
-sealed-below committed version (submission ∷ others) above all = ((omega (arith, above, all.0.0), all.0.1), sealed-below committed version others above all.1)
+sealed-below committed version (submission ∷ others) above all =
+    ((omega (arith, above, all.0.0), all.0.1), sealed-below committed version others above all.1)
 
 module _ (book : List Entry) (entry : Entry) where
   -- one more entry leaves what is made of the first ones
-  along-front : {A : Type 0} (f : Seen → Entry → A) (n : ℕ) → n ≤ length book → take n (along f (book ++ entry ∷ [])) ≡ take n (along f book)
+  along-front : {A : Type 0} (f : Seen → Entry → A) (n : ℕ) → n ≤ length book
+      → take n (along f (book ++ entry ∷ [])) ≡ take n (along f book)
   along-front f n within =
       ap (λ made. take n made) (along-push f book entry)
       ∙ take-append-le n (along f book) (f (seen_of book) entry ∷ []) (omega (arith, length-along f book, within))
 
-  pub resolvers-push : (resolvers : List ResolverRole) → ResolversRefine book resolvers → ResolversRefine (book ++ entry ∷ []) resolvers
+  pub resolvers-push : (resolvers : List ResolverRole) → ResolversRefine book resolvers
+      → ResolversRefine (book ++ entry ∷ []) resolvers
   resolvers-push resolvers refines =
       let ok = refines.ok in
       let taken = refines.role.taken in
@@ -123,12 +140,14 @@ module _ (book : List Entry) (entry : Entry) where
         one = refines.one;
         ok = record {
           within = omega (arith, length-append book (entry ∷ []), ok.within);
-          state = subst (λ (front : List Entry). ResolverAt front refines.role.core) (sym (take-append-le taken book (entry ∷ []) ok.within)) ok.state;
+          state = subst (λ (front : List Entry). ResolverAt front refines.role.core)
+              (sym (take-append-le taken book (entry ∷ []) ok.within)) ok.state;
           sent = ok.sent ∙ sym (along-front (verdicts_on [] 0) taken ok.within);
         };
       }
 
-  pub log-push : (logs : List ℕ) (shards : List ShardProgress) (log shard : List Message) → LogRefines book logs shards log shard
+  pub log-push : (logs : List ℕ) (shards : List ShardProgress) (log shard : List Message)
+      → LogRefines book logs shards log shard
       → LogRefines (book ++ entry ∷ []) logs shards log shard
   log-push logs shards log shard ok = record {
     taken = ok.taken;
@@ -141,19 +160,22 @@ module _ (book : List Entry) (entry : Entry) where
     kept = ok.kept ∙ sym (along-front (message_on []) ok.applied (omega (arith, ok.after, ok.within)));
   }
 
-  pub book-push : (entry_proxies : List ℕ) (decided : List Bool) (messages : List (Option Message)) (proxy : ℕ) → BookRefines book entry_proxies decided messages
+  pub book-push : (entry_proxies : List ℕ) (decided : List Bool) (messages : List (Option Message)) (proxy : ℕ)
+      → BookRefines book entry_proxies decided messages
       → entry.moves ≡ [] → AreEntries 1 (last_version book) (entry ∷ [])
       → BookRefines (book ++ entry ∷ []) (entry_proxies ++ proxy ∷ []) (decided ++ false ∷ []) (messages ++ None ∷ [])
   book-push entry_proxies decided messages proxy ok still next = record {
     no_moves = no_moves-push book entry ok.no_moves still;
     entries = entries_go_on 1 0 book entry ok.entries next;
-    each_has_proxy = omega (arith, length-append entry_proxies (proxy ∷ []), length-append book (entry ∷ []), ok.each_has_proxy);
+    each_has_proxy = omega
+        (arith, length-append entry_proxies (proxy ∷ []), length-append book (entry ∷ []), ok.each_has_proxy);
     each_flagged = omega (arith, length-append decided (false ∷ []), length-append book (entry ∷ []), ok.each_flagged);
     each_pooled = omega (arith, length-append messages (None ∷ []), length-append book (entry ∷ []), ok.each_pooled);
     made = λ i message set there.
         let before = set-before decided i set in
         let early : i < length book = omega (arith, before.0, ok.each_flagged) in
-        let in_along : i < length (along (message_on []) book) = omega (arith, early, length-along (message_on []) book) in
+        let in_along : i < length (along (message_on []) book) = omega
+        (arith, early, length-along (message_on []) book) in
         let in_pool : i < length messages = omega (arith, early, ok.each_pooled) in
         let stood = sym (front-at (along (message_on []) book) (message_on [] (seen_of book) entry ∷ []) i in_along)
         ∙ ap (λ (made : List Message). slice_get made i) (sym (along-push (message_on []) book entry)) ∙ there in
@@ -161,17 +183,29 @@ module _ (book : List Entry) (entry : Entry) where
   }
 
   -- the commit proxy whose batch is that of the new entry
-  pub commit_proxy-seal : (resolvers : List ℕ) (committed : ℕ) (commit_proxy : CommitProxy) (outcomes : List Outcome) (limit : ℕ) (in_flight : List Transcript) (acknowledgements_received : List Bool)
-      → length resolvers ≡ 1 → length in_flight ≡ length entry.batch → CommitProxyRefines book resolvers committed commit_proxy outcomes
+  pub commit_proxy-seal : (resolvers : List ℕ) (committed : ℕ) (commit_proxy : CommitProxy) (outcomes : List Outcome)
+      (limit : ℕ) (in_flight : List Transcript) (acknowledgements_received : List Bool)
+      → length resolvers ≡ 1 → length in_flight ≡ length entry.batch
+      → CommitProxyRefines book resolvers committed commit_proxy outcomes
       → CommitProxyRefines (book ++ entry ∷ []) resolvers committed
-      (record { waiting = drop limit commit_proxy.waiting; in_flight = in_flight; stage = Resolving; entry = length book; verdicts_received = replicate (length resolvers) false; acknowledgements_received = acknowledgements_received }) outcomes
-  commit_proxy-seal resolvers committed commit_proxy outcomes limit in_flight acknowledgements_received one aligned ok = record {
-    waiting = all-drop (WaitsRefines committed) limit commit_proxy.waiting ok.waiting;
-    in_book = λ busy. omega (arith, length-append book (entry ∷ []));
-    aligned = λ other busy there.
-        let same : entry ≡ other = let last = last-at book entry in cc in
-        aligned ∙ ap (λ (e : Entry). length e.batch) same;
-    verdicts_received = λ busy. length-replicate (length resolvers) false ∙ one;
-    delivered = λ taken busy set there. let none = none-set (length resolvers) 0 in cc;
-    decision = λ other busy decided there. cc;
-  }
+      (record {
+        waiting = drop limit commit_proxy.waiting;
+        in_flight = in_flight;
+        stage = Resolving;
+        entry = length
+            book;
+        verdicts_received = replicate (length resolvers) false;
+        acknowledgements_received =
+            acknowledgements_received;
+      }) outcomes
+  commit_proxy-seal resolvers committed commit_proxy outcomes limit in_flight acknowledgements_received one aligned ok =
+      record {
+        waiting = all-drop (WaitsRefines committed) limit commit_proxy.waiting ok.waiting;
+        in_book = λ busy. omega (arith, length-append book (entry ∷ []));
+        aligned = λ other busy there.
+            let same : entry ≡ other = let last = last-at book entry in cc in
+            aligned ∙ ap (λ (e : Entry). length e.batch) same;
+        verdicts_received = λ busy. length-replicate (length resolvers) false ∙ one;
+        delivered = λ taken busy set there. let none = none-set (length resolvers) 0 in cc;
+        decision = λ other busy decided there. cc;
+      }

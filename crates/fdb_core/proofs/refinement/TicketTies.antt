@@ -17,7 +17,8 @@ use Rattle.fdb_core.specs.refinement.Cluster.{machine_of, Refines}
 use Rattle.fdb_core.specs.machine.Machine.{Machine, first_missing, last_version}
 use Rattle.fdb_core.specs.machine.CommitProxySteps.{seals, reports, is_idle, is_logging}
 
-module _ (k : Cluster) (refines : Refines k) (proxy advance : ℕ) (commit_proxy : CommitProxy) (there : slice_get k.commit_proxies.items proxy ≡ Some commit_proxy) where
+module _ (k : Cluster) (refines : Refines k) (proxy advance : ℕ) (commit_proxy : CommitProxy)
+    (there : slice_get k.commit_proxies.items proxy ≡ Some commit_proxy) where
   -- the version of the next entry
   abbrev pub next : ℕ
   next = next_version (last_version k.book.items) advance
@@ -26,60 +27,105 @@ module _ (k : Cluster) (refines : Refines k) (proxy advance : ℕ) (commit_proxy
   is_there : proxy < 1
   is_there = one_lane k.commit_proxies.items proxy commit_proxy there (ap length refines.commit_proxies.one)
     where
-      one_lane : (commit_proxies : List CommitProxy) (i : ℕ) (commit_proxy : CommitProxy) → slice_get commit_proxies i ≡ Some commit_proxy → length commit_proxies ≡ 1 → i < 1
-      one_lane commit_proxies i commit_proxy at one = omega (arith, one, slice_get_within commit_proxies i commit_proxy at)
+      one_lane : (commit_proxies : List CommitProxy) (i : ℕ) (commit_proxy : CommitProxy)
+          → slice_get commit_proxies i ≡ Some commit_proxy → length commit_proxies ≡ 1 → i < 1
+      one_lane commit_proxies i commit_proxy at one = omega
+          (arith, one, slice_get_within commit_proxies i commit_proxy at)
 
   -- the only reason to give it no ticket is that there are no versions left
   fault-is : plan_fault k.sequencer proxy advance ≡ (if nat_lt version_limit next then Some Exhausted else None)
   fault-is =
       let ok = refines.sequencer in
-      let proxies : nat_le k.sequencer.proxies proxy ≡ false = lt-leb k.sequencer.proxies proxy (omega (arith, is_there, ok.proxies)) in
-      let tickets : nat_le ticket_limit k.sequencer.accepted ≡ false = lt-leb ticket_limit k.sequencer.accepted (omega (arith, ok.accepted, refines.room, refines.plain.book)) in
+      let proxies : nat_le k.sequencer.proxies proxy ≡ false = lt-leb k.sequencer.proxies proxy
+      (omega (arith, is_there, ok.proxies)) in
+      let tickets : nat_le ticket_limit k.sequencer.accepted ≡ false = lt-leb ticket_limit k.sequencer.accepted
+      (omega (arith, ok.accepted, refines.room, refines.plain.book)) in
       rw (proxies, tickets, ok.last) (by_test (nat_lt version_limit next))
     where
-      by_test : (test : Bool) → (if test || false then Some Exhausted else None) ≡ (if test then Some Exhausted else None)
+      by_test : (test : Bool)
+          → (if test || false then Some Exhausted else None) ≡ (if test then Some Exhausted else None)
       by_test true = refl
       by_test false = refl
 
   -- where it gets none, the machine's next entry has none either
-  pub plan-refused : (why : Refusal) (P : Ticket → Type 0) → AnswersExactly (Err why) (plan_fault k.sequencer proxy advance) P
+  pub plan-refused : (why : Refusal) (P : Ticket → Type 0)
+      → AnswersExactly (Err why) (plan_fault k.sequencer proxy advance) P
       → (why ≡ Exhausted) × (nat_lt version_limit next ≡ true)
   plan-refused why P answers =
-      by_test (nat_lt version_limit next) refl (subst (λ (fault : Option Refusal). AnswersExactly (Err why) fault P) fault-is answers)
+      by_test (nat_lt version_limit next) refl
+      (subst (λ (fault : Option Refusal). AnswersExactly (Err why) fault P) fault-is answers)
     where
-      by_test : (test : Bool) → nat_lt version_limit next ≡ test → AnswersExactly (Err why) (if test then Some Exhausted else None) P
+      by_test : (test : Bool) → nat_lt version_limit next ≡ test
+          → AnswersExactly (Err why) (if test then Some Exhausted else None) P
           → (why ≡ Exhausted) × (nat_lt version_limit next ≡ true)
       by_test true is answers = (answers, is)
       by_test false is answers = absurd answers
 
   -- the ticket that it gets is of the machine's next entry
-  pub plan-given : (ticket : Ticket) → AnswersExactly (Ok ticket) (plan_fault k.sequencer proxy advance) (λ given. given ≡ planned k.sequencer proxy advance)
-      → (next ≤ version_limit) × (ticket ≡ record { proxy = proxy; index = length k.book.items; version = next; prev = last_version k.book.items; moves = []; pending = [] })
+  pub plan-given : (ticket : Ticket)
+      → AnswersExactly (Ok ticket) (plan_fault k.sequencer proxy advance)
+      (λ given. given ≡ planned k.sequencer proxy advance)
+      → (next ≤ version_limit)
+      × (ticket ≡ record {
+        proxy = proxy;
+        index = length k.book.items;
+        version = next;
+        prev = last_version k.book.items;
+        moves = [];
+        pending = [];
+      })
   plan-given ticket answers =
       by_test (nat_lt version_limit next) refl
-      (subst (λ (fault : Option Refusal). AnswersExactly (Ok ticket) fault (λ given. given ≡ planned k.sequencer proxy advance)) fault-is answers)
+      (subst (λ (fault : Option Refusal). AnswersExactly (Ok ticket) fault
+      (λ given. given ≡ planned k.sequencer proxy advance)) fault-is answers)
     where
       by_test : (test : Bool) → nat_lt version_limit next ≡ test
-          → AnswersExactly (Ok ticket) (if test then Some Exhausted else None) (λ given. given ≡ planned k.sequencer proxy advance)
-          → (next ≤ version_limit) × (ticket ≡ record { proxy = proxy; index = length k.book.items; version = next; prev = last_version k.book.items; moves = []; pending = [] })
+          → AnswersExactly (Ok ticket) (if test then Some Exhausted else None)
+          (λ given. given ≡ planned k.sequencer proxy advance)
+          → (next ≤ version_limit)
+          × (ticket ≡ record {
+            proxy = proxy;
+            index = length k.book.items;
+            version = next;
+            prev = last_version k.book.items;
+            moves =
+                [];
+            pending = [];
+          })
       by_test true is answers = absurd answers
       by_test false is answers = (
         ltb-false version_limit next is,
-        answers ∙ (λ i. record { proxy = proxy; index = refines.sequencer.accepted i; version = next_version (refines.sequencer.last i) advance; prev = refines.sequencer.last i; moves = []; pending = [] }),
+        answers ∙ (λ i. record {
+          proxy = proxy;
+          index = refines.sequencer.accepted i;
+          version = next_version (refines.sequencer.last i)
+              advance;
+          prev = refines.sequencer.last i;
+          moves = [];
+          pending = [];
+        }),
       )
 
 -- a proxy without a batch in flight doesn't seal where there are no versions left
-pub seals-exhausted : (k : Cluster) (proxy advance : ℕ) (commit_proxy : CommitProxy) → slice_get k.commit_proxies.items proxy ≡ Some commit_proxy → is_idle commit_proxy.stage ≡ true
-    → nat_lt version_limit (next_version (last_version k.book.items) advance) ≡ true → seals (machine_of k) proxy advance ≡ Err Exhausted
+pub seals-exhausted : (k : Cluster) (proxy advance : ℕ) (commit_proxy : CommitProxy)
+    → slice_get k.commit_proxies.items proxy ≡ Some commit_proxy → is_idle commit_proxy.stage ≡ true
+    → nat_lt version_limit (next_version (last_version k.book.items) advance) ≡ true
+    → seals (machine_of k) proxy advance ≡ Err Exhausted
 unfolding seals
 seals-exhausted k proxy advance commit_proxy there idle late = rw (there, idle, late) refl
 
 -- a commit proxy whose batch every log acknowledged reports its version
-pub reports-transition : (m : Machine) (proxy : ℕ) (commit_proxy : CommitProxy) (entry : Entry) → slice_get m.commit_proxies proxy ≡ Some commit_proxy → commit_proxy.stage ≡ Logging
-    → slice_get m.book commit_proxy.entry ≡ Some entry → first_missing (λ log. true) 0 commit_proxy.acknowledgements_received ≡ None
+pub reports-transition : (m : Machine) (proxy : ℕ) (commit_proxy : CommitProxy) (entry : Entry)
+    → slice_get m.commit_proxies proxy ≡ Some commit_proxy → commit_proxy.stage ≡ Logging
+    → slice_get m.book commit_proxy.entry ≡ Some entry
+    → first_missing (λ log. true) 0 commit_proxy.acknowledgements_received ≡ None
     → reports m proxy ≡ Ok (record {
       answer = answered.Version (max m.committed entry.version);
-      next = record m { committed = max m.committed entry.version; commit_proxies = slice_set m.commit_proxies proxy (record commit_proxy { stage = Reported }) };
+      next = record m {
+        committed = max m.committed entry.version;
+        commit_proxies = slice_set m.commit_proxies proxy
+            (record commit_proxy { stage = Reported });
+      };
     })
 unfolding reports
 reports-transition m proxy commit_proxy entry there logging at none = rw (there, ap is_logging logging, at, none) refl

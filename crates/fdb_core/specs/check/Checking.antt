@@ -32,7 +32,8 @@ map_after map batch outcomes count = effects map (body_by (take count batch) (ta
 
 -- who stands at one of the first places of the entry was answered as on the map after the places before his
 abbrev pub AnsweredIn : Map → List Transaction → List Outcome → ℕ → ℕ → Placed → Type 0
-AnsweredIn map batch outcomes entry count placed = (p : ℕ) → p < count → AnsweredAt (Before entry p) (map_after map batch outcomes p) placed
+AnsweredIn map batch outcomes entry count placed = (p : ℕ) → p < count
+    → AnsweredAt (Before entry p) (map_after map batch outcomes p) placed
 
 -- the books that a check runs anew: entries of which none moves anything
 pub record IsPlainBook (book : List Entry) : Type 0 where
@@ -43,8 +44,10 @@ pub record IsPlainBook (book : List Entry) : Type 0 where
 -- at its read version.
 abbrev pub AgreesAt : List Entry → Transcript → Spot → Type 0
 AgreesAt book transcript (spot.Entry entry place version) =
-    (there : Place × List Place) → place_at book entry place ≡ Some there → AnsweredOn (serial_map [] there.1) transcript
-AgreesAt book transcript (spot.ReadOnly version) = AnsweredOn (serial_map_at [] version (seen_of book).places) transcript
+    (there : Place × List Place) → place_at book entry place ≡ Some there
+    → AnsweredOn (serial_map [] there.1) transcript
+AgreesAt book transcript (spot.ReadOnly version) = AnsweredOn (serial_map_at [] version (seen_of book).places)
+    transcript
 
 abbrev pub Agrees : List Entry → Placed → Type 0
 Agrees book placed = AgreesAt book placed.transcript placed.spot
@@ -75,5 +78,6 @@ ShardDiffers book with_shard shard fault = (fault ≡ Shard 0) × (with_shard �
 abbrev pub Finds : Result ℕ CheckFault → List Entry → List Placed → Bool → List Message → Type 0
 Finds result book acknowledged with_shard shard =
     MatchResult result
-    (λ count. (count ≡ length acknowledged) × AllByRecursion (Agrees book) acknowledged × (with_shard ≡ true → HoldsTheRun book shard))
+    (λ count. (count ≡ length acknowledged) × AllByRecursion (Agrees book) acknowledged
+    × (with_shard ≡ true → HoldsTheRun book shard))
     (λ fault. StopsBy (Agrees book) acknowledged fault ⊎ ShardDiffers book with_shard shard fault)

@@ -41,7 +41,8 @@ Differs Claim acknowledged fault = Any (λ placed. (fault ≡ Txn placed.transcr
 
 -- a fault is found just where the claim isn't true of each acknowledged transaction
 abbrev pub Compares : {T : Type 0} → Result T CheckFault → (Placed → Type 0) → List Placed → Type 0
-Compares result Claim acknowledged = MatchResult result (λ _. AllByRecursion Claim acknowledged) (Differs Claim acknowledged)
+Compares result Claim acknowledged = MatchResult result (λ _. AllByRecursion Claim acknowledged)
+    (Differs Claim acknowledged)
 
 -- memory ran out, or the fault names an acknowledged transaction of which the claim isn't true
 abbrev pub StopsBy : (Placed → Type 0) → List Placed → CheckFault → Type 0
@@ -49,4 +50,5 @@ StopsBy Claim acknowledged fault = (fault ≡ NoMemory) ⊎ Differs Claim acknow
 
 -- the same where memory may run out, too
 abbrev pub Checks : {T : Type 0} → Result T CheckFault → (Placed → Type 0) → List Placed → Type 0
-Checks result Claim acknowledged = MatchResult result (λ _. AllByRecursion Claim acknowledged) (StopsBy Claim acknowledged)
+Checks result Claim acknowledged = MatchResult result (λ _. AllByRecursion Claim acknowledged)
+    (StopsBy Claim acknowledged)

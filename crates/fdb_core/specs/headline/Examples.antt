@@ -45,7 +45,8 @@ two_in_one_entry = record (start plain) {
   } ∷ [];
 }
 
--- The first one is serialized at its place, under the entry's version. It isn't serialized at the other place or under another
+-- The first one is serialized at its place, under the entry's version. It isn't serialized at the other place or under
+-- another
 -- version, and didn't if it had been answered otherwise. The second one read what the first one wrote, so it isn't
 -- committed and stands nowhere.
 abbrev pub OnlyTheFirstIsSerialized : Type 0
@@ -56,7 +57,8 @@ OnlyTheFirstIsSerialized =
     × (IsSerializedAtSpot two_in_one_entry (reads_and_sets 0 (Some (codes "1"))) (spot.Entry 0 0 100) → ⊥)
     × (IsSerializedAtSpot two_in_one_entry (reads_and_sets 1 None) (spot.Entry 0 1 100) → ⊥)
 
--- A transaction that wrote nothing is serialized at its read version alone, and at none that the book hasn't reached. One that
+-- A transaction that wrote nothing is serialized at its read version alone, and at none that the book hasn't reached.
+-- One that
 -- wrote is serialized at no such spot.
 abbrev pub ReadOnlyAtItsVersion : Type 0
 ReadOnlyAtItsVersion =
@@ -79,6 +81,8 @@ AnEmptyShardDoesNotServe = ShardServes two_in_one_entry 0 (record { applied = 1;
 abbrev pub Traced : Type 0
 Traced =
     (machine_of_trace plain (step.Grant 7 ∷ []) (Err Unknown ∷ []) ≡ start plain)
-    × (machine_of_trace plain (step.Ask 5 0 ∷ []) (Ok answered.Done ∷ []) ≡ record (start plain) { grv_proxies = (5 ∷ []) ∷ [] })
-    × IsTraceOf plain (step.Ask 5 0 ∷ []) (Ok answered.Done ∷ []) (Some (record (start plain) { grv_proxies = (5 ∷ []) ∷ [] }))
+    × (machine_of_trace plain (step.Ask 5 0 ∷ []) (Ok answered.Done ∷ []) ≡ record (start plain)
+    { grv_proxies = (5 ∷ []) ∷ [] })
+    × IsTraceOf plain (step.Ask 5 0 ∷ []) (Ok answered.Done ∷ [])
+    (Some (record (start plain) { grv_proxies = (5 ∷ []) ∷ [] }))
     × ((world : Option Machine) → IsTraceOf plain (step.Grant 0 ∷ []) (Ok answered.Done ∷ []) world → ⊥)

@@ -30,7 +30,8 @@ replies_of ops = fold (λ (earlier : List Reply) (done : Op × Reply). done.1 �
 
 -- each ordinary operation of the transcript was answered as its program answers it on the map
 abbrev pub AnsweredOn : Map → Transcript → Type 0
-AnsweredOn map transcript = AgreeWhereOrdinary (program transcript.ops) (replies_of transcript.ops) (exec map (program transcript.ops))
+AnsweredOn map transcript = AgreeWhereOrdinary (program transcript.ops) (replies_of transcript.ops)
+    (exec map (program transcript.ops))
 
 -- The transaction is at its place of the book, under its version, and is committed there; it was answered as
 -- on the map of the run right before that place.
@@ -66,12 +67,16 @@ AllSerialized m = AllByRecursion (IsSerialized m) m.acknowledged
 -- version and place in the batch.
 abbrev pub AcknowledgedAreSerialized : Type 0
 AcknowledgedAreSerialized =
-    (config : Config) (steps : List Step) (answers : List (Result Answered Refusal)) → AllSerialized (machine_of_trace config steps answers)
+    (config : Config) (steps : List Step) (answers : List (Result Answered Refusal))
+    → AllSerialized (machine_of_trace config steps answers)
 
--- What holds of a trace and of the world that stands for it: the world shows the trace's machine; no transaction stands in
--- the book twice; each that the trace acknowledged is serialized at its spot, and after those that were acknowledged before it began; and every shard
+-- What holds of a trace and of the world that stands for it: the world shows the trace's machine; no transaction stands
+-- in
+-- the book twice; each that the trace acknowledged is serialized at its spot, and after those that were acknowledged
+-- before it began; and every shard
 -- answers, at each version that it serves, from the run of the committed transactions one at a time.
-pub record IsStrictlySerializable (config : Config) (steps : List Step) (answers : List (Result Answered Refusal)) (system : System) : Type 0 where
+pub record IsStrictlySerializable (config : Config) (steps : List Step) (answers : List (Result Answered Refusal))
+    (system : System) : Type 0 where
   pub is_trace_of : IsTraceOf config steps answers system.machine
   pub shown : IfSome system.machine (λ (m : Machine). m ≡ machine_of_trace config steps answers)
   pub once : NoIdTwice (machine_of_trace config steps answers).book

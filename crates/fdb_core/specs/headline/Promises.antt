@@ -21,7 +21,8 @@ use Rattle.fdb_core.specs.headline.Traces.{IsTraceOf}
 
 -- a refused step changes nothing
 abbrev pub RefusalsChangeNothing : Type 0
-RefusalsChangeNothing = (m : Machine) (step : Step) (refusal : Refusal) → next m step ≡ Err refusal → after m (next m step) ≡ m
+RefusalsChangeNothing = (m : Machine) (step : Step) (refusal : Refusal) → next m step ≡ Err refusal
+    → after m (next m step) ≡ m
 
 -- a read-version proxy tells each session that asks there the committed version
 abbrev pub GrantsCommitted : Type 0
@@ -50,9 +51,13 @@ CommittedIsGreatestReported =
 -- a read answers as the transaction's own operations, executed on the map at its read version, leave the key
 abbrev pub GetsFromTheRun : Type 0
 GetsFromTheRun =
-    (m : Machine) (session : ℕ) (key : List ℕ) (snapshot : Bool) (transition : Transition) → next m (step.Get session key snapshot) ≡ Ok transition
-    → (i : ℕ) × (transcript : Transcript) × (position (is_of session) m.opened ≡ Some i) × (slice_get m.opened i ≡ Some transcript)
-    × (transition.answer ≡ answered.Value (get (copy (serial_map_at m.config.resolver_splits transcript.read_version (seen_of m.book).places) (program transcript.ops)) key))
+    (m : Machine) (session : ℕ) (key : List ℕ) (snapshot : Bool) (transition : Transition)
+    → next m (step.Get session key snapshot) ≡ Ok transition
+    → (i : ℕ) × (transcript : Transcript) × (position (is_of session) m.opened ≡ Some i)
+    × (slice_get m.opened i ≡ Some transcript)
+    × (transition.answer ≡ answered.Value
+    (get (copy (serial_map_at m.config.resolver_splits transcript.read_version (seen_of m.book).places)
+    (program transcript.ops)) key))
 
 -- the transaction's own operations don't decide the key, and the shard that holds it still serves the read
 -- version but hasn't reached it
@@ -60,7 +65,8 @@ abbrev pub IsLagging : Machine → Transcript → List ℕ → Type 0
 IsLagging m transcript key =
     (decided (program transcript.ops) key ≡ false)
     × ((progress : ShardProgress) × (slice_get m.shards (first_owner m.config.shard_splits key) ≡ Some progress)
-    × (nat_lt transcript.read_version progress.floor ≡ false) × (nat_lt (version_of_shard m.book progress) transcript.read_version ≡ true))
+    × (nat_lt transcript.read_version progress.floor ≡ false)
+    × (nat_lt (version_of_shard m.book progress) transcript.read_version ≡ true))
 
 -- a read of an open transaction is refused as in the future where the key's shard is after, and only there
 abbrev pub GetsRefused : Type 0

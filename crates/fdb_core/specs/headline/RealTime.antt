@@ -31,15 +31,18 @@ IsAfterVersion v (spot.ReadOnly version) = v ≤ version
 -- at that one's version or a greater one, and is ordered after it.
 abbrev pub AreAfterEarlier : Machine → Machine → Type 0
 AreAfterEarlier m later =
-    (i j : ℕ) (placed other : Placed) → slice_get m.acknowledged i ≡ Some placed → slice_get later.acknowledged j ≡ Some other
+    (i j : ℕ) (placed other : Placed) → slice_get m.acknowledged i ≡ Some placed
+    → slice_get later.acknowledged j ≡ Some other
     → (HasBegun m other.transcript.id → ⊥)
     → (spot_version placed.spot ≤ other.transcript.read_version) × IsAfterVersion (spot_version placed.spot) other.spot
 
 -- Real time over a trace: it holds of what was acknowledged in any number of its first steps.
 abbrev pub KeepsRealTime : Config → List Step → List (Result Answered Refusal) → Type 0
 KeepsRealTime config steps answers =
-    (n : ℕ) → AreAfterEarlier (machine_of_trace config (take n steps) (take n answers)) (machine_of_trace config steps answers)
+    (n : ℕ) → AreAfterEarlier (machine_of_trace config (take n steps) (take n answers))
+    (machine_of_trace config steps answers)
 
 -- every trace keeps real time
 abbrev pub RealTime : Type 0
-RealTime = (config : Config) (steps : List Step) (answers : List (Result Answered Refusal)) → KeepsRealTime config steps answers
+RealTime = (config : Config) (steps : List Step) (answers : List (Result Answered Refusal))
+    → KeepsRealTime config steps answers

@@ -27,7 +27,8 @@ pub record System : Type 0 where
 -- these as of those.
 abbrev pub EachKeeps : {A B : Type 0} → (ℕ → A → B → Type 0) → List A → List B → Type 0
 EachKeeps {A} {B} P far kept =
-    (length kept ≡ length far) × ((i : ℕ) (a : A) (b : B) → slice_get far i ≡ Some a → slice_get kept i ≡ Some b → P i a b)
+    (length kept ≡ length far)
+    × ((i : ℕ) (a : A) (b : B) → slice_get far i ≡ Some a → slice_get kept i ≡ Some b → P i a b)
 
 -- A resolver that took so many entries has the version of the last of them. From the begin of that one's window on it
 -- tells at each point the greatest version of a place of theirs that it admitted and that wrote the point where the
@@ -35,7 +36,9 @@ EachKeeps {A} {B} P far kept =
 abbrev pub ResolverKeeps : Machine → ℕ → ℕ → Resolver → Type 0
 ResolverKeeps m i taken resolver =
     let last = last_version (take taken m.book) in
-    (resolver.last ≡ last) × IsStateOf m.config.resolver_splits i (seen_before m.book taken).places (last - window) (version_at resolver.versions)
+    (resolver.last ≡ last)
+    × IsStateOf m.config.resolver_splits i (seen_before m.book taken).places (last - window)
+    (version_at resolver.versions)
 
 -- A log that took so many entries has for each its message, which holds the mutations of the entry's committed
 -- transactions.
@@ -46,7 +49,8 @@ LogKeeps m i taken messages = messages ≡ along (message_on m.config.resolver_s
 -- holds, what stands there on the map of the run of one committed transaction at a time.
 abbrev pub ShardServes : Machine → ℕ → ShardProgress → List Message → Type 0
 ShardServes m i progress messages =
-    (v : ℕ) (x : Point) → progress.floor ≤ v → v ≤ version_of_shard m.book progress → first_owner m.config.shard_splits x ≡ i
+    (v : ℕ) (x : Point) → progress.floor ≤ v → v ≤ version_of_shard m.book progress
+    → first_owner m.config.shard_splits x ≡ i
     → value_in v x messages ≡ get (serial_map_at m.config.resolver_splits v (seen_of m.book).places) x
 
 -- every shard does

@@ -20,7 +20,9 @@ use Rattle.fdb_core.specs.machine.CommitProxySteps.{is_idle, is_reported}
 abbrev pub IsReplied : Machine → Transcript → Type 0
 IsReplied m transcript =
     (transcript.read_version ≤ m.committed)
-    × (replies_of transcript.ops ≡ exec (serial_map_at m.config.resolver_splits transcript.read_version (seen_of m.book).places) (program transcript.ops))
+    × (replies_of transcript.ops ≡ exec
+    (serial_map_at m.config.resolver_splits transcript.read_version (seen_of m.book).places)
+    (program transcript.ops))
 
 -- a submission that waits is its transcript, sealed
 abbrev pub Waits : Machine → Submission → Type 0
@@ -31,15 +33,18 @@ Waits m submission = (submission.sealed ≡ commit_request_of submission.transcr
 abbrev pub IsInFlight : Machine → CommitProxy → Type 0
 IsInFlight m commit_proxy =
     is_idle commit_proxy.stage ≡ false
-    → (entry : Entry) × (slice_get m.book commit_proxy.entry ≡ Some entry) × (entry.batch ≡ map commit_request_of commit_proxy.in_flight)
+    → (entry : Entry) × (slice_get m.book commit_proxy.entry ≡ Some entry)
+    × (entry.batch ≡ map commit_request_of commit_proxy.in_flight)
     × (is_reported commit_proxy.stage ≡ true → entry.version ≤ m.committed)
 
 abbrev pub CommitProxyIsSound : Machine → CommitProxy → Type 0
-CommitProxyIsSound m commit_proxy = AllByRecursion (Waits m) commit_proxy.waiting × AllByRecursion (IsReplied m) commit_proxy.in_flight × IsInFlight m commit_proxy
+CommitProxyIsSound m commit_proxy = AllByRecursion (Waits m) commit_proxy.waiting
+    × AllByRecursion (IsReplied m) commit_proxy.in_flight × IsInFlight m commit_proxy
 
 -- an acknowledged transaction is at a spot of at most the committed version, after the version that it read at
 abbrev pub IsReported : Machine → Placed → Type 0
-IsReported m placed = (spot_version placed.spot ≤ m.committed) × IsAfterVersion placed.transcript.read_version placed.spot
+IsReported m placed = (spot_version placed.spot ≤ m.committed)
+    × IsAfterVersion placed.transcript.read_version placed.spot
 
 pub record Invariant (m : Machine) : Type 0 where
   pub entries : AreEntries (suc (length m.config.resolver_splits)) 0 m.book

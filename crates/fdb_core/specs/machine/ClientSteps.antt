@@ -1,5 +1,5 @@
 -- The steps of clients.
-use Rattle.std.specs.Prelude.{ℕ, ◌+◌, ◌-◌, Bool, ◌&&◌, ◌==◌, List, [], ◌∷◌, ◌++◌, map, length, Option, None, Result, Ok, slice_get, slice_set, if◌then◌else◌}
+use Rattle.std.specs.Prelude.{ℕ, Bool, ◌&&◌, ◌==◌, List, [], ◌∷◌, ◌++◌, length, Option, None, Result, Ok, slice_get, slice_set, if◌then◌else◌}
 use Rattle.std.specs.List.{remove}
 use Rattle.fdb_keys.specs.declared.refusal.Refusal.{Refusal}
 use Rattle.fdb_mutations.specs.declared.mutation.Mutation.{Mutation}
@@ -26,7 +26,8 @@ answered_by reply.Done = answered.Done
 
 -- the open transactions with one more operation and its reply at one of them
 abbrev pub with_operation : List Transcript → ℕ → Transcript → Op → Reply → List Transcript
-with_operation opened i transcript op reply = slice_set opened i (record transcript { ops = transcript.ops ++ (op, reply) ∷ [] })
+with_operation opened i transcript op reply = slice_set opened i
+    (record transcript { ops = transcript.ops ++ (op, reply) ∷ [] })
 
 -- the machine with one more operation and its reply at the transaction with the place in the list
 abbrev pub add_operation : Machine → ℕ → Transcript → Op → Reply → Machine
@@ -69,13 +70,16 @@ submits m session proxy = found (slice_get m.commit_proxies proxy) (λ commit_pr
       answer = answered.ReadOnly transcript.read_version;
       next = record m {
         opened = others;
-        acknowledged = m.acknowledged ++ record { spot = spot.ReadOnly transcript.read_version; transcript = transcript } ∷ [];
+        acknowledged = m.acknowledged ++ record
+            { spot = spot.ReadOnly transcript.read_version; transcript = transcript } ∷ [];
       };
     })
     else Ok (record {
       answer = answered.Done;
       next = record m {
         opened = others;
-        commit_proxies = slice_set m.commit_proxies proxy (record commit_proxy { waiting = commit_proxy.waiting ++ record { sealed = sealed; transcript = transcript } ∷ [] });
+        commit_proxies = slice_set m.commit_proxies proxy
+            (record commit_proxy
+            { waiting = commit_proxy.waiting ++ record { sealed = sealed; transcript = transcript } ∷ [] });
       };
     })))

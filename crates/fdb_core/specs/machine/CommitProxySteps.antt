@@ -64,11 +64,18 @@ seals m proxy advance = found (slice_get m.commit_proxies proxy) (λ commit_prox
     (Ok (record {
       answer = answered.Issued index version prev (length sealing);
       next = record m {
-        book = m.book ++ record { version = version; prev = prev; moves = m.pending; batch = map (λ (submission : Submission). submission.sealed) sealing } ∷ [];
+        book = m.book ++ record {
+          version = version;
+          prev = prev;
+          moves = m.pending;
+          batch = map
+              (λ (submission : Submission). submission.sealed) sealing;
+        } ∷ [];
         entry_proxies = m.entry_proxies ++ proxy ∷ [];
         decided = m.decided ++ false ∷ [];
         pending = [];
-        commit_proxies = slice_set m.commit_proxies proxy (with_batch commit_proxy index (length m.resolvers) (length m.logs));
+        commit_proxies = slice_set m.commit_proxies proxy
+            (with_batch commit_proxy index (length m.resolvers) (length m.logs));
       };
     })))))
 
@@ -77,12 +84,15 @@ abbrev pub taken_by_sender : Machine → Sender → Option ℕ
 taken_by_sender m (FromResolver resolver) = slice_get m.resolvers resolver
 taken_by_sender m (FromLog log) = slice_get m.logs log
 
--- the commit proxy waits for what the sender says of the entry: not where it isn't its entry, not at another stage, and not twice
+-- the commit proxy waits for what the sender says of the entry: not where it isn't its entry, not at another stage, and
+-- not twice
 abbrev pub awaits : CommitProxy → ℕ → Sender → Bool
 awaits commit_proxy entry (FromResolver resolver) =
-    is_resolving commit_proxy.stage && (commit_proxy.entry == entry) && not (is_set commit_proxy.verdicts_received resolver)
+    is_resolving commit_proxy.stage && (commit_proxy.entry == entry) && not
+    (is_set commit_proxy.verdicts_received resolver)
 awaits commit_proxy entry (FromLog log) =
-    is_logging commit_proxy.stage && (commit_proxy.entry == entry) && not (is_set commit_proxy.acknowledgements_received log)
+    is_logging commit_proxy.stage && (commit_proxy.entry == entry) && not
+    (is_set commit_proxy.acknowledgements_received log)
 
 -- the commit proxy to which it came
 abbrev pub with_received : CommitProxy → Sender → CommitProxy
@@ -91,7 +101,8 @@ with_received commit_proxy (FromResolver resolver) =
 with_received commit_proxy (FromLog log) =
     record commit_proxy { acknowledgements_received = slice_set commit_proxy.acknowledgements_received log true }
 
--- Verdict and Logged: refused where the sender has not taken the entry, and where the entry's proxy doesn't wait for it.
+-- Verdict and Logged: refused where the sender has not taken the entry, and where the entry's proxy doesn't wait for
+-- it.
 unfoldable pub receives : Machine → ℕ → Sender → Result Transition Refusal
 receives m entry sender = found (taken_by_sender m sender) (λ taken.
     refused_where (nat_le taken entry) Unknown
@@ -108,7 +119,8 @@ decides m proxy = found (slice_get m.commit_proxies proxy) (λ commit_proxy.
     refused_where (not (is_resolving commit_proxy.stage)) WrongState
     (found (slice_get m.book commit_proxy.entry) (λ entry.
     let before = seen_before m.book commit_proxy.entry in
-    waits_for (first_missing (λ resolver. is_needed m.config.resolver_splits resolver before entry) 0 commit_proxy.verdicts_received)
+    waits_for (first_missing (λ resolver. is_needed m.config.resolver_splits resolver before entry) 0
+    commit_proxy.verdicts_received)
     (Ok (record {
       answer = answered.Decided (outcomes_on m.config.resolver_splits before entry);
       next = record m {
@@ -126,7 +138,11 @@ reports m proxy = found (slice_get m.commit_proxies proxy) (λ commit_proxy.
     (let committed = max m.committed entry.version in
     Ok (record {
       answer = answered.Version committed;
-      next = record m { committed = committed; commit_proxies = slice_set m.commit_proxies proxy (record commit_proxy { stage = Reported }) };
+      next = record m {
+        committed = committed;
+        commit_proxies = slice_set m.commit_proxies proxy
+            (record commit_proxy { stage = Reported });
+      };
     })))))
 
 -- those of the batch that are committed, each at its spot
@@ -142,7 +158,8 @@ placed_from index (transcript ∷ transcripts) (outcome.Old ∷ outcomes) = plac
 abbrev pub replies_from : List Transcript → List Outcome → List (ℕ × Outcome)
 replies_from [] outcomes = []
 replies_from (transcript ∷ transcripts) [] = []
-replies_from (transcript ∷ transcripts) (outcome ∷ outcomes) = (transcript.id.session, outcome) ∷ replies_from transcripts outcomes
+replies_from (transcript ∷ transcripts) (outcome ∷ outcomes) = (transcript.id.session, outcome) ∷ replies_from
+    transcripts outcomes
 
 -- Answer: the clients of a batch whose version was reported are told what became of their transactions.
 unfoldable pub answers : Machine → ℕ → Result Transition Refusal

@@ -1,5 +1,5 @@
 -- The steps of the read-version proxies: sessions ask there, and are served.
-use Rattle.std.specs.Prelude.{ℕ, ◌+◌, ◌^◌, ◌-◌, min, Bool, false, ◌==◌, List, [], ◌∷◌, ◌++◌, fold, map, Option, Some, None, Result, Ok, slice_get, slice_set, position, if◌then◌else◌}
+use Rattle.std.specs.Prelude.{ℕ, ◌+◌, ◌^◌, ◌-◌, min, Bool, false, ◌==◌, List, [], ◌∷◌, ◌++◌, fold, map, Option, Some, None, Result, Ok, slice_get, slice_set, position}
 use Rattle.std.specs.List.{list_any, remove}
 use Rattle.fdb_keys.specs.declared.refusal.Refusal.{Refusal}
 use Rattle.fdb_keys.specs.declared.refusal.Refusal.TheVariants.{Exhausted, WrongState}
@@ -75,7 +75,11 @@ begin_next last_transactions session = with_operation (last_place session last_t
 -- the session's next transaction, without an operation
 abbrev pub first_of : List LastTransaction → ℕ → ℕ → Transcript
 first_of last_transactions version session =
-    record { id = record { session = session; number = next_number (last_number session last_transactions) }; read_version = version; ops = [] }
+    record {
+      id = record { session = session; number = next_number (last_number session last_transactions) };
+      read_version = version;
+      ops = [];
+    }
 
 -- one more session begins a transaction at the version
 abbrev pub serve : ℕ → List LastTransaction × List Transcript → ℕ → List LastTransaction × List Transcript
@@ -88,5 +92,6 @@ grants m proxy = found (slice_get m.grv_proxies proxy) (λ there.
     (let served = fold (serve m.committed) (m.last_transactions, m.opened) there in
     Ok (record {
       answer = answered.Granted (map (λ session. (session, m.committed)) there);
-      next = record m { last_transactions = served.0; opened = served.1; grv_proxies = slice_set m.grv_proxies proxy [] };
+      next = record m
+          { last_transactions = served.0; opened = served.1; grv_proxies = slice_set m.grv_proxies proxy [] };
     })))

@@ -54,7 +54,8 @@ refused_where false refusal next = next
 
 -- entry i is taken by one who took some entries only as the next one
 abbrev pub in_turn : ℕ → ℕ → Entry → Result Transition Refusal → Result Transition Refusal
-in_turn taken i entry next = refused_where (nat_lt i taken) Stale (refused_where (nat_lt taken i) (NotYet entry.prev) next)
+in_turn taken i entry next = refused_where (nat_lt i taken) Stale
+    (refused_where (nat_lt taken i) (NotYet entry.prev) next)
 
 -- a step goes on where there is no fault
 abbrev pub refused_by : Option Refusal → Result Transition Refusal → Result Transition Refusal
@@ -90,7 +91,8 @@ is_of session transcript = transcript.id.session == session
 -- the session waits at the commit proxy for an answer
 abbrev pub waits_at_commit_proxy : ℕ → CommitProxy → Bool
 waits_at_commit_proxy session commit_proxy =
-    list_any (λ (submission : Submission). is_of session submission.transcript) commit_proxy.waiting || list_any (is_of session) commit_proxy.in_flight
+    list_any (λ (submission : Submission). is_of session submission.transcript) commit_proxy.waiting || list_any
+    (is_of session) commit_proxy.in_flight
 
 -- the session is among those who ask at a read-version proxy
 abbrev pub waits_at_grv_proxy : ℕ → List ℕ → Bool
@@ -98,7 +100,8 @@ waits_at_grv_proxy session there = list_any (λ (asker : ℕ). asker == session)
 
 -- the session asks, or waits for an answer
 abbrev pub is_busy : ℕ → List (List ℕ) → List CommitProxy → Bool
-is_busy session grv_proxies commit_proxies = list_any (waits_at_grv_proxy session) grv_proxies || list_any (waits_at_commit_proxy session) commit_proxies
+is_busy session grv_proxies commit_proxies = list_any (waits_at_grv_proxy session) grv_proxies || list_any
+    (waits_at_commit_proxy session) commit_proxies
 
 -- a step goes on with the session's open transaction and its place in the list
 abbrev pub with_opened : ℕ → List Transcript → (ℕ → Transcript → Result Transition Refusal) → Result Transition Refusal

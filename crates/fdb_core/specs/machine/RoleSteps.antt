@@ -1,5 +1,5 @@
 -- The steps of resolvers, logs and shards.
-use Rattle.std.specs.Prelude.{ℕ, ◌+◌, ◌%◌, min, max, not, take, length, Result, Ok, slice_get, slice_set, ◌-◌, nat_lt, List, Option, Some, None, if◌then◌else◌}
+use Rattle.std.specs.Prelude.{ℕ, ◌+◌, ◌%◌, min, max, not, take, length, Result, Ok, slice_get, slice_set, nat_lt, List, Option, Some, None, if◌then◌else◌}
 use Rattle.fdb_keys.specs.declared.refusal.Refusal.{Refusal}
 use Rattle.fdb_keys.specs.declared.refusal.Refusal.TheVariants.{Unknown, TransactionTooOld, FutureVersion}
 use Rattle.fdb_txn.specs.declared.entry.Entry.{Entry}
@@ -10,7 +10,8 @@ use Rattle.fdb_core.specs.machine.Verdicts.{verdicts_on}
 
 -- Resolve: entries are taken in order, each once.
 unfoldable pub resolves : Machine → ℕ → ℕ → Result Transition Refusal
-resolves m i resolver = found (slice_get m.book i) (λ (entry : Entry). found (slice_get m.resolvers resolver) (λ (taken : ℕ).
+resolves m i resolver = found (slice_get m.book i)
+    (λ (entry : Entry). found (slice_get m.resolvers resolver) (λ (taken : ℕ).
     in_turn taken i entry
     (Ok (record {
       answer = answered.Verdicts (verdicts_on m.config.resolver_splits resolver (seen_before m.book i) entry);
@@ -29,7 +30,8 @@ pushes m i log = found (slice_get m.book i) (λ (entry : Entry). found (slice_ge
 
 -- Pull: the shard applies the next messages that its log has, at most as many as the limit.
 unfoldable pub pulls : Machine → ℕ → ℕ → Result Transition Refusal
-pulls m shard limit = found (slice_get m.shards shard) (λ (progress : ShardProgress). found (slice_get m.logs (shard % length m.logs)) (λ (has : ℕ).
+pulls m shard limit = found (slice_get m.shards shard)
+    (λ (progress : ShardProgress). found (slice_get m.logs (shard % length m.logs)) (λ (has : ℕ).
     let applied = max progress.applied (min has (progress.applied + limit)) in
     Ok (record {
       answer = answered.Version (last_version (take applied m.book));

@@ -19,7 +19,8 @@ verdict_at splits i earlier place =
 -- what becomes of place p after the earlier ones
 abbrev pub outcome_at : List Point → List Place → Place → ℕ → Outcome
 outcome_at splits earlier place p =
-    if is_fresh place then (if committed splits earlier place then outcome.Commit place.version p else outcome.Conflict) else outcome.Old
+    if is_fresh place then (if committed splits earlier place then outcome.Commit place.version p else outcome.Conflict)
+    else outcome.Old
 
 -- one after another, the places of a batch from number p on, after the earlier ones
 module _ (splits : List Point) (version : ℕ) (moves : List Stamped) where
@@ -28,7 +29,8 @@ module _ (splits : List Point) (version : ℕ) (moves : List Stamped) where
   verdicts_from i [] earlier p = []
   verdicts_from i (t ∷ ts) earlier p =
       let place = placed version moves t in
-      if is_asked splits i place then (p, verdict_at splits i earlier place) ∷ verdicts_from i ts (place ∷ earlier) (suc p)
+      if is_asked splits i place then (p, verdict_at splits i earlier place) ∷ verdicts_from i ts (place ∷ earlier)
+      (suc p)
       else verdicts_from i ts (place ∷ earlier) (suc p)
 
   -- whether resolver i is asked about any
@@ -49,7 +51,8 @@ moves_through before entry = add_moves entry.version entry.moves before.moves
 
 -- resolver i's verdicts on an entry, by place
 abbrev pub verdicts_on : List Point → ℕ → Seen → Entry → List (ℕ × Verdict)
-verdicts_on splits i before entry = verdicts_from splits entry.version (moves_through before entry) i entry.batch before.places 0
+verdicts_on splits i before entry = verdicts_from splits entry.version (moves_through before entry) i entry.batch
+    before.places 0
 
 -- resolver i is asked about some place of the entry
 abbrev pub is_needed : List Point → ℕ → Seen → Entry → Bool
@@ -57,4 +60,5 @@ is_needed splits i before entry = asks_about splits entry.version (moves_through
 
 -- what becomes of the places of an entry
 abbrev pub outcomes_on : List Point → Seen → Entry → List Outcome
-outcomes_on splits before entry = outcomes_from splits entry.version (moves_through before entry) entry.batch before.places 0
+outcomes_on splits before entry = outcomes_from splits entry.version (moves_through before entry) entry.batch
+    before.places 0

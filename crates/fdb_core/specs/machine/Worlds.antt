@@ -22,7 +22,8 @@ config_fault config = if is_served config then None else Some BadConfig
 
 -- a commit proxy without a batch, at which nobody waits
 abbrev pub idle_proxy : CommitProxy
-idle_proxy = record { waiting = []; in_flight = []; stage = Idle; entry = 0; verdicts_received = []; acknowledgements_received = [] }
+idle_proxy = record
+    { waiting = []; in_flight = []; stage = Idle; entry = 0; verdicts_received = []; acknowledgements_received = [] }
 
 -- the machine before its first step
 abbrev pub start : Config → Machine
@@ -49,11 +50,13 @@ start config =
 abbrev pub IsStep : Option Machine → Step → Result Answered Refusal → Option Machine → Type 0
 IsStep None step result new = (result ≡ Err Failed) × (new ≡ None)
 IsStep (Some m) step result new =
-    ((result ≡ answer_of (next m step)) × (new ≡ Some (after m (next m step)))) ⊎ ((result ≡ Err NoMemory) × (new ≡ None))
+    ((result ≡ answer_of (next m step)) × (new ≡ Some (after m (next m step))))
+    ⊎ ((result ≡ Err NoMemory) × (new ≡ None))
 
 -- steps one after another, with their answers
 abbrev pub IsRun : Option Machine → List Step → List (Result Answered Refusal) → Option Machine → Type 0
 IsRun old [] [] new = new ≡ old
-IsRun old (step ∷ steps) (answer ∷ answers) new = (mid : Option Machine) × IsStep old step answer mid × IsRun mid steps answers new
+IsRun old (step ∷ steps) (answer ∷ answers) new = (mid : Option Machine) × IsStep old step answer mid
+    × IsRun mid steps answers new
 IsRun old [] (answer ∷ answers) new = ⊥
 IsRun old (step ∷ steps) [] new = ⊥

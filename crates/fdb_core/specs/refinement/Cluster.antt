@@ -67,14 +67,16 @@ pub record IsPlain (config : Config) : Type 0 where
   pub book : config.book ≤ 1048576
 
 -- the book, with what stands beside each entry
-pub record BookRefines (book : List Entry) (entry_proxies : List ℕ) (decided : List Bool) (messages : List (Option Message)) : Type 0 where
+pub record BookRefines (book : List Entry) (entry_proxies : List ℕ) (decided : List Bool)
+    (messages : List (Option Message)) : Type 0 where
   pub no_moves : NoMovesIn book
   pub entries : AreEntries 1 0 book
   pub each_has_proxy : length entry_proxies ≡ length book
   pub each_flagged : length decided ≡ length book
   pub each_pooled : length messages ≡ length book
   -- a decided entry has its message in the pool
-  pub made : (i : ℕ) (message : Message) → is_set decided i ≡ true → slice_get (along (message_on []) book) i ≡ Some message
+  pub made : (i : ℕ) (message : Message) → is_set decided i ≡ true
+      → slice_get (along (message_on []) book) i ≡ Some message
       → slice_get messages i ≡ Some (Some message)
 
 -- the sequencer gave each entry its ticket
@@ -97,7 +99,8 @@ pub record ResolversRefine (book : List Entry) (resolvers : List ResolverRole) :
   pub ok : ResolverRefines book role
 
 -- the log took this many entries, and the shard applied this many of them
-pub record LogRefines (book : List Entry) (logs : List ℕ) (shards : List ShardProgress) (log shard : List Message) : Type 0 where
+pub record LogRefines (book : List Entry) (logs : List ℕ) (shards : List ShardProgress) (log shard : List Message) :
+    Type 0 where
   pub taken : ℕ
   pub applied : ℕ
   pub one_log : logs ≡ taken ∷ []
@@ -107,21 +110,27 @@ pub record LogRefines (book : List Entry) (logs : List ℕ) (shards : List Shard
   pub logged : log ≡ take taken (along (message_on []) book)
   pub kept : shard ≡ take applied (along (message_on []) book)
 
--- a submission that waits: its read version is at most the committed one, and its write set has all that its mutations name
+-- a submission that waits: its read version is at most the committed one, and its write set has all that its mutations
+-- name
 abbrev pub WaitsRefines : ℕ → Submission → Type 0
 WaitsRefines committed submission = (submission.sealed.read ≤ committed) × NamesWrites submission.sealed
 
 -- the commit proxy with its batch in flight, and the outcomes that it holds once the batch is decided
-pub record CommitProxyRefines (book : List Entry) (resolvers : List ℕ) (committed : ℕ) (commit_proxy : CommitProxy) (outcomes : List Outcome) : Type 0 where
+pub record CommitProxyRefines (book : List Entry) (resolvers : List ℕ) (committed : ℕ) (commit_proxy : CommitProxy)
+    (outcomes : List Outcome) : Type 0 where
   pub waiting : AllByRecursion (WaitsRefines committed) commit_proxy.waiting
   pub in_book : is_idle commit_proxy.stage ≡ false → commit_proxy.entry < length book
-  pub aligned : (entry : Entry) → is_idle commit_proxy.stage ≡ false → slice_get book commit_proxy.entry ≡ Some entry → length commit_proxy.in_flight ≡ length entry.batch
+  pub aligned : (entry : Entry) → is_idle commit_proxy.stage ≡ false → slice_get book commit_proxy.entry ≡ Some entry
+      → length commit_proxy.in_flight ≡ length entry.batch
   pub verdicts_received : is_idle commit_proxy.stage ≡ false → length commit_proxy.verdicts_received ≡ 1
-  pub delivered : (taken : ℕ) → is_idle commit_proxy.stage ≡ false → is_set commit_proxy.verdicts_received 0 ≡ true → slice_get resolvers 0 ≡ Some taken → commit_proxy.entry < taken
-  pub decision : (entry : Entry) → is_idle commit_proxy.stage ≡ false → is_resolving commit_proxy.stage ≡ false → slice_get book commit_proxy.entry ≡ Some entry
+  pub delivered : (taken : ℕ) → is_idle commit_proxy.stage ≡ false → is_set commit_proxy.verdicts_received 0 ≡ true
+      → slice_get resolvers 0 ≡ Some taken → commit_proxy.entry < taken
+  pub decision : (entry : Entry) → is_idle commit_proxy.stage ≡ false → is_resolving commit_proxy.stage ≡ false
+      → slice_get book commit_proxy.entry ≡ Some entry
       → outcomes ≡ outcomes_on [] (seen_before book commit_proxy.entry) entry
 
-pub record CommitProxiesRefine (book : List Entry) (resolvers : List ℕ) (committed : ℕ) (commit_proxies : List CommitProxy) (outcomes : List Outcome) : Type 0 where
+pub record CommitProxiesRefine (book : List Entry) (resolvers : List ℕ) (committed : ℕ)
+    (commit_proxies : List CommitProxy) (outcomes : List Outcome) : Type 0 where
   pub commit_proxy : CommitProxy
   pub one : commit_proxies ≡ commit_proxy ∷ []
   pub ok : CommitProxyRefines book resolvers committed commit_proxy outcomes
@@ -134,7 +143,8 @@ pub record OpenRefines (committed : ℕ) (transcript : Transcript) : Type 0 wher
 -- the outcomes and the message of entry i, by the verdicts on it where they came, else by none
 abbrev pub IsDecision : List Entry → List (List (ℕ × Verdict)) → ℕ → Bool → List Outcome × Message → Type 0
 IsDecision book verdicts i is_received decision =
-    (entry : Entry) (sent : List (ℕ × Verdict)) → slice_get book i ≡ Some entry → (is_received ≡ true → slice_get verdicts i ≡ Some sent) →
+    (entry : Entry) (sent : List (ℕ × Verdict)) → slice_get book i ≡ Some entry
+    → (is_received ≡ true → slice_get verdicts i ≡ Some sent) →
     let said = if is_received then sent else [] in
     (decision.0 ≡ outcomes_by entry.version said (length entry.batch))
     × (decision.1 ≡ record { version = entry.version; body = body_by entry.batch decision.0 })
@@ -147,5 +157,6 @@ pub record Refines (k : Cluster) : Type 0 where
   pub book : BookRefines k.book.items k.entry_proxies.items k.decided.items k.messages.items
   pub resolvers : ResolversRefine k.book.items k.resolvers.items
   pub log : LogRefines k.book.items k.logs.items k.shards.items k.log.items k.shard.items
-  pub commit_proxies : CommitProxiesRefine k.book.items (taken_by k.resolvers.items) k.sequencer.committed k.commit_proxies.items k.outcomes
+  pub commit_proxies : CommitProxiesRefine k.book.items (taken_by k.resolvers.items) k.sequencer.committed
+      k.commit_proxies.items k.outcomes
   pub opened : AllByRecursion (OpenRefines k.sequencer.committed) k.opened.items

@@ -21,7 +21,8 @@ is_judged t = has_points t.writes || has_points t.reads
 
 -- what a resolver that owns every key is sent of a transaction
 abbrev pub item_of : ℕ → Transaction → Item
-item_of place t = record { place = place; read_version = t.read; has_reads = has_points t.reads; reads = t.reads; writes = t.writes }
+item_of place t = record
+    { place = place; read_version = t.read; has_reads = has_points t.reads; reads = t.reads; writes = t.writes }
 
 -- what it is sent of a batch from place p on
 abbrev pub items_from : List Transaction → ℕ → List Item
@@ -56,7 +57,8 @@ pub record IsNext (before : List Entry) (resolver : Resolver) (entry : Entry) : 
   pub entries : AreEntries 1 0 (before ++ entry ∷ [])
 
 -- The resolver took its next entry, answered what the rule says of the entry's places, and sent just that.
-pub record TakesNext (before : List Entry) (entry : Entry) (old : ResolverRole) (answer : List (ℕ × Verdict)) (new : ResolverRole) : Type 0 where
+pub record TakesNext (before : List Entry) (entry : Entry) (old : ResolverRole) (answer : List (ℕ × Verdict))
+    (new : ResolverRole) : Type 0 where
   pub rule : answer ≡ verdicts_on [] 0 (seen_of before) entry
   pub state : ResolverAt (before ++ entry ∷ []) new.core
   pub taken : new.taken ≡ old.taken + 1

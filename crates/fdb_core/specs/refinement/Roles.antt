@@ -25,7 +25,11 @@ along {A} f book = after.1
 -- what logs get of an entry
 abbrev pub message_on : List Point → Seen → Entry → Message
 message_on splits before entry =
-    record { version = entry.version; body = committed_from splits entry.version (moves_through before entry) entry.batch before.places }
+    record {
+      version = entry.version;
+      body = committed_from splits entry.version (moves_through before entry)
+          entry.batch before.places;
+    }
 
 -- what is made of a verdict on a place; without a verdict nothing stands against it
 abbrev pub outcome_by : ℕ → ℕ → Verdict → Outcome
@@ -40,7 +44,8 @@ verdict_for (said ∷ others) place = if said.0 == place then said.1 else verdic
 -- the outcomes of as many places, from the verdicts of the one resolver
 abbrev pub outcomes_by : ℕ → List (ℕ × Verdict) → ℕ → List Outcome
 outcomes_by version verdicts zero = []
-outcomes_by version verdicts (suc place) = outcomes_by version verdicts place ++ outcome_by version place (verdict_for verdicts place) ∷ []
+outcomes_by version verdicts (suc place) = outcomes_by version verdicts place ++ outcome_by version place
+    (verdict_for verdicts place) ∷ []
 
 abbrev pub is_commit : Outcome → Bool
 is_commit (outcome.Commit version place) = true

@@ -54,8 +54,10 @@ fn outcomes_of(
     entry: &Entry,
 ) -> Result<Items<Outcome>, CheckFault>
     ensures count { IfOk result (λ outcomes. length outcomes ≡ length entry.now.batch) }
-    ensures outcomes { (before : List Entry) → IsNext before resolver.old entry.now → IfOk result (λ outcomes. outcomes ≡ outcomes_on [] (seen_of before) entry.now) }
-    ensures resolver { (before : List Entry) → IsNext before resolver.old entry.now → OnOk result (ResolverAt (before ++ entry.now ∷ []) resolver.new) }
+    ensures outcomes { (before : List Entry) → IsNext before resolver.old entry.now
+        → IfOk result (λ outcomes. outcomes ≡ outcomes_on [] (seen_of before) entry.now) }
+    ensures resolver { (before : List Entry) → IsNext before resolver.old entry.now
+        → OnOk result (ResolverAt (before ++ entry.now ∷ []) resolver.new) }
     ensures err { IfErr result (λ fault. fault ≡ CheckFault.NoMemory) }
 {
     let batch = entry.batch.as_slice();

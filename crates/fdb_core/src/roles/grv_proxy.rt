@@ -73,8 +73,10 @@ fn serve(
     read_version: u64,
     session: u32,
 ) -> Result<(), AllocError>
-    ensures last_transactions { OnOk result (last_transactions.new.items ≡ (serve read_version (last_transactions.old.items, opened.old.items) session).0) }
-    ensures opened { OnOk result (opened.new.items ≡ (serve read_version (last_transactions.old.items, opened.old.items) session).1) }
+    ensures last_transactions { OnOk result
+        (last_transactions.new.items ≡ (serve read_version (last_transactions.old.items, opened.old.items) session).0) }
+    ensures opened { OnOk result
+        (opened.new.items ≡ (serve read_version (last_transactions.old.items, opened.old.items) session).1) }
 {
     let number = begin_next(last_transactions, session)?;
     opened.push(Transcript {
@@ -94,8 +96,12 @@ pub(crate) fn serve_all(
     sessions: &[u32],
 ) -> Result<Items<(u32, u64)>, AllocError>
     ensures granted { IfOk result (λ granted. granted ≡ map (λ session. (session, read_version)) sessions.now) }
-    ensures last_transactions { OnOk result (last_transactions.new.items ≡ (fold (serve read_version) (last_transactions.old.items, opened.old.items) sessions.now).0) }
-    ensures opened { OnOk result (opened.new.items ≡ (fold (serve read_version) (last_transactions.old.items, opened.old.items) sessions.now).1) }
+    ensures last_transactions { OnOk result
+        (last_transactions.new.items ≡ (fold (serve read_version) (last_transactions.old.items, opened.old.items)
+        sessions.now).0) }
+    ensures opened { OnOk result
+        (opened.new.items ≡ (fold (serve read_version) (last_transactions.old.items, opened.old.items)
+        sessions.now).1) }
 {
     let mut granted = Items::new(alloc);
     for session in sessions {

@@ -100,7 +100,8 @@ impl ResolverRole {
         entry: &Entry,
     ) -> Result<Items<(u32, Verdict)>, AllocError>
         requires { self.old.taken < 2 ^ 32 - 1 }
-        ensures { (before : List Entry) → IsNext before self.old.core entry.now → IfOk result (λ answer. TakesNext before entry.now self.old answer self.new) }
+        ensures { (before : List Entry) → IsNext before self.old.core entry.now
+            → IfOk result (λ answer. TakesNext before entry.now self.old answer self.new) }
     {
         let Ok(verdicts) = judge_entry(alloc, &mut self.core, self.taken, entry) else {
             return Err(AllocError);
@@ -140,7 +141,8 @@ pub(crate) fn judge_entry(
 ) -> Result<Items<(u32, Verdict)>, Refusal>
     ensures verdicts { (before : List Entry) → IsNext before resolver.old entry.now
         → Answers result None (λ verdicts. verdicts ≡ verdicts_on [] 0 (seen_of before) entry.now) }
-    ensures state { (before : List Entry) → IsNext before resolver.old entry.now → OnOk result (ResolverAt (before ++ entry.now ∷ []) resolver.new) }
+    ensures state { (before : List Entry) → IsNext before resolver.old entry.now
+        → OnOk result (ResolverAt (before ++ entry.now ∷ []) resolver.new) }
 {
     if entry.version <= entry.prev {
         return Err(Refusal::Chain);

@@ -34,8 +34,12 @@ impl Cluster {
         key: &Key,
     ) -> Result<Result<Option<Bytes>, Refusal>, AllocError>
         requires { Refines self.now }
-        ensures { IfOk result (λ answer. AnswersExactly answer (read_fault (machine_of self.now) (program transcript.now.ops) transcript.now.read_version key.now)
-            (λ value. value ≡ get (copy (serial_map_at self.now.config.resolver_splits transcript.now.read_version (seen_of self.now.book.items).places) (program transcript.now.ops)) key.now)) }
+        ensures { IfOk result
+            (λ answer. AnswersExactly answer
+            (read_fault (machine_of self.now) (program transcript.now.ops) transcript.now.read_version key.now)
+            (λ value. value ≡ get
+            (copy (serial_map_at self.now.config.resolver_splits transcript.now.read_version
+            (seen_of self.now.book.items).places) (program transcript.now.ops)) key.now)) }
     {
         let ops = transcript.ops.as_slice();
         let version = transcript.read_version;
@@ -67,7 +71,8 @@ impl Cluster {
     ) -> Result<Result<Answered, Refusal>, AllocError>
         requires { Refines self.old }
         ensures answer { IfOk result (λ answer. answer ≡ answer_of (gets (machine_of self.old) session key.now snapshot)) }
-        ensures after { OnOk result (machine_of self.new ≡ after (machine_of self.old) (gets (machine_of self.old) session key.now snapshot)) }
+        ensures after { OnOk result
+            (machine_of self.new ≡ after (machine_of self.old) (gets (machine_of self.old) session key.now snapshot)) }
         ensures refines { OnOk result (Refines self.new) }
     {
         let Some(place) = position_of(&self.opened, session) else {
@@ -92,7 +97,8 @@ impl Cluster {
     ) -> Result<Result<Answered, Refusal>, AllocError>
         requires { Refines self.old }
         ensures answer { IfOk result (λ answer. answer ≡ answer_of (writes (machine_of self.old) session mutation.now)) }
-        ensures after { OnOk result (machine_of self.new ≡ after (machine_of self.old) (writes (machine_of self.old) session mutation.now)) }
+        ensures after { OnOk result
+            (machine_of self.new ≡ after (machine_of self.old) (writes (machine_of self.old) session mutation.now)) }
         ensures refines { OnOk result (Refines self.new) }
     {
         let Some(place) = position_of(&self.opened, session) else {
@@ -114,7 +120,8 @@ impl Cluster {
     ) -> Result<Result<Answered, Refusal>, AllocError>
         requires { Refines self.old }
         ensures answer { IfOk result (λ answer. answer ≡ answer_of (submits (machine_of self.old) session proxy)) }
-        ensures after { OnOk result (machine_of self.new ≡ after (machine_of self.old) (submits (machine_of self.old) session proxy)) }
+        ensures after { OnOk result
+            (machine_of self.new ≡ after (machine_of self.old) (submits (machine_of self.old) session proxy)) }
         ensures refines { OnOk result (Refines self.new) }
     {
         let at = proxy as usize;

@@ -29,7 +29,8 @@ impl Cluster {
     ) -> Result<Result<Answered, Refusal>, AllocError>
         requires { Refines self.old }
         ensures answer { IfOk result (λ answer. answer ≡ answer_of (seals (machine_of self.old) proxy advance)) }
-        ensures after { OnOk result (machine_of self.new ≡ after (machine_of self.old) (seals (machine_of self.old) proxy advance)) }
+        ensures after { OnOk result
+            (machine_of self.new ≡ after (machine_of self.old) (seals (machine_of self.old) proxy advance)) }
         ensures refines { OnOk result (Refines self.new) }
     {
         let at = proxy as usize;
@@ -97,7 +98,9 @@ impl Cluster {
     ) -> Result<Result<Answered, Refusal>, AllocError>
         requires { Refines self.old }
         ensures answer { IfOk result (λ answer. answer ≡ answer_of (receives (machine_of self.old) entry (sender_of sender))) }
-        ensures after { OnOk result (machine_of self.new ≡ after (machine_of self.old) (receives (machine_of self.old) entry (sender_of sender))) }
+        ensures after { OnOk result
+            (machine_of self.new ≡ after (machine_of self.old)
+            (receives (machine_of self.old) entry (sender_of sender))) }
         ensures refines { OnOk result (Refines self.new) }
     {
         let Some(taken) = self.taken_by(sender) else {

@@ -21,7 +21,8 @@ impl Cluster {
     ) -> Result<Result<Answered, Refusal>, AllocError>
         requires { Refines self.old }
         ensures answer { IfOk result (λ answer. answer ≡ answer_of (asks (machine_of self.old) session proxy)) }
-        ensures after { OnOk result (machine_of self.new ≡ after (machine_of self.old) (asks (machine_of self.old) session proxy)) }
+        ensures after { OnOk result
+            (machine_of self.new ≡ after (machine_of self.old) (asks (machine_of self.old) session proxy)) }
         ensures refines { OnOk result (Refines self.new) }
     {
         let at = proxy as usize;

@@ -18,7 +18,8 @@ impl Cluster {
     ) -> Result<Result<Answered, Refusal>, AllocError>
         requires { Refines self.old }
         ensures answer { IfOk result (λ answer. answer ≡ answer_of (resolves (machine_of self.old) entry resolver)) }
-        ensures after { OnOk result (machine_of self.new ≡ after (machine_of self.old) (resolves (machine_of self.old) entry resolver)) }
+        ensures after { OnOk result
+            (machine_of self.new ≡ after (machine_of self.old) (resolves (machine_of self.old) entry resolver)) }
         ensures refines { OnOk result (Refines self.new) }
     {
         let i = entry as usize;

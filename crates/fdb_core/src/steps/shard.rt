@@ -21,7 +21,8 @@ impl Cluster {
     ) -> Result<Result<Answered, Refusal>, AllocError>
         requires { Refines self.old }
         ensures answer { IfOk result (λ answer. answer ≡ answer_of (pulls (machine_of self.old) shard limit)) }
-        ensures after { OnOk result (machine_of self.new ≡ after (machine_of self.old) (pulls (machine_of self.old) shard limit)) }
+        ensures after { OnOk result
+            (machine_of self.new ≡ after (machine_of self.old) (pulls (machine_of self.old) shard limit)) }
         ensures refines { OnOk result (Refines self.new) }
     {
         let of = shard as usize;

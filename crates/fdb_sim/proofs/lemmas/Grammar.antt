@@ -17,29 +17,45 @@ use Rattle.fdb_sim.specs.declared.script.step_line.Kind.TheVariants.{Ask, Grant,
 use Rattle.fdb_sim.proofs.lemmas.Faults.{Reads-refused, Reads-whole}
 
 -- a set whose second word is no byte text
-pub no_set : (words : List (List ℕ)) → ((word : List ℕ) (rest : List (List ℕ)) (bytes : List ℕ) → words ≡ word ∷ rest → ¬ WritesText word bytes) → (mutation : Mutation) → ¬ WritesMutation (codes "set" ∷ words) mutation
+pub no_set : (words : List (List ℕ))
+    → ((word : List ℕ) (rest : List (List ℕ)) (bytes : List ℕ) → words ≡ word ∷ rest → ¬ WritesText word bytes)
+    → (mutation : Mutation) → ¬ WritesMutation (codes "set" ∷ words) mutation
 no_set words none (Set key value) set = none set.0 (set.1 ∷ []) key (cc) set.3
 no_set words none (Clear key) clear = cc
 
 -- a get, a set and a clear whose key is refused
-pub get_refused : (words after : List (List ℕ)) (session : ℕ) (text key : List ℕ) (fault : Fault) → ((x : List ℕ) × (words ≡ x ∷ after) × WritesSmall x session) → ((y : List ℕ) × (after ≡ y ∷ []) × WritesText y text) → key ≡ text → MatchFault fault ⊥ (λ why. key_fault key ≡ Some why) → Reads (Err fault) (WritesRest Get words) step_fault
+pub get_refused : (words after : List (List ℕ)) (session : ℕ) (text key : List ℕ) (fault : Fault)
+    → ((x : List ℕ) × (words ≡ x ∷ after) × WritesSmall x session)
+    → ((y : List ℕ) × (after ≡ y ∷ []) × WritesText y text) → key ≡ text
+    → MatchFault fault ⊥ (λ why. key_fault key ≡ Some why) → Reads (Err fault) (WritesRest Get words) step_fault
 get_refused words after session text key fault first second same refused =
-    Reads-refused fault (key_fault key) _ _ refused (made.Get session text false) (session, text, (first.0, second.0, (cc), first.2, second.2), refl) (ap key_fault (sym same))
+    Reads-refused fault (key_fault key) _ _ refused (made.Get session text false)
+    (session, text, (first.0, second.0, (cc), first.2, second.2), refl) (ap key_fault (sym same))
 
-pub set_refused : (words after : List (List ℕ)) (text key value : List ℕ) (fault : Fault) → ((x : List ℕ) × (words ≡ x ∷ after) × WritesText x text) → ((y : List ℕ) × (after ≡ y ∷ []) × WritesText y value) → key ≡ text → MatchFault fault ⊥ (λ why. key_fault key ≡ Some why) → Reads (Err fault) (WritesMutation (codes "set" ∷ words)) mutation_fault
+pub set_refused : (words after : List (List ℕ)) (text key value : List ℕ) (fault : Fault)
+    → ((x : List ℕ) × (words ≡ x ∷ after) × WritesText x text) → ((y : List ℕ) × (after ≡ y ∷ []) × WritesText y value)
+    → key ≡ text → MatchFault fault ⊥ (λ why. key_fault key ≡ Some why)
+    → Reads (Err fault) (WritesMutation (codes "set" ∷ words)) mutation_fault
 set_refused words after text key value fault first second same refused =
-    Reads-refused fault (key_fault key) _ _ refused (Set text value) (first.0, second.0, (cc), first.2, second.2) (ap key_fault (sym same))
+    Reads-refused fault (key_fault key) _ _ refused (Set text value) (first.0, second.0, (cc), first.2, second.2)
+    (ap key_fault (sym same))
 
-pub clear_refused : (words : List (List ℕ)) (text key : List ℕ) (fault : Fault) → ((x : List ℕ) × (words ≡ x ∷ []) × WritesText x text) → key ≡ text → MatchFault fault ⊥ (λ why. key_fault key ≡ Some why) → Reads (Err fault) (WritesMutation (codes "clear" ∷ words)) mutation_fault
+pub clear_refused : (words : List (List ℕ)) (text key : List ℕ) (fault : Fault)
+    → ((x : List ℕ) × (words ≡ x ∷ []) × WritesText x text) → key ≡ text
+    → MatchFault fault ⊥ (λ why. key_fault key ≡ Some why)
+    → Reads (Err fault) (WritesMutation (codes "clear" ∷ words)) mutation_fault
 clear_refused words text key fault first same refused =
     Reads-refused fault (key_fault key) _ _ refused (Clear text) (first.0, (cc), first.2) (ap key_fault (sym same))
 
 -- a write without a mutation, and one whose key is refused
-pub write_fault : (words after : List (List ℕ)) (session : ℕ) (fault : Fault) → ((x : List ℕ) × (words ≡ x ∷ after) × WritesSmall x session) → Reads (Err fault) (WritesMutation after) mutation_fault → Reads (Err fault) (WritesRest Write words) step_fault
+pub write_fault : (words after : List (List ℕ)) (session : ℕ) (fault : Fault)
+    → ((x : List ℕ) × (words ≡ x ∷ after) × WritesSmall x session)
+    → Reads (Err fault) (WritesMutation after) mutation_fault → Reads (Err fault) (WritesRest Write words) step_fault
 write_fault words after session fault first found =
     Reads-whole fault (WritesMutation after) mutation_fault _ _ found
     (λ none step write. let more = write.2 in let same : more.1 ≡ after = cc in none write.1 (rw same at more.4))
-    (λ mutation written. (made.Write session mutation, (session, mutation, (first.0, after, first.1, first.2, written), refl), refl))
+    (λ mutation written.
+    (made.Write session mutation, (session, mutation, (first.0, after, first.1, first.2, written), refl), refl))
 
 after_first : {first second : List ℕ} {words rest : List (List ℕ)} → first ∷ words ≡ second ∷ rest → words ≡ rest
 after_first is = ap (λ (ws : List (List ℕ)). drop 1 ws) is
@@ -87,16 +103,21 @@ kind_of_name Pull = refl
 
 -- no two kinds have one name
 same_kind : (kind other : Kind) → name_of kind ≡ name_of other → kind ≡ other
-same_kind kind other is = sym (kind_of_name kind) ∙ ap (λ word. kind_of_letters (letters_of word)) is ∙ kind_of_name other
+same_kind kind other is = sym (kind_of_name kind) ∙ ap (λ word. kind_of_letters (letters_of word)) is
+    ∙ kind_of_name other
 
-no_step : (first : List ℕ) (after : List (List ℕ)) (named : Kind) → first ≡ name_of named → ((step : Step) → ¬ WritesRest named after step) → (kind : Kind) (step : Step) → ¬ WritesStep (first ∷ after) kind step
+no_step : (first : List ℕ) (after : List (List ℕ)) (named : Kind) → first ≡ name_of named
+    → ((step : Step) → ¬ WritesRest named after step) → (kind : Kind) (step : Step)
+    → ¬ WritesStep (first ∷ after) kind step
 no_step first after named first_is none kind step written =
     let same : named ≡ kind = same_kind named kind (sym first_is ∙ first_of written.1) in
     let rests : after ≡ written.0 = after_first written.1 in
     none step (rw (same, rests) written.2)
 
 -- words of which those after the first one write no step, and such of which the key is refused
-pub step_of_rest : (first : List ℕ) (after : List (List ℕ)) (named : Kind) (fault : Fault) → first ≡ name_of named → Reads (Err fault) (WritesRest named after) step_fault → Reads {T = Kind × Step} (Err fault) (λ read. WritesStep (first ∷ after) read.0 read.1) (λ read. step_fault read.1)
+pub step_of_rest : (first : List ℕ) (after : List (List ℕ)) (named : Kind) (fault : Fault) → first ≡ name_of named
+    → Reads (Err fault) (WritesRest named after) step_fault
+    → Reads {T = Kind × Step} (Err fault) (λ read. WritesStep (first ∷ after) read.0 read.1) (λ read. step_fault read.1)
 step_of_rest first after named fault first_is found =
     Reads-whole {Whole = Kind × Step} fault (WritesRest named after) step_fault _ _ found
     (λ none read. no_step first after named first_is none read.0 read.1)
@@ -116,17 +137,26 @@ no_words line none (given.Step kind step) written = cc
 no_words line none (given.Drive proxy) written = cc
 
 -- a line whose first word is "drive", and whose other words are no number
-pub no_proxy : (line : List ℕ) (after : List (List ℕ)) → words_of line ≡ codes "drive" ∷ after → ((proxy : ℕ) → ¬ WritesOne after proxy) → (read : Line) → ¬ WritesLine line read
-no_proxy line after words_are none (given.Step kind step) written = not_drive kind (sym (first_of (sym words_are ∙ written.1)))
+pub no_proxy : (line : List ℕ) (after : List (List ℕ)) → words_of line ≡ codes "drive" ∷ after
+    → ((proxy : ℕ) → ¬ WritesOne after proxy) → (read : Line) → ¬ WritesLine line read
+no_proxy line after words_are none (given.Step kind step) written = not_drive kind
+    (sym (first_of (sym words_are ∙ written.1)))
 no_proxy line after words_are none (given.Drive proxy) written =
     none proxy (rw (after_first (sym words_are ∙ written.1)) written.2)
 
 -- a line whose first word is another one
-pub line_of_step : (line first : List ℕ) (after : List (List ℕ)) (fault : Fault) → words_of line ≡ first ∷ after → first ≢ codes "drive" → Reads {T = Kind × Step} (Err fault) (λ read. WritesStep (first ∷ after) read.0 read.1) (λ read. step_fault read.1) → Reads (Err fault) (WritesLine line) read_fault
+pub line_of_step : (line first : List ℕ) (after : List (List ℕ)) (fault : Fault) → words_of line ≡ first ∷ after
+    → first ≢ codes "drive"
+    → Reads {T = Kind × Step} (Err fault) (λ read. WritesStep (first ∷ after) read.0 read.1) (λ read. step_fault read.1)
+    → Reads (Err fault) (WritesLine line) read_fault
 line_of_step line first after fault words_are other found =
-    Reads-whole {Part = Kind × Step} fault _ _ (WritesLine line) read_fault found (no_line line first after words_are other)
+    Reads-whole {Part = Kind × Step} fault _ _ (WritesLine line) read_fault found
+    (no_line line first after words_are other)
     (λ read written. (given.Step read.0 read.1, rw words_are written, refl))
   where
-    no_line : (line first : List ℕ) (after : List (List ℕ)) → words_of line ≡ first ∷ after → first ≢ codes "drive" → ((read : Kind × Step) → ¬ WritesStep (first ∷ after) read.0 read.1) → (read : Line) → ¬ WritesLine line read
-    no_line line first after words_are other none (given.Step kind step) written = none (kind, step) (rw (sym words_are) written)
-    no_line line first after words_are other none (given.Drive proxy) written = other (first_of (sym words_are ∙ written.1))
+    no_line : (line first : List ℕ) (after : List (List ℕ)) → words_of line ≡ first ∷ after → first ≢ codes "drive"
+        → ((read : Kind × Step) → ¬ WritesStep (first ∷ after) read.0 read.1) → (read : Line) → ¬ WritesLine line read
+    no_line line first after words_are other none (given.Step kind step) written = none (kind, step)
+        (rw (sym words_are) written)
+    no_line line first after words_are other none (given.Drive proxy) written = other
+        (first_of (sym words_are ∙ written.1))

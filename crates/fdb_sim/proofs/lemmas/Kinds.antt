@@ -5,10 +5,12 @@ use Rattle.fdb_sim.specs.declared.script.step_line.Kind.TheVariants.{Ask, Grant,
 use Rattle.fdb_sim.specs.script.Kinds.{name_of}
 
 abbrev kinds : List Kind
-kinds = Ask ∷ Grant ∷ Get ∷ Write ∷ Submit ∷ Seal ∷ Resolve ∷ Verdict ∷ Decide ∷ Push ∷ Logged ∷ Report ∷ Answer ∷ Pull ∷ []
+kinds = Ask ∷ Grant ∷ Get ∷ Write ∷ Submit ∷ Seal ∷ Resolve ∷ Verdict ∷ Decide ∷ Push ∷ Logged ∷ Report ∷ Answer ∷ Pull
+    ∷ []
 
 -- a word that names none of the fourteen names no kind
-pub names_none : (word : List ℕ) → ((k : ℕ) → k < 14 → word ≢ name_of (get_or kinds k Ask)) → (kind : Kind) → word ≢ name_of kind
+pub names_none : (word : List ℕ) → ((k : ℕ) → k < 14 → word ≢ name_of (get_or kinds k Ask)) → (kind : Kind)
+    → word ≢ name_of kind
 names_none word none Ask = none 0 (omega arith)
 names_none word none Grant = none 1 (omega arith)
 names_none word none Get = none 2 (omega arith)

@@ -11,6 +11,12 @@ digit_at (d ∷ ds) zero h all = all.0
 digit_at (d ∷ ds) (suc i) h all = digit_at ds i (omega arith) all.1
 
 -- a digit that cannot come next cannot stand in a number that fits
-pub no_number : (word : List ℕ) (i value : ℕ) → i < length word → value ≡ digits_value 10 (take i word) → ¬ ((digit_value (get_or word i 0) < 10) × (value * 10 + digit_value (get_or word i 0) < 2 ^ 64)) → ¬ (IsNumeral 10 word × (digits_value 10 word < 2 ^ 64))
+pub no_number : (word : List ℕ) (i value : ℕ) → i < length word → value ≡ digits_value 10 (take i word)
+    → ¬ ((digit_value (get_or word i 0) < 10) × (value * 10 + digit_value (get_or word i 0) < 2 ^ 64))
+    → ¬ (IsNumeral 10 word × (digits_value 10 word < 2 ^ 64))
 no_number word i value inside is none fits =
-    none (digit_at word i inside fits.0.1, omega (arith, fits.1, digits_value_more 10 word i inside, digits_value-take-le 10 word (i + 1) (omega arith)))
+    none (
+      digit_at word i inside fits.0.1,
+      omega
+          (arith, fits.1, digits_value_more 10 word i inside, digits_value-take-le 10 word (i + 1) (omega arith)),
+    )

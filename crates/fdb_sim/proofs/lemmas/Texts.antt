@@ -11,6 +11,7 @@ pub put_all-nothing : (bytes : Option (List ℕ)) → put_all [] bytes ≡ bytes
 put_all-nothing None = refl
 put_all-nothing (Some bytes) = refl
 
-pub put_all-put_before : (front : List ℕ) (byte : ℕ) (bytes : Option (List ℕ)) → put_all front (put_before byte bytes) ≡ put_all (front ++ byte ∷ []) bytes
+pub put_all-put_before : (front : List ℕ) (byte : ℕ) (bytes : Option (List ℕ))
+    → put_all front (put_before byte bytes) ≡ put_all (front ++ byte ∷ []) bytes
 put_all-put_before front byte None = refl
 put_all-put_before front byte (Some bytes) = ap Some (sym (append_assoc front (byte ∷ []) bytes))

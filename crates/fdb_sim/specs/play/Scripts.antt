@@ -55,11 +55,13 @@ Holds world printed status =
 -- the check found a transaction that was answered otherwise
 abbrev pub TxnDiffers : List ℕ → ℕ → Type 0
 TxnDiffers printed status =
-    (id : TxnId) × (printed ≡ printed_line (codes "failed txn " ++ decimal id.session ++ codes ":" ++ decimal id.number)) × (status ≡ 1)
+    (id : TxnId) × (printed ≡ printed_line
+    (codes "failed txn " ++ decimal id.session ++ codes ":" ++ decimal id.number)) × (status ≡ 1)
 
 -- the check found a shard that holds another map
 abbrev pub ShardDiffers : List ℕ → ℕ → Type 0
-ShardDiffers printed status = (shard : ℕ) × (printed ≡ printed_line (codes "failed shard " ++ decimal shard)) × (status ≡ 1)
+ShardDiffers printed status = (shard : ℕ) × (printed ≡ printed_line (codes "failed shard " ++ decimal shard))
+    × (status ≡ 1)
 
 -- the check found a difference, which it does at most where memory ran out in a step
 abbrev pub Differs : Option Machine → List ℕ → ℕ → Type 0
@@ -73,7 +75,8 @@ IsChecked world printed status = Holds world printed status ⊎ (Differs world p
 -- the line gives a step, which the world takes
 abbrev pub TakesStep : List ℕ → Option Machine → List ℕ → Option Machine → Type 0
 TakesStep line old printed new =
-    (kind : Kind) × (step : Step) × (result : Result Answered Refusal) × WritesLine line (given.Step kind step) × (step_fault step ≡ None)
+    (kind : Kind) × (step : Step) × (result : Result Answered Refusal) × WritesLine line (given.Step kind step)
+    × (step_fault step ≡ None)
     × IsStep old step result new × (printed ≡ printed_line (result_text kind result))
 
 -- the line drives the batch that a commit proxy has in flight: what the last step taken answers is printed
@@ -90,7 +93,8 @@ RefusesKey line old printed new =
 
 -- what a line after the configuration prints, and the world that it leaves
 abbrev pub AnswersLine : List ℕ → Option Machine → List ℕ → Option Machine → Type 0
-AnswersLine line old printed new = TakesStep line old printed new ⊎ (DrivesBatch line old printed new ⊎ RefusesKey line old printed new)
+AnswersLine line old printed new = TakesStep line old printed new
+    ⊎ (DrivesBatch line old printed new ⊎ RefusesKey line old printed new)
 
 -- what a line after the configuration prints that ends the script
 abbrev pub StopsAt : ℕ → List ℕ → List ℕ → ℕ → Type 0
@@ -126,7 +130,8 @@ Unconfigured number line printed status =
 -- what a first line that isn't silent prints, with the lines after it
 abbrev pub Configures : ℕ → List ℕ → List (List ℕ) → List ℕ → ℕ → Type 0
 Configures number line lines printed status =
-    ((config : Config) × WritesConfig line config × (line_fault config ≡ None) × PlaysFrom number config lines printed status)
+    ((config : Config) × WritesConfig line config × (line_fault config ≡ None)
+    × PlaysFrom number config lines printed status)
     ⊎ Unconfigured number line printed status
 
 -- what a script prints, and the status that it ends with: `number` lines came before these

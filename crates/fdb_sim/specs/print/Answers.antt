@@ -50,7 +50,8 @@ awaited_text refusal = []
 
 -- a refusal: its number, its name and what stands after that
 abbrev pub refusal_text : Refusal → List ℕ
-refusal_text refusal = codes "refused " ++ decimal (code_of refusal) ++ codes " " ++ refusal_name refusal ++ awaited_text refusal
+refusal_text refusal = codes "refused " ++ decimal (code_of refusal) ++ codes " " ++ refusal_name refusal
+    ++ awaited_text refusal
 
 -- a number and what belongs to it, as an item of a list
 abbrev pub item_text : ℕ → List ℕ → List ℕ

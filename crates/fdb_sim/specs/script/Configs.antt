@@ -24,7 +24,8 @@ WritesSplits word splits = ((word ≡ codes "-") × (splits ≡ [])) ⊎ WritesT
 abbrev pub WritesOutline : List (List ℕ) → ℕ → ℕ → List ℕ → List ℕ → ℕ → Type 0
 WritesOutline words proxies logs resolvers shards book =
     (x : List ℕ) × (y : List ℕ) × (z : List ℕ)
-    × (words ≡ codes "config" ∷ codes "proxies" ∷ x ∷ codes "logs" ∷ y ∷ codes "resolvers" ∷ resolvers ∷ codes "shards" ∷ shards ∷ codes "book" ∷ z ∷ [])
+    × (words ≡ codes "config" ∷ codes "proxies" ∷ x ∷ codes "logs" ∷ y ∷ codes "resolvers" ∷ resolvers ∷ codes "shards"
+    ∷ shards ∷ codes "book" ∷ z ∷ [])
     × WritesSmall x proxies × WritesSmall y logs × WritesSmall z book
 
 -- the line writes the configuration

@@ -21,4 +21,5 @@ MatchFault fault.NoMemory bad refused = Unit {0}
 abbrev pub Reads : {T : Type 0} → Result T Fault → (T → Type 0) → (T → Option Refusal) → Type 0
 Reads {T = T} result Writes fault_in =
     MatchResult result (λ value. Writes value × (fault_in value ≡ None))
-    (λ fault. MatchFault fault ((value : T) → ¬ Writes value) (λ why. (value : T) × Writes value × (fault_in value ≡ Some why)))
+    (λ fault. MatchFault fault ((value : T) → ¬ Writes value)
+    (λ why. (value : T) × Writes value × (fault_in value ≡ Some why)))

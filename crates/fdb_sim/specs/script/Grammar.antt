@@ -41,7 +41,8 @@ WritesSmallAndNumber words a b = (x : List ℕ) × (y : List ℕ) × (words ≡ 
 
 -- the words are a number below 2^32 and a byte text
 abbrev pub WritesNumberAndText : List (List ℕ) → ℕ → List ℕ → Type 0
-WritesNumberAndText words a bytes = (x : List ℕ) × (y : List ℕ) × (words ≡ x ∷ y ∷ []) × WritesSmall x a × WritesText y bytes
+WritesNumberAndText words a bytes = (x : List ℕ) × (y : List ℕ) × (words ≡ x ∷ y ∷ []) × WritesSmall x a
+    × WritesText y bytes
 
 -- the words after a session's number write the mutation
 abbrev pub WritesMutation : List (List ℕ) → Mutation → Type 0
@@ -56,16 +57,22 @@ WritesNumberAndMutation words a mutation =
 
 -- the words after the first one of such a line write the step
 abbrev pub WritesRest : Kind → List (List ℕ) → Step → Type 0
-WritesRest Ask words step = (session : ℕ) × (proxy : ℕ) × WritesTwo words session proxy × (step ≡ made.Ask session proxy)
+WritesRest Ask words step = (session : ℕ) × (proxy : ℕ) × WritesTwo words session proxy
+    × (step ≡ made.Ask session proxy)
 WritesRest Grant words step = (proxy : ℕ) × WritesOne words proxy × (step ≡ made.Grant proxy)
 WritesRest Get words step =
     (session : ℕ) × (key : List ℕ) × WritesNumberAndText words session key × (step ≡ made.Get session key false)
 WritesRest Write words step =
-    (session : ℕ) × (mutation : Mutation) × WritesNumberAndMutation words session mutation × (step ≡ made.Write session mutation)
-WritesRest Submit words step = (session : ℕ) × (proxy : ℕ) × WritesTwo words session proxy × (step ≡ made.Submit session proxy)
-WritesRest Seal words step = (proxy : ℕ) × (advance : ℕ) × WritesSmallAndNumber words proxy advance × (step ≡ made.Seal proxy advance)
-WritesRest Resolve words step = (entry : ℕ) × (resolver : ℕ) × WritesTwo words entry resolver × (step ≡ made.Resolve entry resolver)
-WritesRest Verdict words step = (entry : ℕ) × (resolver : ℕ) × WritesTwo words entry resolver × (step ≡ made.Verdict entry resolver)
+    (session : ℕ) × (mutation : Mutation) × WritesNumberAndMutation words session mutation
+    × (step ≡ made.Write session mutation)
+WritesRest Submit words step = (session : ℕ) × (proxy : ℕ) × WritesTwo words session proxy
+    × (step ≡ made.Submit session proxy)
+WritesRest Seal words step = (proxy : ℕ) × (advance : ℕ) × WritesSmallAndNumber words proxy advance
+    × (step ≡ made.Seal proxy advance)
+WritesRest Resolve words step = (entry : ℕ) × (resolver : ℕ) × WritesTwo words entry resolver
+    × (step ≡ made.Resolve entry resolver)
+WritesRest Verdict words step = (entry : ℕ) × (resolver : ℕ) × WritesTwo words entry resolver
+    × (step ≡ made.Verdict entry resolver)
 WritesRest Decide words step = (proxy : ℕ) × WritesOne words proxy × (step ≡ made.Decide proxy)
 WritesRest Push words step = (entry : ℕ) × (log : ℕ) × WritesTwo words entry log × (step ≡ made.Push entry log)
 WritesRest Logged words step = (entry : ℕ) × (log : ℕ) × WritesTwo words entry log × (step ≡ made.Logged entry log)

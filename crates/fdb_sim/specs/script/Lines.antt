@@ -7,13 +7,15 @@ use Rattle.fdb_sim.specs.declared.script.lines.Lines.{Lines}
 use Rattle.fdb_sim.specs.declared.play.stop.Stop.{Stop}
 use Rattle.fdb_sim.specs.declared.play.stop.Stop.TheVariants.{BadLine, Refused, NoMemory, Io}
 
--- the lines of a text, which are those of `str::lines`: each ends with an LF, before which one CR is dropped, and what stands after the last LF is a line where it isn't empty
+-- the lines of a text, which are those of `str::lines`: each ends with an LF, before which one CR is dropped, and what
+-- stands after the last LF is a line where it isn't empty
 abbrev pub lines_of : List ℕ → List (List ℕ)
 lines_of text = lines text
 
 -- a line that may end with an LF, without it and without one CR before it
 abbrev pub without_line_end : List ℕ → List ℕ
-without_line_end line = if slice_index line (length line - 1) == 10 then strip_carriage_return (take (length line - 1) line) else line
+without_line_end line = if slice_index line (length line - 1) == 10 then strip_carriage_return
+    (take (length line - 1) line) else line
 
 -- what the limited reader has left
 abbrev pub limited_remaining : {R : Type 0} → (R → Option (List ℕ)) → Limited R → Option (List ℕ)

@@ -29,7 +29,8 @@ fn drive_whole(world: &mut World, proxy: u32, flight: InFlight) -> Result<Answer
 }
 
 fn resolve_everywhere(world: &mut World, flight: InFlight) -> Result<(), Refusal>
-    ensures { AreTried world.old.machine (for_each (resolver_steps flight.entry) flight.resolvers) result world.new.machine }
+    ensures { AreTried world.old.machine (for_each (resolver_steps flight.entry) flight.resolvers) result
+        world.new.machine }
 {
     for resolver in 0..flight.resolvers {
         resolve_at(world, flight.entry, resolver)?;

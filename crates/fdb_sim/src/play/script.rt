@@ -87,7 +87,8 @@ fn config_of<R: Read + Drop>(alloc: Global, lines: &Lines<R>) -> Result<Config, 
 
 fn make_world(alloc: Global, config: Config) -> Result<World, Stop>
     ensures ok { IfOk result (λ world. (config_fault config ≡ None) × (world.machine ≡ Some (start config))) }
-    ensures stops { IfErr result (λ stop. Says stop (λ last. (number : ℕ) (lines : List (List ℕ)) → PlaysFrom number config lines last 2)) }
+    ensures stops { IfErr result
+        (λ stop. Says stop (λ last. (number : ℕ) (lines : List (List ℕ)) → PlaysFrom number config lines last 2)) }
 {
     match World::new(alloc, config) {
         Ok(world) => Ok(world),
@@ -139,7 +140,9 @@ fn take_line<R: Read + Drop>(
     world: &mut World,
     text: &mut String,
 ) -> Result<(), Stop>
-    ensures ok { OnOk result ((said : List ℕ) × (string_bytes text.new ≡ string_bytes text.old ++ said) × AnswersLine (line_text lines.now) world.old.machine said world.new.machine) }
+    ensures ok { OnOk result
+        ((said : List ℕ) × (string_bytes text.new ≡ string_bytes text.old ++ said)
+        × AnswersLine (line_text lines.now) world.old.machine said world.new.machine) }
     ensures stops { IfErr result (λ stop. Says stop (λ last. StopsAt (line_number lines.now) (line_text lines.now) last 2)) }
 {
     match read_line(alloc, lines.text()) {

@@ -24,8 +24,13 @@ const ENDED: u8 = 2;
 /// Checks the world, prints what the check found, and answers the status.
 pub fn print_check<W: Write>(world: &World, writer: &mut W) -> Result<u8, Stop>
     ensures bound { IfOk result (λ status. status < 2) }
-    ensures printed { IfOk result (λ status. Printed (W.contents writer.old) (W.contents writer.new) (λ printed. IsChecked world.now.machine printed status)) }
-    ensures stops { IfErr result (λ stop. Says stop (λ last. Printed (W.contents writer.old) (W.contents writer.new) (λ printed. IsChecked world.now.machine (printed ++ last) 2))) }
+    ensures printed { IfOk result
+        (λ status. Printed (W.contents writer.old) (W.contents writer.new)
+        (λ printed. IsChecked world.now.machine printed status)) }
+    ensures stops { IfErr result
+        (λ stop. Says stop
+        (λ last. Printed (W.contents writer.old) (W.contents writer.new)
+        (λ printed. IsChecked world.now.machine (printed ++ last) 2))) }
 {
     match world.check() {
         Ok(count) => {
@@ -45,13 +50,16 @@ pub fn print_check<W: Write>(world: &World, writer: &mut W) -> Result<u8, Stop>
 }
 
 fn print_count<W: Write>(count: u64, writer: &mut W) -> Result<(), io::Error>
-    ensures { OnOk result (Appends (W.contents writer.old) (W.contents writer.new) (printed_line (codes "checked " ++ decimal count))) }
+    ensures { OnOk result
+        (Appends (W.contents writer.old) (W.contents writer.new) (printed_line (codes "checked " ++ decimal count))) }
 {
     writeln!(writer, "checked {count}")
 }
 
 fn print_txn<W: Write>(id: TxnId, writer: &mut W) -> Result<(), io::Error>
-    ensures { OnOk result (Appends (W.contents writer.old) (W.contents writer.new) (printed_line (codes "failed txn " ++ decimal id.session ++ codes ":" ++ decimal id.number))) }
+    ensures { OnOk result
+        (Appends (W.contents writer.old) (W.contents writer.new)
+        (printed_line (codes "failed txn " ++ decimal id.session ++ codes ":" ++ decimal id.number))) }
 {
     let session = id.session;
     let number = id.number;
@@ -59,7 +67,9 @@ fn print_txn<W: Write>(id: TxnId, writer: &mut W) -> Result<(), io::Error>
 }
 
 fn print_shard<W: Write>(shard: u32, writer: &mut W) -> Result<(), io::Error>
-    ensures { OnOk result (Appends (W.contents writer.old) (W.contents writer.new) (printed_line (codes "failed shard " ++ decimal shard))) }
+    ensures { OnOk result
+        (Appends (W.contents writer.old) (W.contents writer.new)
+        (printed_line (codes "failed shard " ++ decimal shard))) }
 {
     writeln!(writer, "failed shard {shard}")
 }
@@ -67,7 +77,9 @@ fn print_shard<W: Write>(shard: u32, writer: &mut W) -> Result<(), io::Error>
 /// Prints why the script ended early, and answers the status. It takes no memory.
 pub fn print_stop<W: Write>(stop: Stop, writer: &mut W) -> Result<u8, io::Error>
     ensures status { IfOk result (λ status. status ≡ ENDED) }
-    ensures printed { OnOk result ((last : List ℕ) × (stop_text stop ≡ Some last) × Appends (W.contents writer.old) (W.contents writer.new) last) }
+    ensures printed { OnOk result
+        ((last : List ℕ) × (stop_text stop ≡ Some last)
+        × Appends (W.contents writer.old) (W.contents writer.new) last) }
 {
     match stop {
         Stop::BadLine(number) => writeln!(writer, "bad line {number}")?,

@@ -42,8 +42,11 @@ pub fn read_config(alloc: Global, line: &[u8]) -> Result<Config, Fault>
 }
 
 fn read_outline(line: &[u8]) -> Result<Outline<'_>, Fault>
-    ensures ok { IfOk result (λ found. WritesOutline (words_of line.now) found.proxies found.logs found.resolvers.now found.shards.now found.book) }
-    ensures bad { IfErr result (λ fault. (fault ≡ Fault.Bad) × ((a b c : ℕ) (x y : List ℕ) → ¬ WritesOutline (words_of line.now) a b x y c)) }
+    ensures ok { IfOk result
+        (λ found. WritesOutline (words_of line.now) found.proxies found.logs found.resolvers.now found.shards.now
+        found.book) }
+    ensures bad { IfErr result
+        (λ fault. (fault ≡ Fault.Bad) × ((a b c : ℕ) (x y : List ℕ) → ¬ WritesOutline (words_of line.now) a b x y c)) }
 {
     let mut words = Words::new(line);
     words.keyword(b"config")?;
@@ -63,8 +66,12 @@ fn read_outline(line: &[u8]) -> Result<Outline<'_>, Fault>
 }
 
 fn named_number(words: &mut Words<'_>, name: &[u8]) -> Result<u32, Fault>
-    ensures ok { IfOk result (λ value. (word : List ℕ) × (words.old ≡ name.now ∷ word ∷ words.new) × WritesSmall word value) }
-    ensures bad { IfErr result (λ fault. (fault ≡ Fault.Bad) × ((word : List ℕ) (rest : List (List ℕ)) (value : ℕ) → words.old ≡ name.now ∷ word ∷ rest → ¬ WritesSmall word value)) }
+    ensures ok { IfOk result
+        (λ value. (word : List ℕ) × (words.old ≡ name.now ∷ word ∷ words.new) × WritesSmall word value) }
+    ensures bad { IfErr result
+        (λ fault. (fault ≡ Fault.Bad)
+        × ((word : List ℕ) (rest : List (List ℕ)) (value : ℕ) → words.old ≡ name.now ∷ word ∷ rest
+        → ¬ WritesSmall word value)) }
 {
     words.keyword(name)?;
     words.small_number()
@@ -72,7 +79,8 @@ fn named_number(words: &mut Words<'_>, name: &[u8]) -> Result<u32, Fault>
 
 fn named_word<'a>(words: &mut Words<'a>, name: &[u8]) -> Result<&'a [u8], Fault>
     ensures ok { IfOk result (λ word. words.old ≡ name.now ∷ word.now ∷ words.new) }
-    ensures bad { IfErr result (λ fault. (fault ≡ Fault.Bad) × ((word : List ℕ) (rest : List (List ℕ)) → words.old ≢ name.now ∷ word ∷ rest)) }
+    ensures bad { IfErr result
+        (λ fault. (fault ≡ Fault.Bad) × ((word : List ℕ) (rest : List (List ℕ)) → words.old ≢ name.now ∷ word ∷ rest)) }
 {
     words.keyword(name)?;
     words.word()
@@ -81,7 +89,8 @@ fn named_word<'a>(words: &mut Words<'a>, name: &[u8]) -> Result<&'a [u8], Fault>
 // The byte texts of a word that parts them by commas, none where it is '-'.
 fn read_splits(alloc: Global, word: &[u8]) -> Result<Items<Items<u8>>, Fault>
     ensures ok { IfOk result (WritesSplits word.now) }
-    ensures bad { IfErr result (λ fault. MatchFault fault ((splits : List (List ℕ)) → ¬ WritesSplits word.now splits) (λ _. ⊥)) }
+    ensures bad { IfErr result
+        (λ fault. MatchFault fault ((splits : List (List ℕ)) → ¬ WritesSplits word.now splits) (λ _. ⊥)) }
 {
     if let [b'-'] = word {
         return Ok(Items::new(alloc));
@@ -91,7 +100,8 @@ fn read_splits(alloc: Global, word: &[u8]) -> Result<Items<Items<u8>>, Fault>
 
 fn read_texts(alloc: Global, word: &[u8]) -> Result<Items<Items<u8>>, Fault>
     ensures ok { IfOk result (WritesTexts word.now) }
-    ensures bad { IfErr result (λ fault. MatchFault fault ((texts : List (List ℕ)) → ¬ WritesTexts word.now texts) (λ _. ⊥)) }
+    ensures bad { IfErr result
+        (λ fault. MatchFault fault ((texts : List (List ℕ)) → ¬ WritesTexts word.now texts) (λ _. ⊥)) }
 {
     let mut texts = Items::new(alloc);
     for piece in word.split(|byte| *byte == b',') {

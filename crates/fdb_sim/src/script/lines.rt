@@ -89,8 +89,10 @@ impl<R: Read + Drop> Lines<R> {
     /// memory runs out, and as `ErrorKind::Other` where it would take more than 2^32 reads in all or
     /// the line's number would not fit. Nothing is known of the lines after a failure.
     pub fn advance(&mut self) -> Result<bool, Stop>
-        ensures line { result ≡ Ok true → LosesLine (left R.remaining self.old) (left R.remaining self.new) (line_text self.new) }
-        ensures end { result ≡ Ok false → IsAtEnd (left R.remaining self.old) × Keeps (left R.remaining self.old) (left R.remaining self.new) }
+        ensures line { result ≡ Ok true
+            → LosesLine (left R.remaining self.old) (left R.remaining self.new) (line_text self.new) }
+        ensures end { result ≡ Ok false → IsAtEnd (left R.remaining self.old)
+            × Keeps (left R.remaining self.old) (left R.remaining self.new) }
         ensures fault { IfErr result IsInputFault }
         ensures number { OnOk result (line_number self.new ≡ suc (line_number self.old)) }
     {

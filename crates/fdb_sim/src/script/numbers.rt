@@ -30,7 +30,8 @@ pub fn small_number(word: &[u8]) -> Option<u32>
 
 // The number with one more digit at its end.
 fn with_digit(value: u64, byte: u8) -> Option<u64>
-    ensures { SomeIff result ((digit_value byte < 10) × (value * 10 + digit_value byte < 2 ^ 64)) (value * 10 + digit_value byte) }
+    ensures { SomeIff result ((digit_value byte < 10) × (value * 10 + digit_value byte < 2 ^ 64))
+        (value * 10 + digit_value byte) }
 {
     let digit = (byte as char).to_digit(10)?;
     value.checked_mul(10)?.checked_add(u64::from(digit))

@@ -83,7 +83,8 @@ pub fn read_step(alloc: Global, first: &[u8], words: &mut Words<'_>) -> Result<(
 }
 
 fn kind_named(word: &[u8]) -> Result<Kind, Fault>
-    ensures { MatchResult result (λ kind. word.now ≡ name_of kind) (λ fault. (fault ≡ Fault.Bad) × ((kind : Kind) → word.now ≢ name_of kind)) }
+    ensures { MatchResult result (λ kind. word.now ≡ name_of kind)
+        (λ fault. (fault ≡ Fault.Bad) × ((kind : Kind) → word.now ≢ name_of kind)) }
 {
     for kind in KINDS {
         if word == kind.name() {

@@ -44,7 +44,8 @@ fn read_bytes(alloc: Global, word: &[u8]) -> Result<Option<Vec<u8>>, AllocError>
 // The first byte that the text writes, with the rest of the text.
 fn first_byte(text: &[u8]) -> Option<(u8, &[u8])>
     requires { 0 < length text.now }
-    ensures value { MatchOption result (bytes_of text.now ≡ None) (λ found. bytes_of text.now ≡ put_before found.0 (bytes_of found.1.now)) }
+    ensures value { MatchOption result (bytes_of text.now ≡ None)
+        (λ found. bytes_of text.now ≡ put_before found.0 (bytes_of found.1.now)) }
     ensures shorter { IfSome result (λ found. length found.1.now < length text.now) }
 {
     match text {

@@ -38,7 +38,8 @@ impl<'a> Words<'a> {
 
     /// The next word. Refused as bad where there is none.
     pub fn word(&mut self) -> Result<&'a [u8], Fault>
-        ensures { MatchResult result (λ word. self.old ≡ word.now ∷ self.new) (λ fault. (fault ≡ Fault.Bad) × (self.old ≡ [])) }
+        ensures { MatchResult result (λ word. self.old ≡ word.now ∷ self.new)
+            (λ fault. (fault ≡ Fault.Bad) × (self.old ≡ [])) }
     {
         match first_word(self.rest) {
             Some((word, rest)) => {
@@ -52,7 +53,8 @@ impl<'a> Words<'a> {
     /// Reads this very word. Refused as bad where another word comes, or none.
     pub fn keyword(&mut self, keyword: &[u8]) -> Result<(), Fault>
         ensures ok { IfOk result (λ _. self.old ≡ keyword.now ∷ self.new) }
-        ensures bad { IfErr result (λ fault. (fault ≡ Fault.Bad) × ((rest : List (List ℕ)) → self.old ≢ keyword.now ∷ rest)) }
+        ensures bad { IfErr result
+            (λ fault. (fault ≡ Fault.Bad) × ((rest : List (List ℕ)) → self.old ≢ keyword.now ∷ rest)) }
     {
         let word = self.word()?;
         if word == keyword {
@@ -65,7 +67,10 @@ impl<'a> Words<'a> {
     /// The next word as a number below 2^64. Refused as bad where it is none.
     pub fn number(&mut self) -> Result<u64, Fault>
         ensures ok { IfOk result (λ value. (word : List ℕ) × (self.old ≡ word ∷ self.new) × WritesNumber word value) }
-        ensures bad { IfErr result (λ fault. (fault ≡ Fault.Bad) × ((word : List ℕ) (rest : List (List ℕ)) (value : ℕ) → self.old ≡ word ∷ rest → ¬ WritesNumber word value)) }
+        ensures bad { IfErr result
+            (λ fault. (fault ≡ Fault.Bad)
+            × ((word : List ℕ) (rest : List (List ℕ)) (value : ℕ) → self.old ≡ word ∷ rest
+            → ¬ WritesNumber word value)) }
     {
         let word = self.word()?;
         number(word).ok_or(Fault::Bad)
@@ -74,7 +79,10 @@ impl<'a> Words<'a> {
     /// The next word as a number below 2^32. Refused as bad where it is none.
     pub fn small_number(&mut self) -> Result<u32, Fault>
         ensures ok { IfOk result (λ value. (word : List ℕ) × (self.old ≡ word ∷ self.new) × WritesSmall word value) }
-        ensures bad { IfErr result (λ fault. (fault ≡ Fault.Bad) × ((word : List ℕ) (rest : List (List ℕ)) (value : ℕ) → self.old ≡ word ∷ rest → ¬ WritesSmall word value)) }
+        ensures bad { IfErr result
+            (λ fault. (fault ≡ Fault.Bad)
+            × ((word : List ℕ) (rest : List (List ℕ)) (value : ℕ) → self.old ≡ word ∷ rest
+            → ¬ WritesSmall word value)) }
     {
         let word = self.word()?;
         small_number(word).ok_or(Fault::Bad)
@@ -82,8 +90,12 @@ impl<'a> Words<'a> {
 
     /// The bytes of the next word, which is a byte text. Refused as bad where it is none.
     pub fn text(&mut self, alloc: Global) -> Result<Vec<u8>, Fault>
-        ensures ok { IfOk result (λ bytes. (word : List ℕ) × (self.old ≡ word ∷ self.new) × WritesText word bytes.items) }
-        ensures bad { IfErr result (λ fault. MatchFault fault ((word : List ℕ) (rest : List (List ℕ)) (bytes : List ℕ) → self.old ≡ word ∷ rest → ¬ WritesText word bytes) (λ _. ⊥)) }
+        ensures ok { IfOk result
+            (λ bytes. (word : List ℕ) × (self.old ≡ word ∷ self.new) × WritesText word bytes.items) }
+        ensures bad { IfErr result
+            (λ fault. MatchFault fault
+            ((word : List ℕ) (rest : List (List ℕ)) (bytes : List ℕ) → self.old ≡ word ∷ rest → ¬ WritesText word bytes)
+            (λ _. ⊥)) }
     {
         let word = self.word()?;
         let text = read_text(alloc, word)?;
@@ -104,7 +116,8 @@ impl<'a> Words<'a> {
     /// left.
     pub fn last_pair(&mut self) -> Result<(u32, u32), Fault>
         ensures ok { IfOk result (λ pair. WritesTwo self.old pair.0 pair.1) }
-        ensures bad { IfErr result (λ fault. (fault ≡ Fault.Bad) × ((first : ℕ) (second : ℕ) → ¬ WritesTwo self.old first second)) }
+        ensures bad { IfErr result
+            (λ fault. (fault ≡ Fault.Bad) × ((first : ℕ) (second : ℕ) → ¬ WritesTwo self.old first second)) }
     {
         let first = self.small_number()?;
         let second = self.last_number()?;
@@ -115,7 +128,9 @@ impl<'a> Words<'a> {
     /// are left.
     pub fn last_text(&mut self, alloc: Global) -> Result<Vec<u8>, Fault>
         ensures ok { IfOk result (λ bytes. (word : List ℕ) × (self.old ≡ word ∷ []) × WritesText word bytes.items) }
-        ensures bad { IfErr result (λ fault. MatchFault fault ((word : List ℕ) (bytes : List ℕ) → self.old ≡ word ∷ [] → ¬ WritesText word bytes) (λ _. ⊥)) }
+        ensures bad { IfErr result
+            (λ fault. MatchFault fault
+            ((word : List ℕ) (bytes : List ℕ) → self.old ≡ word ∷ [] → ¬ WritesText word bytes) (λ _. ⊥)) }
     {
         let text = self.text(alloc)?;
         self.end()?;
@@ -135,7 +150,8 @@ impl<'a> Words<'a> {
 
 // The first word of the text, with what comes after it.
 fn first_word(text: &[u8]) -> Option<(&[u8], &[u8])>
-    ensures { MatchOption result (words_of text.now ≡ []) (λ found. words_of text.now ≡ found.0.now ∷ words_of found.1.now) }
+    ensures { MatchOption result (words_of text.now ≡ [])
+        (λ found. words_of text.now ≡ found.0.now ∷ words_of found.1.now) }
 {
     let begin = word_begin(text);
     let (_spaces, word_and_rest) = text.split_at(begin);

@@ -125,7 +125,7 @@ const BATCHES: [Step; 9] = [
     },
 ];
 
-fn in_flight_after(alloc: Global, steps: &[Step]) -> Result<InFlight, Refusal> {
+fn in_flight_with(alloc: Global, steps: &[Step]) -> Result<InFlight, Refusal> {
     let (world, _) = run(alloc, one_of_each(alloc), steps)?;
     world.in_flight(0)
 }
@@ -134,7 +134,7 @@ fn in_flight_after(alloc: Global, steps: &[Step]) -> Result<InFlight, Refusal> {
 fn in_flight_after(alloc: Global, count: usize) -> Result<InFlight, Refusal> {
     let steps = BATCHES;
     match steps.get(..count) {
-        Some(first) => in_flight_after(alloc, first),
+        Some(first) => in_flight_with(alloc, first),
         None => Err(Refusal::Failed),
     }
 }

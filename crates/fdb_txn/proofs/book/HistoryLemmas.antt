@@ -12,12 +12,14 @@ use Rattle.fdb_txn.specs.rules.SerialMap.{serial_map, up_to}
 use Rattle.fdb_txn.specs.laws.SerialMapLaws.{PlacesAreHistory, EarlierPlacesStay, EarlierMapsStay, EntriesGoOn}
 
 -- what holds of each item of two lists holds of each of both together
-pub all-append : {A : Type 0} (P : A → Type 0) (xs ys : List A) → AllByRecursion P xs → AllByRecursion P ys → AllByRecursion P (xs ++ ys)
+pub all-append : {A : Type 0} (P : A → Type 0) (xs ys : List A) → AllByRecursion P xs → AllByRecursion P ys
+    → AllByRecursion P (xs ++ ys)
 all-append P [] ys all others = others
 all-append P (x ∷ xs) ys all others = (all.0, all-append P xs ys all.1 others)
 
 -- what follows of each item holds of each
-pub all-weaken : {A : Type 0} (P Q : A → Type 0) → ((x : A) → P x → Q x) → (xs : List A) → AllByRecursion P xs → AllByRecursion Q xs
+pub all-weaken : {A : Type 0} (P Q : A → Type 0) → ((x : A) → P x → Q x) → (xs : List A) → AllByRecursion P xs
+    → AllByRecursion Q xs
 all-weaken P Q weaker [] all = tt
 all-weaken P Q weaker (x ∷ xs) all = (weaker x all.0, all-weaken P Q weaker xs all.1)
 
@@ -29,7 +31,8 @@ IsMoveThrough resolvers version move = (move.version ≤ version) × (move.targe
 abbrev IsAfter : ℕ → List Stamped → Place → Type 0
 IsAfter version moves earlier =
     (earlier.version ≤ version)
-    × ((newer : List Stamped) × (moves ≡ newer ++ earlier.moves) × AllByRecursion (λ (move : Stamped). earlier.version < move.version) newer)
+    × ((newer : List Stamped) × (moves ≡ newer ++ earlier.moves)
+    × AllByRecursion (λ (move : Stamped). earlier.version < move.version) newer)
 
 -- the transaction may stand at a place of this version
 abbrev MayStandAt : ℕ → Transaction → Type 0
@@ -41,7 +44,8 @@ HasNewer resolvers version moves older =
     (newer : List Stamped) × (moves ≡ newer ++ older)
     × AllByRecursion (λ (move : Stamped). (move.version ≡ version) × (move.target < resolvers)) newer
 
-add_moves-newer : (resolvers version : ℕ) (moves : List Move) (older : List Stamped) → AllByRecursion (λ (move : Move). move.to < resolvers) moves
+add_moves-newer : (resolvers version : ℕ) (moves : List Move) (older : List Stamped)
+    → AllByRecursion (λ (move : Move). move.to < resolvers) moves
     → HasNewer resolvers version (add_moves version moves older) older
 add_moves-newer resolvers version [] older exist = ([], refl, tt)
 add_moves-newer resolvers version (move ∷ moves) older exist =
@@ -56,25 +60,30 @@ add_moves-newer resolvers version (move ∷ moves) older exist =
     stamped = record { version = version; range = move.range; target = move.to }
 
 -- moves through a version, with newer ones of a greater version, are moves through that
-moves-through : (resolvers last version : ℕ) (moves older : List Stamped) → last ≤ version → HasNewer resolvers version moves older
+moves-through : (resolvers last version : ℕ) (moves older : List Stamped) → last ≤ version
+    → HasNewer resolvers version moves older
     → AllByRecursion (IsMoveThrough resolvers last) older → AllByRecursion (IsMoveThrough resolvers version) moves
 moves-through resolvers last version moves older later newer through =
     subst (AllByRecursion (IsMoveThrough resolvers version)) (sym newer.1)
     (all-append (IsMoveThrough resolvers version) newer.0 older
-    (all-weaken _ (IsMoveThrough resolvers version) (λ (move : Stamped) made. (omega (arith, made.0), made.1)) newer.0 newer.2)
+    (all-weaken _ (IsMoveThrough resolvers version) (λ (move : Stamped) made. (omega (arith, made.0), made.1)) newer.0
+    newer.2)
     (all-weaken (IsMoveThrough resolvers last) (IsMoveThrough resolvers version)
     (λ (move : Stamped) was. (le_trans was.0 later, was.1)) older through))
 
 -- newer moves of a greater version come before the moves of an earlier place, too
-after-newer : (resolvers last version : ℕ) (moves older : List Stamped) → last < version → HasNewer resolvers version moves older
+after-newer : (resolvers last version : ℕ) (moves older : List Stamped) → last < version
+    → HasNewer resolvers version moves older
     → (place : Place) → IsAfter last older place → IsAfter version moves place
 after-newer resolvers last version moves older later newer place after = (
   le_trans after.0 (le_of_lt later),
   (
     newer.0 ++ after.1.0,
-    newer.1 ∙ ap (λ (rest : List Stamped). newer.0 ++ rest) after.1.1 ∙ sym (append_assoc newer.0 after.1.0 place.moves),
+    newer.1 ∙ ap (λ (rest : List Stamped). newer.0 ++ rest) after.1.1
+        ∙ sym (append_assoc newer.0 after.1.0 place.moves),
     all-append (λ (move : Stamped). place.version < move.version) newer.0 after.1.0
-        (all-weaken _ (λ (move : Stamped). place.version < move.version) (λ (move : Stamped) made. omega (arith, made.0, after.0)) newer.0 newer.2)
+        (all-weaken _ (λ (move : Stamped). place.version < move.version)
+        (λ (move : Stamped) made. omega (arith, made.0, after.0)) newer.0 newer.2)
         after.1.2,
   ),
 )
@@ -83,7 +92,8 @@ after-newer resolvers last version moves older later newer place after = (
 history-add_places : (resolvers version : ℕ) (moves : List Stamped) (batch : List Transaction) (earlier : List Place)
     → AllByRecursion (IsMoveThrough resolvers version) moves → AllByRecursion (MayStandAt version) batch
     → IsHistory resolvers earlier → AllByRecursion (IsAfter version moves) earlier
-    → IsHistory resolvers (add_places version moves batch earlier) × AllByRecursion (IsAfter version moves) (add_places version moves batch earlier)
+    → IsHistory resolvers (add_places version moves batch earlier)
+    × AllByRecursion (IsAfter version moves) (add_places version moves batch earlier)
 history-add_places resolvers version moves [] earlier through may history after = (history, after)
 history-add_places resolvers version moves (t ∷ ts) earlier through may history after =
     history-add_places resolvers version moves ts (placed version moves t ∷ earlier) through may.1
@@ -92,15 +102,18 @@ history-add_places resolvers version moves (t ∷ ts) earlier through may histor
 
 -- the same as `places_are_history`, after what was seen before
 history-after : (resolvers last : ℕ) (seen : Seen) (book : List Entry)
-    → AllByRecursion (IsMoveThrough resolvers last) seen.moves → IsHistory resolvers seen.places → AllByRecursion (IsAfter last seen.moves) seen.places
+    → AllByRecursion (IsMoveThrough resolvers last) seen.moves → IsHistory resolvers seen.places
+    → AllByRecursion (IsAfter last seen.moves) seen.places
     → AreEntries resolvers last book → IsHistory resolvers (fold add_entry seen book).places
 history-after resolvers last seen [] through history after entries = history
 history-after resolvers last seen (entry ∷ book) through history after entries =
-    let newer : HasNewer resolvers entry.version moves seen.moves = add_moves-newer resolvers entry.version entry.moves seen.moves entries.2 in
+    let newer : HasNewer resolvers entry.version moves seen.moves = add_moves-newer resolvers entry.version entry.moves
+    seen.moves entries.2 in
     let now : AllByRecursion (IsMoveThrough resolvers entry.version) moves =
     moves-through resolvers last entry.version moves seen.moves (le_of_lt entries.0) newer through in
     let both = history-add_places resolvers entry.version moves entry.batch seen.places now entries.3 history
-    (all-weaken (IsAfter last seen.moves) (IsAfter entry.version moves) (after-newer resolvers last entry.version moves seen.moves entries.0 newer)
+    (all-weaken (IsAfter last seen.moves) (IsAfter entry.version moves)
+    (after-newer resolvers last entry.version moves seen.moves entries.0 newer)
     seen.places after) in
     history-after resolvers entry.version (add_entry seen entry) book now both.0 both.1 entries.4
   where
@@ -113,12 +126,17 @@ places_are_history resolvers book entries = history-after resolvers 0 nothing bo
 
 -- the places of an entry stand before the earlier ones and have its version
 pub add_places-newer : (version : ℕ) (moves : List Stamped) (batch : List Transaction) (earlier : List Place)
-    → (newer : List Place) × (add_places version moves batch earlier ≡ newer ++ earlier) × AllByRecursion (λ (place : Place). place.version ≡ version) newer
+    → (newer : List Place) × (add_places version moves batch earlier ≡ newer ++ earlier)
+    × AllByRecursion (λ (place : Place). place.version ≡ version) newer
 add_places-newer version moves [] earlier = ([], refl, tt)
 add_places-newer version moves (t ∷ ts) earlier =
     let place = placed version moves t in
-    let rest = add_places-newer version moves ts (place ∷ earlier) in
-    (rest.0 ++ place ∷ [], rest.1 ∙ sym (append_assoc rest.0 (place ∷ []) earlier), all-append _ rest.0 (place ∷ []) rest.2 (refl, tt))
+    let rest = add_places-newer version moves ts (place ∷ earlier) in (
+      rest.0 ++ place ∷ [],
+      rest.1
+          ∙ sym (append_assoc rest.0 (place ∷ []) earlier),
+      all-append _ rest.0 (place ∷ []) rest.2 (refl, tt),
+    )
 
 -- what was seen of a book with one more entry
 pub seen_of-push : (book : List Entry) (entry : Entry) → seen_of (book ++ entry ∷ []) ≡ add_entry (seen_of book) entry
@@ -128,7 +146,8 @@ seen_of-push book entry = fold-append add_entry nothing book (entry ∷ [])
 pub earlier_places_stay : EarlierPlacesStay
 earlier_places_stay book entry =
     let added =
-    add_places-newer entry.version (add_moves entry.version entry.moves (seen_of book).moves) entry.batch (seen_of book).places in
+    add_places-newer entry.version (add_moves entry.version entry.moves (seen_of book).moves) entry.batch
+    (seen_of book).places in
     (added.0, ap (λ (seen : Seen). seen.places) (seen_of-push book entry) ∙ added.1, added.2)
 
 -- no place has a version above v
@@ -143,11 +162,13 @@ up_to-all v (place ∷ places) at_most =
     ∙ ap (λ (rest : List Place). place ∷ rest) (up_to-all v places at_most.1)
 
 -- places of a version above v are left out
-pub up_to-above : (v version : ℕ) (newer earlier : List Place) → v < version → AllByRecursion (λ (place : Place). place.version ≡ version) newer
+pub up_to-above : (v version : ℕ) (newer earlier : List Place) → v < version
+    → AllByRecursion (λ (place : Place). place.version ≡ version) newer
     → up_to v (newer ++ earlier) ≡ up_to v earlier
 up_to-above v version [] earlier above all = refl
 up_to-above v version (place ∷ newer) earlier above all =
-    cond-false _ (place ∷ up_to v (newer ++ earlier)) (up_to v (newer ++ earlier)) (lt-leb place.version v (omega (arith, all.0)))
+    cond-false _ (place ∷ up_to v (newer ++ earlier)) (up_to v (newer ++ earlier))
+    (lt-leb place.version v (omega (arith, all.0)))
     ∙ up_to-above v version newer earlier above all.1
 
 -- with one more entry the maps below its version stay

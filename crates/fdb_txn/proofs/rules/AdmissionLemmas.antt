@@ -10,15 +10,18 @@ use Rattle.fdb_txn.proofs.rules.CornersLemmas.{overlaps_at_some_point}
 -- the first of the earlier places is one of conflict
 abbrev is_conflict : List Point → ℕ → Place → List Place → Place → Bool
 is_conflict splits i other older place =
-    nat_lt place.transaction.read other.version && overlaps splits i other place && (is_fresh other && no_conflict splits i older other)
+    nat_lt place.transaction.read other.version && overlaps splits i other place
+    && (is_fresh other && no_conflict splits i older other)
 
 -- a conflict with the first of the earlier places
 conflict-here : (splits : List Point) (i : ℕ) (other : Place) (older : List Place) (place : Place)
     → is_conflict splits i other older place ≡ true → Conflict splits i (other ∷ older) place
 conflict-here splits i other older place conflict =
-    let parts : (nat_lt place.transaction.read other.version && overlaps splits i other place ≡ true) × (admits splits i older other ≡ true)
+    let parts : (nat_lt place.transaction.read other.version && overlaps splits i other place ≡ true)
+    × (admits splits i older other ≡ true)
     = and_parts _ _ conflict in
-    let first : (nat_lt place.transaction.read other.version ≡ true) × (overlaps splits i other place ≡ true) = and_parts _ _ parts.0 in
+    let first : (nat_lt place.transaction.read other.version ≡ true)
+    × (overlaps splits i other place ≡ true) = and_parts _ _ parts.0 in
     let some = (overlaps_at_some_point splits i other place).0 first.1 in
     record {
       newer = [];
@@ -68,7 +71,8 @@ pub conflict-fails : (splits : List Point) (i : ℕ) (earlier : List Place) (pla
 conflict-fails splits i earlier place conflict none =
     fails-here splits i conflict.newer conflict.other conflict.older place
     (and_from _ _
-    (and_from _ _ (lt-ltb _ _ conflict.is_unseen) ((overlaps_at_some_point splits i conflict.other place).1 (conflict.point, conflict.overlap)))
+    (and_from _ _ (lt-ltb _ _ conflict.is_unseen)
+    ((overlaps_at_some_point splits i conflict.other place).1 (conflict.point, conflict.overlap)))
     conflict.is_admitted)
     (subst (λ (places : List Place). no_conflict splits i places place ≡ true) conflict.is_earlier none)
 
@@ -79,5 +83,6 @@ admits_without_conflict splits i earlier place = (
       let parts : (is_fresh place ≡ true) × (no_conflict splits i earlier place ≡ true) = and_parts _ _ admitted in
       (parts.0, λ conflict. conflict-fails splits i earlier place conflict parts.1),
   λ fresh.
-      and_from _ _ fresh.0 (true_from_ne_false _ (λ fails. fresh.1 (conflict_from_failure splits i earlier place fails))),
+      and_from _ _ fresh.0
+      (true_from_ne_false _ (λ fails. fresh.1 (conflict_from_failure splits i earlier place fails))),
 )

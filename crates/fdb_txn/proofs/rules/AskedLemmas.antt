@@ -29,7 +29,8 @@ points_from-in_set (range ∷ ranges) x inside = ⊎_elim
 pub point_of-set : (ranges : List Range) → has_points ranges ≡ true → (x : Point) × (in_set ranges x ≡ true)
 point_of-set [] some = cc
 point_of-set (range ∷ ranges) some = ⊎_elim
-    (λ (here : point_lt range.begin range.end ≡ true). (range.begin, or_left _ _ (in_range_from range range.begin (lt-itself range.begin) here)))
+    (λ (here : point_lt range.begin range.end ≡ true).
+    (range.begin, or_left _ _ (in_range_from range range.begin (lt-itself range.begin) here)))
     (λ there. let point = point_of-set ranges there in (point.0, or_right (in_range range point.0) _ point.1))
     (or_cases (point_lt range.begin range.end) (has_points ranges) some)
 
@@ -38,7 +39,8 @@ first_owner-exists : (splits : List Point) (x : Point) → first_owner splits x 
 first_owner-exists [] x = omega arith
 first_owner-exists (split ∷ splits) x =
     let others = first_owner-exists splits x in
-    cond_both (point_lt x split) 0 (suc (first_owner splits x)) (λ i. i < suc (suc (length splits))) (λ before. omega arith) (λ after. omega (arith, others))
+    cond_both (point_lt x split) 0 (suc (first_owner splits x)) (λ i. i < suc (suc (length splits)))
+    (λ before. omega arith) (λ after. omega (arith, others))
 
 -- the owner of a point exists, where each move goes to a resolver that does
 pub owner-exists : (splits : List Point) (version : ℕ) (moves : List Stamped) (x : Point) (v : ℕ)
@@ -46,13 +48,15 @@ pub owner-exists : (splits : List Point) (version : ℕ) (moves : List Stamped) 
     → owner splits moves x v < suc (length splits)
 owner-exists splits version [] x v all = first_owner-exists splits x
 owner-exists splits version (move ∷ older) x v all =
-    cond_both (nat_le move.version v && in_range move.range x) move.target (owner splits older x v) (λ i. i < suc (length splits))
+    cond_both (nat_le move.version v && in_range move.range x) move.target (owner splits older x v)
+    (λ i. i < suc (length splits))
     (λ here. all.0.1)
     (λ there. owner-exists splits version older x v all.1)
 
 -- moves of greater versions don't change an owner
 pub owner-older : (splits : List Point) (newer older : List Stamped) (x : Point) (v : ℕ)
-    → AllByRecursion (λ (move : Stamped). v < move.version) newer → owner splits (newer ++ older) x v ≡ owner splits older x v
+    → AllByRecursion (λ (move : Stamped). v < move.version) newer
+    → owner splits (newer ++ older) x v ≡ owner splits older x v
 owner-older splits [] older x v all = refl
 owner-older splits (move ∷ newer) older x v all =
     cond-false (nat_le move.version v && in_range move.range x) move.target (owner splits (newer ++ older) x v)
@@ -80,40 +84,50 @@ pub fresh-within : (place : Place) (x : Point) → is_fresh place ≡ true → i
 fresh-within place x fresh reads = ⊎_elim
     (λ none. absurd (both_ways _ none (points_from-in_set place.transaction.reads x reads)))
     (λ within. ltb-false (place.transaction.read + window) place.version within)
-    (and_cases (has_points place.transaction.reads) (nat_lt (place.transaction.read + window) place.version) (not-true _ fresh))
+    (and_cases (has_points place.transaction.reads) (nat_lt (place.transaction.read + window) place.version)
+    (not-true _ fresh))
 
 -- who owned at some version of the span a point that the place reads is asked about it
-pub asked_about_read : (splits : List Point) (i : ℕ) (place : Place) (x : Point) (v : ℕ) → in_set place.transaction.reads x ≡ true
+pub asked_about_read : (splits : List Point) (i : ℕ) (place : Place) (x : Point) (v : ℕ)
+    → in_set place.transaction.reads x ≡ true
     → span_begin place < v → v ≤ place.version → owner splits place.moves x v ≡ i → is_asked splits i place ≡ true
 asked_about_read splits i place x v reads from until owns =
     (asked_at_some_point splits i place).1 (
       x,
-      or_right _ _ (and_from _ _ reads ((owned_at_some_version splits i place.moves x (span_begin place) place.version).1 (v, from, until, owns))),
+      or_right _ _ (and_from _ _ reads
+          ((owned_at_some_version splits i place.moves x (span_begin place) place.version).1 (v, from, until, owns))),
     )
 
 -- what holds of each item holds of one between others
-all-middle : {A : Type 0} (P : A → Type 0) (xs before after : List A) (x : A) → xs ≡ before ++ x ∷ after → AllByRecursion P xs → P x
-all-middle P xs before after x is all = (all-parts P before (x ∷ after) (subst (λ items. AllByRecursion P items) is all)).1.0
+all-middle : {A : Type 0} (P : A → Type 0) (xs before after : List A) (x : A) → xs ≡ before ++ x ∷ after
+    → AllByRecursion P xs → P x
+all-middle P xs before after x is all =
+    (all-parts P before (x ∷ after) (subst (λ items. AllByRecursion P items) is all)).1.0
 
 -- a resolver at which a place that isn't old has a conflict is asked about it
-pub conflict-asked : (splits : List Point) (i : ℕ) (earlier : List Place) (place : Place) → AllByRecursion (Follows place) earlier
+pub conflict-asked : (splits : List Point) (i : ℕ) (earlier : List Place) (place : Place)
+    → AllByRecursion (Follows place) earlier
     → is_fresh place ≡ true → Conflict splits i earlier place → is_asked splits i place ≡ true
 conflict-asked splits i earlier place follow fresh conflict =
     let x = conflict.point in
     let other = conflict.other in
-    let parts : (in_set other.transaction.writes x && in_set place.transaction.reads x ≡ true) × ((owner splits other.moves x other.version == i) ≡ true)
+    let parts : (in_set other.transaction.writes x && in_set place.transaction.reads x ≡ true)
+    × ((owner splits other.moves x other.version == i) ≡ true)
     = and_parts _ _ conflict.overlap in
     let reads : in_set place.transaction.reads x ≡ true = (and_parts _ _ parts.0).1 in
-    let follows : Follows place other = all-middle (Follows place) earlier conflict.newer conflict.older other conflict.is_earlier follow in
+    let follows : Follows place other = all-middle (Follows place) earlier conflict.newer conflict.older other
+    conflict.is_earlier follow in
     asked_about_read splits i place x other.version reads
-    (span_begins-below place.transaction.read place.version window other.version (fresh-within place x fresh reads) conflict.is_unseen)
+    (span_begins-below place.transaction.read place.version window other.version (fresh-within place x fresh reads)
+    conflict.is_unseen)
     follows.0
     (one_owner_where_follows splits place other x follows ∙ eqb-true _ i parts.1)
 
 -- some resolver is asked about an old place
 pub old_is_asked : OldIsAsked
 old_is_asked splits earlier place history old =
-    let parts : (has_points place.transaction.reads ≡ true) × (nat_lt (place.transaction.read + window) place.version ≡ true)
+    let parts : (has_points place.transaction.reads ≡ true)
+    × (nat_lt (place.transaction.read + window) place.version ≡ true)
     = and_parts _ _ (not-false _ old) in
     let point = point_of-set place.transaction.reads parts.0 in (
       owner splits place.moves point.0 place.version,
@@ -127,7 +141,8 @@ old_is_asked splits earlier place history old =
     )
 
 -- where each resolver that is asked admits the place, the place is not old, and the others admit it too
-module _ (splits : List Point) (earlier : List Place) (place : Place) (history : IsHistory (suc (length splits)) (place ∷ earlier))
+module _ (splits : List Point) (earlier : List Place) (place : Place)
+    (history : IsHistory (suc (length splits)) (place ∷ earlier))
     (admitted : (i : ℕ) → IsAmongAsked splits place i → admits splits i earlier place ≡ true) where
   fresh_where_admitted : is_fresh place ≡ true
   fresh_where_admitted = ⊎_elim
@@ -147,7 +162,8 @@ module _ (splits : List Point) (earlier : List Place) (place : Place) (history :
 -- `all_below` holds exactly where the test holds of each number below n
 pub all_below-decides : (test : ℕ → Bool) (n : ℕ) → Decides (all_below n test) ((i : ℕ) → i < n → test i ≡ true)
 all_below-decides test n =
-    Decides-below_and test (λ i. test i ≡ true) (λ m. all_below m test) (λ i. (λ holds. holds, λ holds. holds)) refl (λ m. refl) n
+    Decides-below_and test (λ i. test i ≡ true) (λ m. all_below m test) (λ i. (λ holds. holds, λ holds. holds)) refl
+    (λ m. refl) n
 
 -- a place of a history is committed exactly where each resolver that is asked about it admits it
 pub committed_by_the_asked : CommittedByTheAsked

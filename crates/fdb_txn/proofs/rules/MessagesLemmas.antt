@@ -39,14 +39,17 @@ meets_at_some_point range mutation = (
 )
 
 -- mutations that don't name the point may be left out
-value-kept : (keep : Mutation → Bool) (x : Point) → ((mutation : Mutation) → names mutation x ≡ true → keep mutation ≡ true)
+value-kept : (keep : Mutation → Bool) (x : Point)
+    → ((mutation : Mutation) → names mutation x ≡ true → keep mutation ≡ true)
     → (value : Option (List ℕ)) (mutations : List Mutation)
     → fold (value_after x) value (filter keep mutations) ≡ fold (value_after x) value mutations
 value-kept keep x kept value [] = refl
 value-kept keep x kept value (mutation ∷ mutations) = ⊎_elim
-    (λ stays. ap (fold (value_after x) value) (cond-true (keep mutation) (mutation ∷ filter keep mutations) (filter keep mutations) stays)
+    (λ stays. ap (fold (value_after x) value)
+    (cond-true (keep mutation) (mutation ∷ filter keep mutations) (filter keep mutations) stays)
     ∙ value-kept keep x kept (value_after x value mutation) mutations)
-    (λ goes. ap (fold (value_after x) value) (cond-false (keep mutation) (mutation ∷ filter keep mutations) (filter keep mutations) goes)
+    (λ goes. ap (fold (value_after x) value)
+    (cond-false (keep mutation) (mutation ∷ filter keep mutations) (filter keep mutations) goes)
     ∙ value-kept keep x kept value mutations
     ∙ ap (λ (old : Option (List ℕ)). fold (value_after x) old mutations)
     (sym (cond-false (names mutation x) (new_value mutation value) value
@@ -54,10 +57,12 @@ value-kept keep x kept value (mutation ∷ mutations) = ⊎_elim
     (cases_Bool (keep mutation))
 
 -- mutations change a map point by point
-pub get-effects : (map : Map) (mutations : List Mutation) (x : Point) → get (effects map mutations) x ≡ fold (value_after x) (get map x) mutations
+pub get-effects : (map : Map) (mutations : List Mutation) (x : Point)
+    → get (effects map mutations) x ≡ fold (value_after x) (get map x) mutations
 get-effects map [] x = refl
 get-effects map (mutation ∷ mutations) x =
-    get-effects (effect map mutation) mutations x ∙ ap (λ (value : Option (List ℕ)). fold (value_after x) value mutations) (at_every_point map mutation x)
+    get-effects (effect map mutation) mutations x
+    ∙ ap (λ (value : Option (List ℕ)). fold (value_after x) value mutations) (at_every_point map mutation x)
 
 -- the effects of a transaction's mutations where it is committed
 effects-if : (map : Map) (is_committed : Bool) (mutations : List Mutation)
@@ -66,13 +71,17 @@ effects-if map true mutations = refl
 effects-if map false mutations = refl
 
 -- the run goes on through a batch by the mutations of its committed transactions
-pub serial_map-add_places : (splits : List Point) (version : ℕ) (moves : List Stamped) (batch : List Transaction) (earlier : List Place)
-    → serial_map splits (add_places version moves batch earlier) ≡ effects (serial_map splits earlier) (committed_from splits version moves batch earlier)
+pub serial_map-add_places : (splits : List Point) (version : ℕ) (moves : List Stamped) (batch : List Transaction)
+    (earlier : List Place)
+    → serial_map splits (add_places version moves batch earlier) ≡ effects (serial_map splits earlier)
+    (committed_from splits version moves batch earlier)
 serial_map-add_places splits version moves [] earlier = refl
 serial_map-add_places splits version moves (t ∷ ts) earlier =
     serial_map-add_places splits version moves ts (place ∷ earlier)
-    ∙ ap (λ (map : Map). effects map others) (effects-if (serial_map splits earlier) (committed splits earlier place) t.mutations)
-    ∙ sym (fold-append effect (serial_map splits earlier) (if committed splits earlier place then t.mutations else []) others)
+    ∙ ap (λ (map : Map). effects map others)
+    (effects-if (serial_map splits earlier) (committed splits earlier place) t.mutations)
+    ∙ sym (fold-append effect (serial_map splits earlier) (if committed splits earlier place then t.mutations else [])
+    others)
   where
     place : Place
     place = placed version moves t
@@ -81,37 +90,46 @@ serial_map-add_places splits version moves (t ∷ ts) earlier =
     others = committed_from splits version moves ts (place ∷ earlier)
 
 -- with an entry's places no place has a version above the entry's
-pub at_most-add_places : (version : ℕ) (moves : List Stamped) (batch : List Transaction) (earlier : List Place) → AtMost version earlier
+pub at_most-add_places : (version : ℕ) (moves : List Stamped) (batch : List Transaction) (earlier : List Place)
+    → AtMost version earlier
     → AtMost version (add_places version moves batch earlier)
 at_most-add_places version moves batch earlier at_most =
     let added = add_places-newer version moves batch earlier in
     subst (AtMost version) (sym added.1)
     (all-append (λ (place : Place). place.version ≤ version) added.0 earlier
-    (all-weaken _ (λ (place : Place). place.version ≤ version) (λ (place : Place) same. omega (arith, same)) added.0 added.2) at_most)
+    (all-weaken _ (λ (place : Place). place.version ≤ version) (λ (place : Place) same. omega (arith, same)) added.0
+    added.2) at_most)
 
 -- at most v is at most a greater number
 pub at_most-more : (v w : ℕ) (places : List Place) → v ≤ w → AtMost v places → AtMost w places
 at_most-more v w places more at_most =
-    all-weaken (λ (place : Place). place.version ≤ v) (λ (place : Place). place.version ≤ w) (λ (place : Place) below. le_trans below more) places at_most
+    all-weaken (λ (place : Place). place.version ≤ v) (λ (place : Place). place.version ≤ w)
+    (λ (place : Place) below. le_trans below more) places at_most
 
 -- an entry's message leaves at a point of the range what the run leaves there
-value-message : (splits : List Point) (range : Range) (v : ℕ) (x : Point) → in_range range x ≡ true → (seen : Seen) (entry : Entry)
+value-message : (splits : List Point) (range : Range) (v : ℕ) (x : Point) → in_range range x ≡ true
+    → (seen : Seen) (entry : Entry)
     → AtMost entry.version seen.places
     → value_with v x (get (serial_map_at splits v seen.places) x) (message_for splits range seen entry)
     ≡ get (serial_map_at splits v (add_entry seen entry).places) x
 value-message splits range v x inside seen entry at_most = ⊎_elim
     (λ reached. let up : entry.version ≤ v = leb-true entry.version v reached in
     cond-true _ _ _ reached
-    ∙ value-kept (meets_range range) x (λ mutation named. (meets_at_some_point range mutation).1 (x, inside, named)) _ body
-    ∙ ap (λ (now : List Place). fold (value_after x) (get (serial_map splits now) x) body) (up_to-all v seen.places (at_most-more entry.version v seen.places up at_most))
+    ∙ value-kept (meets_range range) x (λ mutation named. (meets_at_some_point range mutation).1 (x, inside, named)) _
+    body
+    ∙ ap (λ (now : List Place). fold (value_after x) (get (serial_map splits now) x) body)
+    (up_to-all v seen.places (at_most-more entry.version v seen.places up at_most))
     ∙ sym (get-effects (serial_map splits seen.places) body x)
     ∙ ap (λ (map : Map). get map x) (sym (serial_map-add_places splits entry.version moves entry.batch seen.places))
     ∙ ap (λ (now : List Place). get (serial_map splits now) x)
-    (sym (up_to-all v places (at_most-more entry.version v places up (at_most-add_places entry.version moves entry.batch seen.places at_most)))))
+    (sym (up_to-all v places
+    (at_most-more entry.version v places up
+    (at_most-add_places entry.version moves entry.batch seen.places at_most)))))
     (λ above. let added = add_places-newer entry.version moves entry.batch seen.places in
     cond-false _ _ _ above
     ∙ ap (λ (now : List Place). get (serial_map splits now) x)
-    (sym (ap (up_to v) added.1 ∙ up_to-above v entry.version added.0 seen.places (leb-false entry.version v above) added.2)))
+    (sym (ap (up_to v) added.1
+    ∙ up_to-above v entry.version added.0 seen.places (leb-false entry.version v above) added.2)))
     (cases_Bool (nat_le entry.version v))
   where
     moves : List Stamped
@@ -130,11 +148,14 @@ value-messages : (splits : List Point) (range : Range) (v : ℕ) (x : Point) →
     ≡ get (serial_map_at splits v (fold add_entry seen book).places) x
 value-messages splits range v x inside resolvers last seen [] at_most entries = refl
 value-messages splits range v x inside resolvers last seen (entry ∷ book) at_most entries =
-    let here : AtMost entry.version seen.places = at_most-more last entry.version seen.places (le_of_lt entries.0) at_most in
-    ap (λ (value : Option (List ℕ)). fold (value_with v x) value (messages_after splits range (add_entry seen entry) book))
+    let here : AtMost entry.version seen.places = at_most-more last entry.version seen.places (le_of_lt entries.0)
+    at_most in
+    ap (λ (value : Option (List ℕ)). fold (value_with v x) value
+    (messages_after splits range (add_entry seen entry) book))
     (value-message splits range v x inside seen entry here)
     ∙ value-messages splits range v x inside resolvers entry.version (add_entry seen entry) book
-    (at_most-add_places entry.version (add_moves entry.version entry.moves seen.moves) entry.batch seen.places here) entries.4
+    (at_most-add_places entry.version (add_moves entry.version entry.moves seen.moves) entry.batch seen.places here)
+    entries.4
 
 -- a shard's messages leave at each point of its range what stands there on the run's map
 pub shards_hold_the_run : ShardsHoldTheRun

@@ -21,7 +21,8 @@ use Rattle.fdb_txn.proofs.rules.CornersLemmas.{overlaps_at_some_point}
 use Rattle.fdb_txn.proofs.book.HistoryLemmas.{AtMost, all-weaken, up_to-all}
 
 -- mutations of which none names the point leave there what stood there
-get-effects-unnamed : (map : Map) (mutations : List Mutation) (x : Point) → some_names mutations x ≡ false → get (effects map mutations) x ≡ get map x
+get-effects-unnamed : (map : Map) (mutations : List Mutation) (x : Point) → some_names mutations x ≡ false
+    → get (effects map mutations) x ≡ get map x
 get-effects-unnamed map [] x unnamed = refl
 get-effects-unnamed map (mutation ∷ mutations) x unnamed =
     let parts = or_parts (names mutation x) (some_names mutations x) unnamed in
@@ -30,7 +31,8 @@ get-effects-unnamed map (mutation ∷ mutations) x unnamed =
 
 -- A committed earlier place of a version above the read version names no point of the reads of a place that
 -- every resolver admits.
-no_conflict-unnamed : (splits : List Point) (others : List Place) (earlier later : Place) → IsHistory (suc (length splits)) (earlier ∷ others)
+no_conflict-unnamed : (splits : List Point) (others : List Place) (earlier later : Place)
+    → IsHistory (suc (length splits)) (earlier ∷ others)
     → committed splits others earlier ≡ true → later.transaction.read < earlier.version
     → ((i : ℕ) → i < suc (length splits) → no_conflict splits i (earlier ∷ others) later ≡ true)
     → (x : Point) → in_set later.transaction.reads x ≡ true → some_names earlier.transaction.mutations x ≡ false
@@ -47,32 +49,40 @@ no_conflict-unnamed splits others earlier later history commits above none x is_
     exists = owner-exists splits earlier.version earlier.moves x earlier.version history.0.2
 
     overlap : some_names earlier.transaction.mutations x ≡ true → overlaps splits i earlier later ≡ true
-    overlap named = (overlaps_at_some_point splits i earlier later).1 (x, and_from _ _ (and_from _ _ (history.0.1 x named) is_read) (eq-eqb i i refl))
+    overlap named = (overlaps_at_some_point splits i earlier later).1
+        (x, and_from _ _ (and_from _ _ (history.0.1 x named) is_read) (eq-eqb i i refl))
 
     conflicts : some_names earlier.transaction.mutations x ≡ true
-        → (nat_lt later.transaction.read earlier.version && overlaps splits i earlier later && admits splits i others earlier) ≡ true
+        → (nat_lt later.transaction.read earlier.version && overlaps splits i earlier later && admits splits i others
+        earlier) ≡ true
     conflicts named =
         and_from _ _ (and_from _ _ (lt-ltb _ _ above) (overlap named))
         ((all_below-decides (λ (j : ℕ). admits splits j others earlier) (suc (length splits))).0 commits i exists)
 
 -- no place of a history has a version above that of the newest
-at_most-follow : (v : ℕ) (place : Place) (others : List Place) → place.version ≤ v → AllByRecursion (Follows place) others → AtMost v (place ∷ others)
-at_most-follow v place others reached follow =
-    (reached, all-weaken (Follows place) (λ (other : Place). other.version ≤ v) (λ (other : Place) follows. le_trans follows.0 reached) others follow)
+at_most-follow : (v : ℕ) (place : Place) (others : List Place) → place.version ≤ v
+    → AllByRecursion (Follows place) others → AtMost v (place ∷ others)
+at_most-follow v place others reached follow = (
+  reached,
+  all-weaken (Follows place) (λ (other : Place). other.version ≤ v)
+      (λ (other : Place) follows. le_trans follows.0 reached) others follow,
+)
 
 -- one place more, at a point that it names only if it isn't committed
 get-serial_map-unnamed : (splits : List Point) (others : List Place) (place : Place) (x : Point)
     → (committed splits others place ≡ true → some_names place.transaction.mutations x ≡ false)
     → get (serial_map splits (place ∷ others)) x ≡ get (serial_map splits others) x
 get-serial_map-unnamed splits others place x unnamed =
-    cond_both (committed splits others place) (effects (serial_map splits others) place.transaction.mutations) (serial_map splits others)
+    cond_both (committed splits others place) (effects (serial_map splits others) place.transaction.mutations)
+    (serial_map splits others)
     (λ (map : Map). get map x ≡ get (serial_map splits others) x)
     (λ commits. get-effects-unnamed (serial_map splits others) place.transaction.mutations x (unnamed commits))
     (λ aborts. refl)
 
 -- without a conflict, the map at the read version and the map after the earlier places have the same at each
 -- point of the reads
-get-serial_map-read : (splits : List Point) (earlier : List Place) (place : Place) → IsHistory (suc (length splits)) earlier
+get-serial_map-read : (splits : List Point) (earlier : List Place) (place : Place)
+    → IsHistory (suc (length splits)) earlier
     → ((i : ℕ) → i < suc (length splits) → no_conflict splits i earlier place ≡ true)
     → (x : Point) → in_set place.transaction.reads x ≡ true
     → get (serial_map_at splits place.transaction.read earlier) x ≡ get (serial_map splits earlier) x
@@ -80,10 +90,12 @@ get-serial_map-read splits [] place history none x is_read = refl
 get-serial_map-read splits (other ∷ others) place history none x is_read = ⊎_elim
     (λ reached. ap (λ (places : List Place). get (serial_map splits places) x)
     (up_to-all v (other ∷ others) (at_most-follow v other others (leb-true other.version v reached) history.1)))
-    (λ above. ap (λ (places : List Place). get (serial_map splits places) x) (cond-false _ (other ∷ up_to v others) (up_to v others) above)
+    (λ above. ap (λ (places : List Place). get (serial_map splits places) x)
+    (cond-false _ (other ∷ up_to v others) (up_to v others) above)
     ∙ get-serial_map-read splits others place history.2 (λ i exists. (and_parts _ _ (none i exists)).1) x is_read
     ∙ sym (get-serial_map-unnamed splits others other x
-    (λ commits. no_conflict-unnamed splits others other place history commits (leb-false other.version v above) none x is_read)))
+    (λ commits. no_conflict-unnamed splits others other place history commits (leb-false other.version v above) none x
+    is_read)))
     (cases_Bool (nat_le other.version v))
   where
     v : ℕ
@@ -95,7 +107,9 @@ reads_stand splits earlier place history commits x is_read =
     ap (λ (places : List Place). get (serial_map splits places) x)
     (cond-false _ (place ∷ up_to v earlier) (up_to v earlier) (lt-leb place.version v history.0.0))
     ∙ get-serial_map-read splits earlier place history.2
-    (λ i exists. (and_parts _ _ ((all_below-decides (λ (j : ℕ). admits splits j earlier place) (suc (length splits))).0 commits i exists)).1) x is_read
+    (λ i exists. (and_parts _ _
+    ((all_below-decides (λ (j : ℕ). admits splits j earlier place) (suc (length splits))).0 commits i exists)).1) x
+    is_read
   where
     v : ℕ
     v = place.transaction.read

@@ -24,7 +24,8 @@ IsPlace resolvers place =
 -- places of one book, the newest first
 abbrev pub IsHistory : ℕ → List Place → Type 0
 IsHistory resolvers [] = ⊤
-IsHistory resolvers (place ∷ earlier) = IsPlace resolvers place × AllByRecursion (Follows place) earlier × IsHistory resolvers earlier
+IsHistory resolvers (place ∷ earlier) = IsPlace resolvers place × AllByRecursion (Follows place) earlier
+    × IsHistory resolvers earlier
 
 -- Entries after a version: versions rise, each previous one is that of the entry before, each transaction
 -- read below its entry's version, and each move goes to a resolver that exists.

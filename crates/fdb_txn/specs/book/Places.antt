@@ -13,7 +13,8 @@ place_in version moves (t ∷ ts) earlier (suc p) = place_in version moves ts (p
 -- place p of an entry after what was seen before it
 abbrev pub place_of : Seen → ℕ → Option Entry → Option (Place × List Place)
 place_of before p None = None
-place_of before p (Some entry) = place_in entry.version (add_moves entry.version entry.moves before.moves) entry.batch before.places p
+place_of before p (Some entry) = place_in entry.version (add_moves entry.version entry.moves before.moves) entry.batch
+    before.places p
 
 -- place p of entry n of a book, with the places before it, of which the newest is the first
 abbrev pub place_at : List Entry → ℕ → ℕ → Option (Place × List Place)

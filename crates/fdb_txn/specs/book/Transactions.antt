@@ -26,4 +26,5 @@ NamesWrites t = (x : Point) → some_names t.mutations x ≡ true → in_set t.w
 
 -- a write set with all that the mutations name
 abbrev pub with_named : List Range → List Mutation → List Range
-with_named writes mutations = fold (λ (set : List Range) (mutation : Mutation). with_range (named_range mutation) set) writes mutations
+with_named writes mutations = fold (λ (set : List Range) (mutation : Mutation). with_range (named_range mutation) set)
+    writes mutations

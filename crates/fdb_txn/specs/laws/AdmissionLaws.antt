@@ -50,7 +50,8 @@ IsAmongAsked splits place i = (i < suc (length splits)) × (is_asked splits i pl
 abbrev pub CommittedByTheAsked : Type 0
 CommittedByTheAsked =
     (splits : List Point) (earlier : List Place) (place : Place) → IsHistory (suc (length splits)) (place ∷ earlier)
-    → (committed splits earlier place ≡ true) ↔ ((i : ℕ) → IsAmongAsked splits place i → admits splits i earlier place ≡ true)
+    → (committed splits earlier place ≡ true) ↔
+    ((i : ℕ) → IsAmongAsked splits place i → admits splits i earlier place ≡ true)
 
 -- some resolver is asked about an old place
 abbrev pub OldIsAsked : Type 0

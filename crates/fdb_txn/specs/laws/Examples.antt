@@ -88,7 +88,9 @@ at_m_and_t = codes "m" ∷ codes "t" ∷ []
 -- d. All three read at version 0.
 abbrev pub one_batch : List Entry
 one_batch =
-    entry_of 100 0 [] (reads_and_sets 0 0 (codes "a" ∷ []) (codes "a" ∷ []) ∷ reads_and_sets 1 0 (codes "a" ∷ []) (codes "c" ∷ []) ∷ [])
+    entry_of 100 0 []
+    (reads_and_sets 0 0 (codes "a" ∷ []) (codes "a" ∷ []) ∷ reads_and_sets 1 0 (codes "a" ∷ []) (codes "c" ∷ [])
+    ∷ [])
     ∷ entry_of 200 100 [] (reads_and_sets 2 0 (codes "c" ∷ []) (codes "d" ∷ []) ∷ [])
     ∷ []
 
@@ -98,7 +100,8 @@ abbrev pub OneBatch : Type 0
 OneBatch =
     (ruling at_m one_batch 0 0 ≡ Some (record { fresh = true; asked = 0 ∷ []; admitting = 0 ∷ 1 ∷ []; commits = true }))
     × (ruling at_m one_batch 0 1 ≡ Some (record { fresh = true; asked = 0 ∷ []; admitting = 1 ∷ []; commits = false }))
-    × (ruling at_m one_batch 1 0 ≡ Some (record { fresh = true; asked = 0 ∷ []; admitting = 0 ∷ 1 ∷ []; commits = true }))
+    × (ruling at_m one_batch 1 0 ≡ Some
+    (record { fresh = true; asked = 0 ∷ []; admitting = 0 ∷ 1 ∷ []; commits = true }))
 
 -- At 100 transaction 0 reads a and sets z, at 200 transaction 1 reads z and sets a, both from version 0.
 abbrev pub write_skew : List Entry
@@ -110,8 +113,10 @@ write_skew =
 -- Write skew: transaction 0 commits. Transaction 1 is refused by the resolver of z, and the resolver of a admits it.
 abbrev pub WriteSkew : Type 0
 WriteSkew =
-    (ruling at_m write_skew 0 0 ≡ Some (record { fresh = true; asked = 0 ∷ 1 ∷ []; admitting = 0 ∷ 1 ∷ []; commits = true }))
-    × (ruling at_m write_skew 1 0 ≡ Some (record { fresh = true; asked = 0 ∷ 1 ∷ []; admitting = 0 ∷ []; commits = false }))
+    (ruling at_m write_skew 0 0 ≡ Some
+    (record { fresh = true; asked = 0 ∷ 1 ∷ []; admitting = 0 ∷ 1 ∷ []; commits = true }))
+    × (ruling at_m write_skew 1 0 ≡ Some
+    (record { fresh = true; asked = 0 ∷ 1 ∷ []; admitting = 0 ∷ []; commits = false }))
 
 -- After these, at 300, transaction 2 reads a at version 100 and sets b.
 abbrev pub false_conflict : List Entry
@@ -121,7 +126,8 @@ false_conflict = write_skew ++ entry_of 300 200 [] (reads_and_sets 2 100 (codes 
 -- committed and nothing of it is on the map.
 abbrev pub FalseConflict : Type 0
 FalseConflict =
-    (ruling at_m false_conflict 2 0 ≡ Some (record { fresh = true; asked = 0 ∷ []; admitting = 1 ∷ []; commits = false }))
+    (ruling at_m false_conflict 2 0 ≡ Some
+    (record { fresh = true; asked = 0 ∷ []; admitting = 1 ∷ []; commits = false }))
     × (run_at at_m false_conflict 300 ≡ only (codes "z" ∷ []))
 
 -- At 100 nothing. At 200 transaction 1 sets p. At 300 the keys from m up to t go over to resolver 0, and
@@ -130,14 +136,17 @@ abbrev pub former_owner : List Entry
 former_owner =
     entry_of 100 0 [] []
     ∷ entry_of 200 100 [] (reads_and_sets 1 100 [] (codes "p" ∷ []) ∷ [])
-    ∷ entry_of 300 200 (move_of (codes "m") (codes "t") 0 ∷ []) (reads_and_sets 0 100 (codes "p" ∷ []) (codes "b" ∷ []) ∷ [])
+    ∷ entry_of 300 200 (move_of (codes "m") (codes "t") 0 ∷ [])
+    (reads_and_sets 0 100 (codes "p" ∷ []) (codes "b" ∷ []) ∷ [])
     ∷ []
 
 -- Former owner: transaction 0 is refused by resolver 1, that owned p when it was set; the new owner admits it.
 abbrev pub FormerOwner : Type 0
 FormerOwner =
-    (ruling at_m former_owner 1 0 ≡ Some (record { fresh = true; asked = 1 ∷ []; admitting = 0 ∷ 1 ∷ []; commits = true }))
-    × (ruling at_m former_owner 2 0 ≡ Some (record { fresh = true; asked = 0 ∷ 1 ∷ []; admitting = 0 ∷ []; commits = false }))
+    (ruling at_m former_owner 1 0 ≡ Some
+    (record { fresh = true; asked = 1 ∷ []; admitting = 0 ∷ 1 ∷ []; commits = true }))
+    × (ruling at_m former_owner 2 0 ≡ Some
+    (record { fresh = true; asked = 0 ∷ 1 ∷ []; admitting = 0 ∷ []; commits = false }))
 
 -- At 100 and 200 nothing. At 300 the keys from m up to t go over to resolver 0, and transaction 1 sets p. At 400
 -- they go back to resolver 1. At 500 transaction 0 reads p at version 100 and sets b.
@@ -153,8 +162,10 @@ there_and_back =
 -- There and back: transaction 0 is refused by resolver 0, that owned p in between; the owner before and now admits it.
 abbrev pub ThereAndBack : Type 0
 ThereAndBack =
-    (ruling at_m there_and_back 2 0 ≡ Some (record { fresh = true; asked = 0 ∷ []; admitting = 0 ∷ 1 ∷ []; commits = true }))
-    × (ruling at_m there_and_back 4 0 ≡ Some (record { fresh = true; asked = 0 ∷ 1 ∷ []; admitting = 1 ∷ []; commits = false }))
+    (ruling at_m there_and_back 2 0 ≡ Some
+    (record { fresh = true; asked = 0 ∷ []; admitting = 0 ∷ 1 ∷ []; commits = true }))
+    × (ruling at_m there_and_back 4 0 ≡ Some
+    (record { fresh = true; asked = 0 ∷ 1 ∷ []; admitting = 1 ∷ []; commits = false }))
 
 -- At 100 transaction 0 sets a. At 200 transaction 1 reads a at version 100 and sets b.
 abbrev pub equal_versions : List Entry
@@ -167,8 +178,10 @@ equal_versions =
 -- At 100 the map has what is set at 100.
 abbrev pub EqualIsNotNewer : Type 0
 EqualIsNotNewer =
-    (ruling at_m equal_versions 0 0 ≡ Some (record { fresh = true; asked = 0 ∷ []; admitting = 0 ∷ 1 ∷ []; commits = true }))
-    × (ruling at_m equal_versions 1 0 ≡ Some (record { fresh = true; asked = 0 ∷ []; admitting = 0 ∷ 1 ∷ []; commits = true }))
+    (ruling at_m equal_versions 0 0 ≡ Some
+    (record { fresh = true; asked = 0 ∷ []; admitting = 0 ∷ 1 ∷ []; commits = true }))
+    × (ruling at_m equal_versions 1 0 ≡ Some
+    (record { fresh = true; asked = 0 ∷ []; admitting = 0 ∷ 1 ∷ []; commits = true }))
     × (run_at at_m equal_versions 99 ≡ only [])
     × (run_at at_m equal_versions 100 ≡ only (codes "a" ∷ []))
     × (run_at at_m equal_versions 200 ≡ only (codes "a" ∷ codes "b" ∷ []))
@@ -180,10 +193,12 @@ abbrev pub at_window : List Entry
 at_window =
     entry_of 100 0 [] []
     ∷ entry_of 5000100 100 [] (reads_and_sets 0 100 (codes "a" ∷ []) (codes "b" ∷ []) ∷ [])
-    ∷ entry_of 5000101 5000100 [] (reads_and_sets 1 100 (codes "a" ∷ []) (codes "c" ∷ []) ∷ reads_and_sets 2 100 [] (codes "d" ∷ []) ∷ [])
+    ∷ entry_of 5000101 5000100 []
+    (reads_and_sets 1 100 (codes "a" ∷ []) (codes "c" ∷ []) ∷ reads_and_sets 2 100 [] (codes "d" ∷ []) ∷ [])
     ∷ entry_of 5000102 5000101 []
     (reads_and_sets 3 5000100 (codes "c" ∷ []) (codes "e" ∷ [])
-    ∷ record (reads_and_sets 4 100 [] (codes "f" ∷ [])) { reads = record { begin = codes "a"; end = codes "a" } ∷ [] } ∷ [])
+    ∷ record (reads_and_sets 4 100 [] (codes "f" ∷ [])) { reads = record { begin = codes "a"; end = codes "a" } ∷ [] }
+    ∷ [])
     ∷ []
 
 -- Window: transaction 0 read 5000000 versions before its own, and commits. Transaction 1 read one more, and is old.
@@ -192,9 +207,12 @@ abbrev pub Window : Type 0
 Window =
     (ruling at_m at_window 1 0 ≡ Some (record { fresh = true; asked = 0 ∷ []; admitting = 0 ∷ 1 ∷ []; commits = true }))
     × (ruling at_m at_window 2 0 ≡ Some (record { fresh = false; asked = 0 ∷ []; admitting = []; commits = false }))
-    × (ruling at_m at_window 2 1 ≡ Some (record { fresh = true; asked = 0 ∷ []; admitting = 0 ∷ 1 ∷ []; commits = true }))
-    × (ruling at_m at_window 3 0 ≡ Some (record { fresh = true; asked = 0 ∷ []; admitting = 0 ∷ 1 ∷ []; commits = true }))
-    × (ruling at_m at_window 3 1 ≡ Some (record { fresh = true; asked = 0 ∷ []; admitting = 0 ∷ 1 ∷ []; commits = true }))
+    × (ruling at_m at_window 2 1 ≡ Some
+    (record { fresh = true; asked = 0 ∷ []; admitting = 0 ∷ 1 ∷ []; commits = true }))
+    × (ruling at_m at_window 3 0 ≡ Some
+    (record { fresh = true; asked = 0 ∷ []; admitting = 0 ∷ 1 ∷ []; commits = true }))
+    × (ruling at_m at_window 3 1 ≡ Some
+    (record { fresh = true; asked = 0 ∷ []; admitting = 0 ∷ 1 ∷ []; commits = true }))
 
 -- At 100 nothing. At 301 the keys from m up to t go over to resolver 0. At 5000299 transaction 0, and at 5000300
 -- transaction 1, read p at version 100 and set z.
@@ -210,8 +228,10 @@ old_reading =
 -- about it; it lies just before that of transaction 1, so resolver 1 isn't asked. Others are, and both are old.
 abbrev pub OldReading : Type 0
 OldReading =
-    (ruling at_m_and_t old_reading 2 0 ≡ Some (record { fresh = false; asked = 0 ∷ 1 ∷ 2 ∷ []; admitting = []; commits = false }))
-    × (ruling at_m_and_t old_reading 3 0 ≡ Some (record { fresh = false; asked = 0 ∷ 2 ∷ []; admitting = []; commits = false }))
+    (ruling at_m_and_t old_reading 2 0 ≡ Some
+    (record { fresh = false; asked = 0 ∷ 1 ∷ 2 ∷ []; admitting = []; commits = false }))
+    × (ruling at_m_and_t old_reading 3 0 ≡ Some
+    (record { fresh = false; asked = 0 ∷ 2 ∷ []; admitting = []; commits = false }))
 
 -- At 100 the keys from a up to p go over to resolver 1, then those from m up to z to resolver 2; transaction 0
 -- sets n, transaction 1 sets c. At 200 transaction 2 reads n at version 0 and sets z.
@@ -226,9 +246,12 @@ two_moves =
 -- transactions of their own entry.
 abbrev pub TwoMoves : Type 0
 TwoMoves =
-    (ruling at_m_and_t two_moves 0 0 ≡ Some (record { fresh = true; asked = 2 ∷ []; admitting = 0 ∷ 1 ∷ 2 ∷ []; commits = true }))
-    × (ruling at_m_and_t two_moves 0 1 ≡ Some (record { fresh = true; asked = 1 ∷ []; admitting = 0 ∷ 1 ∷ 2 ∷ []; commits = true }))
-    × (ruling at_m_and_t two_moves 1 0 ≡ Some (record { fresh = true; asked = 1 ∷ 2 ∷ []; admitting = 0 ∷ 1 ∷ []; commits = false }))
+    (ruling at_m_and_t two_moves 0 0 ≡ Some
+    (record { fresh = true; asked = 2 ∷ []; admitting = 0 ∷ 1 ∷ 2 ∷ []; commits = true }))
+    × (ruling at_m_and_t two_moves 0 1 ≡ Some
+    (record { fresh = true; asked = 1 ∷ []; admitting = 0 ∷ 1 ∷ 2 ∷ []; commits = true }))
+    × (ruling at_m_and_t two_moves 1 0 ≡ Some
+    (record { fresh = true; asked = 1 ∷ 2 ∷ []; admitting = 0 ∷ 1 ∷ []; commits = false }))
 
 -- At 100 the keys from m up to t go over to resolver 2, and at 101 to resolver 0. At 200 transaction 0 reads p at
 -- version 100 and sets a. At 300 the keys go over to resolver 1, and transaction 1 reads p at version 200 and sets a.
@@ -237,36 +260,44 @@ spans =
     entry_of 100 0 (move_of (codes "m") (codes "t") 2 ∷ []) []
     ∷ entry_of 101 100 (move_of (codes "m") (codes "t") 0 ∷ []) []
     ∷ entry_of 200 101 [] (reads_and_sets 0 100 (codes "p" ∷ []) (codes "a" ∷ []) ∷ [])
-    ∷ entry_of 300 200 (move_of (codes "m") (codes "t") 1 ∷ []) (reads_and_sets 1 200 (codes "p" ∷ []) (codes "a" ∷ []) ∷ [])
+    ∷ entry_of 300 200 (move_of (codes "m") (codes "t") 1 ∷ [])
+    (reads_and_sets 1 200 (codes "p" ∷ []) (codes "a" ∷ []) ∷ [])
     ∷ []
 
 -- A span is without its begin and with its end: resolver 2, that owned p last at transaction 0's read version, isn't
 -- asked about it, and resolver 1, that owns p from transaction 1's version on, is asked about that one.
 abbrev pub Spans : Type 0
 Spans =
-    (ruling at_m_and_t spans 2 0 ≡ Some (record { fresh = true; asked = 0 ∷ []; admitting = 0 ∷ 1 ∷ 2 ∷ []; commits = true }))
-    × (ruling at_m_and_t spans 3 0 ≡ Some (record { fresh = true; asked = 0 ∷ 1 ∷ []; admitting = 0 ∷ 1 ∷ 2 ∷ []; commits = true }))
+    (ruling at_m_and_t spans 2 0 ≡ Some
+    (record { fresh = true; asked = 0 ∷ []; admitting = 0 ∷ 1 ∷ 2 ∷ []; commits = true }))
+    × (ruling at_m_and_t spans 3 0 ≡ Some
+    (record { fresh = true; asked = 0 ∷ 1 ∷ []; admitting = 0 ∷ 1 ∷ 2 ∷ []; commits = true }))
 
 -- At 100 the keys from n up to t go over to resolver 0; transaction 0 sets m, transaction 1 sets n, transaction 2
 -- sets t.
 abbrev pub at_bounds : List Entry
 at_bounds =
     entry_of 100 0 (move_of (codes "n") (codes "t") 0 ∷ [])
-    (reads_and_sets 0 0 [] (codes "m" ∷ []) ∷ reads_and_sets 1 0 [] (codes "n" ∷ []) ∷ reads_and_sets 2 0 [] (codes "t" ∷ []) ∷ [])
+    (reads_and_sets 0 0 [] (codes "m" ∷ []) ∷ reads_and_sets 1 0 [] (codes "n" ∷ []) ∷ reads_and_sets 2 0 []
+    (codes "t" ∷ []) ∷ [])
     ∷ []
 
 -- Bounds: a split is a key of the resolver above it, the begin of a move goes over, and its end stays.
 abbrev pub AtBounds : Type 0
 AtBounds =
     (ruling at_m at_bounds 0 0 ≡ Some (record { fresh = true; asked = 1 ∷ []; admitting = 0 ∷ 1 ∷ []; commits = true }))
-    × (ruling at_m at_bounds 0 1 ≡ Some (record { fresh = true; asked = 0 ∷ []; admitting = 0 ∷ 1 ∷ []; commits = true }))
-    × (ruling at_m at_bounds 0 2 ≡ Some (record { fresh = true; asked = 1 ∷ []; admitting = 0 ∷ 1 ∷ []; commits = true }))
+    × (ruling at_m at_bounds 0 1 ≡ Some
+    (record { fresh = true; asked = 0 ∷ []; admitting = 0 ∷ 1 ∷ []; commits = true }))
+    × (ruling at_m at_bounds 0 2 ≡ Some
+    (record { fresh = true; asked = 1 ∷ []; admitting = 0 ∷ 1 ∷ []; commits = true }))
 
 -- What entries of two resolvers after version 0 are. The first two are, with a read version right below the entry's,
 -- versions that rise by one, and a move to the last resolver.
 abbrev pub Entries : Type 0
 Entries =
-    AreEntries 2 0 (entry_of 1 0 (move_of (codes "m") (codes "t") 1 ∷ []) (reads_and_sets 0 0 (codes "a" ∷ []) [] ∷ []) ∷ entry_of 2 1 [] [] ∷ [])
+    AreEntries 2 0
+    (entry_of 1 0 (move_of (codes "m") (codes "t") 1 ∷ []) (reads_and_sets 0 0 (codes "a" ∷ []) [] ∷ []) ∷ entry_of
+    2 1 [] [] ∷ [])
     -- versions rise
     × (AreEntries 2 0 (entry_of 0 0 [] [] ∷ []) → ⊥)
     -- an entry names the version of the one before it

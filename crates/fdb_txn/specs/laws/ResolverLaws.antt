@@ -11,21 +11,25 @@ use Rattle.fdb_txn.specs.rules.Resolvers.{last_commit_version, IsAdmittedBy, wit
 -- of the resolver's part of its read set has a last version above its read version.
 abbrev pub LastVersionsDecide : Type 0
 LastVersionsDecide =
-    (splits : List Point) (i : ℕ) (place : Place) (earlier : List Place) → IsHistory (suc (length splits)) (place ∷ earlier)
+    (splits : List Point) (i : ℕ) (place : Place) (earlier : List Place)
+    → IsHistory (suc (length splits)) (place ∷ earlier)
     → (admits splits i earlier place ≡ true) ↔ IsAdmittedBy splits i (last_commit_version splits i earlier) place
 
 -- One place more is one step: the last versions become the place's own at the resolver's part of its write
 -- set, where the resolver admits it, and stay as they were elsewhere.
 abbrev pub OnePlaceMore : Type 0
 OnePlaceMore =
-    (splits : List Point) (i : ℕ) (place : Place) (earlier : List Place) (x : Point) → IsHistory (suc (length splits)) (place ∷ earlier)
-    → last_commit_version splits i (place ∷ earlier) x ≡ with_place splits i (admits splits i earlier place) place (last_commit_version splits i earlier) x
+    (splits : List Point) (i : ℕ) (place : Place) (earlier : List Place) (x : Point)
+    → IsHistory (suc (length splits)) (place ∷ earlier)
+    → last_commit_version splits i (place ∷ earlier) x ≡ with_place splits i (admits splits i earlier place) place
+    (last_commit_version splits i earlier) x
 
 -- A state that answers from a floor on, which isn't above the begin of the place's window, decides as the rule does.
 abbrev pub StateDecides : Type 0
 StateDecides =
     (splits : List Point) (i : ℕ) (place : Place) (earlier : List Place) (floor : ℕ) (f : Point → ℕ)
-    → IsHistory (suc (length splits)) (place ∷ earlier) → IsStateOf splits i earlier floor f → floor ≤ place.version - window
+    → IsHistory (suc (length splits)) (place ∷ earlier) → IsStateOf splits i earlier floor f
+    → floor ≤ place.version - window
     → (admits splits i earlier place ≡ true) ↔ IsAdmittedBy splits i f place
 
 -- A state takes a place in by the resolver's part of its write set alone, and answers from the same floor on.

@@ -12,7 +12,8 @@ use Rattle.fdb_txn.specs.rules.SerialMap.{serial_map, serial_map_at}
 
 -- the places of a book are a history
 abbrev pub PlacesAreHistory : Type 0
-PlacesAreHistory = (resolvers : ℕ) (book : List Entry) → AreEntries resolvers 0 book → IsHistory resolvers (seen_of book).places
+PlacesAreHistory = (resolvers : ℕ) (book : List Entry) → AreEntries resolvers 0 book
+    → IsHistory resolvers (seen_of book).places
 
 -- Reads stand: what a committed transaction read at its read version stands there still where it commits. At
 -- every point of its read set, the map at its read version is the same as the map right before its place.

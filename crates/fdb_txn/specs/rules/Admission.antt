@@ -18,11 +18,13 @@ is_fresh place = not (has_points place.transaction.reads && nat_lt (place.transa
 -- earlier one's version
 abbrev pub overlaps_at : List Point → ℕ → Place → Place → Point → Bool
 overlaps_at splits i earlier later x =
-    in_set earlier.transaction.writes x && in_set later.transaction.reads x && (owner splits earlier.moves x earlier.version == i)
+    in_set earlier.transaction.writes x && in_set later.transaction.reads x
+    && (owner splits earlier.moves x earlier.version == i)
 
 abbrev pub overlaps : List Point → ℕ → Place → Place → Bool
 overlaps splits i earlier later =
-    list_any (overlaps_at splits i earlier later) (corners splits earlier.moves (earlier.transaction.writes ++ later.transaction.reads))
+    list_any (overlaps_at splits i earlier later)
+    (corners splits earlier.moves (earlier.transaction.writes ++ later.transaction.reads))
 
 -- none of the earlier places, of which the newest is the first, that resolver i admitted overlaps the place
 -- at a version above its read version

@@ -53,4 +53,5 @@ asked_at splits i place x =
 -- point of the read set at some version of the span.
 abbrev pub is_asked : List Point → ℕ → Place → Bool
 is_asked splits i place =
-    list_any (asked_at splits i place) (corners splits place.moves (place.transaction.writes ++ place.transaction.reads))
+    list_any (asked_at splits i place)
+    (corners splits place.moves (place.transaction.writes ++ place.transaction.reads))

@@ -11,7 +11,8 @@ use Rattle.fdb_txn.specs.rules.Admission.{committed}
 abbrev pub serial_map : List Point → List Place → Map
 serial_map splits [] = empty
 serial_map splits (place ∷ earlier) =
-    if committed splits earlier place then effects (serial_map splits earlier) place.transaction.mutations else serial_map splits earlier
+    if committed splits earlier place then effects (serial_map splits earlier) place.transaction.mutations
+    else serial_map splits earlier
 
 -- the places of version at most v
 abbrev pub up_to : ℕ → List Place → List Place

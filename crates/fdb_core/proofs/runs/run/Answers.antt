@@ -13,11 +13,13 @@ loop-step-preserved c =
     let step = c.step-item.result in
     let within : c.loop-step.step-index < length steps = search rules in
     let front : take (c.loop-step.step-index + 1) steps ≡ take c.loop-step.step-index steps ++ step ∷ [] =
-    take_more steps c.loop-step.step-index step within ∙ ap (λ (s : Step). take c.loop-step.step-index steps ++ s ∷ []) (sym c.step-item.is) in
+    take_more steps c.loop-step.step-index step within
+    ∙ ap (λ (s : Step). take c.loop-step.step-index steps ++ s ∷ []) (sym c.step-item.is) in
     record {
       legal = c.loop-step.invariant.legal;
       stands = rw (front, c.in_ok-push.ensures.ok)
-          (run-push (Some (start c.args.config)) c.loop-step.world.machine c.take-answer.new.self.machine (take c.loop-step.step-index steps) c.loop-step.answers step c.take-answer.result
+          (run-push (Some (start c.args.config)) c.loop-step.world.machine c.take-answer.new.self.machine
+          (take c.loop-step.step-index steps) c.loop-step.answers step c.take-answer.result
           c.loop-step.invariant.stands c.take-answer.ensures.step);
       keep = c.take-answer.ensures.roles;
     }
@@ -29,5 +31,6 @@ returns c =
     let whole : take c.loop-step.step-index steps ≡ steps = take_all c.loop-step.step-index steps after in
     rw c.loop-step.invariant.legal
     (strictly_serializable c.args.config steps c.loop-step.answers c.loop-step.world
-    (subst (λ (taken : List Step). IsTraceOf c.args.config taken c.loop-step.answers c.loop-step.world.machine) whole c.loop-step.invariant.stands)
+    (subst (λ (taken : List Step). IsTraceOf c.args.config taken c.loop-step.answers c.loop-step.world.machine) whole
+    c.loop-step.invariant.stands)
     c.loop-step.invariant.keep)

@@ -65,7 +65,8 @@ pub(crate) fn mutations_of(alloc: Global, ops: &[(Op, Reply)]) -> Result<Items<M
 }
 
 fn parts_of(alloc: Global, ops: &[(Op, Reply)]) -> Result<(RangeSet, Items<Mutation>), Refusal>
-    ensures { Answers result None (λ parts. (parts.0 ≡ read_ranges (program ops.now)) × (parts.1 ≡ mutations_of (program ops.now))) }
+    ensures { Answers result None
+        (λ parts. (parts.0 ≡ read_ranges (program ops.now)) × (parts.1 ≡ mutations_of (program ops.now))) }
 {
     let reads = reads_of(alloc, ops)?;
     let mutations = mutations_of(alloc, ops)?;

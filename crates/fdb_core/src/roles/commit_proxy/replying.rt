@@ -31,7 +31,8 @@ fn place(
     transcript: &Transcript,
     outcome: &Outcome,
 ) -> Result<(), AllocError>
-    ensures { OnOk result (placed.new.items ≡ placed.old.items ++ placed_from index (transcript.now ∷ []) (outcome.now ∷ [])) }
+    ensures { OnOk result
+        (placed.new.items ≡ placed.old.items ++ placed_from index (transcript.now ∷ []) (outcome.now ∷ [])) }
 {
     if let Outcome::Commit { version, place } = outcome {
         let spot = Spot::Entry {

@@ -6,5 +6,7 @@ use Rattle.fdb_keys.proofs.insertion.count_before.Goals as goal
 pub returns-clause-count : goal.returns-clause-count
 returns-clause-count c =
     let parted = ends_rise c.args.point.now c.args.ranges.now c.requires in
-    count_from_point (ends_before c.args.point.now) c.args.ranges.now c.partition_point.result c.partition_point.ensures.bound
-    (IsPartitionPoint-from_clause (ends_before c.args.point.now) _ _ c.partition_point.ensures.partitioned parted (λ a r q k. search rules))
+    count_from_point (ends_before c.args.point.now) c.args.ranges.now c.partition_point.result
+    c.partition_point.ensures.bound
+    (IsPartitionPoint-from_clause (ends_before c.args.point.now) _ _ c.partition_point.ensures.partitioned parted
+    (λ a r q k. search rules))

@@ -7,4 +7,5 @@ use Rattle.fdb_resolver.proofs.judging.are_any_newer.Given as goal
 -- what is left of the set decides as the whole
 abbrev pub invariant-loop-range : goal.invariant-loop-range
 invariant-loop-range l =
-    HasNewer (version_at l.versions) (iter_rest l.range-iterator) l.version ↔ HasNewer (version_at l.versions) l.reads l.version
+    HasNewer (version_at l.versions) (iter_rest l.range-iterator) l.version ↔ HasNewer (version_at l.versions) l.reads
+    l.version

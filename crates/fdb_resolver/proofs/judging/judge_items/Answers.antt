@@ -7,13 +7,22 @@ use Rattle.fdb_resolver.proofs.judging.judge_items.Goals as goal
 
 pub loop-item-preserved : goal.loop-item-preserved
 loop-item-preserved c =
-    let more : take (c.loop-item.item-index + 1) c.args.items.now ≡ take c.loop-item.item-index c.args.items.now ++ c.item-item.result ∷ [] =
+    let more : take (c.loop-item.item-index + 1) c.args.items.now ≡ take c.loop-item.item-index c.args.items.now
+    ++ c.item-item.result ∷ [] =
     take_more c.args.items.now c.loop-item.item-index c.item-item.result (omega arith)
     ∙ ap (λ (item : Item). take c.loop-item.item-index c.args.items.now ++ item ∷ []) (sym c.item-item.is) in
-    let said : c.push.new.self ≡ c.loop-item.answers ++ (c.item-item.result.place, c.in_ok-verdict.verdict) ∷ [] = search rules in
-    let judged = judged-push c.args.version (version_at c.args.versions.now) (version_at c.loop-item.versions) (version_at c.judge_item.new.versions)
-    (take c.loop-item.item-index c.args.items.now) (take (c.loop-item.item-index + 1) c.args.items.now) c.loop-item.answers c.push.new.self
+    let said : c.push.new.self ≡ c.loop-item.answers ++ (c.item-item.result.place, c.in_ok-verdict.verdict) ∷ [] =
+    search rules in
+    let judged = judged-push c.args.version (version_at c.args.versions.now) (version_at c.loop-item.versions)
+    (version_at c.judge_item.new.versions)
+    (take c.loop-item.item-index c.args.items.now) (take (c.loop-item.item-index + 1) c.args.items.now)
+    c.loop-item.answers c.push.new.self
     c.item-item.result c.in_ok-verdict.verdict more said
-    record { verdicts = c.loop-item.invariant.verdicts; versions = c.loop-item.invariant.versions; below = c.loop-item.invariant.below }
+    record {
+      verdicts = c.loop-item.invariant.verdicts;
+      versions = c.loop-item.invariant.versions;
+      below =
+          c.loop-item.invariant.below;
+    }
     c.in_ok-verdict.ensures.verdict c.in_ok-verdict.ensures.versions in
     record { verdicts = judged.verdicts; versions = judged.versions; below = judged.below }

@@ -8,6 +8,8 @@ abbrev pub invariant-loop-item : goal.invariant-loop-item
 invariant-loop-item l =
     record {
       verdicts : AreVerdicts l.version (version_at l.initial.versions) (take l.item-index l.items) l.answers;
-      versions : (x : Point) → version_at l.versions x ≡ versions_after l.version (version_at l.initial.versions) (take l.item-index l.items) l.answers x;
+      versions : (x : Point)
+          → version_at l.versions x ≡ versions_after l.version (version_at l.initial.versions)
+          (take l.item-index l.items) l.answers x;
       below : (x : Point) → version_at l.versions x ≤ l.version;
     }

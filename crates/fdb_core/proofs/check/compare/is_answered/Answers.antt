@@ -9,5 +9,7 @@ use Rattle.fdb_core.proofs.check.compare.is_answered.Goals as goal
 pub returns-else-snapshot : goal.returns-else-snapshot
 returns-else-snapshot c =
     let is : c.args.op.now ≡ Get c.in-Get.key false = search rules in
-    let left : option_copied c.value_after_ops.result ≡ fold (value_after_op c.in-Get.key) (get c.args.map.now c.in-Get.key) c.args.earlier.now = search rules in
-    answered-read c.args.map.now c.args.earlier.now c.args.op.now c.args.reply.now c.in-Get.key (option_copied c.value_after_ops.result) c.is_value.result is left c.is_value.ensures
+    let left : option_copied c.value_after_ops.result ≡ fold (value_after_op c.in-Get.key)
+    (get c.args.map.now c.in-Get.key) c.args.earlier.now = search rules in
+    answered-read c.args.map.now c.args.earlier.now c.args.op.now c.args.reply.now c.in-Get.key
+    (option_copied c.value_after_ops.result) c.is_value.result is left c.is_value.ensures

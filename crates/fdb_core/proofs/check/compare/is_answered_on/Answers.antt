@@ -9,11 +9,13 @@ returns-then-not-is_answered c =
     let ops = c.as_slice-ops.result.now in
     let done = c.index-ops-place.result in
     let within : c.loop-place.place < length ops = search rules in
-    let there : slice_get ops c.loop-place.place ≡ Some done = slice_get_read ops (length ops) c.loop-place.place done refl within c.index-ops-place.is in (
+    let there : slice_get ops c.loop-place.place ≡ Some done = slice_get_read ops (length ops) c.loop-place.place done
+    refl within c.index-ops-place.is in (
       λ never. absurd (both_ways _ refl never),
       λ answered.
           let all = subst (AnsweredSoFar c.args.map.now) (sym c.as_slice-ops.ensures) answered in
-          absurd (both_ways _ c.if-not-is_answered.true (c.is_answered.ensures.1 (answered-at c.args.map.now ops c.loop-place.place done there all))),
+          absurd (both_ways _ c.if-not-is_answered.true
+          (c.is_answered.ensures.1 (answered-at c.args.map.now ops c.loop-place.place done there all))),
     )
 
 pub loop-place-preserved : goal.loop-place-preserved
@@ -21,5 +23,7 @@ loop-place-preserved c =
     let ops = c.as_slice-ops.result.now in
     let done = c.index-ops-place.result in
     let within : c.loop-place.place < length ops = search rules in
-    let there : slice_get ops c.loop-place.place ≡ Some done = slice_get_read ops (length ops) c.loop-place.place done refl within c.index-ops-place.is in
-    answered-next c.args.map.now ops c.loop-place.place done there (c.is_answered.ensures.0 c.if-not-is_answered.false) c.loop-place.invariant
+    let there : slice_get ops c.loop-place.place ≡ Some done = slice_get_read ops (length ops) c.loop-place.place done
+    refl within c.index-ops-place.is in
+    answered-next c.args.map.now ops c.loop-place.place done there (c.is_answered.ensures.0 c.if-not-is_answered.false)
+    c.loop-place.invariant

@@ -10,6 +10,7 @@ loop-mutation-preserved c =
     let mutations = c.args.mutations.now in
     let i = c.loop-mutation.mutation-index in
     let within : i < length mutations = search rules in
-    let there : slice_get mutations i ≡ Some c.mutation-item.result = slice_get_read mutations (length mutations) i c.mutation-item.result refl within c.mutation-item.is in
+    let there : slice_get mutations i ≡ Some c.mutation-item.result = slice_get_read mutations (length mutations) i
+    c.mutation-item.result refl within c.mutation-item.is in
     c.in-Ok.ensures.answers ∙ ap (λ (map : Map). effect map c.mutation-item.result) c.loop-mutation.invariant
     ∙ sym (effects-next c.args.map.now mutations i c.mutation-item.result there)

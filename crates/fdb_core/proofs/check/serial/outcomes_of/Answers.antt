@@ -8,11 +8,15 @@ use Rattle.fdb_core.proofs.refinement.ResolvingLemmas.{still_before, moveless, r
 use Rattle.fdb_core.proofs.check.serial.outcomes_of.Goals as goal
 
 -- the outcomes are by the verdicts
-decided : (c : goal.After-drop-verdicts-inside) → c.in-Ok-decide_batch.outcomes ≡ outcomes_by c.args.entry.now.version c.in-Ok.verdicts (length c.args.entry.now.batch)
+decided : (c : goal.After-drop-verdicts-inside)
+    → c.in-Ok-decide_batch.outcomes ≡ outcomes_by c.args.entry.now.version c.in-Ok.verdicts
+    (length c.args.entry.now.batch)
 decided c =
     c.in-Ok-decide_batch.ensures
-    ∙ ap (λ (n : ℕ). outcomes_by c.args.entry.now.version c.as_slice.result.now n) (ap length c.as_slice-batch.ensures.places)
-    ∙ ap (λ (said : List (ℕ × Verdict)). outcomes_by c.args.entry.now.version said (length c.args.entry.now.batch)) c.as_slice.ensures
+    ∙ ap (λ (n : ℕ). outcomes_by c.args.entry.now.version c.as_slice.result.now n)
+    (ap length c.as_slice-batch.ensures.places)
+    ∙ ap (λ (said : List (ℕ × Verdict)). outcomes_by c.args.entry.now.version said (length c.args.entry.now.batch))
+    c.as_slice.ensures
 
 pub returns-in-Ok-decide_batch-clause-count : goal.returns-in-Ok-decide_batch-clause-count
 returns-in-Ok-decide_batch-clause-count c =
@@ -23,5 +27,7 @@ returns-in-Ok-decide_batch-clause-outcomes c before next =
     let entry = c.args.entry.now in
     let resolver = c.args.resolver.now in
     decided c
-    ∙ ap (λ (said : List (ℕ × Verdict)). outcomes_by entry.version said (length entry.batch)) (c.in-Ok.ensures.verdicts before next)
-    ∙ outcomes-decided (seen_of before) entry (still_before before entry resolver next) (moveless before entry resolver next) (reads_below before entry resolver next)
+    ∙ ap (λ (said : List (ℕ × Verdict)). outcomes_by entry.version said (length entry.batch))
+    (c.in-Ok.ensures.verdicts before next)
+    ∙ outcomes-decided (seen_of before) entry (still_before before entry resolver next)
+    (moveless before entry resolver next) (reads_below before entry resolver next)

@@ -18,11 +18,15 @@ loop-place-preserved c =
     let before = c.loop-place.invariant in
     let within : p < length batch = search rules in
     let decided : p < length outcomes = omega arith in
-    let there : slice_get batch p ≡ Some c.index-batch-place.result = slice_get_read batch (length batch) p c.index-batch-place.result refl within c.index-batch-place.is in
+    let there : slice_get batch p ≡ Some c.index-batch-place.result = slice_get_read batch (length batch) p
+    c.index-batch-place.result refl within c.index-batch-place.is in
     record {
-      map = after-next map c.loop-place.map c.run_place.new.map batch outcomes p c.index-batch-place.result _ there decided before.map c.in_ok-run_place.ensures.map;
-      compared = all-both (AnsweredIn map batch outcomes c.args.entry p) (AnsweredAt (Before c.args.entry p) c.loop-place.map) (AnsweredIn map batch outcomes c.args.entry (p + 1))
-          (λ (placed : Placed) earlier here. below_more (λ (q : ℕ). AnsweredAt (Before c.args.entry q) (map_after map batch outcomes q) placed) p earlier
+      map = after-next map c.loop-place.map c.run_place.new.map batch outcomes p c.index-batch-place.result _ there
+          decided before.map c.in_ok-run_place.ensures.map;
+      compared = all-both (AnsweredIn map batch outcomes c.args.entry p)
+          (AnsweredAt (Before c.args.entry p) c.loop-place.map) (AnsweredIn map batch outcomes c.args.entry (p + 1))
+          (λ (placed : Placed) earlier here. below_more
+          (λ (q : ℕ). AnsweredAt (Before c.args.entry q) (map_after map batch outcomes q) placed) p earlier
           (subst (λ (there : Map). AnsweredAt (Before c.args.entry p) there placed) before.map here))
           c.args.acknowledged.now before.compared c.in_ok-run_place.ensures.compared;
     }

@@ -15,10 +15,13 @@ returns-in_err-compare c = λ plain come.
     let index = c.args.index in
     let entry = c.index-book-index.result in
     let within : index < length book = search rules in
-    let there : slice_get book index ≡ Some entry = slice_get_read book (length book) index entry refl within c.index-book-index.is in
-    let next : IsUntil book index (Some entry.version) = λ other at. ap (λ (e : Entry). Some e.version) (same_Some entry other (sym there ∙ at)) in
+    let there : slice_get book index ≡ Some entry = slice_get_read book (length book) index entry refl within
+    c.index-book-index.is in
+    let next : IsUntil book index (Some entry.version) = λ other at. ap (λ (e : Entry). Some e.version)
+    (same_Some entry other (sym there ∙ at)) in
     let stops : StopsBy (Agrees book) c.args.acknowledged.now c.in_err-compare.field-0.0 =
-    stops-between book plain index c.args.acknowledged.now c.args.replay.now c.last_version.result (Some entry.version) c.in_err-compare.field-0.0 come
+    stops-between book plain index c.args.acknowledged.now c.args.replay.now c.last_version.result (Some entry.version)
+    c.in_err-compare.field-0.0 come
     c.last_version.ensures next c.in_err-compare.ensures in
     let left = err_from_is_err_and c.from_residual.result c.from_residual.ensures.1 in
     rw (left.1, left.2) stops
@@ -39,12 +42,15 @@ returns c = λ plain come.
     let outcomes = c.in_ok-outcomes.outcomes in
     let new : Replay = record { resolver = c.outcomes_of.new.resolver; map = c.run_batch.new.map } in
     let within : index < length book = search rules in
-    let there : slice_get book index ≡ Some entry = slice_get_read book (length book) index entry refl within c.index-book-index.is in
+    let there : slice_get book index ≡ Some entry = slice_get_read book (length book) index entry refl within
+    c.index-book-index.is in
     let next = awaits book c.args.replay.now.resolver index entry plain.no_moves plain.entries there come.resolver in
     let are = c.in_ok-outcomes.ensures.outcomes (take index book) next in
     let map = rw (c.as_slice.ensures.places, c.as_slice-2.ensures) at c.run_batch.ensures.map in
     let compared = rw (c.as_slice.ensures.places, c.as_slice-2.ensures) at c.run_batch.ensures.compared in
-    ends-weaken c.run_batch.result (HasCome book acknowledged (index + 1) new) (StopsBy (Agrees book) acknowledged) map compared
-    (λ mapped inside. comes-next book plain index entry there acknowledged c.args.replay.now new c.last_version.result outcomes come c.last_version.ensures
+    ends-weaken c.run_batch.result (HasCome book acknowledged (index + 1) new) (StopsBy (Agrees book) acknowledged) map
+    compared
+    (λ mapped inside. comes-next book plain index entry there acknowledged c.args.replay.now new c.last_version.result
+    outcomes come c.last_version.ensures
     are (c.in_ok-outcomes.ensures.resolver (take index book) next) mapped c.in_ok-compare.ensures inside)
     (λ fault. stops-in book plain index entry there acknowledged c.args.replay.now outcomes fault come are)

@@ -11,15 +11,23 @@ returns-then-not-are_alike c =
     let items = c.args.batch.now in
     let i = c.loop-txn.txn-index in
     let within : i < length items = search rules in
-    let there : slice_get items i ≡ Some c.txn-item.result = slice_get_read items (length items) i c.txn-item.result refl within c.txn-item.is in
-    let decides = subst (λ (mutations : List Mutation). (c.are_alike.result ≡ true) ↔ AreAlike c.args.map.now c.args.shard.now c.args.version (some_names mutations)) c.mutations.ensures c.are_alike.ensures in
-    unlike-at c.args.map.now c.args.shard.now c.args.version (λ (t : Transaction). some_names t.mutations) items i c.txn-item.result c.are_alike.result there decides c.if-not-are_alike.true
+    let there : slice_get items i ≡ Some c.txn-item.result = slice_get_read items (length items) i c.txn-item.result
+    refl within c.txn-item.is in
+    let decides = subst
+    (λ (mutations : List Mutation). (c.are_alike.result ≡ true) ↔ AreAlike c.args.map.now c.args.shard.now
+    c.args.version (some_names mutations)) c.mutations.ensures c.are_alike.ensures in
+    unlike-at c.args.map.now c.args.shard.now c.args.version (λ (t : Transaction). some_names t.mutations) items i
+    c.txn-item.result c.are_alike.result there decides c.if-not-are_alike.true
 
 pub loop-txn-preserved : goal.loop-txn-preserved
 loop-txn-preserved c =
     let items = c.args.batch.now in
     let i = c.loop-txn.txn-index in
     let within : i < length items = search rules in
-    let there : slice_get items i ≡ Some c.txn-item.result = slice_get_read items (length items) i c.txn-item.result refl within c.txn-item.is in
-    let decides = subst (λ (mutations : List Mutation). (c.are_alike.result ≡ true) ↔ AreAlike c.args.map.now c.args.shard.now c.args.version (some_names mutations)) c.mutations.ensures c.are_alike.ensures in
-    alike-next c.args.map.now c.args.shard.now c.args.version (λ (t : Transaction). some_names t.mutations) items i c.txn-item.result there (decides.0 c.if-not-are_alike.false) c.loop-txn.invariant
+    let there : slice_get items i ≡ Some c.txn-item.result = slice_get_read items (length items) i c.txn-item.result
+    refl within c.txn-item.is in
+    let decides = subst
+    (λ (mutations : List Mutation). (c.are_alike.result ≡ true) ↔ AreAlike c.args.map.now c.args.shard.now
+    c.args.version (some_names mutations)) c.mutations.ensures c.are_alike.ensures in
+    alike-next c.args.map.now c.args.shard.now c.args.version (λ (t : Transaction). some_names t.mutations) items i
+    c.txn-item.result there (decides.0 c.if-not-are_alike.false) c.loop-txn.invariant

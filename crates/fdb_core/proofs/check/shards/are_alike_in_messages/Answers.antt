@@ -12,15 +12,23 @@ returns-then-not-are_alike c =
     let items = c.args.shard.now in
     let i = c.loop-message.message-index in
     let within : i < length items = search rules in
-    let there : slice_get items i ≡ Some c.message-item.result = slice_get_read items (length items) i c.message-item.result refl within c.message-item.is in
-    let decides = subst (λ (mutations : List Mutation). (c.are_alike.result ≡ true) ↔ AreAlike c.args.map.now c.args.shard.now c.args.version (some_names mutations)) c.body.ensures c.are_alike.ensures in
-    unlike-at c.args.map.now c.args.shard.now c.args.version (λ (message : Message). some_names message.body) items i c.message-item.result c.are_alike.result there decides c.if-not-are_alike.true
+    let there : slice_get items i ≡ Some c.message-item.result = slice_get_read items (length items) i
+    c.message-item.result refl within c.message-item.is in
+    let decides = subst
+    (λ (mutations : List Mutation). (c.are_alike.result ≡ true) ↔ AreAlike c.args.map.now c.args.shard.now
+    c.args.version (some_names mutations)) c.body.ensures c.are_alike.ensures in
+    unlike-at c.args.map.now c.args.shard.now c.args.version (λ (message : Message). some_names message.body) items i
+    c.message-item.result c.are_alike.result there decides c.if-not-are_alike.true
 
 pub loop-message-preserved : goal.loop-message-preserved
 loop-message-preserved c =
     let items = c.args.shard.now in
     let i = c.loop-message.message-index in
     let within : i < length items = search rules in
-    let there : slice_get items i ≡ Some c.message-item.result = slice_get_read items (length items) i c.message-item.result refl within c.message-item.is in
-    let decides = subst (λ (mutations : List Mutation). (c.are_alike.result ≡ true) ↔ AreAlike c.args.map.now c.args.shard.now c.args.version (some_names mutations)) c.body.ensures c.are_alike.ensures in
-    alike-next c.args.map.now c.args.shard.now c.args.version (λ (message : Message). some_names message.body) items i c.message-item.result there (decides.0 c.if-not-are_alike.false) c.loop-message.invariant
+    let there : slice_get items i ≡ Some c.message-item.result = slice_get_read items (length items) i
+    c.message-item.result refl within c.message-item.is in
+    let decides = subst
+    (λ (mutations : List Mutation). (c.are_alike.result ≡ true) ↔ AreAlike c.args.map.now c.args.shard.now
+    c.args.version (some_names mutations)) c.body.ensures c.are_alike.ensures in
+    alike-next c.args.map.now c.args.shard.now c.args.version (λ (message : Message). some_names message.body) items i
+    c.message-item.result there (decides.0 c.if-not-are_alike.false) c.loop-message.invariant

@@ -17,14 +17,18 @@ use Rattle.fdb_core.proofs.cluster.Cluster.answer.Goals as goal
 use Rattle.fdb_core.proofs.cluster.Cluster.answer.Goals.{After-reply_all-arg-1}
 
 -- what was found where the clients are answered
-answering : (c : After-reply_all-arg-1) → (entry : Entry) × Answering c.args.self.now c.args.proxy c.index-commit_proxy.result.now entry
+answering : (c : After-reply_all-arg-1) → (entry : Entry)
+    × Answering c.args.self.now c.args.proxy c.index-commit_proxy.result.now entry
 answering c =
     let k = c.args.self.now in
     let commit_proxy = c.index-commit_proxy.result.now in
     let within : c.args.proxy < length k.commit_proxies.items = search rules in
-    let proxy_there : slice_get k.commit_proxies.items c.args.proxy ≡ Some commit_proxy = slice_get_read k.commit_proxies.items (length k.commit_proxies.items) c.args.proxy commit_proxy refl within c.index-commit_proxy.ensures in
+    let proxy_there : slice_get k.commit_proxies.items c.args.proxy ≡ Some commit_proxy = slice_get_read
+    k.commit_proxies.items (length k.commit_proxies.items) c.args.proxy commit_proxy refl within
+    c.index-commit_proxy.ensures in
     let in_book : c.entry-i.result < length k.book.items = search rules in
-    let inside : commit_proxy.entry < length k.book.items = subst (λ (i : ℕ). i < length k.book.items) c.entry-i.ensures in_book in
+    let inside : commit_proxy.entry < length k.book.items = subst (λ (i : ℕ). i < length k.book.items) c.entry-i.ensures
+    in_book in
     let entry = within-item k.book.items commit_proxy.entry inside in
     let reported : is_reported commit_proxy.stage ≡ true = search rules in
     (entry.0, record { proxy_there = proxy_there; reported = reported; entry_there = entry.1 })
@@ -48,26 +52,34 @@ returns-clause-answer c =
     let found = answering (goal.at.returns-clause-answer c).After-reply_all-arg-1 in
     let told : c.in_ok-told.told ≡ replies_from c.index-commit_proxy.result.now.in_flight c.args.self.now.outcomes =
     c.in_ok-told.ensures
-    ∙ ap₂ (λ (transcripts : List Transcript) (outcomes : List Outcome). replies_from transcripts outcomes) c.in_flight-transcripts.ensures c.as_slice-outcomes.ensures in
-    sym (ap answer_of (answers-transition c.args.self.now c.args.proxy c.index-commit_proxy.result.now found.0 c.requires found.1)
+    ∙ ap₂ (λ (transcripts : List Transcript) (outcomes : List Outcome). replies_from transcripts outcomes)
+    c.in_flight-transcripts.ensures c.as_slice-outcomes.ensures in
+    sym (ap answer_of
+    (answers-transition c.args.self.now c.args.proxy c.index-commit_proxy.result.now found.0 c.requires found.1)
     ∙ ap (λ (replies : List (ℕ × Outcome)). Ok (answered.Answers replies)) (sym told))
 
 -- the proxy whose batch is answered is the one that was read
-finished : (k : Cluster) (proxy : ℕ) (read changed new : CommitProxy) → slice_get k.commit_proxies.items proxy ≡ Some read
-    → changed ≡ get_or k.commit_proxies.items proxy changed → new ≡ record changed { in_flight = []; stage = Idle } → new ≡ record read { in_flight = []; stage = Idle }
+finished : (k : Cluster) (proxy : ℕ) (read changed new : CommitProxy)
+    → slice_get k.commit_proxies.items proxy ≡ Some read
+    → changed ≡ get_or k.commit_proxies.items proxy changed → new ≡ record changed { in_flight = []; stage = Idle }
+    → new ≡ record read { in_flight = []; stage = Idle }
 finished k proxy read changed new there is after =
     after ∙ ap (λ (p : CommitProxy). record p { in_flight = []; stage = Idle })
-    (one-item k.commit_proxies.items proxy changed read (slice_get_within k.commit_proxies.items proxy read there) is there)
+    (one-item k.commit_proxies.items proxy changed read (slice_get_within k.commit_proxies.items proxy read there) is
+    there)
 
 pub returns-clause-after : goal.returns-clause-after
 returns-clause-after c =
     let k = c.args.self.now in
     let commit_proxy = c.index-commit_proxy.result.now in
     let found = answering (goal.at.returns-clause-after c).After-reply_all-arg-1 in
-    let new = finished k c.args.proxy commit_proxy c.index_mut-commit_proxy.result.now c.finish.new.self found.1.proxy_there c.index_mut-commit_proxy.ensures.value c.finish.ensures in
-    let placed : c.place_all.new.placed.items ≡ k.acknowledged.items ++ placed_from commit_proxy.entry commit_proxy.in_flight k.outcomes =
+    let new = finished k c.args.proxy commit_proxy c.index_mut-commit_proxy.result.now c.finish.new.self
+    found.1.proxy_there c.index_mut-commit_proxy.ensures.value c.finish.ensures in
+    let placed : c.place_all.new.placed.items ≡ k.acknowledged.items ++ placed_from commit_proxy.entry
+    commit_proxy.in_flight k.outcomes =
     c.in_ok-place_all.ensures
-    ∙ (λ i. k.acknowledged.items ++ placed_from (c.entry.ensures i) (c.in_flight-transcripts.ensures i) (c.as_slice-outcomes.ensures i)) in
+    ∙ (λ i. k.acknowledged.items ++ placed_from (c.entry.ensures i) (c.in_flight-transcripts.ensures i)
+    (c.as_slice-outcomes.ensures i)) in
     sym (ap (after (machine_of k)) (answers-transition k c.args.proxy commit_proxy found.0 c.requires found.1)
     ∙ ap₂ (λ (acknowledged : List Placed) (p : CommitProxy). record (machine_of k) {
       acknowledged = acknowledged;

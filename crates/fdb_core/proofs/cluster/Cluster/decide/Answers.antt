@@ -20,15 +20,19 @@ use Rattle.fdb_core.proofs.cluster.Cluster.decide.Goals.{After-is_set-is_receive
 use Rattle.fdb_core.specs.refinement.Resolving.{sent_by}
 
 -- what was found once the resolver's flag was read
-found_at : (c : After-is_set-is_received) → (entry : Entry) × Deciding c.args.self.now c.args.proxy c.index-commit_proxy.result.now entry
+found_at : (c : After-is_set-is_received) → (entry : Entry)
+    × Deciding c.args.self.now c.args.proxy c.index-commit_proxy.result.now entry
     × (is_set c.index-commit_proxy.result.now.verdicts_received 0 ≡ c.is_set-is_received.result)
 found_at c =
     let k = c.args.self.now in
     let commit_proxy = c.index-commit_proxy.result.now in
     let within : c.args.proxy < length k.commit_proxies.items = search rules in
-    let proxy_there : slice_get k.commit_proxies.items c.args.proxy ≡ Some commit_proxy = slice_get_read k.commit_proxies.items (length k.commit_proxies.items) c.args.proxy commit_proxy refl within c.index-commit_proxy.ensures in
+    let proxy_there : slice_get k.commit_proxies.items c.args.proxy ≡ Some commit_proxy = slice_get_read
+    k.commit_proxies.items (length k.commit_proxies.items) c.args.proxy commit_proxy refl within
+    c.index-commit_proxy.ensures in
     let in_book : c.entry-i.result < length k.book.items = search rules in
-    let inside : commit_proxy.entry < length k.book.items = subst (λ (i : ℕ). i < length k.book.items) c.entry-i.ensures in_book in
+    let inside : commit_proxy.entry < length k.book.items = subst (λ (i : ℕ). i < length k.book.items) c.entry-i.ensures
+    in_book in
     let entry = within-item k.book.items commit_proxy.entry inside in
     let resolving : is_resolving commit_proxy.stage ≡ true = search rules in
     let verdicts_received : is_set commit_proxy.verdicts_received 0 ≡ c.is_set-is_received.result =
@@ -36,7 +40,8 @@ found_at c =
     (entry.0, record { proxy_there = proxy_there; resolving = resolving; entry_there = entry.1 }, verdicts_received)
 
 -- an entry that was read by the proxy's number for it
-read_entry : (k : Cluster) (number i : ℕ) (read entry : Entry) → number ≡ i → slice_get k.book.items i ≡ Some entry → read ≡ get_or k.book.items number read
+read_entry : (k : Cluster) (number i : ℕ) (read entry : Entry) → number ≡ i → slice_get k.book.items i ≡ Some entry
+    → read ≡ get_or k.book.items number read
     → read ≡ entry
 read_entry k number i read entry same there is =
     let at : slice_get k.book.items number ≡ Some entry = ap (λ (n : ℕ). slice_get k.book.items n) same ∙ there in
@@ -48,10 +53,12 @@ waits c =
     let k = c.args.self.now in
     let commit_proxy = c.index-commit_proxy.result.now in
     let f = found_at (goal.at.returns-then-are_any_judged-clause-answer c).After-is_set-is_received in
-    let this = read_entry k c.entry-i.result commit_proxy.entry c.index.result.now f.0 c.entry-i.ensures f.1.entry_there c.index.ensures in
+    let this = read_entry k c.entry-i.result commit_proxy.entry c.index.result.now f.0 c.entry-i.ensures f.1.entry_there
+    c.index.ensures in
     let not_received : c.is_set-is_received.result ≡ false = search rules in
     let judged : is_any_judged c.index.result.now ≡ true = search rules in
-    decides-waits k c.args.proxy commit_proxy f.0 c.requires f.1 (f.2 ∙ not_received) (ap is_any_judged (sym this) ∙ judged)
+    decides-waits k c.args.proxy commit_proxy f.0 c.requires f.1 (f.2 ∙ not_received)
+    (ap is_any_judged (sym this) ∙ judged)
 
 pub returns-then-are_any_judged-clause-answer : goal.returns-then-are_any_judged-clause-answer
 returns-then-are_any_judged-clause-answer c = sym (ap answer_of (waits c))
@@ -66,22 +73,28 @@ decision-requires-clause-verdicts_received c is =
     (verdicts_received-taken c.args.self.now c.args.proxy c.index-commit_proxy.result.now f.0 c.requires f.1 (f.2 ∙ is))
 
 -- the verdicts came, or aren't needed
-none_missing : (c : In_ok-answer) (entry : Entry) → slice_get c.args.self.now.book.items c.index-commit_proxy.result.now.entry ≡ Some entry
+none_missing : (c : In_ok-answer) (entry : Entry)
+    → slice_get c.args.self.now.book.items c.index-commit_proxy.result.now.entry ≡ Some entry
     → (is_any_judged entry && not c.is_set-is_received.result) ≡ false
 none_missing c entry there = elim c.else-not-is_received.branch [
   | else-not-is_received-via-then-not-is_received+else-are_any_judged w ↦
-      let this = read_entry c.args.self.now c.entry-i.result c.index-commit_proxy.result.now.entry w.index.result.now entry c.entry-i.ensures there
+      let this = read_entry c.args.self.now c.entry-i.result c.index-commit_proxy.result.now.entry w.index.result.now
+      entry c.entry-i.ensures there
       w.index.ensures in
       let unjudged : is_any_judged w.index.result.now ≡ false = search rules in
       and_left (is_any_judged entry) (not c.is_set-is_received.result) (ap is_any_judged (sym this) ∙ unjudged)
-  | else-not-is_received-via-else-not-is_received w ↦ and_right (is_any_judged entry) (not c.is_set-is_received.result) (search rules)
+  | else-not-is_received-via-else-not-is_received w ↦ and_right (is_any_judged entry) (not c.is_set-is_received.result)
+      (search rules)
 ]
 
 -- what was decided of the entry
-decided : (c : In_ok-answer) → IsDecision c.args.self.now.book.items (sent_by c.args.self.now.resolvers.items) c.index-commit_proxy.result.now.entry c.is_set-is_received.result
+decided : (c : In_ok-answer)
+    → IsDecision c.args.self.now.book.items (sent_by c.args.self.now.resolvers.items)
+    c.index-commit_proxy.result.now.entry c.is_set-is_received.result
     (c.in_ok-outcomes.outcomes, c.in_ok-outcomes.message)
 decided c =
-    subst (λ (i : ℕ). IsDecision c.args.self.now.book.items (sent_by c.args.self.now.resolvers.items) i c.is_set-is_received.result (c.in_ok-outcomes.outcomes, c.in_ok-outcomes.message))
+    subst (λ (i : ℕ). IsDecision c.args.self.now.book.items (sent_by c.args.self.now.resolvers.items) i
+    c.is_set-is_received.result (c.in_ok-outcomes.outcomes, c.in_ok-outcomes.message))
     c.entry-i.ensures c.in_ok-outcomes.ensures
 
 pub returns-clause-answer : goal.returns-clause-answer
@@ -91,17 +104,23 @@ returns-clause-answer c =
     let f = found_at (goal.at.returns-clause-answer c).After-is_set-is_received in
     let none = none_missing (goal.at.returns-clause-answer c).In_ok-answer f.0 f.1.entry_there in
     let decision : List Outcome × Message = (c.in_ok-outcomes.outcomes, c.in_ok-outcomes.message) in
-    let outcomes = decision-outcomes k c.args.proxy commit_proxy f.0 c.requires f.1 c.is_set-is_received.result decision f.2 none (decided (goal.at.returns-clause-answer c).In_ok-answer) in
-    let same : c.in_ok-answer.answer ≡ c.in_ok-outcomes.outcomes = same-items c.in_ok-outcomes.outcomes c.in_ok-answer.answer c.in_ok-answer.ensures.cases in
-    sym (ap answer_of (decides-transition k c.args.proxy commit_proxy f.0 c.requires f.1 c.is_set-is_received.result f.2 none)
+    let outcomes = decision-outcomes k c.args.proxy commit_proxy f.0 c.requires f.1 c.is_set-is_received.result decision
+    f.2 none (decided (goal.at.returns-clause-answer c).In_ok-answer) in
+    let same : c.in_ok-answer.answer ≡ c.in_ok-outcomes.outcomes = same-items c.in_ok-outcomes.outcomes
+    c.in_ok-answer.answer c.in_ok-answer.ensures.cases in
+    sym (ap answer_of
+    (decides-transition k c.args.proxy commit_proxy f.0 c.requires f.1 c.is_set-is_received.result f.2 none)
     ∙ ap (λ (said : List Outcome). Ok (answered.Decided said)) (sym (same ∙ outcomes)))
 
 -- the proxy that is decided is the one that was read
-logging : (k : Cluster) (proxy : ℕ) (read changed new : CommitProxy) → slice_get k.commit_proxies.items proxy ≡ Some read
-    → changed ≡ get_or k.commit_proxies.items proxy changed → new ≡ record changed { stage = Logging } → new ≡ record read { stage = Logging }
+logging : (k : Cluster) (proxy : ℕ) (read changed new : CommitProxy)
+    → slice_get k.commit_proxies.items proxy ≡ Some read
+    → changed ≡ get_or k.commit_proxies.items proxy changed → new ≡ record changed { stage = Logging }
+    → new ≡ record read { stage = Logging }
 logging k proxy read changed new there is after =
     after ∙ ap (λ (p : CommitProxy). record p { stage = Logging })
-    (one-item k.commit_proxies.items proxy changed read (slice_get_within k.commit_proxies.items proxy read there) is there)
+    (one-item k.commit_proxies.items proxy changed read (slice_get_within k.commit_proxies.items proxy read there) is
+    there)
 
 pub returns-clause-after : goal.returns-clause-after
 returns-clause-after c =
@@ -109,8 +128,10 @@ returns-clause-after c =
     let commit_proxy = c.index-commit_proxy.result.now in
     let f = found_at (goal.at.returns-clause-after c).After-is_set-is_received in
     let none = none_missing (goal.at.returns-clause-after c).In_ok-answer f.0 f.1.entry_there in
-    let new = logging k c.args.proxy commit_proxy c.index_mut-commit_proxy.result.now c.decide.new.self f.1.proxy_there c.index_mut-commit_proxy.ensures.value c.decide.ensures in
-    sym (ap (after (machine_of k)) (decides-transition k c.args.proxy commit_proxy f.0 c.requires f.1 c.is_set-is_received.result f.2 none)
+    let new = logging k c.args.proxy commit_proxy c.index_mut-commit_proxy.result.now c.decide.new.self f.1.proxy_there
+    c.index_mut-commit_proxy.ensures.value c.decide.ensures in
+    sym (ap (after (machine_of k))
+    (decides-transition k c.args.proxy commit_proxy f.0 c.requires f.1 c.is_set-is_received.result f.2 none)
     ∙ sym (λ i. record (machine_of k) {
       decided = slice_set k.decided.items (c.entry-i.ensures i) true;
       commit_proxies = slice_set k.commit_proxies.items c.args.proxy (new i);
@@ -124,9 +145,12 @@ returns-clause-refines c =
     let none = none_missing (goal.at.returns-clause-refines c).In_ok-answer f.0 f.1.entry_there in
     let decision : List Outcome × Message = (c.in_ok-outcomes.outcomes, c.in_ok-outcomes.message) in
     let is = decided (goal.at.returns-clause-refines c).In_ok-answer in
-    let outcomes = decision-outcomes k c.args.proxy commit_proxy f.0 c.requires f.1 c.is_set-is_received.result decision f.2 none is in
-    let message = decision-message k c.args.proxy commit_proxy f.0 c.requires f.1 c.is_set-is_received.result decision f.2 none is in
-    let new = logging k c.args.proxy commit_proxy c.index_mut-commit_proxy.result.now c.decide.new.self f.1.proxy_there c.index_mut-commit_proxy.ensures.value c.decide.ensures in
+    let outcomes = decision-outcomes k c.args.proxy commit_proxy f.0 c.requires f.1 c.is_set-is_received.result decision
+    f.2 none is in
+    let message = decision-message k c.args.proxy commit_proxy f.0 c.requires f.1 c.is_set-is_received.result decision
+    f.2 none is in
+    let new = logging k c.args.proxy commit_proxy c.index_mut-commit_proxy.result.now c.decide.new.self f.1.proxy_there
+    c.index_mut-commit_proxy.ensures.value c.decide.ensures in
     subst (λ (p : CommitProxy). Refines (record k {
       decided = with_item k.decided c.entry-i.result true;
       commit_proxies = with_item k.commit_proxies c.args.proxy p;
@@ -138,4 +162,6 @@ returns-clause-refines c =
       commit_proxies = with_item k.commit_proxies c.args.proxy (record commit_proxy { stage = Logging });
       outcomes = c.in_ok-outcomes.outcomes;
       messages = with_item k.messages i (Some c.in_ok-outcomes.message);
-    })) (sym c.entry-i.ensures) (decided-refines k c.args.proxy commit_proxy f.0 c.requires f.1 c.in_ok-outcomes.outcomes c.in_ok-outcomes.message outcomes message))
+    })) (sym c.entry-i.ensures)
+    (decided-refines k c.args.proxy commit_proxy f.0 c.requires f.1 c.in_ok-outcomes.outcomes
+    c.in_ok-outcomes.message outcomes message))

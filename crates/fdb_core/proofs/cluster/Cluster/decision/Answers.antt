@@ -17,24 +17,29 @@ use Rattle.fdb_core.specs.refinement.Resolving.{sent_by}
 pub committed_body-requires : goal.committed_body-requires
 committed_body-requires c =
     sym (ap (λ (outcomes : List Outcome). length outcomes) (c.as_slice.ensures ∙ c.in_ok-outcomes.ensures)
-    ∙ length-outcomes_by c.index-entry.result.now.version c.if-is_received.said.now (length c.as_slice-batch.result.now))
+    ∙ length-outcomes_by c.index-entry.result.now.version c.if-is_received.said.now
+    (length c.as_slice-batch.result.now))
 
 pub returns : goal.returns
 returns c entry sent there verdicts_received =
     let k = c.args.self.now in
     let found : slice_get k.book.items c.args.i ≡ Some c.index-entry.result.now =
-    slice_get_read k.book.items (length k.book.items) c.args.i c.index-entry.result.now refl c.requires.within c.index-entry.ensures in
+    slice_get_read k.book.items (length k.book.items) c.args.i c.index-entry.result.now refl c.requires.within
+    c.index-entry.ensures in
     let same : c.index-entry.result.now ≡ entry = same_Some c.index-entry.result.now entry (sym found ∙ there) in
     let said : c.if-is_received.said.now ≡ (if c.args.is_received then sent else []) = elim c.if-is_received.branch [
       | then-is_received w ↦
           ap (λ (verdicts : Bor (List (ℕ × Verdict))). verdicts.now) w.said-is
           ∙ same_Some w.sent_of-said.result.now sent (sym w.sent_of-said.ensures
-          ∙ ap (λ (resolvers : List ResolverRole). slice_get (sent_by resolvers) c.args.i) w.deref.ensures.value ∙ verdicts_received w.if-is_received.true)
+          ∙ ap (λ (resolvers : List ResolverRole). slice_get (sent_by resolvers) c.args.i) w.deref.ensures.value
+          ∙ verdicts_received w.if-is_received.true)
           ∙ sym (cond-true c.args.is_received sent [] w.if-is_received.true)
       | else-is_received w ↦
-          ap (λ (verdicts : Bor (List (ℕ × Verdict))). verdicts.now) w.said-is ∙ sym (cond-false c.args.is_received sent [] w.if-is_received.false)
+          ap (λ (verdicts : Bor (List (ℕ × Verdict))). verdicts.now) w.said-is
+          ∙ sym (cond-false c.args.is_received sent [] w.if-is_received.false)
     ] in
-    let outcomes : c.in_ok-outcomes.outcomes ≡ outcomes_by entry.version (if c.args.is_received then sent else []) (length entry.batch) =
+    let outcomes : c.in_ok-outcomes.outcomes ≡ outcomes_by entry.version (if c.args.is_received then sent else [])
+    (length entry.batch) =
     c.in_ok-outcomes.ensures
     ∙ ap (λ (count : ℕ). outcomes_by c.index-entry.result.now.version c.if-is_received.said.now count)
     (ap (λ (batch : List Transaction). length batch) c.as_slice-batch.ensures.places)
@@ -43,5 +48,9 @@ returns c entry sent there verdicts_received =
     let body : c.in_ok-body.body ≡ body_by entry.batch c.in_ok-outcomes.outcomes =
     c.in_ok-body.ensures
     ∙ ap₂ (λ (batch : List Transaction) (made : List Outcome). body_by batch made)
-    (c.as_slice-batch.ensures.places ∙ ap (λ (e : Entry). e.batch) same) c.as_slice.ensures in
-    (outcomes, c.new.ensures ∙ ap₂ (λ (version : ℕ) (made : List Mutation). record { version = version; body = made }) (ap (λ (e : Entry). e.version) same) body)
+    (c.as_slice-batch.ensures.places ∙ ap (λ (e : Entry). e.batch) same) c.as_slice.ensures in (
+      outcomes,
+      c.new.ensures
+          ∙ ap₂ (λ (version : ℕ) (made : List Mutation). record { version = version; body = made })
+          (ap (λ (e : Entry). e.version) same) body,
+    )

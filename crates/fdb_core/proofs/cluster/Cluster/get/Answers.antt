@@ -12,7 +12,7 @@ use Rattle.fdb_core.specs.refinement.Cluster.{machine_of}
 use Rattle.fdb_core.specs.machine.Machine.{is_of}
 use Rattle.fdb_core.specs.programs.Programs.{program, copy}
 use Rattle.fdb_core.specs.machine.Steps.{answer_of}
-use Rattle.fdb_core.proofs.refinement.Ties.{given-fault, opened-read}
+use Rattle.fdb_core.proofs.refinement.Ties.{given-fault, opened-read, refines-sessions}
 use Rattle.fdb_core.proofs.machine.Transitions.{gets-transition}
 use Rattle.fdb_core.proofs.cluster.Cluster.get.Goals as goal
 use Rattle.fdb_core.proofs.cluster.Cluster.get.Goals.{In_ok-add_operation}
@@ -21,47 +21,52 @@ use Rattle.fdb_core.proofs.cluster.Cluster.get.Goals.{In_ok-add_operation}
 there : (c : In_ok-add_operation) → slice_get c.args.self.now.opened.items c.in-Some.place ≡ Some c.index.result.now
 there c =
     let within : c.in-Some.place < length c.args.self.now.opened.items = search rules in
-    slice_get_read c.args.self.now.opened.items (length c.args.self.now.opened.items) c.in-Some.place c.index.result.now refl within c.index.ensures
+    slice_get_read c.args.self.now.opened.items (length c.args.self.now.opened.items) c.in-Some.place c.index.result.now
+    refl within c.index.ensures
 
 -- the transition that the machine makes
 turn_of : (c : In_ok-add_operation) → gets (machine_of c.args.self.now) c.args.session c.args.key.now c.args.snapshot
-    ≡ Ok (record { answer = answered.Value c.in-Ok.value; next = add_operation (machine_of c.args.self.now) c.in-Some.place c.index.result.now (op.Get c.args.key.now c.args.snapshot) (reply.Value c.in-Ok.value) })
+    ≡ Ok (record {
+      answer = answered.Value c.in-Ok.value;
+      next = add_operation (machine_of c.args.self.now)
+          c.in-Some.place c.index.result.now (op.Get c.args.key.now c.args.snapshot) (reply.Value c.in-Ok.value);
+    })
 turn_of c =
     let m = machine_of c.args.self.now in
     let transcript = c.index.result.now in
     let answers = rw c.in-Ok.is at c.in_ok-value.ensures in
     let given = given-fault (read_fault m (program transcript.ops) transcript.read_version c.args.key.now) c.in-Ok.value
-    (λ value. value ≡ get (copy (serial_map_at m.config.resolver_splits transcript.read_version (seen_of m.book).places) (program transcript.ops)) c.args.key.now) answers in
+    (λ value. value ≡ get
+    (copy (serial_map_at m.config.resolver_splits transcript.read_version (seen_of m.book).places)
+    (program transcript.ops)) c.args.key.now) answers in
     let at : position (is_of c.args.session) c.args.self.now.opened.items ≡ Some c.in-Some.place = search rules in
-    gets-transition m c.args.session c.args.key.now c.args.snapshot c.in-Some.place transcript c.in-Ok.value at (there c) given.0 given.1
+    gets-transition m c.args.session c.args.key.now c.args.snapshot c.in-Some.place transcript c.in-Ok.value at
+    (there c) given.0 given.1
 
 pub returns-clause-answer : goal.returns-clause-answer
 returns-clause-answer c = sym (ap answer_of (turn_of c))
 
 -- the open transactions as the machine has them then
-noted_as : (c : In_ok-add_operation) → c.add_operation.new.opened.items ≡ with_operation c.args.self.now.opened.items c.in-Some.place c.index.result.now (op.Get c.args.key.now c.args.snapshot) (reply.Value c.in-Ok.value)
+noted_as : (c : In_ok-add_operation)
+    → c.add_operation.new.opened.items ≡ with_operation c.args.self.now.opened.items c.in-Some.place c.index.result.now
+    (op.Get c.args.key.now c.args.snapshot) (reply.Value c.in-Ok.value)
 noted_as c =
     let opened = c.args.self.now.opened.items in
     let same_key : c.in_ok-key.key ≡ c.args.key.now = search rules in
     let same_value : c.in_ok-with_operation.with_operation ≡ c.in-Ok.value = search rules in
     c.in_ok-add_operation.ensures c.index.result.now (there c)
-    ∙ ap (λ (key : List ℕ). with_operation opened c.in-Some.place c.index.result.now (op.Get key c.args.snapshot) (reply.Value c.in_ok-with_operation.with_operation)) same_key
-    ∙ ap (λ (value : Option (List ℕ)). with_operation opened c.in-Some.place c.index.result.now (op.Get c.args.key.now c.args.snapshot) (reply.Value value)) same_value
+    ∙ ap (λ (key : List ℕ). with_operation opened c.in-Some.place c.index.result.now (op.Get key c.args.snapshot)
+    (reply.Value c.in_ok-with_operation.with_operation)) same_key
+    ∙ ap (λ (value : Option (List ℕ)). with_operation opened c.in-Some.place c.index.result.now
+    (op.Get c.args.key.now c.args.snapshot) (reply.Value value)) same_value
 
 pub returns-clause-after : goal.returns-clause-after
-returns-clause-after c = rw (turn_of c) (ap (λ (opened : List Transcript). record (machine_of c.args.self.now) { opened = opened }) (noted_as c))
+returns-clause-after c = rw (turn_of c)
+    (ap (λ (opened : List Transcript). record (machine_of c.args.self.now) { opened = opened }) (noted_as c))
 
 pub returns-clause-refines : goal.returns-clause-refines
 returns-clause-refines c =
     let before = c.requires in
-    let read = opened-read c.args.self.now.sequencer.committed c.args.self.now.opened.items c.in-Some.place c.index.result.now c.args.key.now c.args.snapshot (reply.Value c.in-Ok.value) before.opened (there c) in
-    record {
-      plain = before.plain;
-      room = before.room;
-      sequencer = before.sequencer;
-      book = before.book;
-      resolvers = before.resolvers;
-      log = before.log;
-      commit_proxies = before.commit_proxies;
-      opened = rw (noted_as c) read;
-    }
+    let read = opened-read c.args.self.now.sequencer.committed c.args.self.now.opened.items c.in-Some.place
+    c.index.result.now c.args.key.now c.args.snapshot (reply.Value c.in-Ok.value) before.opened (there c) in
+    refines-sessions c.args.self.now _ _ _ _ before (rw (noted_as c) read)

@@ -20,8 +20,12 @@ copied_message-requires c =
     let entry = within-item k.book.items c.args.entry inside in
     let made : is_set k.decided.items c.args.entry ≡ true = search rules in
     let message = message_on [] (seen_before k.book.items c.args.entry) entry.0 in
-    let pooled = c.requires.book.made c.args.entry message made (slice_get-along (message_on []) k.book.items c.args.entry entry.0 entry.1) in
-    (message, ap (λ (messages : List (Option Message)). slice_get messages c.args.entry) c.deref-2.ensures.value ∙ pooled)
+    let pooled = c.requires.book.made c.args.entry message made
+    (slice_get-along (message_on []) k.book.items c.args.entry entry.0 entry.1) in (
+      message,
+      ap (λ (messages : List (Option Message)). slice_get messages c.args.entry) c.deref-2.ensures.value
+          ∙ pooled,
+    )
 
 -- the entry is there, and is the next one for the log
 same : (c : After-self-1) → c.index-taken.result.now ≡ c.args.entry
@@ -38,23 +42,28 @@ made c = search rules
 at : (c : After-self-1) → slice_get c.args.self.now.logs.items c.args.log ≡ Some c.args.entry
 at c =
     let inside : c.args.log < length c.args.self.now.logs.items = search rules in
-    slice_get_read c.args.self.now.logs.items (length c.args.self.now.logs.items) c.args.log c.index-taken.result.now refl inside c.index-taken.ensures
+    slice_get_read c.args.self.now.logs.items (length c.args.self.now.logs.items) c.args.log c.index-taken.result.now
+    refl inside c.index-taken.ensures
     ∙ ap (λ (n : ℕ). Some n) (same c)
 
 pub returns-clause-answer : goal.returns-clause-answer
-returns-clause-answer c = rw (pushes-transition (machine_of c.args.self.now) c.args.entry c.args.log (there c).0 (there c).1 (at c) (made c)) refl
+returns-clause-answer c =
+    rw (pushes-transition (machine_of c.args.self.now) c.args.entry c.args.log (there c).0 (there c).1 (at c) (made c))
+    refl
 
 pub returns-clause-after : goal.returns-clause-after
 returns-clause-after c =
     rw (pushes-transition (machine_of c.args.self.now) c.args.entry c.args.log (there c).0 (there c).1 (at c) (made c))
-    (ap (λ (n : ℕ). record (machine_of c.args.self.now) { logs = slice_set c.args.self.now.logs.items c.args.log (n + 1) }) (same c))
+    (ap (λ (n : ℕ). record (machine_of c.args.self.now)
+    { logs = slice_set c.args.self.now.logs.items c.args.log (n + 1) }) (same c))
 
 pub returns-clause-refines : goal.returns-clause-refines
 returns-clause-refines c =
     let k = c.args.self.now in
     let before = c.requires in
     let message = message_on [] (seen_before k.book.items c.args.entry) (there c).0 in
-    let pooled : slice_get k.messages.items c.args.entry ≡ Some (Some message) = before.book.made c.args.entry message (made c) (slice_get-along (message_on []) k.book.items c.args.entry (there c).0 (there c).1) in
+    let pooled : slice_get k.messages.items c.args.entry ≡ Some (Some message) = before.book.made c.args.entry message
+    (made c) (slice_get-along (message_on []) k.book.items c.args.entry (there c).0 (there c).1) in
     let copied : slice_get k.messages.items c.args.entry ≡ Some (Some c.in_ok-message.message) = search rules in
     let is : c.in_ok-message.message ≡ message = cc in
     record {
@@ -63,7 +72,9 @@ returns-clause-refines c =
       sequencer = before.sequencer;
       book = before.book;
       resolvers = before.resolvers;
-      log = rw (c.in_ok-push.ensures.items, same c) (log-next k.book.items k.logs.items k.shards.items k.log.items k.shard.items c.args.log c.args.entry (there c).0 before.log (there c).1 (at c) c.in_ok-message.message is);
+      log = rw (c.in_ok-push.ensures.items, same c)
+          (log-next k.book.items k.logs.items k.shards.items k.log.items k.shard.items c.args.log c.args.entry
+          (there c).0 before.log (there c).1 (at c) c.in_ok-message.message is);
       commit_proxies = before.commit_proxies;
       opened = before.opened;
     }

@@ -17,11 +17,13 @@ use Rattle.fdb_core.proofs.cluster.Cluster.report.Goals.{After-committed}
 use Rattle.fdb_core.specs.refinement.Resolving.{taken_by}
 
 -- the commit proxy is there, and waits to report
-there : (c : After-committed) → slice_get c.args.self.now.commit_proxies.items c.args.proxy ≡ Some c.index-commit_proxy.result.now
+there : (c : After-committed)
+    → slice_get c.args.self.now.commit_proxies.items c.args.proxy ≡ Some c.index-commit_proxy.result.now
 there c =
     let k = c.args.self.now in
     let inside : c.args.proxy < length k.commit_proxies.items = search rules in
-    slice_get_read k.commit_proxies.items (length k.commit_proxies.items) c.args.proxy c.index-commit_proxy.result.now refl inside c.index-commit_proxy.ensures
+    slice_get_read k.commit_proxies.items (length k.commit_proxies.items) c.args.proxy c.index-commit_proxy.result.now
+    refl inside c.index-commit_proxy.ensures
 
 logging : (c : After-committed) → c.index-commit_proxy.result.now.stage ≡ Logging
 logging c =
@@ -29,7 +31,8 @@ logging c =
     logging-is c.index-commit_proxy.result.now.stage is
 
 -- its entry, whose version is one that was issued
-entry : (c : After-committed) → slice_get c.args.self.now.book.items c.index-commit_proxy.result.now.entry ≡ Some c.index.result.now
+entry : (c : After-committed)
+    → slice_get c.args.self.now.book.items c.index-commit_proxy.result.now.entry ≡ Some c.index.result.now
 entry c =
     let k = c.args.self.now in
     let in_book : c.entry-i.result < length k.book.items = search rules in
@@ -42,7 +45,8 @@ take_report-requires c =
     let in_book : c.entry-i.result < length k.book.items = search rules in
     rw c.requires.sequencer.last
     (below-last k.book.items (entries-rising 1 k.book.items c.requires.book.entries) c.entry-i.result c.index.result.now
-    (slice_get_read k.book.items (length k.book.items) c.entry-i.result c.index.result.now refl in_book c.index.ensures))
+    (slice_get_read k.book.items (length k.book.items) c.entry-i.result c.index.result.now refl in_book
+    c.index.ensures))
 
 -- the proxy that reports is the one that was read
 reported : (c : After-committed) → c.report.new.self ≡ record c.index-commit_proxy.result.now { stage = Reported }
@@ -51,26 +55,32 @@ reported c =
     let inside : c.args.proxy < length k.commit_proxies.items = search rules in
     c.report.ensures
     ∙ ap (λ (p : CommitProxy). record p { stage = Reported })
-    (one-item k.commit_proxies.items c.args.proxy c.index_mut-commit_proxy.result.now c.index-commit_proxy.result.now inside c.index_mut-commit_proxy.ensures.value (there c))
+    (one-item k.commit_proxies.items c.args.proxy c.index_mut-commit_proxy.result.now c.index-commit_proxy.result.now
+    inside c.index_mut-commit_proxy.ensures.value (there c))
 
 -- what the machine does then
 transition : (c : After-committed) → reports (machine_of c.args.self.now) c.args.proxy ≡ Ok (record {
   answer = answered.Version (max c.args.self.now.sequencer.committed c.index.result.now.version);
   next = record (machine_of c.args.self.now) {
     committed = max c.args.self.now.sequencer.committed c.index.result.now.version;
-    commit_proxies = slice_set c.args.self.now.commit_proxies.items c.args.proxy (record c.index-commit_proxy.result.now { stage = Reported });
+    commit_proxies = slice_set c.args.self.now.commit_proxies.items c.args.proxy
+        (record c.index-commit_proxy.result.now { stage = Reported });
   };
 })
 transition c =
     let none : first_missing (λ log. true) 0 c.index-commit_proxy.result.now.acknowledgements_received ≡ None =
-    ap (first_missing (λ log. true) 0) (sym c.acknowledgements_received.ensures) ∙ sym c.first_unset.ensures ∙ c.in_default.is in
-    reports-transition (machine_of c.args.self.now) c.args.proxy c.index-commit_proxy.result.now c.index.result.now (there c) (logging c) (entry c) none
+    ap (first_missing (λ log. true) 0) (sym c.acknowledgements_received.ensures) ∙ sym c.first_unset.ensures
+    ∙ c.in_default.is in
+    reports-transition (machine_of c.args.self.now) c.args.proxy c.index-commit_proxy.result.now c.index.result.now
+    (there c) (logging c) (entry c) none
 
-raised : (c : After-committed) → c.take_report.new.sequencer.committed ≡ max c.args.self.now.sequencer.committed c.index.result.now.version
+raised : (c : After-committed)
+    → c.take_report.new.sequencer.committed ≡ max c.args.self.now.sequencer.committed c.index.result.now.version
 raised c = ap (λ (s : Sequencer). s.committed) c.take_report.ensures
 
 pub returns-clause-answer : goal.returns-clause-answer
-returns-clause-answer c = rw (transition c) (ap (λ (v : ℕ). Ok (answered.Version v)) (c.committed.ensures.value ∙ raised c))
+returns-clause-answer c = rw (transition c)
+    (ap (λ (v : ℕ). Ok (answered.Version v)) (c.committed.ensures.value ∙ raised c))
 
 pub returns-clause-after : goal.returns-clause-after
 returns-clause-after c = rw (transition c)
@@ -87,17 +97,29 @@ returns-clause-refines c =
     let version = c.index.result.now.version in
     let committed = max k.sequencer.committed version in
     let above : k.sequencer.committed ≤ committed = omega arith in
-    let below = below-last k.book.items (entries-rising 1 k.book.items before.book.entries) c.index-commit_proxy.result.now.entry c.index.result.now (entry c) in
+    let below = below-last k.book.items (entries-rising 1 k.book.items before.book.entries)
+    c.index-commit_proxy.result.now.entry c.index.result.now (entry c) in
     let within : committed ≤ last_version k.book.items = omega (arith, below, before.sequencer.committed) in
     rw c.take_report.ensures
     (record {
       plain = before.plain;
       room = before.room;
-      sequencer = record { proxies = before.sequencer.proxies; accepted = before.sequencer.accepted; last = before.sequencer.last; committed = within };
+      sequencer = record {
+        proxies = before.sequencer.proxies;
+        accepted = before.sequencer.accepted;
+        last = before.sequencer.last;
+        committed = within;
+      };
       book = before.book;
       resolvers = before.resolvers;
       log = before.log;
-      commit_proxies = rw (reported c) (commit_proxies-set k.book.items k.book.items (taken_by k.resolvers.items) (taken_by k.resolvers.items) k.sequencer.committed committed k.outcomes k.outcomes k.commit_proxies.items c.args.proxy commit_proxy _
-          before.commit_proxies (there c) (commit_proxy-reported k.book.items (taken_by k.resolvers.items) k.sequencer.committed committed k.outcomes commit_proxy above (logging c)));
-      opened = all-weaken (OpenRefines k.sequencer.committed) (OpenRefines committed) (λ transcript ok. record { below = omega (arith, ok.below, above); legal = ok.legal }) k.opened.items before.opened;
+      commit_proxies = rw (reported c)
+          (commit_proxies-set k.book.items k.book.items (taken_by k.resolvers.items) (taken_by k.resolvers.items)
+          k.sequencer.committed committed k.outcomes k.outcomes k.commit_proxies.items c.args.proxy commit_proxy _
+          before.commit_proxies (there c)
+          (commit_proxy-reported k.book.items (taken_by k.resolvers.items) k.sequencer.committed committed
+          k.outcomes commit_proxy above (logging c)));
+      opened = all-weaken (OpenRefines k.sequencer.committed) (OpenRefines committed)
+          (λ transcript ok. record { below = omega (arith, ok.below, above); legal = ok.legal }) k.opened.items
+          before.opened;
     })

@@ -25,27 +25,32 @@ use Rattle.fdb_core.proofs.cluster.Cluster.seal.Goals.{After-drop-ticket-2}
 use Rattle.fdb_core.specs.refinement.Resolving.{taken_by}
 
 pub overflow_cast-places : goal.overflow_cast-places
-overflow_cast-places c = let few : length c.in_ok-batch.batch ≤ PLACE_LIMIT = batch-fits _ _ c.in_ok-batch.ensures.batch in omega (arith, few)
+overflow_cast-places c = let few : length c.in_ok-batch.batch ≤ PLACE_LIMIT = batch-fits _ _
+    c.in_ok-batch.ensures.batch in omega (arith, few)
 
 pub new-batch-requires : goal.new-batch-requires
 new-batch-requires c = batch-fits _ _ c.in_ok-batch.ensures.batch
 
 -- the commit proxy is there, and has no batch in flight
-there : (c : After-drop-ticket-2) → slice_get c.args.self.now.commit_proxies.items c.args.proxy ≡ Some c.index_mut-commit_proxy.result.now
+there : (c : After-drop-ticket-2)
+    → slice_get c.args.self.now.commit_proxies.items c.args.proxy ≡ Some c.index_mut-commit_proxy.result.now
 there c =
     let inside : c.args.proxy < length c.args.self.now.commit_proxies.items = search rules in
-    slice_get_read c.args.self.now.commit_proxies.items (length c.args.self.now.commit_proxies.items) c.args.proxy c.index_mut-commit_proxy.result.now refl inside c.index_mut-commit_proxy.ensures.value
+    slice_get_read c.args.self.now.commit_proxies.items (length c.args.self.now.commit_proxies.items) c.args.proxy
+    c.index_mut-commit_proxy.result.now refl inside c.index_mut-commit_proxy.ensures.value
 
 idle : (c : After-drop-ticket-2) → is_idle c.index_mut-commit_proxy.result.now.stage ≡ true
 idle c =
     let inside : c.args.proxy < length c.args.self.now.commit_proxies.items = search rules in
     let same : c.index.result.now ≡ c.index_mut-commit_proxy.result.now =
-    one-item c.args.self.now.commit_proxies.items c.args.proxy c.index.result.now c.index_mut-commit_proxy.result.now inside c.index.ensures (there c) in
+    one-item c.args.self.now.commit_proxies.items c.args.proxy c.index.result.now c.index_mut-commit_proxy.result.now
+    inside c.index.ensures (there c) in
     let is : is_idle c.index.result.now.stage ≡ true = search rules in
     ap (λ (p : CommitProxy). is_idle p.stage) (sym same) ∙ is
 
 -- the ticket is of the machine's next entry
-given : (c : After-drop-ticket-2) → (next_version (last_version c.args.self.now.book.items) c.args.advance ≤ version_limit)
+given : (c : After-drop-ticket-2)
+    → (next_version (last_version c.args.self.now.book.items) c.args.advance ≤ version_limit)
     × (c.in-Ok.ticket ≡ record {
       proxy = c.args.proxy;
       index = length c.args.self.now.book.items;
@@ -54,7 +59,8 @@ given : (c : After-drop-ticket-2) → (next_version (last_version c.args.self.no
       moves = [];
       pending = [];
     })
-given c = plan-given c.args.self.now c.requires c.args.proxy c.args.advance c.index_mut-commit_proxy.result.now (there c) c.in-Ok.ticket c.in-Ok.ensures
+given c = plan-given c.args.self.now c.requires c.args.proxy c.args.advance c.index_mut-commit_proxy.result.now
+    (there c) c.in-Ok.ticket c.in-Ok.ensures
 
 count : (c : After-drop-ticket-2) → c.in-Ok.ticket.index ≡ length c.args.self.now.book.items
 count c = ap (λ (ticket : Ticket). ticket.index) (given c).1
@@ -62,7 +68,8 @@ count c = ap (λ (ticket : Ticket). ticket.index) (given c).1
 prev : (c : After-drop-ticket-2) → c.in-Ok.ticket.prev ≡ last_version c.args.self.now.book.items
 prev c = ap (λ (ticket : Ticket). ticket.prev) (given c).1
 
-version : (c : After-drop-ticket-2) → c.in-Ok.ticket.version ≡ next_version (last_version c.args.self.now.book.items) c.args.advance
+version : (c : After-drop-ticket-2)
+    → c.in-Ok.ticket.version ≡ next_version (last_version c.args.self.now.book.items) c.args.advance
 version c = ap (λ (ticket : Ticket). ticket.version) (given c).1
 
 few : (c : After-drop-ticket-2) → next_version (last_version c.args.self.now.book.items) c.args.advance ≤ version_limit
@@ -71,42 +78,59 @@ few c = (given c).0
 room : (c : After-drop-ticket-2) → length c.args.self.now.book.items < c.args.self.now.config.book
 room c = search rules
 
-batch : (c : After-drop-ticket-2) → c.in_ok-batch.batch ≡ map (λ (submission : Submission). submission.sealed) (take PLACE_LIMIT c.index_mut-commit_proxy.result.now.waiting)
+batch : (c : After-drop-ticket-2)
+    → c.in_ok-batch.batch ≡ map (λ (submission : Submission). submission.sealed)
+    (take PLACE_LIMIT c.index_mut-commit_proxy.result.now.waiting)
 batch c = c.in_ok-batch.ensures.batch
 
 -- the new entry, and the commit proxy
 entry : (c : After-drop-ticket-2) → Path Entry
-    (record { version = c.in-Ok.ticket.version; prev = c.in-Ok.ticket.prev; moves = c.in-Ok.ticket.pending; batch = c.new-batch.result })
+    (record {
+      version = c.in-Ok.ticket.version;
+      prev = c.in-Ok.ticket.prev;
+      moves = c.in-Ok.ticket.pending;
+      batch =
+          c.new-batch.result;
+    })
     (sealed_entry (machine_of c.args.self.now) c.args.advance c.index_mut-commit_proxy.result.now)
 entry c =
     let moves : c.in-Ok.ticket.pending ≡ [] = ap (λ (ticket : Ticket). ticket.pending) (given c).1 in
     let places : c.new-batch.result ≡ c.in_ok-batch.batch = search rules in
     λ i. record { version = version c i; prev = prev c i; moves = moves i; batch = (places ∙ batch c) i }
 
-next : (c : After-drop-ticket-2) → c.seal.new.self ≡ sealed_proxy (machine_of c.args.self.now) c.index_mut-commit_proxy.result.now
+next : (c : After-drop-ticket-2)
+    → c.seal.new.self ≡ sealed_proxy (machine_of c.args.self.now) c.index_mut-commit_proxy.result.now
 next c =
     let count_of : c.len-resolvers.result ≡ length c.args.self.now.resolvers.items = search rules in
-    let resolvers : c.len-resolvers.result ≡ length (taken_by c.args.self.now.resolvers.items) = count_of ∙ sym (length-map c.args.self.now.resolvers.items (λ (role : ResolverRole). role.taken)) in
+    let resolvers : c.len-resolvers.result ≡ length (taken_by c.args.self.now.resolvers.items) = count_of
+    ∙ sym (length-map c.args.self.now.resolvers.items (λ (role : ResolverRole). role.taken)) in
     let logs : c.len-logs.result ≡ length c.args.self.now.logs.items = search rules in
-    c.in_ok-batch.ensures.after ∙ (λ i. with_batch c.index_mut-commit_proxy.result.now (count c i) (resolvers i) (logs i))
+    c.in_ok-batch.ensures.after
+    ∙ (λ i. with_batch c.index_mut-commit_proxy.result.now (count c i) (resolvers i) (logs i))
 
 -- the lists as the machine has them then
-book_then : (c : After-drop-ticket-2) → c.push.new.self.items ≡ c.args.self.now.book.items ++ sealed_entry (machine_of c.args.self.now) c.args.advance c.index_mut-commit_proxy.result.now ∷ []
+book_then : (c : After-drop-ticket-2)
+    → c.push.new.self.items ≡ c.args.self.now.book.items ++ sealed_entry (machine_of c.args.self.now) c.args.advance
+    c.index_mut-commit_proxy.result.now ∷ []
 book_then c = c.in_ok-push.ensures.items ∙ ap (λ (e : Entry). c.args.self.now.book.items ++ e ∷ []) (entry c)
 
 proxies_then : (c : After-drop-ticket-2) → slice_set c.args.self.now.commit_proxies.items c.args.proxy c.seal.new.self
-    ≡ slice_set c.args.self.now.commit_proxies.items c.args.proxy (sealed_proxy (machine_of c.args.self.now) c.index_mut-commit_proxy.result.now)
+    ≡ slice_set c.args.self.now.commit_proxies.items c.args.proxy
+    (sealed_proxy (machine_of c.args.self.now) c.index_mut-commit_proxy.result.now)
 proxies_then c = ap (λ (p : CommitProxy). slice_set c.args.self.now.commit_proxies.items c.args.proxy p) (next c)
 
 -- where there is no ticket, there is no version left
-exhausted : (c : goal.In-Err) → (c.in-Err.why ≡ Exhausted) × (seals (machine_of c.args.self.now) c.args.proxy c.args.advance ≡ Err Exhausted)
+exhausted : (c : goal.In-Err) → (c.in-Err.why ≡ Exhausted)
+    × (seals (machine_of c.args.self.now) c.args.proxy c.args.advance ≡ Err Exhausted)
 exhausted c =
     let k = c.args.self.now in
     let commit_proxy = c.index.result.now in
     let inside : c.args.proxy < length k.commit_proxies.items = search rules in
-    let at : slice_get k.commit_proxies.items c.args.proxy ≡ Some commit_proxy = slice_get_read k.commit_proxies.items (length k.commit_proxies.items) c.args.proxy commit_proxy refl inside c.index.ensures in
+    let at : slice_get k.commit_proxies.items c.args.proxy ≡ Some commit_proxy = slice_get_read k.commit_proxies.items
+    (length k.commit_proxies.items) c.args.proxy commit_proxy refl inside c.index.ensures in
     let is : is_idle commit_proxy.stage ≡ true = search rules in
-    let refused = plan-refused k c.requires c.args.proxy c.args.advance commit_proxy at c.in-Err.why _ c.in-Err.ensures in
+    let refused = plan-refused k c.requires c.args.proxy c.args.advance commit_proxy at c.in-Err.why _
+    c.in-Err.ensures in
     (refused.0, seals-exhausted k c.args.proxy c.args.advance commit_proxy at is refused.1)
 
 pub returns-in-Err-clause-answer : goal.returns-in-Err-clause-answer
@@ -118,13 +142,17 @@ returns-in-Err-clause-after c = let refused = exhausted c in rw (refused.1) refl
 
 pub returns-clause-answer : goal.returns-clause-answer
 returns-clause-answer c =
-    let places : c.len-places.result ≡ length (take PLACE_LIMIT c.index_mut-commit_proxy.result.now.waiting) = c.len-places.ensures ∙ length-sealed c.index_mut-commit_proxy.result.now.waiting c.in_ok-batch.batch (batch c) in
-    rw (seals-transition (machine_of c.args.self.now) c.args.proxy c.args.advance c.index_mut-commit_proxy.result.now (there c) (idle c) (few c) (room c))
+    let places : c.len-places.result ≡ length (take PLACE_LIMIT c.index_mut-commit_proxy.result.now.waiting) =
+    c.len-places.ensures
+    ∙ length-sealed c.index_mut-commit_proxy.result.now.waiting c.in_ok-batch.batch (batch c) in
+    rw (seals-transition (machine_of c.args.self.now) c.args.proxy c.args.advance c.index_mut-commit_proxy.result.now
+    (there c) (idle c) (few c) (room c))
     (λ i. Ok (answered.Issued (count c i) (version c i) (prev c i) (places i)))
 
 pub returns-clause-after : goal.returns-clause-after
 returns-clause-after c =
-    rw (seals-transition (machine_of c.args.self.now) c.args.proxy c.args.advance c.index_mut-commit_proxy.result.now (there c) (idle c) (few c) (room c))
+    rw (seals-transition (machine_of c.args.self.now) c.args.proxy c.args.advance c.index_mut-commit_proxy.result.now
+    (there c) (idle c) (few c) (room c))
     (λ i. record (machine_of c.args.self.now) {
       book = book_then c i;
       entry_proxies = c.in_ok-push-2.ensures.items i;
@@ -141,11 +169,16 @@ returns-clause-refines c =
     let commit_proxy = c.index_mut-commit_proxy.result.now in
     let e = sealed_entry m c.args.advance commit_proxy in
     let above : last_version k.book.items < e.version = omega arith in
-    let ok = commit_proxy-at k.book.items (taken_by k.resolvers.items) k.sequencer.committed k.commit_proxies.items k.outcomes c.args.proxy commit_proxy before.commit_proxies (there c) in
-    let reads = sealed-below k.sequencer.committed e.version (take PLACE_LIMIT commit_proxy.waiting) (omega (arith, above, before.sequencer.committed)) (all-take (WaitsRefines k.sequencer.committed) PLACE_LIMIT commit_proxy.waiting ok.waiting) in
-    let one : length (taken_by k.resolvers.items) ≡ 1 = ap (λ (rs : List ResolverRole). length (taken_by rs)) before.resolvers.one in
+    let ok = commit_proxy-at k.book.items (taken_by k.resolvers.items) k.sequencer.committed k.commit_proxies.items
+    k.outcomes c.args.proxy commit_proxy before.commit_proxies (there c) in
+    let reads = sealed-below k.sequencer.committed e.version (take PLACE_LIMIT commit_proxy.waiting)
+    (omega (arith, above, before.sequencer.committed))
+    (all-take (WaitsRefines k.sequencer.committed) PLACE_LIMIT commit_proxy.waiting ok.waiting) in
+    let one : length (taken_by k.resolvers.items) ≡ 1 = ap (λ (rs : List ResolverRole). length (taken_by rs))
+    before.resolvers.one in
     let fits : length k.book.items < k.config.book = room c in
-    let aligned = length-map (take PLACE_LIMIT commit_proxy.waiting) (λ (submission : Submission). submission.transcript)
+    let aligned = length-map (take PLACE_LIMIT commit_proxy.waiting)
+    (λ (submission : Submission). submission.transcript)
     ∙ sym (length-map (take PLACE_LIMIT commit_proxy.waiting) (λ (submission : Submission). submission.sealed)) in
     record {
       plain = before.plain;
@@ -158,13 +191,19 @@ returns-clause-refines c =
             committed = rw (last-push k.book.items e) (omega (arith, above, before.sequencer.committed));
           });
       book = rw (book_then c, c.in_ok-push-2.ensures.items, c.in_ok-push-3.ensures.items, c.in_ok-push-4.ensures.items)
-          (book-push k.book.items e k.entry_proxies.items k.decided.items k.messages.items c.args.proxy before.book refl (above, refl, tt, reads, tt));
+          (book-push k.book.items e k.entry_proxies.items k.decided.items k.messages.items c.args.proxy before.book refl
+          (above, refl, tt, reads, tt));
       resolvers = rw (book_then c) (resolvers-push k.book.items e k.resolvers.items before.resolvers);
       log = rw (book_then c) (log-push k.book.items e k.logs.items k.shards.items k.log.items k.shard.items before.log);
       commit_proxies = rw (c.issue.ensures, book_then c)
-          (subst (λ (commit_proxies : List CommitProxy). CommitProxiesRefine (k.book.items ++ e ∷ []) (taken_by k.resolvers.items) k.sequencer.committed commit_proxies k.outcomes) (sym (proxies_then c))
-          (commit_proxies-set k.book.items (k.book.items ++ e ∷ []) (taken_by k.resolvers.items) (taken_by k.resolvers.items) k.sequencer.committed k.sequencer.committed k.outcomes k.outcomes k.commit_proxies.items c.args.proxy commit_proxy (sealed_proxy m commit_proxy)
+          (subst (λ (commit_proxies : List CommitProxy). CommitProxiesRefine (k.book.items ++ e ∷ [])
+          (taken_by k.resolvers.items) k.sequencer.committed commit_proxies k.outcomes) (sym (proxies_then c))
+          (commit_proxies-set k.book.items (k.book.items ++ e ∷ []) (taken_by k.resolvers.items)
+          (taken_by k.resolvers.items) k.sequencer.committed k.sequencer.committed k.outcomes k.outcomes
+          k.commit_proxies.items c.args.proxy commit_proxy (sealed_proxy m commit_proxy)
           before.commit_proxies (there c)
-          (commit_proxy-seal k.book.items e (taken_by k.resolvers.items) k.sequencer.committed commit_proxy k.outcomes PLACE_LIMIT (sealed_proxy m commit_proxy).in_flight (sealed_proxy m commit_proxy).acknowledgements_received one aligned)));
+          (commit_proxy-seal k.book.items e (taken_by k.resolvers.items) k.sequencer.committed commit_proxy k.outcomes
+          PLACE_LIMIT (sealed_proxy m commit_proxy).in_flight
+          (sealed_proxy m commit_proxy).acknowledgements_received one aligned)));
       opened = rw c.issue.ensures before.opened;
     }

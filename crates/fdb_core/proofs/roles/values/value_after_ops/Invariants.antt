@@ -4,4 +4,5 @@ use Rattle.fdb_core.specs.programs.Programs.{value_after_op}
 use Rattle.fdb_core.proofs.roles.values.value_after_ops.Given as goal
 
 abbrev pub invariant-loop-op : goal.invariant-loop-op
-invariant-loop-op l = option_copied l.value ≡ fold (value_after_op l.key) (option_copied l.initial.value) (take l.op-index l.ops)
+invariant-loop-op l = option_copied l.value ≡ fold (value_after_op l.key) (option_copied l.initial.value)
+    (take l.op-index l.ops)

@@ -4,4 +4,5 @@ use Rattle.fdb_core.proofs.checking.SoundChecks.{world-finds}
 use Rattle.fdb_core.proofs.world.World.check.Goals as goal
 
 pub returns : goal.returns
-returns c = world-finds c.self.inside.cluster c.self.inside.failed c.args.self.now.machine c.check_all.result (ap (λ (system : System). system.machine) c.self.view_is) c.self.invariant c.check_all.ensures.finds
+returns c = world-finds c.self.inside.cluster c.self.inside.failed c.args.self.now.machine c.check_all.result
+    (ap (λ (system : System). system.machine) c.self.view_is) c.self.invariant c.check_all.ensures.finds

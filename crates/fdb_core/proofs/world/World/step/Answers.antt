@@ -3,4 +3,5 @@ use Rattle.fdb_core.proofs.world.World.step.Goals as goal
 
 pub returns-clause-headline : goal.returns-clause-headline
 returns-clause-headline c config steps given stands =
-    serializable-step config steps given c.args.self.now c.take.new.self c.args.step c.take.result c.take.ensures.step c.take.ensures.roles stands
+    serializable-step config steps given c.args.self.now c.take.new.self c.args.step c.take.result c.take.ensures.step
+    c.take.ensures.roles stands

@@ -10,5 +10,6 @@ returns-then-is_empty-clause-answers c =
 
 pub returns-clause-answers : goal.returns-clause-answers
 returns-clause-answers c =
-    let pushed : c.push.new.self.items ≡ c.args.self.now ++ record { range = c.args.range.now; version = c.args.version } ∷ [] = search rules in
+    let pushed : c.push.new.self.items ≡ c.args.self.now ++ record
+    { range = c.args.range.now; version = c.args.version } ∷ [] = search rules in
     λ x. version_at-mark c.args.self.now c.push.new.self.items c.args.range.now c.args.version x pushed (c.requires x)

@@ -7,4 +7,6 @@ pub invariant_of-result : goal.invariant_of-result
 invariant_of-result c =
     let begins : c.in_ok-begin.begin ≡ lesser_point c.self.inside.begin c.other.inside.begin = search rules in
     let ends : c.in_ok-end.end ≡ greater_point c.self.inside.end c.other.inside.end = search rules in
-    rw (begins, ends) (joined_is_legal (record { begin = c.self.inside.begin; end = c.self.inside.end }) (record { begin = c.other.inside.begin; end = c.other.inside.end }) c.self.invariant c.other.invariant)
+    rw (begins, ends)
+    (joined_is_legal (record { begin = c.self.inside.begin; end = c.self.inside.end })
+    (record { begin = c.other.inside.begin; end = c.other.inside.end }) c.self.invariant c.other.invariant)

@@ -9,7 +9,8 @@ use Rattle.fdb_keys.proofs.TextsLemmas.{range_fault-single}
 use Rattle.fdb_keys.proofs.key_range.KeyRange.single.Goals as goal
 
 -- a range from a key's bytes to those bytes and a zero byte is the key's
-answers_single : (result : Result Range Refusal) (key begin end : List ℕ) → is_key key ≡ true → begin ≡ key → end ≡ key ++ 0 ∷ []
+answers_single : (result : Result Range Refusal) (key begin end : List ℕ) → is_key key ≡ true → begin ≡ key
+    → end ≡ key ++ 0 ∷ []
     → Answers result (range_fault begin end) (λ range. range ≡ record { begin = begin; end = end })
     → Answers result None (λ range. range ≡ single_range key)
 answers_single result key begin end legal begins ends answers =
@@ -24,7 +25,8 @@ alone (Err why) key same = tt
 
 pub returns-clause-answers : goal.returns-clause-answers
 returns-clause-answers c =
-    answers_single c.new.result c.args.key.now c.bytes-3.result.now c.as_slice.result.now c.bytes.ensures.legal (search rules) (search rules) c.new.ensures
+    answers_single c.new.result c.args.key.now c.bytes-3.result.now c.as_slice.result.now c.bytes.ensures.legal
+    (search rules) (search rules) c.new.ensures
 
 pub returns-clause-alone : goal.returns-clause-alone
 returns-clause-alone c = alone c.new.result c.args.key.now (returns-clause-answers c)

@@ -21,5 +21,6 @@ invariant_of-self-2 c =
 pub returns-clause-answers : goal.returns-clause-answers
 returns-clause-answers c = λ x.
     let ranges : c.replace.new.self ≡ inserted c.args.range.now c.args.self.now =
-    c.in_ok-replace.ensures.ok ∙ rw (c.as_slice.ensures) at c.in_ok-start.ensures.list ∙ ap (inserted c.args.range.now) c.self.view_is in
+    c.in_ok-replace.ensures.ok ∙ rw (c.as_slice.ensures) at c.in_ok-start.ensures.list
+    ∙ ap (inserted c.args.range.now) c.self.view_is in
     ap (λ (l : List Range). in_set l x) ranges ∙ in_inserted c.args.range.now c.args.self.now x

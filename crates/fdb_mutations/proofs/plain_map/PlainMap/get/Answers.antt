@@ -5,4 +5,5 @@ use Rattle.fdb_mutations.proofs.plain_map.PlainMap.get.Goals as goal
 
 pub returns : goal.returns
 returns c =
-    c.get.ensures.value ∙ sym (get-pairs c.self.inside.pairs.entries c.args.key.now) ∙ ap (λ map. get map c.args.key.now) c.self.view_is
+    c.get.ensures.value ∙ sym (get-pairs c.self.inside.pairs.entries c.args.key.now)
+    ∙ ap (λ map. get map c.args.key.now) c.self.view_is

@@ -15,14 +15,22 @@ returns-in_err-step c =
 
 pub returns-in_err-log_everywhere : goal.returns-in_err-log_everywhere
 returns-in_err-log_everywhere c =
-    let p = err_from_is_err_and c.from_residual-in_err-log_everywhere.result c.from_residual-in_err-log_everywhere.ensures.1 in
-    rw (p.1, p.2) (refused_third _ _ _ _ _ _ _ _ _ _ c.in_ok-resolve_everywhere.ensures (one_accepted _ _ _ _ c.in_ok-step.ensures.step) c.in_err-log_everywhere.ensures)
+    let p = err_from_is_err_and c.from_residual-in_err-log_everywhere.result
+    c.from_residual-in_err-log_everywhere.ensures.1 in
+    rw (p.1, p.2)
+    (refused_third _ _ _ _ _ _ _ _ _ _ c.in_ok-resolve_everywhere.ensures
+    (one_accepted _ _ _ _ c.in_ok-step.ensures.step) c.in_err-log_everywhere.ensures)
 
 pub returns-in_err-step-2 : goal.returns-in_err-step-2
 returns-in_err-step-2 c =
     let p = err_from_is_err_and c.from_residual-in_err-step-2.result c.from_residual-in_err-step-2.ensures.1 in
-    rw (p.1, p.2) (refused_fourth _ _ _ _ _ _ _ _ _ _ _ c.in_ok-resolve_everywhere.ensures (one_accepted _ _ _ _ c.in_ok-step.ensures.step) c.in_ok-log_everywhere.ensures (inl c.in_err-step-2.ensures.step))
+    rw (p.1, p.2)
+    (refused_fourth _ _ _ _ _ _ _ _ _ _ _ c.in_ok-resolve_everywhere.ensures
+    (one_accepted _ _ _ _ c.in_ok-step.ensures.step) c.in_ok-log_everywhere.ensures
+    (inl c.in_err-step-2.ensures.step))
 
 pub returns : goal.returns
 returns c =
-    answered_last c.args.proxy c.args.flight _ _ _ _ _ _ c.step-3.result c.in_ok-resolve_everywhere.ensures (one_accepted _ _ _ _ c.in_ok-step.ensures.step) c.in_ok-log_everywhere.ensures (one_accepted _ _ _ _ c.in_ok-step-2.ensures.step) c.step-3.ensures.step
+    answered_last c.args.proxy c.args.flight _ _ _ _ _ _ c.step-3.result c.in_ok-resolve_everywhere.ensures
+    (one_accepted _ _ _ _ c.in_ok-step.ensures.step) c.in_ok-log_everywhere.ensures
+    (one_accepted _ _ _ _ c.in_ok-step-2.ensures.step) c.step-3.ensures.step

@@ -8,7 +8,9 @@ pub returns-in_err-log_at : goal.returns-in_err-log_at
 returns-in_err-log_at c =
     let p = err_from_is_err_and c.from_residual.result c.from_residual.ensures.1 in
     let below : c.loop-log.log < c.args.flight.logs = search rules in
-    rw (p.1, p.2) (refused_at (log_steps c.args.flight.entry) _ _ _ _ c.loop-log.log c.args.flight.logs below c.loop-log.invariant c.in_err-log_at.ensures)
+    rw (p.1, p.2)
+    (refused_at (log_steps c.args.flight.entry) _ _ _ _ c.loop-log.log c.args.flight.logs below c.loop-log.invariant
+    c.in_err-log_at.ensures)
 
 pub loop-log-preserved : goal.loop-log-preserved
 loop-log-preserved c =

@@ -8,7 +8,9 @@ pub returns-in_err-resolve_at : goal.returns-in_err-resolve_at
 returns-in_err-resolve_at c =
     let p = err_from_is_err_and c.from_residual.result c.from_residual.ensures.1 in
     let below : c.loop-resolver.resolver < c.args.flight.resolvers = search rules in
-    rw (p.1, p.2) (refused_at (resolver_steps c.args.flight.entry) _ _ _ _ c.loop-resolver.resolver c.args.flight.resolvers below c.loop-resolver.invariant c.in_err-resolve_at.ensures)
+    rw (p.1, p.2)
+    (refused_at (resolver_steps c.args.flight.entry) _ _ _ _ c.loop-resolver.resolver c.args.flight.resolvers below
+    c.loop-resolver.invariant c.in_err-resolve_at.ensures)
 
 pub loop-resolver-preserved : goal.loop-resolver-preserved
 loop-resolver-preserved c =

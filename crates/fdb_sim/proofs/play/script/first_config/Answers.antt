@@ -13,5 +13,6 @@ returns-then-not-is_silent-clause-ok g c =
     let takes = c.in_ok-advance.ensures.line (ap Ok c.if-not-branch.false) in
     let says = sym c.is_silent.ensures ∙ c.if-not-is_silent.true in
     if_ok_map c.config_of.result _ _
-    (λ config writes. config_found _ _ _ c.text.result.now _ _ _ config c.loop.invariant (rw c.text.ensures takes) c.in_ok-advance.ensures.number says (rw c.text.ensures writes))
+    (λ config writes. config_found _ _ _ c.text.result.now _ _ _ config c.loop.invariant (rw c.text.ensures takes)
+    c.in_ok-advance.ensures.number says (rw c.text.ensures writes))
     c.config_of.ensures.ok

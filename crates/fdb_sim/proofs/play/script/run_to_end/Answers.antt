@@ -11,24 +11,30 @@ pub returns-in_err-config-clause-stops : goal.returns-in_err-config-clause-stops
 returns-in_err-config-clause-stops g c =
     let p = err_from_is_err_and c.from_residual-in_err-config.result c.from_residual-in_err-config.ensures.1 in
     let made = c.in_ok-lines.ensures in
-    rw p.1 (rw p.2 (run_unconfigured (g.R.Read.remaining c.args.reader.now) _ (g.W.Write.contents c.args.writer.now) _ _ made.left made.number c.in_err-config.ensures.stops))
+    rw p.1 (rw p.2
+    (run_unconfigured (g.R.Read.remaining c.args.reader.now) _ (g.W.Write.contents c.args.writer.now) _ _ made.left
+    made.number c.in_err-config.ensures.stops))
 
 pub returns-in_err-world-clause-stops : goal.returns-in_err-world-clause-stops
 returns-in_err-world-clause-stops g c =
     let p = err_from_is_err_and c.from_residual-in_err-world.result c.from_residual-in_err-world.ensures.1 in
     let made = c.in_ok-lines.ensures in
-    rw p.1 (rw p.2 (run_refused (g.R.Read.remaining c.args.reader.now) _ _ (g.W.Write.contents c.args.writer.now) _ _ c.in_ok-config.config _ made.left made.number c.in_ok-config.ensures.ok c.in_err-world.ensures.stops))
+    rw p.1 (rw p.2
+    (run_refused (g.R.Read.remaining c.args.reader.now) _ _ (g.W.Write.contents c.args.writer.now) _ _
+    c.in_ok-config.config _ made.left made.number c.in_ok-config.ensures.ok c.in_err-world.ensures.stops))
 
 pub returns-clause-printed : goal.returns-clause-printed
 returns-clause-printed g c =
     let made = c.in_ok-lines.ensures in
     if_ok_map c.take_steps.result _ _
-    (λ status played. run_played _ _ _ _ _ _ _ _ status c.in_ok-config.config c.in_ok-world.world.machine made.left made.number c.in_ok-config.ensures.ok c.in_ok-world.ensures.ok c.in_ok-write_all.ensures.bytes played)
+    (λ status played. run_played _ _ _ _ _ _ _ _ status c.in_ok-config.config c.in_ok-world.world.machine made.left
+    made.number c.in_ok-config.ensures.ok c.in_ok-world.ensures.ok c.in_ok-write_all.ensures.bytes played)
     c.take_steps.ensures.printed
 
 pub returns-clause-stops : goal.returns-clause-stops
 returns-clause-stops g c =
     let made = c.in_ok-lines.ensures in
     if_err_map c.take_steps.result _ _
-    (λ stopped played. run_stopped _ _ _ _ _ _ _ _ c.in_ok-config.config c.in_ok-world.world.machine stopped made.left made.number c.in_ok-config.ensures.ok c.in_ok-world.ensures.ok c.in_ok-write_all.ensures.bytes played)
+    (λ stopped played. run_stopped _ _ _ _ _ _ _ _ c.in_ok-config.config c.in_ok-world.world.machine stopped made.left
+    made.number c.in_ok-config.ensures.ok c.in_ok-world.ensures.ok c.in_ok-write_all.ensures.bytes played)
     c.take_steps.ensures.stops

@@ -28,7 +28,9 @@ returns-in_err-take_line-clause-stops g c =
     let p = err_from_is_err_and c.from_residual-in_err-take_line.result c.from_residual-in_err-take_line.ensures.1 in
     let takes = c.in_ok-advance.ensures.line (ap Ok c.if-not-branch.false) in
     let says = sym c.is_silent.ensures ∙ c.if-not-is_silent.true in
-    rw p.1 (rw p.2 (steps_line_stops _ _ _ _ _ _ _ _ _ _ _ _ c.loop.invariant takes c.in_ok-advance.ensures.number (rw (sym c.text.ensures) says) c.in_err-take_line.ensures.stops))
+    rw p.1 (rw p.2
+    (steps_line_stops _ _ _ _ _ _ _ _ _ _ _ _ c.loop.invariant takes c.in_ok-advance.ensures.number
+    (rw (sym c.text.ensures) says) c.in_err-take_line.ensures.stops))
 
 pub loop-preserved : goal.loop-preserved
 loop-preserved g c =
@@ -38,8 +40,11 @@ loop-preserved g c =
       | then-not-is_silent+in_ok-take_line+in_ok-write_all w ↦
           let told = w.in_ok-take_line.ensures.ok in
           let written = w.as_bytes.ensures.value ∙ told.1 ∙ ap (λ bytes. bytes ++ told.0) w.clear.ensures.bytes in
-          rw (w.world-is, w.writer-is) (steps_line _ _ _ _ _ _ _ told.0 _ _ _ _ _ _ c.loop.invariant takes c.in_ok-advance.ensures.number
+          rw (w.world-is, w.writer-is)
+          (steps_line _ _ _ _ _ _ _ told.0 _ _ _ _ _ _ c.loop.invariant takes c.in_ok-advance.ensures.number
           (sym silent ∙ w.if-not-is_silent.true) told.2 (rw written at w.in_ok-write_all.ensures.bytes))
       | else-not-is_silent w ↦
-          rw (w.world-is, w.writer-is) (steps_silent _ _ _ _ _ _ _ _ _ _ _ c.loop.invariant takes c.in_ok-advance.ensures.number (sym silent ∙ w.if-not-is_silent.false))
+          rw (w.world-is, w.writer-is)
+          (steps_silent _ _ _ _ _ _ _ _ _ _ _ c.loop.invariant takes c.in_ok-advance.ensures.number
+          (sym silent ∙ w.if-not-is_silent.false))
     ]

@@ -6,4 +6,5 @@ use Rattle.fdb_sim.proofs.print.answers.push_granted.Given as goal
 -- with the items that are left the text has all of them
 abbrev pub invariant-loop-session : goal.invariant-loop-session
 invariant-loop-session l =
-    string_bytes l.text ++ flat_map grant_text (drop l.session-index l.served) ≡ string_bytes l.initial.text ++ flat_map grant_text l.served
+    string_bytes l.text ++ flat_map grant_text (drop l.session-index l.served) ≡ string_bytes l.initial.text ++ flat_map
+    grant_text l.served

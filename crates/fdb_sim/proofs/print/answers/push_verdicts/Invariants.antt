@@ -6,4 +6,5 @@ use Rattle.fdb_sim.proofs.print.answers.push_verdicts.Given as goal
 -- with the items that are left the text has all of them
 abbrev pub invariant-loop-place : goal.invariant-loop-place
 invariant-loop-place l =
-    string_bytes l.text ++ flat_map verdict_text (drop l.place-index l.verdicts) ≡ string_bytes l.initial.text ++ flat_map verdict_text l.verdicts
+    string_bytes l.text ++ flat_map verdict_text (drop l.place-index l.verdicts) ≡ string_bytes l.initial.text
+    ++ flat_map verdict_text l.verdicts

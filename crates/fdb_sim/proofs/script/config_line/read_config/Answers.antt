@@ -15,24 +15,38 @@ returns-in_err-outline c =
 pub returns-in_err-resolvers : goal.returns-in_err-resolvers
 returns-in_err-resolvers c =
     let p = err_from_is_err_and c.from_residual-in_err-resolvers.result c.from_residual-in_err-resolvers.ensures.1 in
-    rw (p.1, p.2) (MatchFault-bad_alone _ _ _ _ c.in_err-resolvers.ensures.bad (no_resolvers c.args.line.now _ _ _ _ _ c.in_ok-outline.ensures.ok))
+    rw (p.1, p.2)
+    (MatchFault-bad_alone _ _ _ _ c.in_err-resolvers.ensures.bad
+    (no_resolvers c.args.line.now _ _ _ _ _ c.in_ok-outline.ensures.ok))
 
 pub returns-in_err-shards : goal.returns-in_err-shards
 returns-in_err-shards c =
     let p = err_from_is_err_and c.from_residual-in_err-shards.result c.from_residual-in_err-shards.ensures.1 in
-    rw (p.1, p.2) (MatchFault-bad_alone _ _ _ _ c.in_err-shards.ensures.bad (no_shards c.args.line.now _ _ _ _ _ c.in_ok-outline.ensures.ok))
+    rw (p.1, p.2)
+    (MatchFault-bad_alone _ _ _ _ c.in_err-shards.ensures.bad
+    (no_shards c.args.line.now _ _ _ _ _ c.in_ok-outline.ensures.ok))
 
 pub returns-in_err-resolver_splits : goal.returns-in_err-resolver_splits
 returns-in_err-resolver_splits c =
-    let p = err_from_is_err_and c.from_residual-in_err-resolver_splits.result c.from_residual-in_err-resolver_splits.ensures.1 in
-    rw (p.1, p.2) (MatchFault-refused_alone _ _ (λ why. splits_fault c.as_slice.result.now ≡ Some why) _ c.in_err-resolver_splits.ensures.refused
-    (λ why is. config_refused c.args.line.now _ _ _ _ _ c.in_ok-outline.ensures.ok _ _ c.in_ok-resolvers.ensures.ok c.in_ok-shards.ensures.ok why
-    (ap (λ fault. option_or fault (splits_fault c.in_ok-shards.shards)) (ap splits_fault (sym c.as_slice.ensures) ∙ is))))
+    let p = err_from_is_err_and c.from_residual-in_err-resolver_splits.result
+    c.from_residual-in_err-resolver_splits.ensures.1 in
+    rw (p.1, p.2)
+    (MatchFault-refused_alone _ _ (λ why. splits_fault c.as_slice.result.now ≡ Some why) _
+    c.in_err-resolver_splits.ensures.refused
+    (λ why is. config_refused c.args.line.now _ _ _ _ _ c.in_ok-outline.ensures.ok _ _ c.in_ok-resolvers.ensures.ok
+    c.in_ok-shards.ensures.ok why
+    (ap (λ fault. option_or fault (splits_fault c.in_ok-shards.shards))
+    (ap splits_fault (sym c.as_slice.ensures) ∙ is))))
 
 pub returns-in_err-shard_splits : goal.returns-in_err-shard_splits
 returns-in_err-shard_splits c =
-    let p = err_from_is_err_and c.from_residual-in_err-shard_splits.result c.from_residual-in_err-shard_splits.ensures.1 in
+    let p = err_from_is_err_and c.from_residual-in_err-shard_splits.result
+    c.from_residual-in_err-shard_splits.ensures.1 in
     let legal = ap splits_fault (sym c.as_slice.ensures) ∙ c.in_ok-resolver_splits.ensures.ok.1 in
-    rw (p.1, p.2) (MatchFault-refused_alone _ _ (λ why. splits_fault c.as_slice-2.result.now ≡ Some why) _ c.in_err-shard_splits.ensures.refused
-    (λ why is. config_refused c.args.line.now _ _ _ _ _ c.in_ok-outline.ensures.ok _ _ c.in_ok-resolvers.ensures.ok c.in_ok-shards.ensures.ok why
-    (ap (λ fault. option_or fault (splits_fault c.in_ok-shards.shards)) legal ∙ ap splits_fault (sym c.as_slice-2.ensures) ∙ is)))
+    rw (p.1, p.2)
+    (MatchFault-refused_alone _ _ (λ why. splits_fault c.as_slice-2.result.now ≡ Some why) _
+    c.in_err-shard_splits.ensures.refused
+    (λ why is. config_refused c.args.line.now _ _ _ _ _ c.in_ok-outline.ensures.ok _ _ c.in_ok-resolvers.ensures.ok
+    c.in_ok-shards.ensures.ok why
+    (ap (λ fault. option_or fault (splits_fault c.in_ok-shards.shards)) legal
+    ∙ ap splits_fault (sym c.as_slice-2.ensures) ∙ is)))

@@ -10,7 +10,8 @@ returns-in_err-resolvers-clause-bad c =
     rw (p.1, p.2) (
       bad.0,
       λ a b d x y written. bad.1 x (codes "shards" ∷ y ∷ codes "book" ∷ written.2 ∷ [])
-          (after_logs _ _ _ _ _ _ a b d x y (sym c.new-words.ensures ∙ c.in_ok-keyword.ensures.ok) c.in_ok-proxies.ensures.ok.1 c.in_ok-logs.ensures.ok.1 written),
+          (after_logs _ _ _ _ _ _ a b d x y (sym c.new-words.ensures ∙ c.in_ok-keyword.ensures.ok)
+          c.in_ok-proxies.ensures.ok.1 c.in_ok-logs.ensures.ok.1 written),
     )
 
 pub returns-in_err-shards-clause-bad : goal.returns-in_err-shards-clause-bad
@@ -20,5 +21,6 @@ returns-in_err-shards-clause-bad c =
     rw (p.1, p.2) (
       bad.0,
       λ a b d x y written. bad.1 y (codes "book" ∷ written.2 ∷ [])
-          (after_resolvers _ _ _ _ _ _ _ _ a b d x y (sym c.new-words.ensures ∙ c.in_ok-keyword.ensures.ok) c.in_ok-proxies.ensures.ok.1 c.in_ok-logs.ensures.ok.1 c.in_ok-resolvers.ensures.ok written),
+          (after_resolvers _ _ _ _ _ _ _ _ a b d x y (sym c.new-words.ensures ∙ c.in_ok-keyword.ensures.ok)
+          c.in_ok-proxies.ensures.ok.1 c.in_ok-logs.ensures.ok.1 c.in_ok-resolvers.ensures.ok written),
     )

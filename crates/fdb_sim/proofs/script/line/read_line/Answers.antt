@@ -17,4 +17,6 @@ pub returns-in_err-kind : goal.returns-in_err-kind
 returns-in_err-kind c =
     let p = err_from_is_err_and c.from_residual-in_err-kind.result c.from_residual-in_err-kind.ensures.1 in
     let other : c.in_ok-first.first.now ≢ codes "drive" = search rules in
-    rw (p.1, p.2) (line_of_step c.args.line.now c.in_ok-first.first.now c.word.new.self _ (sym c.new-words.ensures ∙ c.in_ok-first.ensures) other c.in_err-kind.ensures)
+    rw (p.1, p.2)
+    (line_of_step c.args.line.now c.in_ok-first.first.now c.word.new.self _
+    (sym c.new-words.ensures ∙ c.in_ok-first.ensures) other c.in_err-kind.ensures)

@@ -6,7 +6,8 @@ use Rattle.fdb_sim.proofs.script.numbers.number.Goals as goal
 
 pub returns-in_err-value : goal.returns-in_err-value
 returns-in_err-value c =
-    let none = no_number c.args.word.now c.loop-byte.byte-index c.loop-byte.value c.loop-byte-test.true c.loop-byte.invariant.1 (c.in_err-value.ensures) in
+    let none = no_number c.args.word.now c.loop-byte.byte-index c.loop-byte.value c.loop-byte-test.true
+    c.loop-byte.invariant.1 (c.in_err-value.ensures) in
     rw c.from_residual.ensures none
 
 pub loop-byte-preserved : goal.loop-byte-preserved

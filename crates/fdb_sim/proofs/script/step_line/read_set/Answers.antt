@@ -11,4 +11,6 @@ returns-in_err-text c =
 pub returns-in_err-key : goal.returns-in_err-key
 returns-in_err-key c =
     let p = err_from_is_err_and c.from_residual-in_err-key.result c.from_residual-in_err-key.ensures.1 in
-    rw (p.1, p.2) (set_refused _ _ _ _ _ _ c.in_ok-text.ensures.ok c.in_ok-value.ensures.ok c.as_slice.ensures.value c.in_err-key.ensures.refused)
+    rw (p.1, p.2)
+    (set_refused _ _ _ _ _ _ c.in_ok-text.ensures.ok c.in_ok-value.ensures.ok c.as_slice.ensures.value
+    c.in_err-key.ensures.refused)

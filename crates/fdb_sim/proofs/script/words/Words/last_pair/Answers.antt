@@ -8,6 +8,7 @@ returns-in_err-second-clause-bad c =
     rw (p.1, p.2) (
       c.in_err-second.ensures.bad.0,
       λ first second two.
-          let after : c.small_number.new.self ≡ two.1 ∷ [] = ap (λ (words : List (List ℕ)). drop 1 words) (sym c.in_ok-first.ensures.ok.1 ∙ two.2) in
+          let after : c.small_number.new.self ≡ two.1 ∷ [] = ap (λ (words : List (List ℕ)). drop 1 words)
+          (sym c.in_ok-first.ensures.ok.1 ∙ two.2) in
           c.in_err-second.ensures.bad.1 second (two.1, after, two.4),
     )

@@ -4,7 +4,9 @@ use Rattle.fdb_sim.specs.script.Grammar.{WritesText}
 use Rattle.fdb_sim.proofs.lemmas.Faults.{MatchFault-bad_alone}
 use Rattle.fdb_sim.proofs.script.words.Words.last_text.Goals as goal
 
-no_text : (words : List (List ℕ)) → ((word : List ℕ) (rest : List (List ℕ)) (bytes : List ℕ) → words ≡ word ∷ rest → ¬ WritesText word bytes) → (word : List ℕ) (bytes : List ℕ) → words ≡ word ∷ [] → ¬ WritesText word bytes
+no_text : (words : List (List ℕ))
+    → ((word : List ℕ) (rest : List (List ℕ)) (bytes : List ℕ) → words ≡ word ∷ rest → ¬ WritesText word bytes)
+    → (word : List ℕ) (bytes : List ℕ) → words ≡ word ∷ [] → ¬ WritesText word bytes
 no_text words none word bytes is = none word [] bytes is
 
 pub returns-in_err-text-clause-bad : goal.returns-in_err-text-clause-bad
