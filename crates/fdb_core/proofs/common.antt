@@ -1,2 +1,3 @@
 pub mod AllLemmas
 pub mod SumLemmas
+pub mod FaultLemmas

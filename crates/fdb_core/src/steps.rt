@@ -6,23 +6,22 @@ mod log;
 mod resolver;
 mod shard;
 
-ghost use Rattle.std.specs.Prelude.{◌≡◌, IfOk, OnOk};
+ghost use Rattle.std.specs.Prelude.{◌≡◌};
 ghost use Rattle.fdb_core.specs.refinement.Cluster.{machine_of, Refines};
-ghost use Rattle.fdb_core.specs.machine.Steps.{next, answer_of, after};
+ghost use Rattle.fdb_core.specs.machine.Steps.{Unless, ran_out, next, answer_of, after};
 
 use crate::cluster::Cluster;
 use crate::roles::commit_proxy::Sender;
 use crate::step::{Answered, Step};
 use fdb_keys::Refusal;
-use std::alloc::AllocError;
 
 impl Cluster {
     /// Takes the step.
-    pub(crate) fn step(&mut self, step: &Step) -> Result<Result<Answered, Refusal>, AllocError>
+    pub(crate) fn step(&mut self, step: &Step) -> Result<Answered, Refusal>
         requires { Refines self.old }
-        ensures answer { IfOk result (λ answer. answer ≡ answer_of (next (machine_of self.old) step.now)) }
-        ensures after { OnOk result (machine_of self.new ≡ after (machine_of self.old) (next (machine_of self.old) step.now)) }
-        ensures refines { OnOk result (Refines self.new) }
+        ensures answer { Unless (ran_out result) (result ≡ answer_of (next (machine_of self.old) step.now)) }
+        ensures after { Unless (ran_out result) (machine_of self.new ≡ after (machine_of self.old) (next (machine_of self.old) step.now)) }
+        ensures refines { Unless (ran_out result) (Refines self.new) }
     {
         match step {
             Step::Ask { session, proxy } => self.ask(*session, *proxy),

@@ -1,3 +1,6 @@
+ghost use Rattle.std.specs.Prelude.{◌≡◌};
+ghost use Rattle.fdb_core.specs.machine.Steps.{ran_out as has_run_out};
+
 use crate::check::serial::check_all;
 use crate::cluster::Cluster;
 use crate::config::Config;
@@ -103,9 +106,8 @@ impl World {
         if self.failed {
             return Err(Refusal::Failed);
         }
-        self.failed = true;
-        let answer = self.cluster.step(step)?;
-        self.failed = false;
+        let answer = self.cluster.step(step);
+        self.failed = ran_out(&answer);
         answer
     }
 
@@ -132,4 +134,11 @@ impl World {
     {
         check_all(&self.cluster, !self.failed)
     }
+}
+
+// Memory ran out in the step.
+fn ran_out(answer: &Result<Answered, Refusal>) -> bool
+    ensures { result ≡ has_run_out answer.now }
+{
+    matches!(answer, Err(Refusal::NoMemory))
 }

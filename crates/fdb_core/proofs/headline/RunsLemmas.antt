@@ -40,9 +40,3 @@ run-next old new taken answer steps answers ran = ⊎_elim
     = run-none steps answers (Some new)
     (subst (λ (mid : Option Machine). IsRun mid steps answers (Some new)) failed.1 ran.2) in cc)
     ran.1
-
--- a call that gave something had no fault
-pub answers-fault : {T : Type 0} (fault : Option Refusal) (given : T) (P : T → Type 0) → Answers (Ok given) fault P
-    → (fault ≡ None) × P given
-answers-fault None given P answers = (Rattle.std.proofs.Common.refl, answers)
-answers-fault (Some why) given P answers = absurd answers

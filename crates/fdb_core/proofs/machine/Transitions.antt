@@ -1,10 +1,11 @@
 -- What the machine's longer steps come to, once what they look at is known.
-use Rattle.std.proofs.Common.{◌≡◌, ◌∙◌, refl, sym, ap, arith, ℕ, ◌+◌, Bool, true, false, List, fold, Option, Some, None, Ok}
+use Rattle.std.proofs.Common.{◌≡◌, ◌∙◌, refl, sym, ap, arith, ℕ, ◌+◌, Bool, true, false, List, fold, Option, Some, None, Ok, Err}
 use Rattle.std.specs.Prelude.{position}
 use Rattle.std.specs.List.{slice_get, slice_set}
 use Rattle.std.proofs.lemmas.Bool.{le-ltb}
 use Rattle.std.specs.FinMap.{get}
 use Rattle.fdb_keys.specs.Answers.{AnswersExactly}
+use Rattle.fdb_keys.specs.declared.refusal.Refusal.{Refusal}
 use Rattle.fdb_mutations.specs.Maps.{Map}
 use Rattle.fdb_txn.specs.declared.entry.Entry.{Entry}
 use Rattle.fdb_txn.specs.book.Book.{seen_of}
@@ -45,6 +46,15 @@ gets-transition m session key snapshot i transcript value at there fault is =
       answer = answered.Value v;
       next = add_operation m i transcript (op.Get key snapshot) (reply.Value v);
     })) (sym is))
+
+-- a read that finds the session's transaction, with a fault
+pub gets-refused : (m : Machine) (session : ℕ) (key : List ℕ) (snapshot : Bool) (i : ℕ) (transcript : Transcript)
+    (why : Refusal)
+    → position (is_of session) m.opened ≡ Some i → slice_get m.opened i ≡ Some transcript
+    → read_fault m (program transcript.ops) transcript.read_version key ≡ Some why
+    → gets m session key snapshot ≡ Err why
+unfolding gets
+gets-refused m session key snapshot i transcript why at there fault = rw (at, there, fault) refl
 
 -- a decided key stands as the transaction's own writes leave it, whatever stood there
 pub answers-decided : (m : Machine) (map : Map) (ops : List (Op × Reply)) (version : ℕ) (key : List ℕ)

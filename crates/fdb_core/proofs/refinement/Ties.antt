@@ -37,17 +37,6 @@ opened-served committed (session ∷ sessions) last_transactions opened all =
     (opened ++ first_of last_transactions committed session ∷ [])
     (all-push _ opened _ all (record { below = omega arith; legal = tt }))
 
--- a call that takes no memory and gives something has no fault, and one that is refused has that fault
-pub given-fault : {T : Type 0} (fault : Option Refusal) (given : T) (P : T → Type 0) → AnswersExactly (Ok given) fault P
-    → (fault ≡ None) × P given
-given-fault None given P answers = (refl, answers)
-given-fault (Some why) given P answers = absurd answers
-
-pub refused-fault : {T : Type 0} (fault : Option Refusal) (why : Refusal) (P : T → Type 0)
-    → AnswersExactly (Err why) fault P → fault ≡ Some why
-refused-fault None why P answers = absurd answers
-refused-fault (Some fault) why P answers = ap (λ (f : Refusal). Some f) (sym answers)
-
 -- an open transaction with one more read is as good, and with one more legal write too
 pub opened-read : (committed : ℕ) (opened : List Transcript) (i : ℕ) (transcript : Transcript) (key : List ℕ)
     (snapshot : Bool) (reply : Reply)

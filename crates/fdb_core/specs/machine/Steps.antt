@@ -1,6 +1,7 @@
 -- What the machine does at each step.
-use Rattle.std.specs.Prelude.{Result, Ok, Err}
+use Rattle.std.specs.Prelude.{⊤, Bool, true, false, Result, Ok, Err}
 use Rattle.fdb_keys.specs.declared.refusal.Refusal.{Refusal}
+use Rattle.fdb_keys.specs.declared.refusal.Refusal.TheVariants.{NoMemory}
 use Rattle.fdb_core.specs.declared.step.Step.{Step}
 use Rattle.fdb_core.specs.declared.step.Step.TheVariants as step
 use Rattle.fdb_core.specs.declared.step.Answered.{Answered}
@@ -36,3 +37,14 @@ answer_of (Err refusal) = Err refusal
 abbrev pub after : Machine → Result Transition Refusal → Machine
 after m (Ok transition) = transition.next
 after m (Err refusal) = m
+
+-- memory ran out in the step
+abbrev pub ran_out : Result Answered Refusal → Bool
+ran_out (Ok given) = false
+ran_out (Err NoMemory) = true
+ran_out (Err why) = false
+
+-- it holds unless the test does
+abbrev pub Unless : Bool → Type 0 → Type 0
+Unless true P = ⊤
+Unless false P = P

@@ -1,65 +1,56 @@
-// The steps of clients, and of the read-version proxies.
-ghost use Rattle.std.specs.Prelude.{◌≡◌, ⊤, IfOk, OnOk};
+// The steps of clients.
+ghost use Rattle.std.specs.Prelude.{◌≡◌};
 ghost use Rattle.std.specs.FinMap.{get};
-ghost use Rattle.fdb_keys.specs.Answers.{AnswersExactly};
+ghost use Rattle.fdb_keys.specs.Answers.{Answers};
 ghost use Rattle.fdb_txn.specs.book.Book.{seen_of};
 ghost use Rattle.fdb_txn.specs.rules.SerialMap.{serial_map_at};
 ghost use Rattle.fdb_core.specs.machine.ClientSteps.{gets, writes, submits, read_fault};
-ghost use Rattle.fdb_core.specs.machine.GrvProxySteps.{asks, grants};
 ghost use Rattle.fdb_core.specs.refinement.Cluster.{machine_of, Refines};
 ghost use Rattle.fdb_core.specs.programs.Programs.{program, copy};
-ghost use Rattle.fdb_core.specs.machine.Steps.{answer_of, after};
+ghost use Rattle.fdb_core.specs.machine.Steps.{Unless, ran_out, answer_of, after};
 
 use crate::book::last_version;
 use crate::cluster::Cluster;
 use crate::roles::client::commit_request::commit_request;
 use crate::roles::client::program::{Op, Reply, Transcript};
-use crate::roles::client::sessions::{add_operation, drop_opened, is_busy, position_of};
+use crate::roles::client::sessions::{add_operation, position_of};
 use crate::roles::client::{Placed, Submission};
-use crate::roles::grv_proxy::{are_used_up, serve_all};
 use crate::roles::values::{copied, is_decided, value_after_ops, value_in};
 use crate::step::Answered;
 use bytes::Bytes;
-use fdb_keys::{Items, Key, Refusal};
+use fdb_keys::{Key, Refusal};
 use fdb_mutations::Mutation;
 use fdb_txn::Spot;
-use std::alloc::AllocError;
-use std::mem;
 
 impl Cluster {
     // What stands at the key for a transaction with its own writes.
-    fn value_of(
-        &self,
-        transcript: &Transcript,
-        key: &Key,
-    ) -> Result<Result<Option<Bytes>, Refusal>, AllocError>
+    fn value_of(&self, transcript: &Transcript, key: &Key) -> Result<Option<Bytes>, Refusal>
         requires { Refines self.now }
-        ensures { IfOk result
-            (λ answer. AnswersExactly answer
+        ensures { Answers result
             (read_fault (machine_of self.now) (program transcript.now.ops) transcript.now.read_version key.now)
             (λ value. value ≡ get
             (copy (serial_map_at self.now.config.resolver_splits transcript.now.read_version
-            (seen_of self.now.book.items).places) (program transcript.now.ops)) key.now)) }
+            (seen_of self.now.book.items).places) (program transcript.now.ops)) key.now) }
     {
         let ops = transcript.ops.as_slice();
         let version = transcript.read_version;
         if is_decided(ops, key) {
             let value = copied(value_after_ops(key, None, ops))?;
-            return Ok(Ok(value));
+            return Ok(value);
         }
         if self.shards.is_empty() {
-            return Ok(Err(Refusal::Unknown));
+            return Err(Refusal::Unknown);
         }
         let progress = &self.shards[0];
         if version < progress.floor() {
-            return Ok(Err(Refusal::TransactionTooOld));
+            return Err(Refusal::TransactionTooOld);
         }
         if last_version(&self.book, progress.applied() as usize) < version {
-            return Ok(Err(Refusal::FutureVersion));
+            return Err(Refusal::FutureVersion);
         }
         let there = value_in(&self.shard, version, key);
         let value = copied(value_after_ops(key, there, ops))?;
-        Ok(Ok(value))
+        Ok(value)
     }
 
     #[tactic(auto, unfolding(crate::specs::machine::ClientSteps::gets))]
@@ -68,68 +59,55 @@ impl Cluster {
         session: u32,
         key: &Key,
         snapshot: bool,
-    ) -> Result<Result<Answered, Refusal>, AllocError>
+    ) -> Result<Answered, Refusal>
         requires { Refines self.old }
-        ensures answer { IfOk result (λ answer. answer ≡ answer_of (gets (machine_of self.old) session key.now snapshot)) }
-        ensures after { OnOk result
+        ensures answer { Unless (ran_out result) (result ≡ answer_of (gets (machine_of self.old) session key.now snapshot)) }
+        ensures after { Unless (ran_out result)
             (machine_of self.new ≡ after (machine_of self.old) (gets (machine_of self.old) session key.now snapshot)) }
-        ensures refines { OnOk result (Refines self.new) }
+        ensures refines { Unless (ran_out result) (Refines self.new) }
     {
         let Some(place) = position_of(&self.opened, session) else {
-            return Ok(Err(Refusal::NoTransaction));
+            return Err(Refusal::NoTransaction);
         };
-        let value = match self.value_of(&self.opened[place], key)? {
-            Ok(value) => value,
-            Err(why) => return Ok(Err(why)),
-        };
+        let value = self.value_of(&self.opened[place], key)?;
         let key = key.clone()?;
         let with_operation = value.clone()?;
         let reply = Reply::Value(with_operation);
         add_operation(&mut self.opened, place, Op::Get { key, snapshot }, reply)?;
-        Ok(Ok(Answered::Value(value)))
+        Ok(Answered::Value(value))
     }
 
     #[tactic(auto, unfolding(crate::specs::machine::ClientSteps::writes))]
-    pub(crate) fn write(
-        &mut self,
-        session: u32,
-        mutation: &Mutation,
-    ) -> Result<Result<Answered, Refusal>, AllocError>
+    pub(crate) fn write(&mut self, session: u32, mutation: &Mutation) -> Result<Answered, Refusal>
         requires { Refines self.old }
-        ensures answer { IfOk result (λ answer. answer ≡ answer_of (writes (machine_of self.old) session mutation.now)) }
-        ensures after { OnOk result
+        ensures answer { Unless (ran_out result) (result ≡ answer_of (writes (machine_of self.old) session mutation.now)) }
+        ensures after { Unless (ran_out result)
             (machine_of self.new ≡ after (machine_of self.old) (writes (machine_of self.old) session mutation.now)) }
-        ensures refines { OnOk result (Refines self.new) }
+        ensures refines { Unless (ran_out result) (Refines self.new) }
     {
         let Some(place) = position_of(&self.opened, session) else {
-            return Ok(Err(Refusal::NoTransaction));
+            return Err(Refusal::NoTransaction);
         };
-        if let Err(why) = mutation.check() {
-            return Ok(Err(why));
-        }
+        mutation.check()?;
         let mutation = mutation.clone()?;
         add_operation(&mut self.opened, place, Op::Write(mutation), Reply::Done)?;
-        Ok(Ok(Answered::Done))
+        Ok(Answered::Done)
     }
 
     #[tactic(auto, unfolding(crate::specs::machine::ClientSteps::submits))]
-    pub(crate) fn submit(
-        &mut self,
-        session: u32,
-        proxy: u32,
-    ) -> Result<Result<Answered, Refusal>, AllocError>
+    pub(crate) fn submit(&mut self, session: u32, proxy: u32) -> Result<Answered, Refusal>
         requires { Refines self.old }
-        ensures answer { IfOk result (λ answer. answer ≡ answer_of (submits (machine_of self.old) session proxy)) }
-        ensures after { OnOk result
+        ensures answer { Unless (ran_out result) (result ≡ answer_of (submits (machine_of self.old) session proxy)) }
+        ensures after { Unless (ran_out result)
             (machine_of self.new ≡ after (machine_of self.old) (submits (machine_of self.old) session proxy)) }
-        ensures refines { OnOk result (Refines self.new) }
+        ensures refines { Unless (ran_out result) (Refines self.new) }
     {
         let at = proxy as usize;
         if at >= self.commit_proxies.len() {
-            return Ok(Err(Refusal::Unknown));
+            return Err(Refusal::Unknown);
         }
         let Some(place) = position_of(&self.opened, session) else {
-            return Ok(Err(Refusal::NoTransaction));
+            return Err(Refusal::NoTransaction);
         };
         let sealed = commit_request(self.alloc, &self.opened[place])?;
         let transcript = self.opened.remove(place);
@@ -137,10 +115,10 @@ impl Cluster {
             let version = transcript.read_version;
             let spot = Spot::ReadOnly { version };
             self.acknowledged.push(Placed { spot, transcript })?;
-            return Ok(Ok(Answered::ReadOnly(version)));
+            return Ok(Answered::ReadOnly(version));
         }
         let commit_proxy = &mut self.commit_proxies[at];
         commit_proxy.submit(Submission::new(sealed, transcript))?;
-        Ok(Ok(Answered::Done))
+        Ok(Answered::Done)
     }
 }

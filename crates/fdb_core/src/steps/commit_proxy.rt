@@ -1,10 +1,10 @@
 // The steps of the commit proxies.
-ghost use Rattle.std.specs.Prelude.{◌≡◌, ◌<◌, true, length, IfOk, OnOk};
+ghost use Rattle.std.specs.Prelude.{◌≡◌, ◌<◌, true, length, IfOk};
 ghost use Rattle.fdb_core.specs.refinement.Views.{sender_of};
 ghost use Rattle.fdb_core.specs.refinement.Cluster.{machine_of, IsDecision, Refines};
 ghost use Rattle.fdb_core.specs.refinement.Resolving.{sent_by};
 ghost use Rattle.fdb_core.specs.machine.CommitProxySteps.{taken_by_sender, seals, receives, decides, reports, answers};
-ghost use Rattle.fdb_core.specs.machine.Steps.{answer_of, after};
+ghost use Rattle.fdb_core.specs.machine.Steps.{Unless, ran_out, answer_of, after};
 
 use crate::cluster::Cluster;
 use crate::roles::commit_proxy::Sender;
@@ -22,30 +22,23 @@ use std::alloc::AllocError;
 
 impl Cluster {
     #[tactic(auto, unfolding(crate::specs::machine::CommitProxySteps::seals))]
-    pub(crate) fn seal(
-        &mut self,
-        proxy: u32,
-        advance: u64,
-    ) -> Result<Result<Answered, Refusal>, AllocError>
+    pub(crate) fn seal(&mut self, proxy: u32, advance: u64) -> Result<Answered, Refusal>
         requires { Refines self.old }
-        ensures answer { IfOk result (λ answer. answer ≡ answer_of (seals (machine_of self.old) proxy advance)) }
-        ensures after { OnOk result
+        ensures answer { Unless (ran_out result) (result ≡ answer_of (seals (machine_of self.old) proxy advance)) }
+        ensures after { Unless (ran_out result)
             (machine_of self.new ≡ after (machine_of self.old) (seals (machine_of self.old) proxy advance)) }
-        ensures refines { OnOk result (Refines self.new) }
+        ensures refines { Unless (ran_out result) (Refines self.new) }
     {
         let at = proxy as usize;
         if at >= self.commit_proxies.len() {
-            return Ok(Err(Refusal::Unknown));
+            return Err(Refusal::Unknown);
         }
         if !self.commit_proxies[at].is_idle() {
-            return Ok(Err(Refusal::WrongState));
+            return Err(Refusal::WrongState);
         }
-        let ticket = match self.sequencer.plan(proxy, advance) {
-            Ok(ticket) => ticket,
-            Err(why) => return Ok(Err(why)),
-        };
+        let ticket = self.sequencer.plan(proxy, advance)?;
         if self.config.book as usize <= self.book.len() {
-            return Ok(Err(Refusal::BookFull));
+            return Err(Refusal::BookFull);
         }
         let (resolvers, logs) = (self.resolvers.len(), self.logs.len());
         let commit_proxy = &mut self.commit_proxies[at];
@@ -69,12 +62,12 @@ impl Cluster {
         self.entry_proxies.push(proxy)?;
         self.decided.push(false)?;
         self.messages.push(None)?;
-        Ok(Ok(Answered::Issued {
+        Ok(Answered::Issued {
             index,
             version,
             prev,
             places,
-        }))
+        })
     }
 
     // How many entries the sender took.
@@ -91,62 +84,58 @@ impl Cluster {
     }
 
     #[tactic(auto, unfolding(crate::specs::machine::CommitProxySteps::receives))]
-    pub(crate) fn receive(
-        &mut self,
-        entry: u32,
-        sender: Sender,
-    ) -> Result<Result<Answered, Refusal>, AllocError>
+    pub(crate) fn receive(&mut self, entry: u32, sender: Sender) -> Result<Answered, Refusal>
         requires { Refines self.old }
-        ensures answer { IfOk result (λ answer. answer ≡ answer_of (receives (machine_of self.old) entry (sender_of sender))) }
-        ensures after { OnOk result
+        ensures answer { Unless (ran_out result) (result ≡ answer_of (receives (machine_of self.old) entry (sender_of sender))) }
+        ensures after { Unless (ran_out result)
             (machine_of self.new ≡ after (machine_of self.old)
             (receives (machine_of self.old) entry (sender_of sender))) }
-        ensures refines { OnOk result (Refines self.new) }
+        ensures refines { Unless (ran_out result) (Refines self.new) }
     {
         let Some(taken) = self.taken_by(sender) else {
-            return Ok(Err(Refusal::Unknown));
+            return Err(Refusal::Unknown);
         };
         if taken <= entry {
-            return Ok(Err(Refusal::Unknown));
+            return Err(Refusal::Unknown);
         }
         let i = entry as usize;
         if i >= self.entry_proxies.len() {
-            return Ok(Err(Refusal::Unknown));
+            return Err(Refusal::Unknown);
         }
         let at = self.entry_proxies[i] as usize;
         if at >= self.commit_proxies.len() {
-            return Ok(Err(Refusal::Unknown));
+            return Err(Refusal::Unknown);
         }
         if !self.commit_proxies[at].awaits(entry, sender) {
-            return Ok(Err(Refusal::Stale));
+            return Err(Refusal::Stale);
         }
         let commit_proxy = &mut self.commit_proxies[at];
         commit_proxy.receive(sender);
-        Ok(Ok(Answered::Done))
+        Ok(Answered::Done)
     }
 
     #[tactic(auto, unfolding(crate::specs::machine::CommitProxySteps::decides))]
-    pub(crate) fn decide(&mut self, proxy: u32) -> Result<Result<Answered, Refusal>, AllocError>
+    pub(crate) fn decide(&mut self, proxy: u32) -> Result<Answered, Refusal>
         requires { Refines self.old }
-        ensures answer { IfOk result (λ answer. answer ≡ answer_of (decides (machine_of self.old) proxy)) }
-        ensures after { OnOk result (machine_of self.new ≡ after (machine_of self.old) (decides (machine_of self.old) proxy)) }
-        ensures refines { OnOk result (Refines self.new) }
+        ensures answer { Unless (ran_out result) (result ≡ answer_of (decides (machine_of self.old) proxy)) }
+        ensures after { Unless (ran_out result) (machine_of self.new ≡ after (machine_of self.old) (decides (machine_of self.old) proxy)) }
+        ensures refines { Unless (ran_out result) (Refines self.new) }
     {
         let at = proxy as usize;
         if at >= self.commit_proxies.len() {
-            return Ok(Err(Refusal::Unknown));
+            return Err(Refusal::Unknown);
         }
         let commit_proxy = &self.commit_proxies[at];
         if !commit_proxy.is_resolving() {
-            return Ok(Err(Refusal::WrongState));
+            return Err(Refusal::WrongState);
         }
         let i = commit_proxy.entry() as usize;
         if i >= self.book.len() {
-            return Ok(Err(Refusal::Unknown));
+            return Err(Refusal::Unknown);
         }
         let is_received = is_set(commit_proxy.verdicts_received(), 0);
         if !is_received && are_any_judged(self.book[i].batch.as_slice()) {
-            return Ok(Err(Refusal::NotYet(0)));
+            return Err(Refusal::NotYet(0));
         }
         let (outcomes, message) = self.decision(i, is_received)?;
         let answer = outcomes.clone()?;
@@ -155,7 +144,7 @@ impl Cluster {
         self.outcomes = outcomes;
         let commit_proxy = &mut self.commit_proxies[at];
         commit_proxy.decide();
-        Ok(Ok(Answered::Decided(answer)))
+        Ok(Answered::Decided(answer))
     }
 
     // The outcomes of an entry's places and its message, by the verdicts that came.
@@ -177,54 +166,54 @@ impl Cluster {
     }
 
     #[tactic(auto, unfolding(crate::specs::machine::CommitProxySteps::reports))]
-    pub(crate) fn report(&mut self, proxy: u32) -> Result<Result<Answered, Refusal>, AllocError>
+    pub(crate) fn report(&mut self, proxy: u32) -> Result<Answered, Refusal>
         requires { Refines self.old }
-        ensures answer { IfOk result (λ answer. answer ≡ answer_of (reports (machine_of self.old) proxy)) }
-        ensures after { OnOk result (machine_of self.new ≡ after (machine_of self.old) (reports (machine_of self.old) proxy)) }
-        ensures refines { OnOk result (Refines self.new) }
+        ensures answer { Unless (ran_out result) (result ≡ answer_of (reports (machine_of self.old) proxy)) }
+        ensures after { Unless (ran_out result) (machine_of self.new ≡ after (machine_of self.old) (reports (machine_of self.old) proxy)) }
+        ensures refines { Unless (ran_out result) (Refines self.new) }
     {
         let at = proxy as usize;
         if at >= self.commit_proxies.len() {
-            return Ok(Err(Refusal::Unknown));
+            return Err(Refusal::Unknown);
         }
         let commit_proxy = &self.commit_proxies[at];
         if !commit_proxy.is_logging() {
-            return Ok(Err(Refusal::WrongState));
+            return Err(Refusal::WrongState);
         }
         let i = commit_proxy.entry() as usize;
         if i >= self.book.len() {
-            return Ok(Err(Refusal::Unknown));
+            return Err(Refusal::Unknown);
         }
         if let Some(missing) = first_unset(commit_proxy.acknowledgements_received()) {
-            return Ok(Err(Refusal::NotYet(missing as u64)));
+            return Err(Refusal::NotYet(missing as u64));
         }
         take_report(&mut self.sequencer, self.book[i].version);
         let commit_proxy = &mut self.commit_proxies[at];
         commit_proxy.report();
-        Ok(Ok(Answered::Version(self.sequencer.committed())))
+        Ok(Answered::Version(self.sequencer.committed()))
     }
 
     #[tactic(auto, unfolding(crate::specs::machine::CommitProxySteps::answers))]
-    pub(crate) fn answer(&mut self, proxy: u32) -> Result<Result<Answered, Refusal>, AllocError>
+    pub(crate) fn answer(&mut self, proxy: u32) -> Result<Answered, Refusal>
         requires { Refines self.old }
-        ensures answer { IfOk result (λ answer. answer ≡ answer_of (answers (machine_of self.old) proxy)) }
-        ensures after { OnOk result (machine_of self.new ≡ after (machine_of self.old) (answers (machine_of self.old) proxy)) }
-        ensures refines { OnOk result (Refines self.new) }
+        ensures answer { Unless (ran_out result) (result ≡ answer_of (answers (machine_of self.old) proxy)) }
+        ensures after { Unless (ran_out result) (machine_of self.new ≡ after (machine_of self.old) (answers (machine_of self.old) proxy)) }
+        ensures refines { Unless (ran_out result) (Refines self.new) }
     {
         let at = proxy as usize;
         if at >= self.commit_proxies.len() {
-            return Ok(Err(Refusal::Unknown));
+            return Err(Refusal::Unknown);
         }
         let commit_proxy = &self.commit_proxies[at];
         if commit_proxy.is_idle() {
-            return Ok(Err(Refusal::WrongState));
+            return Err(Refusal::WrongState);
         }
         let i = commit_proxy.entry() as usize;
         if i >= self.book.len() {
-            return Ok(Err(Refusal::Unknown));
+            return Err(Refusal::Unknown);
         }
         if !commit_proxy.is_reported() {
-            return Ok(Err(Refusal::NotYet(self.book[i].version)));
+            return Err(Refusal::NotYet(self.book[i].version));
         }
         let transcripts = commit_proxy.in_flight();
         let outcomes = self.outcomes.as_slice();
@@ -237,6 +226,6 @@ impl Cluster {
         )?;
         let commit_proxy = &mut self.commit_proxies[at];
         commit_proxy.finish(self.alloc);
-        Ok(Ok(Answered::Answers(told)))
+        Ok(Answered::Answers(told))
     }
 }

@@ -1,7 +1,7 @@
 // Sessions ask a read-version proxy, which serves them.
-ghost use Rattle.std.specs.Prelude.{◌≡◌, IfOk, OnOk};
+ghost use Rattle.std.specs.Prelude.{◌≡◌};
 ghost use Rattle.fdb_core.specs.machine.GrvProxySteps.{asks, grants};
-ghost use Rattle.fdb_core.specs.machine.Steps.{answer_of, after};
+ghost use Rattle.fdb_core.specs.machine.Steps.{Unless, ran_out, answer_of, after};
 ghost use Rattle.fdb_core.specs.refinement.Cluster.{machine_of, Refines};
 
 use crate::cluster::Cluster;
@@ -9,48 +9,43 @@ use crate::roles::client::sessions::{drop_opened, is_busy};
 use crate::roles::grv_proxy::{are_used_up, serve_all};
 use crate::step::Answered;
 use fdb_keys::{Items, Refusal};
-use std::alloc::AllocError;
 use std::mem;
 
 impl Cluster {
     #[tactic(auto, unfolding(crate::specs::machine::GrvProxySteps::asks))]
-    pub(crate) fn ask(
-        &mut self,
-        session: u32,
-        proxy: u32,
-    ) -> Result<Result<Answered, Refusal>, AllocError>
+    pub(crate) fn ask(&mut self, session: u32, proxy: u32) -> Result<Answered, Refusal>
         requires { Refines self.old }
-        ensures answer { IfOk result (λ answer. answer ≡ answer_of (asks (machine_of self.old) session proxy)) }
-        ensures after { OnOk result
+        ensures answer { Unless (ran_out result) (result ≡ answer_of (asks (machine_of self.old) session proxy)) }
+        ensures after { Unless (ran_out result)
             (machine_of self.new ≡ after (machine_of self.old) (asks (machine_of self.old) session proxy)) }
-        ensures refines { OnOk result (Refines self.new) }
+        ensures refines { Unless (ran_out result) (Refines self.new) }
     {
         let at = proxy as usize;
         if at >= self.grv_proxies.len() {
-            return Ok(Err(Refusal::Unknown));
+            return Err(Refusal::Unknown);
         }
         if is_busy(&self.grv_proxies, &self.commit_proxies, session) {
-            return Ok(Err(Refusal::WrongState));
+            return Err(Refusal::WrongState);
         }
         drop_opened(&mut self.opened, session);
         let there = &mut self.grv_proxies[at];
         there.push(session)?;
-        Ok(Ok(Answered::Done))
+        Ok(Answered::Done)
     }
 
     #[tactic(auto, unfolding(crate::specs::machine::GrvProxySteps::grants))]
-    pub(crate) fn grant(&mut self, proxy: u32) -> Result<Result<Answered, Refusal>, AllocError>
+    pub(crate) fn grant(&mut self, proxy: u32) -> Result<Answered, Refusal>
         requires { Refines self.old }
-        ensures answer { IfOk result (λ answer. answer ≡ answer_of (grants (machine_of self.old) proxy)) }
-        ensures after { OnOk result (machine_of self.new ≡ after (machine_of self.old) (grants (machine_of self.old) proxy)) }
-        ensures refines { OnOk result (Refines self.new) }
+        ensures answer { Unless (ran_out result) (result ≡ answer_of (grants (machine_of self.old) proxy)) }
+        ensures after { Unless (ran_out result) (machine_of self.new ≡ after (machine_of self.old) (grants (machine_of self.old) proxy)) }
+        ensures refines { Unless (ran_out result) (Refines self.new) }
     {
         let at = proxy as usize;
         if at >= self.grv_proxies.len() {
-            return Ok(Err(Refusal::Unknown));
+            return Err(Refusal::Unknown);
         }
         if are_used_up(&self.last_transactions, self.grv_proxies[at].as_slice()) {
-            return Ok(Err(Refusal::Exhausted));
+            return Err(Refusal::Exhausted);
         }
         let there = mem::replace(&mut self.grv_proxies[at], Items::new(self.alloc));
         let granted = serve_all(
@@ -60,6 +55,6 @@ impl Cluster {
             self.sequencer.committed(),
             there.as_slice(),
         )?;
-        Ok(Ok(Answered::Granted(granted)))
+        Ok(Answered::Granted(granted))
     }
 }

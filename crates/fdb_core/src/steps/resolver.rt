@@ -1,42 +1,37 @@
 // A resolver takes its part of an entry.
-ghost use Rattle.std.specs.Prelude.{◌≡◌, IfOk, OnOk};
+ghost use Rattle.std.specs.Prelude.{◌≡◌};
 ghost use Rattle.fdb_core.specs.refinement.Cluster.{machine_of, Refines};
 ghost use Rattle.fdb_core.specs.machine.RoleSteps.{resolves};
-ghost use Rattle.fdb_core.specs.machine.Steps.{answer_of, after};
+ghost use Rattle.fdb_core.specs.machine.Steps.{Unless, ran_out, answer_of, after};
 
 use crate::cluster::Cluster;
 use crate::step::Answered;
 use fdb_keys::Refusal;
-use std::alloc::AllocError;
 
 impl Cluster {
     #[tactic(auto, unfolding(crate::specs::machine::RoleSteps::resolves))]
-    pub(crate) fn resolve(
-        &mut self,
-        entry: u32,
-        resolver: u32,
-    ) -> Result<Result<Answered, Refusal>, AllocError>
+    pub(crate) fn resolve(&mut self, entry: u32, resolver: u32) -> Result<Answered, Refusal>
         requires { Refines self.old }
-        ensures answer { IfOk result (λ answer. answer ≡ answer_of (resolves (machine_of self.old) entry resolver)) }
-        ensures after { OnOk result
+        ensures answer { Unless (ran_out result) (result ≡ answer_of (resolves (machine_of self.old) entry resolver)) }
+        ensures after { Unless (ran_out result)
             (machine_of self.new ≡ after (machine_of self.old) (resolves (machine_of self.old) entry resolver)) }
-        ensures refines { OnOk result (Refines self.new) }
+        ensures refines { Unless (ran_out result) (Refines self.new) }
     {
         let i = entry as usize;
         let of = resolver as usize;
         if i >= self.book.len() || of >= self.resolvers.len() {
-            return Ok(Err(Refusal::Unknown));
+            return Err(Refusal::Unknown);
         }
         let taken = self.resolvers[of].taken;
         if entry < taken {
-            return Ok(Err(Refusal::Stale));
+            return Err(Refusal::Stale);
         }
         if taken < entry {
-            return Ok(Err(Refusal::NotYet(self.book[i].prev)));
+            return Err(Refusal::NotYet(self.book[i].prev));
         }
         let part = &self.book[i];
         let role = &mut self.resolvers[of];
         let answer = role.take(self.alloc, part)?;
-        Ok(Ok(Answered::Verdicts(answer)))
+        Ok(Answered::Verdicts(answer))
     }
 }

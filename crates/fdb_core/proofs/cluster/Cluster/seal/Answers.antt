@@ -1,6 +1,7 @@
 use Rattle.std.proofs.Common.{◌≡◌, ◌∙◌, refl, sym, ap, subst, ◌<◌, ◌≤◌, true, length, map, List, [], ◌∷◌, ◌++◌, take, Some, Ok, Err, slice_get, slice_set, arith, rules}
 use Rattle.std.proofs.lemmas.List.{length-append, length-map}
 use Rattle.std.proofs.lemmas.Option.{slice_get_read}
+use Rattle.std.proofs.lemmas.Result.{err_from_is_err_and}
 use Rattle.fdb_keys.specs.declared.refusal.Refusal.TheVariants.{Exhausted}
 use Rattle.fdb_txn.specs.declared.batch.TheConstants.{PLACE_LIMIT}
 use Rattle.fdb_txn.specs.declared.entry.Entry.{Entry}
@@ -21,7 +22,7 @@ use Rattle.fdb_core.proofs.refinement.CommitProxyTies.{commit_proxy-at}
 use Rattle.fdb_core.proofs.refinement.SealLemmas.{sealed_entry, sealed_proxy, seals-transition, length-sealed, batch-fits, sealed-below, book-push, resolvers-push, log-push, commit_proxy-seal}
 use Rattle.fdb_core.proofs.refinement.TicketTies.{plan-refused, plan-given, seals-exhausted}
 use Rattle.fdb_core.proofs.cluster.Cluster.seal.Goals as goal
-use Rattle.fdb_core.proofs.cluster.Cluster.seal.Goals.{After-drop-ticket-2}
+use Rattle.fdb_core.proofs.cluster.Cluster.seal.Goals.{After-drop-ticket-2, In_err-ticket}
 use Rattle.fdb_core.specs.refinement.Resolving.{taken_by}
 
 pub overflow_cast-places : goal.overflow_cast-places
@@ -51,7 +52,7 @@ idle c =
 -- the ticket is of the machine's next entry
 given : (c : After-drop-ticket-2)
     → (next_version (last_version c.args.self.now.book.items) c.args.advance ≤ version_limit)
-    × (c.in-Ok.ticket ≡ record {
+    × (c.in_ok-ticket.ticket ≡ record {
       proxy = c.args.proxy;
       index = length c.args.self.now.book.items;
       version = next_version (last_version c.args.self.now.book.items) c.args.advance;
@@ -60,16 +61,16 @@ given : (c : After-drop-ticket-2)
       pending = [];
     })
 given c = plan-given c.args.self.now c.requires c.args.proxy c.args.advance c.index_mut-commit_proxy.result.now
-    (there c) c.in-Ok.ticket c.in-Ok.ensures
+    (there c) c.in_ok-ticket.ticket c.in_ok-ticket.ensures
 
-count : (c : After-drop-ticket-2) → c.in-Ok.ticket.index ≡ length c.args.self.now.book.items
+count : (c : After-drop-ticket-2) → c.in_ok-ticket.ticket.index ≡ length c.args.self.now.book.items
 count c = ap (λ (ticket : Ticket). ticket.index) (given c).1
 
-prev : (c : After-drop-ticket-2) → c.in-Ok.ticket.prev ≡ last_version c.args.self.now.book.items
+prev : (c : After-drop-ticket-2) → c.in_ok-ticket.ticket.prev ≡ last_version c.args.self.now.book.items
 prev c = ap (λ (ticket : Ticket). ticket.prev) (given c).1
 
 version : (c : After-drop-ticket-2)
-    → c.in-Ok.ticket.version ≡ next_version (last_version c.args.self.now.book.items) c.args.advance
+    → c.in_ok-ticket.ticket.version ≡ next_version (last_version c.args.self.now.book.items) c.args.advance
 version c = ap (λ (ticket : Ticket). ticket.version) (given c).1
 
 few : (c : After-drop-ticket-2) → next_version (last_version c.args.self.now.book.items) c.args.advance ≤ version_limit
@@ -86,15 +87,15 @@ batch c = c.in_ok-batch.ensures.batch
 -- the new entry, and the commit proxy
 entry : (c : After-drop-ticket-2) → Path Entry
     (record {
-      version = c.in-Ok.ticket.version;
-      prev = c.in-Ok.ticket.prev;
-      moves = c.in-Ok.ticket.pending;
+      version = c.in_ok-ticket.ticket.version;
+      prev = c.in_ok-ticket.ticket.prev;
+      moves = c.in_ok-ticket.ticket.pending;
       batch =
           c.new-batch.result;
     })
     (sealed_entry (machine_of c.args.self.now) c.args.advance c.index_mut-commit_proxy.result.now)
 entry c =
-    let moves : c.in-Ok.ticket.pending ≡ [] = ap (λ (ticket : Ticket). ticket.pending) (given c).1 in
+    let moves : c.in_ok-ticket.ticket.pending ≡ [] = ap (λ (ticket : Ticket). ticket.pending) (given c).1 in
     let places : c.new-batch.result ≡ c.in_ok-batch.batch = search rules in
     λ i. record { version = version c i; prev = prev c i; moves = moves i; batch = (places ∙ batch c) i }
 
@@ -120,7 +121,7 @@ proxies_then : (c : After-drop-ticket-2) → slice_set c.args.self.now.commit_pr
 proxies_then c = ap (λ (p : CommitProxy). slice_set c.args.self.now.commit_proxies.items c.args.proxy p) (next c)
 
 -- where there is no ticket, there is no version left
-exhausted : (c : goal.In-Err) → (c.in-Err.why ≡ Exhausted)
+exhausted : (c : In_err-ticket) → (c.in_err-ticket.field-0.0 ≡ Exhausted)
     × (seals (machine_of c.args.self.now) c.args.proxy c.args.advance ≡ Err Exhausted)
 exhausted c =
     let k = c.args.self.now in
@@ -129,16 +130,21 @@ exhausted c =
     let at : slice_get k.commit_proxies.items c.args.proxy ≡ Some commit_proxy = slice_get_read k.commit_proxies.items
     (length k.commit_proxies.items) c.args.proxy commit_proxy refl inside c.index.ensures in
     let is : is_idle commit_proxy.stage ≡ true = search rules in
-    let refused = plan-refused k c.requires c.args.proxy c.args.advance commit_proxy at c.in-Err.why _
-    c.in-Err.ensures in
+    let refused = plan-refused k c.requires c.args.proxy c.args.advance commit_proxy at c.in_err-ticket.field-0.0 _
+    c.in_err-ticket.ensures in
     (refused.0, seals-exhausted k c.args.proxy c.args.advance commit_proxy at is refused.1)
 
-pub returns-in-Err-clause-answer : goal.returns-in-Err-clause-answer
-returns-in-Err-clause-answer c =
-    let refused = exhausted c in rw (refused.1) (ap Err refused.0)
+pub returns-in_err-ticket-clause-answer : goal.returns-in_err-ticket-clause-answer
+returns-in_err-ticket-clause-answer c =
+    let left = err_from_is_err_and c.from_residual.result c.from_residual.ensures.1 in
+    let refused = exhausted (goal.at.returns-in_err-ticket-clause-answer c).In_err-ticket in
+    rw (left.1, left.2, refused.0, refused.1) refl
 
-pub returns-in-Err-clause-after : goal.returns-in-Err-clause-after
-returns-in-Err-clause-after c = let refused = exhausted c in rw (refused.1) refl
+pub returns-in_err-ticket-clause-after : goal.returns-in_err-ticket-clause-after
+returns-in_err-ticket-clause-after c =
+    let left = err_from_is_err_and c.from_residual.result c.from_residual.ensures.1 in
+    let refused = exhausted (goal.at.returns-in_err-ticket-clause-after c).In_err-ticket in
+    rw (left.1, left.2, refused.0, refused.1) refl
 
 pub returns-clause-answer : goal.returns-clause-answer
 returns-clause-answer c =

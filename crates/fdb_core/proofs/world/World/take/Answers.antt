@@ -1,22 +1,45 @@
-use Rattle.std.proofs.Common.{sym, subst}
+use Rattle.std.proofs.Common.{◌≡◌, ◌∙◌, sym, subst, Bool, true, false}
+use Rattle.fdb_core.specs.declared.cluster.Cluster.{Cluster}
+use Rattle.std.specs.Prelude.{IfSome}
+use Rattle.fdb_core.specs.headline.Headline.{AllSerialized}
+use Rattle.fdb_core.specs.headline.Serving.{RolesKeep}
 use Rattle.fdb_core.specs.invariant.Invariant.{Invariant}
+use Rattle.fdb_core.specs.machine.Steps.{Unless, ran_out}
+use Rattle.fdb_core.specs.refinement.Cluster.{machine_of, system_of, Refines}
+use Rattle.fdb_core.proofs.common.FaultLemmas.{unless-map, held}
 use Rattle.fdb_core.proofs.headline.HeadlineLaws.{sound-after}
 use Rattle.fdb_core.proofs.headline.ServingLaws.{roles_keep}
 use Rattle.fdb_core.proofs.world.World.take.Goals as goal
+use Rattle.fdb_core.proofs.world.World.take.Goals.{After-ran_out-self-inside}
 
-pub invariant_of-self-2 : goal.invariant_of-self-2
-invariant_of-self-2 c =
-    let now = c.in_ok-answer.ensures in
-    λ _. (
-      now.refines,
-      subst Invariant (sym now.after)
-          (sound-after _ c.args.step.now (c.self.invariant c.if-self.false).1),
-    )
+-- what holds of the parts unless memory ran out holds of what the world shows
+serial-shown : (failed : Bool) (k : Cluster) → Unless failed (Invariant (machine_of k))
+    → IfSome (system_of failed k).machine AllSerialized
+serial-shown true k sound = tt
+serial-shown false k sound = sound.acknowledged
+
+roles-shown : (failed : Bool) (k : Cluster) → Unless failed (Refines k) → RolesKeep (system_of failed k)
+roles-shown true k refines = tt
+roles-shown false k refines = roles_keep k refines
+
+-- unless memory ran out, the machine that the parts stand for is sound
+sound : (c : After-ran_out-self-inside) → Unless c.ran_out-self-inside.result (Invariant (machine_of c.step-answer.new.self))
+sound c = rw c.ran_out-self-inside.ensures
+    (unless-map (ran_out c.step-answer.result) _ (Invariant (machine_of c.step-answer.new.self))
+    (λ after. subst Invariant (sym after) (sound-after _ c.args.step.now (c.self.invariant c.if-self.false).1))
+    c.step-answer.ensures.after)
+
+refines : (c : After-ran_out-self-inside) → Unless c.ran_out-self-inside.result (Refines c.step-answer.new.self)
+refines c = rw c.ran_out-self-inside.ensures c.step-answer.ensures.refines
+
+pub invariant_of-self : goal.invariant_of-self
+invariant_of-self c = let taken = (goal.at.invariant_of-self c).After-ran_out-self-inside in
+    λ here. (held _ _ (refines taken) here, held _ _ (sound taken) here)
 
 pub returns-clause-serial : goal.returns-clause-serial
-returns-clause-serial c =
-    (subst Invariant (sym c.in_ok-answer.ensures.after)
-    (sound-after _ c.args.step.now (c.self.invariant c.if-self.false).1)).acknowledged
+returns-clause-serial c = serial-shown _ c.step-answer.new.self
+    (sound (goal.at.returns-clause-serial c).After-ran_out-self-inside)
 
 pub returns-clause-roles : goal.returns-clause-roles
-returns-clause-roles c = roles_keep _ c.in_ok-answer.ensures.refines
+returns-clause-roles c = roles-shown _ c.step-answer.new.self
+    (refines (goal.at.returns-clause-roles c).After-ran_out-self-inside)
