@@ -94,8 +94,7 @@ module _ (id : TxnId) where
   Within last_transactions = unwrap_or (last_number id.session last_transactions) 0 ≤ greatest_number
 
 -- In the book, at the proxies and among the open ones there is one transaction of the name at most, and none before it
--- has
--- begun; at each read-version proxy its session asks once at most.
+-- has begun; at each read-version proxy its session asks once at most.
 record Once (id : TxnId) (book : List Entry) (commit_proxies : List CommitProxy) (opened : List Transcript)
     (grv_proxies : List (List ℕ))
     (last_transactions : List LastTransaction) : Type 0 where

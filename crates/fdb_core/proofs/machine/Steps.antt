@@ -38,8 +38,7 @@ writes_nothing transcript = is_nil (commit_request_of transcript).mutations && i
     (commit_request_of transcript).writes
 
 -- What accepted steps do, by the fields that they change. The relation is between the machine, the version that the
--- step
--- reports, which is 0 at all but a report, and the machine after the step.
+-- step reports, which is 0 at all but a report, and the machine after the step.
 pub record HoldsOfSteps (R : Machine → ℕ → Machine → Type 0) : Type 0 where
   -- resolvers, logs and shards went on (Resolve, Push, Pull)
   pub roles : (m : Machine) (resolvers logs : List ℕ) (shards : List ShardProgress)

@@ -1,5 +1,5 @@
 -- What the machine does where a commit proxy decides its batch, and what stays tied then.
-use Rattle.std.proofs.Common.{◌≡◌, ◌∙◌, sym, ap, ap₂, refl, ◌<◌, ◌≤◌, ⊎_elim, ℕ, zero, suc, Bool, true, false, ◌&&◌, not, List, [], ◌∷◌, take, length, get_or, unwrap_or, Option, Some, None, Ok, Err, if◌then◌else◌, arith, length-take-le, length-append}
+use Rattle.std.proofs.Common.{◌≡◌, ◌∙◌, sym, ap, ap₂, refl, subst, ◌<◌, ◌≤◌, ⊎_elim, ℕ, zero, suc, Bool, true, false, ◌&&◌, not, List, [], ◌∷◌, take, length, get_or, unwrap_or, Option, Some, None, Ok, Err, if◌then◌else◌, arith, length-take-le, length-append}
 use Rattle.std.specs.List.{AllZip, list_any, slice_get, slice_set}
 use Rattle.std.specs.Vec.{with_item}
 use Rattle.std.proofs.lemmas.Bool.{cases_eq, true≢false}
@@ -20,7 +20,7 @@ use Rattle.fdb_core.specs.machine.Machine.{is_set, first_missing, seen_before}
 use Rattle.fdb_core.specs.machine.CommitProxySteps.{decides, is_idle, is_resolving}
 use Rattle.fdb_core.specs.refinement.Roles.{along, message_on, outcomes_by, body_by}
 use Rattle.fdb_core.specs.machine.Verdicts.{verdicts_on, is_needed, outcomes_on}
-use Rattle.fdb_core.proofs.common.AllLemmas.{all-at}
+use Rattle.fdb_core.proofs.common.AllLemmas.{all-at, within-item}
 use Rattle.fdb_core.proofs.refinement.BatchLaws.{needed-points, not_needed-verdicts, outcomes-decided, body-committed}
 use Rattle.fdb_core.proofs.refinement.CommitProxyTies.{commit_proxy-at, commit_proxies-set}
 use Rattle.fdb_core.specs.refinement.Resolving.{is_judged, taken_by, sent_by}
@@ -48,6 +48,17 @@ pub one-item : {A : Type 0} (xs : List A) (i : ℕ) (read x : A) → i < length 
     → slice_get xs i ≡ Some x → read ≡ x
 one-item xs i read x within is there = same_Some read x
     (sym (slice_get_read xs (length xs) i read refl within is) ∙ there)
+
+-- The proxy that was read by its number, and the entry of its number, which was seen to be in the book.
+pub proxy-and-entry : (k : Cluster) (proxy i : ℕ) (commit_proxy : CommitProxy)
+    → proxy < length k.commit_proxies.items → commit_proxy ≡ get_or k.commit_proxies.items proxy commit_proxy
+    → i ≡ commit_proxy.entry → i < length k.book.items
+    → (slice_get k.commit_proxies.items proxy ≡ Some commit_proxy)
+    × ((entry : Entry) × (slice_get k.book.items commit_proxy.entry ≡ Some entry))
+proxy-and-entry k proxy i commit_proxy within read same inside = (
+  slice_get_read k.commit_proxies.items (length k.commit_proxies.items) proxy commit_proxy refl within read,
+  within-item k.book.items commit_proxy.entry (subst (λ (n : ℕ). n < length k.book.items) same inside),
+)
 
 -- a copy of a list, item by item
 pub same-items : {A : Type 0} (xs ys : List A) → AllZip (λ x y. y ≡ x) xs ys → ys ≡ xs

@@ -46,9 +46,8 @@ two_in_one_entry = record (start plain) {
 }
 
 -- The first one is serialized at its place, under the entry's version. It isn't serialized at the other place or under
--- another
--- version, and didn't if it had been answered otherwise. The second one read what the first one wrote, so it isn't
--- committed and stands nowhere.
+-- another version, and didn't if it had been answered otherwise. The second one read what the first one wrote, so it
+-- isn't committed and stands nowhere.
 abbrev pub OnlyTheFirstIsSerialized : Type 0
 OnlyTheFirstIsSerialized =
     IsSerializedAtSpot two_in_one_entry (reads_and_sets 0 None) (spot.Entry 0 0 100)
@@ -58,8 +57,7 @@ OnlyTheFirstIsSerialized =
     × (IsSerializedAtSpot two_in_one_entry (reads_and_sets 1 None) (spot.Entry 0 1 100) → ⊥)
 
 -- A transaction that wrote nothing is serialized at its read version alone, and at none that the book hasn't reached.
--- One that
--- wrote is serialized at no such spot.
+-- One that wrote is serialized at no such spot.
 abbrev pub ReadOnlyAtItsVersion : Type 0
 ReadOnlyAtItsVersion =
     IsSerializedAtSpot two_in_one_entry does_nothing (spot.ReadOnly 0)

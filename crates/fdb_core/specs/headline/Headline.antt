@@ -71,10 +71,9 @@ AcknowledgedAreSerialized =
     → AllSerialized (machine_of_trace config steps answers)
 
 -- What holds of a trace and of the world that stands for it: the world shows the trace's machine; no transaction stands
--- in
--- the book twice; each that the trace acknowledged is serialized at its spot, and after those that were acknowledged
--- before it began; and every shard
--- answers, at each version that it serves, from the run of the committed transactions one at a time.
+-- in the book twice; each that the trace acknowledged is serialized at its spot, and after those that were acknowledged
+-- before it began; and every shard answers, at each version that it serves, from the run of the committed transactions
+-- one at a time.
 pub record IsStrictlySerializable (config : Config) (steps : List Step) (answers : List (Result Answered Refusal))
     (system : System) : Type 0 where
   pub is_trace_of : IsTraceOf config steps answers system.machine

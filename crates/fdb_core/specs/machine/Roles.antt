@@ -16,8 +16,7 @@ pub data Stage : Type 0 where
   Reported : Stage
 
 -- a commit proxy: those who wait there in order, and the batch in flight with its entry, the transcripts by place, and
--- for
--- each resolver and each log whether its verdicts or its acknowledgement came
+-- for each resolver and each log whether its verdicts or its acknowledgement came
 pub record CommitProxy : Type 0 where
   pub waiting : List Submission
   pub in_flight : List Transcript

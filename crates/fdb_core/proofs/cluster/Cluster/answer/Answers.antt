@@ -11,7 +11,7 @@ use Rattle.fdb_core.specs.refinement.Cluster.{machine_of}
 use Rattle.fdb_core.specs.machine.CommitProxySteps.{is_reported, placed_from, replies_from}
 use Rattle.fdb_core.specs.machine.Steps.{answer_of, after}
 use Rattle.fdb_core.proofs.common.AllLemmas.{within-item}
-use Rattle.fdb_core.proofs.refinement.DecideLemmas.{one-item}
+use Rattle.fdb_core.proofs.refinement.DecideLemmas.{one-item, proxy-and-entry}
 use Rattle.fdb_core.proofs.refinement.AnswerLemmas.{Answering, outcome-each, answers-transition}
 use Rattle.fdb_core.proofs.cluster.Cluster.answer.Goals as goal
 use Rattle.fdb_core.proofs.cluster.Cluster.answer.Goals.{After-reply_all-arg-1}
@@ -23,15 +23,11 @@ answering c =
     let k = c.args.self.now in
     let commit_proxy = c.index-commit_proxy.result.now in
     let within : c.args.proxy < length k.commit_proxies.items = search rules in
-    let proxy_there : slice_get k.commit_proxies.items c.args.proxy ≡ Some commit_proxy = slice_get_read
-    k.commit_proxies.items (length k.commit_proxies.items) c.args.proxy commit_proxy refl within
-    c.index-commit_proxy.ensures in
     let in_book : c.entry-i.result < length k.book.items = search rules in
-    let inside : commit_proxy.entry < length k.book.items = subst (λ (i : ℕ). i < length k.book.items) c.entry-i.ensures
-    in_book in
-    let entry = within-item k.book.items commit_proxy.entry inside in
+    let read = proxy-and-entry k c.args.proxy c.entry-i.result commit_proxy within c.index-commit_proxy.ensures
+    c.entry-i.ensures in_book in
     let reported : is_reported commit_proxy.stage ≡ true = search rules in
-    (entry.0, record { proxy_there = proxy_there; reported = reported; entry_there = entry.1 })
+    (read.1.0, record { proxy_there = read.0; reported = reported; entry_there = read.1.1 })
 
 -- one outcome for each transcript
 each : (c : After-reply_all-arg-1) → length c.in_flight-transcripts.result.now ≡ length c.as_slice-outcomes.result.now

@@ -14,7 +14,7 @@ use Rattle.fdb_core.specs.machine.Machine.{is_set}
 use Rattle.fdb_core.specs.machine.CommitProxySteps.{decides, is_resolving}
 use Rattle.fdb_core.specs.machine.Steps.{answer_of, after}
 use Rattle.fdb_core.proofs.common.AllLemmas.{within-item}
-use Rattle.fdb_core.proofs.refinement.DecideLemmas.{same-items, one-item, Deciding, is_any_judged, decides-waits, decides-transition, verdicts_received-taken, decision-outcomes, decision-message, decided-refines}
+use Rattle.fdb_core.proofs.refinement.DecideLemmas.{same-items, one-item, proxy-and-entry, Deciding, is_any_judged, decides-waits, decides-transition, verdicts_received-taken, decision-outcomes, decision-message, decided-refines}
 use Rattle.fdb_core.proofs.cluster.Cluster.decide.Goals as goal
 use Rattle.fdb_core.proofs.cluster.Cluster.decide.Goals.{After-is_set-is_received, Then-are_any_judged, In_ok-answer, else-not-is_received-via-then-not-is_received+else-are_any_judged, else-not-is_received-via-else-not-is_received}
 use Rattle.fdb_core.specs.refinement.Resolving.{sent_by}
@@ -27,17 +27,17 @@ found_at c =
     let k = c.args.self.now in
     let commit_proxy = c.index-commit_proxy.result.now in
     let within : c.args.proxy < length k.commit_proxies.items = search rules in
-    let proxy_there : slice_get k.commit_proxies.items c.args.proxy ≡ Some commit_proxy = slice_get_read
-    k.commit_proxies.items (length k.commit_proxies.items) c.args.proxy commit_proxy refl within
-    c.index-commit_proxy.ensures in
     let in_book : c.entry-i.result < length k.book.items = search rules in
-    let inside : commit_proxy.entry < length k.book.items = subst (λ (i : ℕ). i < length k.book.items) c.entry-i.ensures
-    in_book in
-    let entry = within-item k.book.items commit_proxy.entry inside in
+    let read = proxy-and-entry k c.args.proxy c.entry-i.result commit_proxy within c.index-commit_proxy.ensures
+    c.entry-i.ensures in_book in
     let resolving : is_resolving commit_proxy.stage ≡ true = search rules in
     let verdicts_received : is_set commit_proxy.verdicts_received 0 ≡ c.is_set-is_received.result =
     ap (λ (flags : List Bool). is_set flags 0) (sym c.verdicts_received.ensures) ∙ sym c.is_set-is_received.ensures in
-    (entry.0, record { proxy_there = proxy_there; resolving = resolving; entry_there = entry.1 }, verdicts_received)
+    (
+      read.1.0,
+      record { proxy_there = read.0; resolving = resolving; entry_there = read.1.1 },
+      verdicts_received,
+    )
 
 -- an entry that was read by the proxy's number for it
 read_entry : (k : Cluster) (number i : ℕ) (read entry : Entry) → number ≡ i → slice_get k.book.items i ≡ Some entry
