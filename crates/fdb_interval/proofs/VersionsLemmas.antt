@@ -7,7 +7,7 @@ use Rattle.fdb_keys.specs.Ranges.{Range, in_range, is_empty_range, ranges_meet}
 use Rattle.fdb_keys.proofs.InsertionLemmas.{in_range-empty}
 use Rattle.fdb_keys.proofs.RangesLemmas.{common_from_meet, meet_from_common}
 use Rattle.fdb_interval.specs.declared.marks.Mark.{Mark}
-use Rattle.fdb_interval.specs.Versions.{version_at}
+use Rattle.fdb_interval.specs.Versions.{version_at, forgetting}
 
 -- a mark counts where its range holds the point
 abbrev with_mark : Mark → Point → ℕ → ℕ
@@ -169,28 +169,30 @@ version_at-above floor (mark ∷ marks) x =
     ∙ ap (λ (n : ℕ). if is_above floor mark then with_mark mark x n else n) (version_at-above floor marks x)
     ∙ above-mark floor mark x (version_at marks x)
 
--- what is left of the versions above a floor
-module _ (floor : ℕ) (marks left : List Mark) (are_left : left ≡ filter (is_above floor) marks) (x : Point) where
-  left_above : version_at left x ≡ above floor (version_at marks x)
-  left_above = ap (λ (ms : List Mark). version_at ms x) are_left ∙ version_at-above floor marks x
+-- what is left of the marks where those above a floor are
+pub version_at-left : (floor : ℕ) (marks left : List Mark) → left ≡ filter (is_above floor) marks
+    → (x : Point) → version_at left x ≡ forgetting floor (version_at marks) x
+version_at-left floor marks left are_left x =
+    ap (λ (ms : List Mark). version_at ms x) are_left ∙ version_at-above floor marks x
 
+-- what is left of the versions above a floor
+module _ (floor : ℕ) (f g : Point → ℕ) (left : (x : Point) → g x ≡ forgetting floor f x) (x : Point) where
   -- the versions above the floor are kept
-  pub kept_above : floor < version_at marks x → version_at left x ≡ version_at marks x
-  kept_above newer = left_above ∙ above-newer floor (version_at marks x) newer
+  pub kept_above : floor < f x → g x ≡ f x
+  kept_above newer = left x ∙ above-newer floor (f x) newer
 
   -- no version is greater than before
-  pub no_greater_left : version_at left x ≤ version_at marks x
+  pub no_greater_left : g x ≤ f x
   no_greater_left = ⊎_elim
       (λ newer. let same = kept_above newer in omega (arith, same))
-      (λ older. let none = left_above ∙ above-older floor (version_at marks x) older in omega (arith, none))
-      (cases_lt floor (version_at marks x))
+      (λ older. let none = left x ∙ above-older floor (f x) older in omega (arith, none))
+      (cases_lt floor (f x))
 
   -- no bound from the floor on can tell
-  pub answers_left : (bound : ℕ) → floor ≤ bound → nat_lt bound (version_at left x) ≡ nat_lt bound (version_at marks x)
+  pub answers_left : (bound : ℕ) → floor ≤ bound → nat_lt bound (g x) ≡ nat_lt bound (f x)
   answers_left bound reached = ⊎_elim
       (λ newer. ap (λ (n : ℕ). nat_lt bound n) (kept_above newer))
       (λ older.
       let none = no_greater_left in
-      le-ltb bound (version_at left x) (omega (arith, none, older, reached))
-      ∙ sym (le-ltb bound (version_at marks x) (omega (arith, older, reached))))
-      (cases_lt floor (version_at marks x))
+      le-ltb bound (g x) (omega (arith, none, older, reached)) ∙ sym (le-ltb bound (f x) (omega (arith, older, reached))))
+      (cases_lt floor (f x))

@@ -19,11 +19,11 @@ impl Model for LastCommit {
 }
 
 impl LastCommit {
-    ghost use Rattle.std.specs.Prelude.{◌≡◌, ◌<◌, ◌≤◌, ◌↔◌, ℕ, IsTrue, true, nat_lt, None, OnErr, if◌then◌else◌};
+    ghost use Rattle.std.specs.Prelude.{◌≡◌, ◌<◌, ◌≤◌, ◌↔◌, IsTrue, true, None, OnErr, if◌then◌else◌};
     ghost use Rattle.fdb_keys.specs.Answers.{Answers};
     ghost use Rattle.fdb_keys.specs.Points.{Point};
     ghost use Rattle.fdb_keys.specs.Ranges.{in_range};
-    ghost use Rattle.fdb_interval.specs.Versions.{version_at};
+    ghost use Rattle.fdb_interval.specs.Versions.{version_at, forgetting};
 
     /// Nothing is marked: each point has version 0. It takes no memory.
     pub fn new(alloc: Global) -> Self
@@ -59,13 +59,10 @@ impl LastCommit {
         Ok(())
     }
 
-    /// Forgets the versions up to `version`, of which no bound from `version` on can tell: whether a point's
-    /// version is above such a bound stays as it was. It takes no memory.
+    /// Forgets the versions up to `version`: a point with such a version has 0, and each greater version
+    /// stays as it is. It takes no memory.
     pub fn expire(&mut self, version: u64)
-        ensures answers { (x : Point) (bound : ℕ) → version ≤ bound
-            → nat_lt bound (version_at self.new x) ≡ nat_lt bound (version_at self.old x) }
-        ensures kept { (x : Point) → version < version_at self.old x → version_at self.new x ≡ version_at self.old x }
-        ensures no_greater { (x : Point) → version_at self.new x ≤ version_at self.old x }
+        ensures { (x : Point) → version_at self.new x ≡ forgetting version (version_at self.old) x }
     {
         drop_through(&mut self.marks, version);
     }

@@ -4,7 +4,7 @@ use Rattle.fdb_keys.specs.Points.{Point}
 use Rattle.fdb_keys.specs.declared.refusal.Refusal.{Refusal}
 use Rattle.fdb_keys.specs.declared.refusal.Refusal.TheVariants.{NotYet, Stale, Failed, Unknown}
 use Rattle.fdb_interval.specs.declared.last_commit.LastCommit.{LastCommit}
-use Rattle.fdb_interval.specs.Versions.{version_at}
+use Rattle.fdb_interval.specs.Versions.{version_at, forgetting}
 use Rattle.fdb_txn.specs.rules.Owners.{window}
 use Rattle.fdb_txn.specs.rules.Resolvers.{AgreeFrom}
 use Rattle.fdb_resolver.specs.declared.part.Part.{Part}
@@ -41,11 +41,14 @@ pub record IsAnswer (core : Resolver) (part : Part) (verdicts : Verdicts) : Type
   pub index : verdicts.index ≡ part.index
   pub answers : AreVerdicts part.version (version_at core.versions) part.items verdicts.answers
 
--- What it keeps after a part. From the window's begin on, the versions answer as those after all places.
+-- What it keeps after a part: the versions after all places, with those up to the window's begin forgotten.
+-- From the window's begin on, what it keeps answers as the versions after all places do.
 pub record HasTaken (old : Resolver) (part : Part) (verdicts : Verdicts) (new : Resolver) : Type 0 where
   pub index : new.index ≡ old.index
   pub last : new.last ≡ part.version
   pub works : new.is_failed ≡ false
+  pub kept : (x : Point) → version_at new.versions x ≡ forgetting (part.version - window)
+      (versions_after part.version (version_at old.versions) part.items verdicts.answers) x
   pub versions : AgreeFrom (part.version - window) (version_at new.versions)
       (versions_after part.version (version_at old.versions) part.items verdicts.answers)
 

@@ -55,7 +55,8 @@ impl ResolverCore {
     /// last one taken, as `NotYet` with that entry's version where it hasn't been taken, and as `NoMemory`.
     /// The resolver stays as it was where it is refused, but for `NoMemory`, after which it has failed.
     /// A part's version is above that of the entry before it, its places rise, and of a transaction without
-    /// reads it has none. Versions more than the window of 5,000,000 below the part's are forgotten.
+    /// reads it has none. Versions that lie the window of 5,000,000 or more below the part's are forgotten: a
+    /// point with such a version has 0 from then on, and every greater version is kept.
     pub fn take(&mut self, part: &Part) -> Result<Verdicts, Refusal>
         requires { IsPart part.now }
         ensures answers { Answers result (part_fault self.old part.now) (λ verdicts. IsAnswer self.old part.now verdicts) }
