@@ -23,11 +23,13 @@ impl Model for PlainMap {
 }
 
 impl PlainMap {
-    ghost use Rattle.std.specs.Prelude.{◌≡◌, None, OnErr};
+    ghost use Rattle.std.specs.Prelude.{◌≡◌, None, OnErr, IsOk};
     ghost use Rattle.std.specs.Option.{option_copied};
     ghost use Rattle.std.specs.FinMap as finite;
     ghost use Rattle.fdb_keys.specs.Answers.{Answers};
+    ghost use Rattle.fdb_keys.specs.Points.{Point};
     ghost use Rattle.fdb_mutations.specs.Mutations.{effect};
+    ghost use Rattle.fdb_mutations.specs.declared.mutation.Mutation.TheVariants.{Clear};
 
     /// The empty map. It takes no memory.
     pub fn new(alloc: Global) -> Self
@@ -38,11 +40,13 @@ impl PlainMap {
         }
     }
 
-    /// Applies the mutation to the map. Refused only as `NoMemory`, and then nothing changes.
+    /// Applies the mutation to the map. Refused only as `NoMemory`, and then nothing changes. A `Clear` takes no
+    /// memory and is never refused.
     #[tactic(auto, unfolding(crate::specs::Mutations::effect))]
     pub fn apply(&mut self, mutation: &Mutation) -> Result<(), Refusal>
         ensures answers { Answers result None (λ _. self.new ≡ effect self.old mutation.now) }
         ensures err { OnErr result (self.new ≡ self.old) }
+        ensures clears { (key : Point) → mutation.now ≡ Clear key → IsOk result }
     {
         match mutation {
             Mutation::Set { key, value } => self.set(key.clone()?, value.clone()?),
