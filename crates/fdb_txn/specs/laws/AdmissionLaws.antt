@@ -1,9 +1,9 @@
 -- What holds of overlaps, of who admits a place, and of who is asked about it.
-use Rattle.std.specs.Prelude.{◌≡◌, ◌<◌, ◌≤◌, ◌↔◌, ℕ, suc, true, false, not, ◌||◌, List, ◌∷◌, ◌++◌, length}
+use Rattle.std.specs.Prelude.{◌≡◌, ◌<◌, ◌≤◌, ◌↔◌, ℕ, suc, true, false, List, ◌∷◌, ◌++◌, length}
 use Rattle.fdb_keys.specs.Points.{Point}
 use Rattle.fdb_txn.specs.book.Book.{Stamped, Place}
 use Rattle.fdb_txn.specs.rules.Owners.{owner, owned, asked_at, is_asked}
-use Rattle.fdb_txn.specs.rules.Admission.{is_fresh, overlaps_at, overlaps, admits, all_below, committed}
+use Rattle.fdb_txn.specs.rules.Admission.{is_fresh, overlaps_at, overlaps, admits, committed}
 use Rattle.fdb_txn.specs.book.History.{IsHistory}
 
 -- two places overlap at a resolver exactly where they do so at some point
