@@ -1,4 +1,5 @@
 pub mod Equality
+pub mod Limits
 pub mod Maps
 pub mod Mutations
 pub use Rattle.fdb_keys.specs.Answers

@@ -7,12 +7,12 @@ use Rattle.fdb_keys.specs.declared.refusal.Refusal.{Refusal}
 use Rattle.fdb_keys.specs.declared.refusal.Refusal.TheVariants.{ValueTooLarge}
 use Rattle.fdb_mutations.specs.declared.mutation.Mutation.{Mutation}
 use Rattle.fdb_mutations.specs.declared.mutation.Mutation.TheVariants.{Set, Clear}
-use Rattle.fdb_mutations.specs.declared.mutation.TheConstants.{VALUE_LIMIT}
+use Rattle.fdb_mutations.specs.Limits.{value_limit}
 use Rattle.fdb_mutations.specs.Maps.{Map}
 
 -- why a mutation is not a legal one
 abbrev pub mutation_fault : Mutation → Option Refusal
-mutation_fault (Set key value) = if nat_lt VALUE_LIMIT (length value) then Some ValueTooLarge else None
+mutation_fault (Set key value) = if nat_lt value_limit (length value) then Some ValueTooLarge else None
 mutation_fault (Clear key) = None
 
 -- the mutation names the point

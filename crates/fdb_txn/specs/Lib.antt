@@ -1,4 +1,5 @@
 pub mod Equality
+pub mod Limits
 pub mod book
 pub mod laws
 pub mod rules

@@ -3,6 +3,8 @@
 ghost use Rattle.std.specs.Prelude.{◌≡◌};
 ghost use Rattle.std.specs.Bool.{Decides};
 ghost use Rattle.fdb_txn.specs.Equality.{txn_id_eq, spot_eq, move_eq, entry_eq, batch_eq, sealed_eq};
+ghost use Rattle.fdb_txn.specs.declared.batch.TheConstants.{PLACE_LIMIT};
+ghost use Rattle.fdb_txn.specs.Limits.{place_limit};
 ghost use Rattle.fdb_txn.specs.laws.Examples.{OneBatch, WriteSkew, FalseConflict, FormerOwner, ThereAndBack, EqualIsNotNewer, Window, OldReading, TwoMoves, Spans, AtBounds, Entries};
 ghost use Rattle.fdb_txn.specs.laws.AdmissionLaws.{OverlapsAtSomePoint, AskedAtSomePoint, OwnedAtSomeVersion, AdmitsWithoutConflict, CommittedByTheAsked, OldIsAsked};
 ghost use Rattle.fdb_txn.specs.laws.ResolverLaws.{LastVersionsDecide, OnePlaceMore, StateDecides, StateTakesPlace, StateForgets, ForgottenAgree};
@@ -14,6 +16,11 @@ use crate::entry::{Entry, Move};
 use crate::sealed::Sealed;
 use crate::spot::Spot;
 use crate::txn_id::TxnId;
+
+/// A batch is filled up to the limit of the definitions.
+pub fn batches_are_filled_up_to_the_limit()
+    ensures { PLACE_LIMIT ≡ place_limit }
+{}
 
 /// Two names of transactions are equal exactly where they are the same.
 pub fn equal_names_are_the_same()
