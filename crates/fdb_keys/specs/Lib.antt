@@ -1,6 +1,7 @@
 pub mod Answers
 pub mod Equality
 pub mod Insertion
+pub mod KeyOrder
 pub mod Limits
 pub mod Points
 pub mod Ranges
