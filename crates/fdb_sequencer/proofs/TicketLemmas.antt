@@ -1,13 +1,15 @@
 -- What is accepted was planned, is accepted once, and makes a book.
-use Rattle.std.proofs.Common.{◌≡◌, ap, arith, ⊎_elim, ℕ, zero, suc, ◌+◌, ◌-◌, ◌<◌, ◌≤◌, true, List, [], ◌∷◌, fold, Some, None}
+use Rattle.std.proofs.Common.{◌≡◌, ap, subst, map, arith, ⊎_elim, ℕ, zero, suc, ◌+◌, ◌-◌, ◌<◌, ◌≤◌, true, List, [], ◌∷◌, fold, Some, None}
 use Rattle.std.proofs.lemmas.Bool.{and_parts, cases_Bool, ltb-true, leb-true, eqb-true}
 use Rattle.std.proofs.lemmas.Grind.{common_steps}
 use Rattle.std.proofs.lemmas.List.{nil_from_length}
 use Rattle.fdb_keys.specs.declared.refusal.Refusal.TheVariants.{Stale}
+use Rattle.fdb_txn.specs.book.History.{AreEntries}
+use Rattle.fdb_txn.proofs.book.HistoryLemmas.{books_are_entries}
 use Rattle.fdb_sequencer.specs.declared.ticket.Ticket.{Ticket}
 use Rattle.fdb_sequencer.specs.Limits.{ticket_limit, version_limit, greatest_advance}
 use Rattle.fdb_sequencer.specs.Sequencer.{Sequencer, next_version, is_planned, accept_fault, accepting}
-use Rattle.fdb_sequencer.specs.TicketLaws.{AcceptedArePlanned, AcceptedOnce, IndicesCountUp, TicketsMakeABook}
+use Rattle.fdb_sequencer.specs.TicketLaws.{AcceptedArePlanned, AcceptedOnce, IndicesCountUp, TicketsMakeABook, FirstTicketsAreABook, entry_of}
 
 -- what the test of a ticket says
 record IsNow (s : Sequencer) (ticket : Ticket) : Type 0 where
@@ -109,3 +111,10 @@ tickets_make_a_book s (issued ∷ later) accepted reads =
       reads.0,
       tickets_make_a_book (accepting s issued.0) later accepted.1 reads.1,
     )
+
+pub first_tickets_are_a_book : FirstTicketsAreABook
+first_tickets_are_a_book s issued first accepted reads once =
+    let entries : AreEntries s.resolvers 0 (map entry_of issued) =
+    subst (λ (last : ℕ). AreEntries s.resolvers last (map entry_of issued)) first
+    (tickets_make_a_book s issued accepted reads) in
+    ((books_are_entries s.resolvers (map entry_of issued)).1 (entries, once)).0

@@ -4,7 +4,8 @@ use Rattle.std.specs.List.{AllByRecursion}
 use Rattle.fdb_keys.specs.declared.refusal.Refusal.TheVariants.{Stale}
 use Rattle.fdb_txn.specs.declared.entry.Entry.{Entry}
 use Rattle.fdb_txn.specs.book.Transactions.{Transaction, NamesWrites}
-use Rattle.fdb_txn.specs.book.History.{AreEntries}
+use Rattle.fdb_txn.specs.book.Once.{NoIdTwice}
+use Rattle.fdb_txn.specs.book.History.{AreEntries, IsBook}
 use Rattle.fdb_sequencer.specs.declared.ticket.Ticket.{Ticket}
 use Rattle.fdb_sequencer.specs.Limits.{greatest_advance}
 use Rattle.fdb_sequencer.specs.Sequencer.{Sequencer, planned, plan_fault, accept_fault, accepting}
@@ -59,3 +60,10 @@ TicketsMakeABook =
     (s : Sequencer) (issued : List Issued) → AreAccepted s (map (λ (one : Issued). one.0) issued)
     → AllByRecursion ReadsBelow issued
     → AreEntries s.resolvers s.last (map entry_of issued)
+
+-- from version 0 on they are a book, where no name is that of two of the transactions
+abbrev pub FirstTicketsAreABook : Type 0
+FirstTicketsAreABook =
+    (s : Sequencer) (issued : List Issued) → s.last ≡ 0 → AreAccepted s (map (λ (one : Issued). one.0) issued)
+    → AllByRecursion ReadsBelow issued → NoIdTwice (map entry_of issued)
+    → IsBook s.resolvers (map entry_of issued)

@@ -2,7 +2,7 @@
 ghost use Rattle.std.specs.Prelude.{◌≡◌};
 ghost use Rattle.std.specs.Bool.{Decides};
 ghost use Rattle.fdb_sequencer.specs.Equality.{ticket_eq};
-ghost use Rattle.fdb_sequencer.specs.TicketLaws.{PlannedAreAccepted, AcceptedArePlanned, AcceptedOnce, IndicesCountUp, TicketsMakeABook};
+ghost use Rattle.fdb_sequencer.specs.TicketLaws.{PlannedAreAccepted, AcceptedArePlanned, AcceptedOnce, IndicesCountUp, TicketsMakeABook, FirstTicketsAreABook};
 
 use crate::ticket::Ticket;
 
@@ -23,8 +23,10 @@ pub fn tickets_are_accepted_once()
 {}
 
 /// Tickets that are accepted one after another make a book. Their indices count up, and batches at them are
-/// entries that follow on one another, if each transaction read below its ticket's version.
+/// entries that follow on one another, if each transaction read below its ticket's version. From version 0
+/// on they are a book, if no two of the transactions have one name.
 pub fn accepted_tickets_make_a_book()
     ensures indices { IndicesCountUp }
     ensures entries { TicketsMakeABook }
+    ensures book { FirstTicketsAreABook }
 {}

@@ -1,4 +1,5 @@
 pub mod Book
 pub mod History
+pub mod Once
 pub mod Places
 pub mod Transactions

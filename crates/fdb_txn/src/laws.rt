@@ -5,11 +5,11 @@ ghost use Rattle.std.specs.Bool.{Decides};
 ghost use Rattle.fdb_txn.specs.Equality.{txn_id_eq, spot_eq, move_eq, entry_eq, batch_eq, sealed_eq};
 ghost use Rattle.fdb_txn.specs.declared.batch.TheConstants.{PLACE_LIMIT};
 ghost use Rattle.fdb_txn.specs.Limits.{place_limit};
-ghost use Rattle.fdb_txn.specs.laws.Examples.{OneBatch, WriteSkew, FalseConflict, FormerOwner, ThereAndBack, EqualIsNotNewer, Window, OldReading, TwoMoves, Spans, AtBounds, Entries};
+ghost use Rattle.fdb_txn.specs.laws.Examples.{OneBatch, WriteSkew, FalseConflict, FormerOwner, ThereAndBack, EqualIsNotNewer, Window, OldReading, TwoMoves, Spans, AtBounds, Entries, Books};
 ghost use Rattle.fdb_txn.specs.laws.AdmissionLaws.{OverlapsAtSomePoint, AskedAtSomePoint, OwnedAtSomeVersion, AdmitsWithoutConflict, CommittedByTheAsked, OldIsAsked};
 ghost use Rattle.fdb_txn.specs.laws.ResolverLaws.{LastVersionsDecide, OnePlaceMore, StateDecides, StateTakesPlace, StateForgets, ForgottenAgree};
 ghost use Rattle.fdb_txn.specs.rules.Messages.{MeetsAtSomePoint, ShardsHoldTheRun};
-ghost use Rattle.fdb_txn.specs.laws.SerialMapLaws.{PlacesAreHistory, ReadsStand, EarlierPlacesStay, EarlierMapsStay, EntriesGoOn};
+ghost use Rattle.fdb_txn.specs.laws.SerialMapLaws.{BooksAreEntries, PlacesAreHistory, ReadsStand, EarlierPlacesStay, EarlierMapsStay, EntriesGoOn};
 
 use crate::batch::Batch;
 use crate::entry::{Entry, Move};
@@ -97,6 +97,11 @@ pub fn a_resolver_with_its_part_alone_answers_the_rule_and_keeps_its_state()
     ensures forgotten { ForgottenAgree }
 {}
 
+/// A book of sealed transactions is a list of entries from version 0 on that has no name twice.
+pub fn books_are_entries()
+    ensures { BooksAreEntries }
+{}
+
 /// The places of a book are a history.
 pub fn places_of_a_book_are_a_history()
     ensures { PlacesAreHistory }
@@ -126,7 +131,8 @@ pub fn messages_of_a_shard_leave_the_run_on_its_range()
 {}
 
 /// What the rules say of each transaction of some small books: which resolvers are asked about it, which
-/// admit it, whether it is old, and whether it is committed; and which entries may stand in a book.
+/// admit it, whether it is old, and whether it is committed; which entries may stand in a
+/// book, and which lists of them are books.
 pub fn worked_examples()
     ensures one_batch { OneBatch }
     ensures write_skew { WriteSkew }
@@ -140,4 +146,5 @@ pub fn worked_examples()
     ensures spans { Spans }
     ensures at_bounds { AtBounds }
     ensures entries { Entries }
+    ensures books { Books }
 {}

@@ -7,9 +7,9 @@ use Rattle.fdb_txn.specs.declared.entry.Move.{Move}
 use Rattle.fdb_txn.specs.declared.entry.Entry.{Entry}
 use Rattle.fdb_txn.specs.book.Transactions.{Transaction, NamesWrites}
 use Rattle.fdb_txn.specs.book.Book.{Stamped, Place, Seen, nothing, add_moves, placed, add_places, add_entry, seen_of}
-use Rattle.fdb_txn.specs.book.History.{IsHistory, AreEntries}
+use Rattle.fdb_txn.specs.book.History.{AreLinked, ReadsBelow, MovesExist, IsSealed, IsBook, IsHistory, AreEntries}
 use Rattle.fdb_txn.specs.rules.SerialMap.{serial_map, up_to}
-use Rattle.fdb_txn.specs.laws.SerialMapLaws.{PlacesAreHistory, EarlierPlacesStay, EarlierMapsStay, EntriesGoOn}
+use Rattle.fdb_txn.specs.laws.SerialMapLaws.{BooksAreEntries, PlacesAreHistory, EarlierPlacesStay, EarlierMapsStay, EntriesGoOn}
 
 -- what holds of each item of two lists holds of each of both together
 pub all-append : {A : Type 0} (P : A → Type 0) (xs ys : List A) → AllByRecursion P xs → AllByRecursion P ys
@@ -22,6 +22,12 @@ pub all-weaken : {A : Type 0} (P Q : A → Type 0) → ((x : A) → P x → Q x)
     → AllByRecursion Q xs
 all-weaken P Q weaker [] all = tt
 all-weaken P Q weaker (x ∷ xs) all = (weaker x all.0, all-weaken P Q weaker xs all.1)
+
+-- what holds of each item, and what else does, both do
+all-both : {A : Type 0} (P Q : A → Type 0) → (xs : List A) → AllByRecursion P xs → AllByRecursion Q xs
+    → AllByRecursion (λ x. P x × Q x) xs
+all-both P Q [] all others = tt
+all-both P Q (x ∷ xs) all others = ((all.0, others.0), all-both P Q xs all.1 others.1)
 
 -- the move is of a version up to this one and goes to a resolver that exists
 abbrev IsMoveThrough : ℕ → ℕ → Stamped → Type 0
@@ -183,3 +189,56 @@ pub entries_go_on : EntriesGoOn
 entries_go_on resolvers last [] entry entries more = more
 entries_go_on resolvers last (first ∷ book) entry entries more =
     (entries.0, entries.1, entries.2, entries.3, entries_go_on resolvers first.version book entry entries.4 more)
+
+-- the parts of a book of sealed transactions, after a version, are those of entries
+module _ (resolvers : ℕ) where
+  entries-from : (last : ℕ) (book : List Entry) → AreLinked last book → AllByRecursion ReadsBelow book
+      → AllByRecursion (MovesExist resolvers) book → AllByRecursion IsSealed book
+      → AreEntries resolvers last book
+  entries-from last [] linked reads moves are_sealed = tt
+  entries-from last (entry ∷ book) linked reads moves are_sealed = (
+    linked.0,
+    linked.1,
+    moves.0,
+    all-both (λ (t : Transaction). t.read < entry.version) NamesWrites entry.batch reads.0 are_sealed.0,
+    entries-from entry.version book linked.2 reads.1 moves.1 are_sealed.1,
+  )
+
+  linked-of : (last : ℕ) (book : List Entry) → AreEntries resolvers last book → AreLinked last book
+  linked-of last [] entries = tt
+  linked-of last (entry ∷ book) entries = (entries.0, entries.1, linked-of entry.version book entries.4)
+
+  reads-of : (last : ℕ) (book : List Entry) → AreEntries resolvers last book → AllByRecursion ReadsBelow book
+  reads-of last [] entries = tt
+  reads-of last (entry ∷ book) entries = (
+    all-weaken _ (λ (t : Transaction). t.read < entry.version) (λ t may. may.0) entry.batch entries.3,
+    reads-of entry.version book entries.4,
+  )
+
+  moves-of : (last : ℕ) (book : List Entry) → AreEntries resolvers last book → AllByRecursion (MovesExist resolvers) book
+  moves-of last [] entries = tt
+  moves-of last (entry ∷ book) entries = (entries.2, moves-of entry.version book entries.4)
+
+  sealed-of : (last : ℕ) (book : List Entry) → AreEntries resolvers last book → AllByRecursion IsSealed book
+  sealed-of last [] entries = tt
+  sealed-of last (entry ∷ book) entries = (
+    all-weaken _ NamesWrites (λ t may. may.1) entry.batch entries.3,
+    sealed-of entry.version book entries.4,
+  )
+
+-- a book of sealed transactions is a list of entries that has no name twice
+pub books_are_entries : BooksAreEntries
+books_are_entries resolvers book = (
+  λ given.
+      let is : IsBook resolvers book = given.0 in
+      (entries-from resolvers 0 book is.linked is.reads is.moves given.1, is.names),
+  λ given. (
+    record {
+      linked = linked-of resolvers 0 book given.0;
+      reads = reads-of resolvers 0 book given.0;
+      moves = moves-of resolvers 0 book given.0;
+      names = given.1;
+    },
+    sealed-of resolvers 0 book given.0,
+  ),
+)

@@ -1,10 +1,36 @@
--- Which lists of places, and which books, there are.
+-- Which books, and which lists of places, there are.
 use Rattle.std.specs.Prelude.{◌≡◌, ◌<◌, ◌≤◌, ◌++◌, ⊤, ℕ, List, [], ◌∷◌}
 use Rattle.std.specs.List.{AllByRecursion}
 use Rattle.fdb_txn.specs.declared.entry.Move.{Move}
 use Rattle.fdb_txn.specs.declared.entry.Entry.{Entry}
 use Rattle.fdb_txn.specs.book.Transactions.{Transaction, NamesWrites}
 use Rattle.fdb_txn.specs.book.Book.{Stamped, Place}
+use Rattle.fdb_txn.specs.book.Once.{NoIdTwice}
+
+-- the versions of entries after a version: they rise, and each previous one is that of the entry before
+abbrev pub AreLinked : ℕ → List Entry → Type 0
+AreLinked last [] = ⊤
+AreLinked last (entry ∷ entries) = (last < entry.version) × (entry.prev ≡ last) × AreLinked entry.version entries
+
+-- each transaction of the entry read below the entry's version
+abbrev pub ReadsBelow : Entry → Type 0
+ReadsBelow entry = AllByRecursion (λ (t : Transaction). t.read < entry.version) entry.batch
+
+-- each move of the entry goes to a resolver that exists
+abbrev pub MovesExist : ℕ → Entry → Type 0
+MovesExist resolvers entry = AllByRecursion (λ (move : Move). move.to < resolvers) entry.moves
+
+-- of each transaction of the entry, as of every sealed one, the write set has all that the mutations name
+abbrev pub IsSealed : Entry → Type 0
+IsSealed entry = AllByRecursion NamesWrites entry.batch
+
+-- A book. Versions rise from 0, and each previous one is that of the entry before, 0 for the first; each transaction
+-- read below its entry's version; each move goes to a resolver that exists; and no name is that of two places.
+pub record IsBook (resolvers : ℕ) (book : List Entry) : Type 0 where
+  pub linked : AreLinked 0 book
+  pub reads : AllByRecursion ReadsBelow book
+  pub moves : AllByRecursion (MovesExist resolvers) book
+  pub names : NoIdTwice book
 
 -- Both are places of one book. The later one has the moves of the earlier one, and before them those of
 -- greater versions.
@@ -27,8 +53,8 @@ IsHistory resolvers [] = ⊤
 IsHistory resolvers (place ∷ earlier) = IsPlace resolvers place × AllByRecursion (Follows place) earlier
     × IsHistory resolvers earlier
 
--- Entries after a version: versions rise, each previous one is that of the entry before, each transaction
--- read below its entry's version, and each move goes to a resolver that exists.
+-- Entries after a version, as they are in a book of sealed transactions. A law says that from 0 on they are such a
+-- book, but for the names.
 abbrev pub AreEntries : ℕ → ℕ → List Entry → Type 0
 AreEntries resolvers last [] = ⊤
 AreEntries resolvers last (entry ∷ entries) =

@@ -11,7 +11,7 @@ use Rattle.fdb_txn.specs.declared.entry.Move.{Move}
 use Rattle.fdb_txn.specs.declared.entry.Entry.{Entry}
 use Rattle.fdb_txn.specs.book.Transactions.{Transaction}
 use Rattle.fdb_txn.specs.book.Book.{Place, seen_of}
-use Rattle.fdb_txn.specs.book.History.{AreEntries}
+use Rattle.fdb_txn.specs.book.History.{AreEntries, IsBook}
 use Rattle.fdb_txn.specs.rules.Owners.{is_asked}
 use Rattle.fdb_txn.specs.rules.Admission.{is_fresh, admits, committed}
 use Rattle.fdb_txn.specs.book.Places.{place_at}
@@ -308,3 +308,19 @@ Entries =
     × (AreEntries 2 0 (entry_of 1 0 [] (reads_and_sets 0 1 (codes "a" ∷ []) [] ∷ []) ∷ []) → ⊥)
     -- what it sets is in its write set
     × (AreEntries 2 0 (entry_of 1 0 [] (record (reads_and_sets 0 0 [] (codes "a" ∷ [])) { writes = [] } ∷ []) ∷ []) → ⊥)
+
+-- At 1 the transactions with number 0 of the sessions 0 and 1, at 2 the one with number 1 of session 0.
+abbrev pub of_three_names : List Entry
+of_three_names =
+    entry_of 1 0 [] (reads_and_sets 0 0 [] [] ∷ reads_and_sets 1 0 [] [] ∷ [])
+    ∷ entry_of 2 1 [] (record (reads_and_sets 0 1 [] []) { id = record { session = 0; number = 1 } } ∷ [])
+    ∷ []
+
+-- Which lists are books of two resolvers, by the names of their transactions: with three names for three transactions
+-- there is one, and with one name twice in an entry, or in two entries, there is none.
+abbrev pub Books : Type 0
+Books =
+    IsBook 2 of_three_names
+    × (IsBook 2 (entry_of 1 0 [] (reads_and_sets 0 0 [] [] ∷ reads_and_sets 0 0 [] [] ∷ []) ∷ []) → ⊥)
+    × (IsBook 2
+    (entry_of 1 0 [] (reads_and_sets 0 0 [] [] ∷ []) ∷ entry_of 2 1 [] (reads_and_sets 0 1 [] [] ∷ []) ∷ []) → ⊥)

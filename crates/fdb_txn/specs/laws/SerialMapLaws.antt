@@ -1,5 +1,5 @@
 -- What holds of a book's places, of the run, and of a longer book.
-use Rattle.std.specs.Prelude.{◌≡◌, ◌<◌, ℕ, suc, true, List, [], ◌∷◌, ◌++◌, fold, length}
+use Rattle.std.specs.Prelude.{◌≡◌, ◌<◌, ◌↔◌, ℕ, suc, true, List, [], ◌∷◌, ◌++◌, fold, length}
 use Rattle.std.specs.List.{AllByRecursion}
 use Rattle.std.specs.FinMap.{get}
 use Rattle.fdb_keys.specs.Points.{Point}
@@ -7,8 +7,15 @@ use Rattle.fdb_keys.specs.Ranges.{in_set}
 use Rattle.fdb_txn.specs.declared.entry.Entry.{Entry}
 use Rattle.fdb_txn.specs.book.Book.{Place, seen_of}
 use Rattle.fdb_txn.specs.rules.Admission.{committed}
-use Rattle.fdb_txn.specs.book.History.{IsHistory, AreEntries}
+use Rattle.fdb_txn.specs.book.Once.{NoIdTwice}
+use Rattle.fdb_txn.specs.book.History.{IsBook, IsSealed, IsHistory, AreEntries}
 use Rattle.fdb_txn.specs.rules.SerialMap.{serial_map, serial_map_at}
+
+-- a book of sealed transactions is a list of entries after version 0 that has no name twice
+abbrev pub BooksAreEntries : Type 0
+BooksAreEntries =
+    (resolvers : ℕ) (book : List Entry)
+    → (IsBook resolvers book × AllByRecursion IsSealed book) ↔ (AreEntries resolvers 0 book × NoIdTwice book)
 
 -- the places of a book are a history
 abbrev pub PlacesAreHistory : Type 0
