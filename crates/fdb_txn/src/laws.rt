@@ -5,11 +5,11 @@ ghost use Rattle.std.specs.Bool.{Decides};
 ghost use Rattle.fdb_txn.specs.Equality.{txn_id_eq, spot_eq, move_eq, entry_eq, batch_eq, sealed_eq};
 ghost use Rattle.fdb_txn.specs.declared.batch.TheConstants.{PLACE_LIMIT};
 ghost use Rattle.fdb_txn.specs.Limits.{place_limit};
-ghost use Rattle.fdb_txn.specs.laws.Examples.{OneBatch, WriteSkew, FalseConflict, FormerOwner, ThereAndBack, EqualIsNotNewer, Window, OldReading, TwoMoves, Spans, AtBounds, Entries, Books};
+ghost use Rattle.fdb_txn.specs.laws.Examples.{OneBatch, WriteSkew, FalseConflict, FormerOwner, ThereAndBack, EqualIsNotNewer, Window, OldReading, TwoMoves, Spans, AtBounds, ShardMessages, Entries, Books};
 ghost use Rattle.fdb_txn.specs.laws.AdmissionLaws.{OverlapsAtSomePoint, AskedAtSomePoint, OwnedAtSomeVersion, AdmitsWithoutConflict, CommittedByTheAsked, OldIsAsked};
-ghost use Rattle.fdb_txn.specs.laws.ResolverLaws.{LastVersionsDecide, OnePlaceMore, StateDecides, StateTakesPlace, StateForgets, ForgottenAgree};
-ghost use Rattle.fdb_txn.specs.rules.Messages.{MeetsAtSomePoint, ShardsHoldTheRun};
-ghost use Rattle.fdb_txn.specs.laws.SerialMapLaws.{BooksAreEntries, PlacesAreHistory, ReadsStand, EarlierPlacesStay, EarlierMapsStay, EntriesGoOn};
+ghost use Rattle.fdb_txn.specs.laws.ResolverLaws.{AskedWhereItHasAPart, LastVersionsDecide, OnePlaceMore, StateDecides, StateTakesPlace, StateForgets, ForgottenAgree};
+ghost use Rattle.fdb_txn.specs.rules.Messages.{MeetsAtSomePoint, MessagesAreForTheRange, ShardsHoldTheRun};
+ghost use Rattle.fdb_txn.specs.laws.SerialMapLaws.{BooksAreEntries, PlacesAreHistory, PlacesAreFoundInTheBook, ReadsStand, EarlierPlacesStay, EarlierMapsStay, EntriesGoOn};
 
 use crate::batch::Batch;
 use crate::entry::{Entry, Move};
@@ -61,6 +61,11 @@ pub fn corners_suffice()
     ensures owned { OwnedAtSomeVersion }
 {}
 
+/// A resolver is asked about a place, be it old or fresh, exactly where it has a part of it.
+pub fn resolvers_are_asked_where_they_have_a_part()
+    ensures { AskedWhereItHasAPart }
+{}
+
 /// A resolver admits a place exactly where the place is not old and no earlier place that the resolver
 /// admitted, of a version above the place's read version, wrote a point that the place read and that the
 /// resolver owned at that version.
@@ -107,6 +112,12 @@ pub fn places_of_a_book_are_a_history()
     ensures { PlacesAreHistory }
 {}
 
+/// A place that is found by its numbers is the one there, and the places before it are those that were seen
+/// before it.
+pub fn places_are_found_in_the_book()
+    ensures { PlacesAreFoundInTheBook }
+{}
+
 /// At every point of a committed transaction's read set, the map at its read version is the same as the map
 /// right before its place.
 pub fn reads_of_committed_transactions_stand()
@@ -122,17 +133,18 @@ pub fn one_more_entry_changes_nothing_earlier()
     ensures entries { EntriesGoOn }
 {}
 
-/// A mutation meets a shard's range exactly where it names some point of it. At each point of the range and
-/// each version, the mutations of committed transactions that meet the range leave what stands there on the
-/// run's map at that version.
+/// A mutation meets a shard's range exactly where it names some point of it, and a shard's messages have no
+/// others. At each point of the range and each version, the mutations of committed transactions that meet the
+/// range leave what stands there on the run's map at that version.
 pub fn messages_of_a_shard_leave_the_run_on_its_range()
     ensures meets { MeetsAtSomePoint }
+    ensures for_range { MessagesAreForTheRange }
     ensures holds { ShardsHoldTheRun }
 {}
 
 /// What the rules say of each transaction of some small books: which resolvers are asked about it, which
-/// admit it, whether it is old, and whether it is committed; which entries may stand in a
-/// book, and which lists of them are books.
+/// admit it, whether it is old, and whether it is committed; what shards are sent of it; which entries may
+/// stand in a book, and which lists of them are books.
 pub fn worked_examples()
     ensures one_batch { OneBatch }
     ensures write_skew { WriteSkew }
@@ -145,6 +157,7 @@ pub fn worked_examples()
     ensures two_moves { TwoMoves }
     ensures spans { Spans }
     ensures at_bounds { AtBounds }
+    ensures shard_messages { ShardMessages }
     ensures entries { Entries }
     ensures books { Books }
 {}

@@ -1,5 +1,5 @@
 -- The places of a book, and one entry more.
-use Rattle.std.proofs.Common.{◌≡◌, ◌∙◌, sym, ap, refl, ℕ, ◌<◌, ◌≤◌, le_refl, le_trans, le_of_lt, subst, append_assoc, List, [], ◌∷◌, ◌++◌, fold, arith}
+use Rattle.std.proofs.Common.{◌≡◌, ◌∙◌, sym, ap, refl, ℕ, zero, suc, ◌<◌, ◌≤◌, le_refl, le_trans, le_of_lt, subst, append_assoc, List, [], ◌∷◌, ◌++◌, take, drop, fold, slice_get, Some, None, arith}
 use Rattle.std.specs.List.{AllByRecursion}
 use Rattle.std.proofs.lemmas.Bool.{cond-true, cond-false, le-leb, lt-leb}
 use Rattle.std.proofs.lemmas.List.Sums.{fold-append}
@@ -7,9 +7,10 @@ use Rattle.fdb_txn.specs.declared.entry.Move.{Move}
 use Rattle.fdb_txn.specs.declared.entry.Entry.{Entry}
 use Rattle.fdb_txn.specs.book.Transactions.{Transaction, NamesWrites}
 use Rattle.fdb_txn.specs.book.Book.{Stamped, Place, Seen, nothing, add_moves, placed, add_places, add_entry, seen_of}
+use Rattle.fdb_txn.specs.book.Places.{place_in, place_of}
 use Rattle.fdb_txn.specs.book.History.{AreLinked, ReadsBelow, MovesExist, IsSealed, IsBook, IsHistory, AreEntries}
 use Rattle.fdb_txn.specs.rules.SerialMap.{serial_map, up_to}
-use Rattle.fdb_txn.specs.laws.SerialMapLaws.{BooksAreEntries, PlacesAreHistory, EarlierPlacesStay, EarlierMapsStay, EntriesGoOn}
+use Rattle.fdb_txn.specs.laws.SerialMapLaws.{BooksAreEntries, PlacesAreHistory, PlacesAreFoundInTheBook, EarlierPlacesStay, EarlierMapsStay, EntriesGoOn}
 
 -- what holds of each item of two lists holds of each of both together
 pub all-append : {A : Type 0} (P : A → Type 0) (xs ys : List A) → AllByRecursion P xs → AllByRecursion P ys
@@ -242,3 +243,60 @@ books_are_entries resolvers book = (
     sealed-of resolvers 0 book given.0,
   ),
 )
+
+-- what is found in a batch is a place of it, after the places before it
+abbrev IsFoundIn : ℕ → List Stamped → List Transaction → List Place → ℕ → Place × List Place → Type 0
+IsFoundIn version moves batch earlier p found =
+    (slice_get batch p ≡ Some found.0.transaction)
+    × (found.1 ≡ add_places version moves (take p batch) earlier)
+    × ((newer : List Place) × (add_places version moves batch earlier ≡ newer ++ found.0 ∷ found.1))
+
+place_in-found : (version : ℕ) (moves : List Stamped) (batch : List Transaction) (earlier : List Place) (p : ℕ)
+    (found : Place × List Place)
+    → place_in version moves batch earlier p ≡ Some found → IsFoundIn version moves batch earlier p found
+place_in-found version moves [] earlier p found is = absurd (let wrong : None ≡ Some found = is in cc)
+place_in-found version moves (t ∷ ts) earlier zero found is =
+    let same : (placed version moves t, earlier) ≡ found = cc in
+    let added = add_places-newer version moves ts (placed version moves t ∷ earlier) in
+    subst (IsFoundIn version moves (t ∷ ts) earlier zero) same (refl, refl, (added.0, added.1))
+place_in-found version moves (t ∷ ts) earlier (suc p) found is =
+    place_in-found version moves ts (placed version moves t ∷ earlier) p found is
+
+-- the places of later entries come before those that were seen
+later-newer : (seen : Seen) (book : List Entry)
+    → (newer : List Place) × ((fold add_entry seen book).places ≡ newer ++ seen.places)
+later-newer seen [] = ([], refl)
+later-newer seen (entry ∷ book) =
+    let rest = later-newer (add_entry seen entry) book in
+    let added =
+    add_places-newer entry.version (add_moves entry.version entry.moves seen.moves) entry.batch seen.places in (
+      rest.0 ++ added.0,
+      rest.1 ∙ ap (λ (places : List Place). rest.0 ++ places) added.1 ∙ sym (append_assoc rest.0 added.0 seen.places),
+    )
+
+-- a book at an entry
+book-at : (book : List Entry) (n : ℕ) (entry : Entry) → slice_get book n ≡ Some entry
+    → book ≡ take n book ++ entry ∷ drop (suc n) book
+book-at [] n entry there = absurd (let wrong : None ≡ Some entry = there in cc)
+book-at (first ∷ book) zero entry there = let same : first ≡ entry = cc in ap (λ (e : Entry). e ∷ book) same
+book-at (first ∷ book) (suc n) entry there = ap (λ (es : List Entry). first ∷ es) (book-at book n entry there)
+
+pub places_are_found_in_the_book : PlacesAreFoundInTheBook
+places_are_found_in_the_book book n p entry place earlier there is =
+    let before = seen_of (take n book) in
+    let found = place_in-found entry.version (add_moves entry.version entry.moves before.moves) entry.batch before.places
+    p (place, earlier) (sym (ap (place_of before p) there) ∙ is) in
+    let rest = later-newer (add_entry before entry) (drop (suc n) book) in
+    let whole : (seen_of book).places ≡ (fold add_entry (add_entry before entry) (drop (suc n) book)).places =
+    ap (λ (es : List Entry). (seen_of es).places) (book-at book n entry there)
+    ∙ ap (λ (seen : Seen). seen.places) (fold-append add_entry nothing (take n book) (entry ∷ drop (suc n) book)) in (
+      found.0,
+      found.1
+          ∙ sym (ap (λ (seen : Seen). seen.places)
+          (seen_of-push (take n book) (record entry { batch = take p entry.batch }))),
+      (
+        rest.0 ++ found.2.0,
+        whole ∙ rest.1 ∙ ap (λ (places : List Place). rest.0 ++ places) found.2.1
+            ∙ sym (append_assoc rest.0 found.2.0 (place ∷ earlier)),
+      ),
+    )

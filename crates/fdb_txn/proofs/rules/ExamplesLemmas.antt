@@ -5,7 +5,7 @@ use Rattle.std.proofs.lemmas.Bool.{cases_Bool, and_parts, eqb-true}
 use Rattle.fdb_keys.specs.Points.{point_lt}
 use Rattle.fdb_txn.specs.declared.txn_id.TxnId.{TxnId}
 use Rattle.fdb_txn.specs.book.Once.{same_name, times_in_book}
-use Rattle.fdb_txn.specs.laws.Examples.{OneBatch, WriteSkew, FalseConflict, FormerOwner, ThereAndBack, EqualIsNotNewer, Window, OldReading, TwoMoves, Spans, AtBounds, Entries, of_three_names, Books}
+use Rattle.fdb_txn.specs.laws.Examples.{OneBatch, WriteSkew, FalseConflict, FormerOwner, ThereAndBack, EqualIsNotNewer, Window, OldReading, TwoMoves, Spans, AtBounds, ShardMessages, Entries, of_three_names, Books}
 
 pub one_batch_computes : OneBatch
 unfolding point_lt
@@ -50,6 +50,10 @@ spans_computes = (refl, refl)
 pub at_bounds_computes : AtBounds
 unfolding point_lt
 at_bounds_computes = (refl, refl, refl)
+
+pub shard_messages_compute : ShardMessages
+unfolding point_lt
+shard_messages_compute = (refl, refl, refl)
 
 pub entries_are_judged : Entries
 entries_are_judged = (

@@ -1,6 +1,6 @@
 -- A shard's messages, and the run.
 use Rattle.std.proofs.Common.{◌≡◌, ◌∙◌, sym, ap, refl, ℕ, ◌≤◌, le_trans, le_of_lt, subst, Bool, true, false, if◌then◌else◌, nat_le, List, [], ◌∷◌, fold, Option, ⊎_elim, arith}
-use Rattle.std.specs.List.{filter}
+use Rattle.std.specs.List.{AllByRecursion, filter}
 use Rattle.std.specs.Ordering.{nat_cmp}
 use Rattle.std.specs.Cmp.Lexicographic.{slice_cmp}
 use Rattle.std.specs.FinMap.{get, get-empty}
@@ -20,7 +20,7 @@ use Rattle.fdb_txn.specs.book.Transactions.{Transaction}
 use Rattle.fdb_txn.specs.book.Book.{Stamped, Place, Seen, nothing, add_moves, placed, add_places, add_entry}
 use Rattle.fdb_txn.specs.rules.Admission.{committed}
 use Rattle.fdb_txn.specs.book.History.{AreEntries}
-use Rattle.fdb_txn.specs.rules.Messages.{meets_range, committed_from, message_for, messages_after, value_after, value_with, MeetsAtSomePoint, ShardsHoldTheRun}
+use Rattle.fdb_txn.specs.rules.Messages.{meets_range, committed_from, message_for, messages_after, value_after, value_with, MeetsAtSomePoint, IsForRange, MessagesAreForTheRange, ShardsHoldTheRun}
 use Rattle.fdb_txn.specs.rules.SerialMap.{serial_map, up_to, serial_map_at}
 use Rattle.fdb_txn.proofs.book.HistoryLemmas.{AtMost, all-append, all-weaken, add_places-newer, up_to-all, up_to-above}
 
@@ -37,6 +37,31 @@ meets_at_some_point range mutation = (
       (shared.0, shared.1, sym (in_range-named mutation shared.0) ∙ shared.2),
   λ named. meet_from_common range (named_range mutation) named.0 named.1 (in_range-named mutation named.0 ∙ named.2),
 )
+
+-- what passes a filter by a test has what follows of the test
+all-filter : (keep : Mutation → Bool) (P : Mutation → Type 0) → ((mutation : Mutation) → keep mutation ≡ true → P mutation)
+    → (mutations : List Mutation) → AllByRecursion P (filter keep mutations)
+all-filter keep P passed [] = tt
+all-filter keep P passed (mutation ∷ mutations) = ⊎_elim
+    (λ stays. subst (AllByRecursion P)
+    (sym (cond-true (keep mutation) (mutation ∷ filter keep mutations) (filter keep mutations) stays))
+    (passed mutation stays, all-filter keep P passed mutations))
+    (λ goes. subst (AllByRecursion P)
+    (sym (cond-false (keep mutation) (mutation ∷ filter keep mutations) (filter keep mutations) goes))
+    (all-filter keep P passed mutations))
+    (cases_Bool (keep mutation))
+
+-- the messages of entries have nothing for other shards, after what was seen before
+messages-for_range : (splits : List Point) (range : Range) (seen : Seen) (book : List Entry)
+    → AllByRecursion (IsForRange range) (messages_after splits range seen book)
+messages-for_range splits range seen [] = tt
+messages-for_range splits range seen (entry ∷ book) = (
+  all-filter (meets_range range) _ (λ mutation meets. (meets_at_some_point range mutation).0 meets) _,
+  messages-for_range splits range (add_entry seen entry) book,
+)
+
+pub messages_are_for_the_range : MessagesAreForTheRange
+messages_are_for_the_range splits range book = messages-for_range splits range nothing book
 
 -- mutations that don't name the point may be left out
 value-kept : (keep : Mutation → Bool) (x : Point)

@@ -1,11 +1,11 @@
 -- What a resolver says of a place, and what it has to keep for that.
-use Rattle.std.specs.Prelude.{◌≡◌, ◌↔◌, ◌⊎◌, ◌≤◌, ◌-◌, ℕ, suc, true, List, ◌∷◌, length}
+use Rattle.std.specs.Prelude.{◌≡◌, ◌↔◌, ◌⊎◌, ◌||◌, ◌≤◌, ◌-◌, ℕ, suc, true, List, ◌∷◌, length}
 use Rattle.fdb_keys.specs.Points.{Point}
 use Rattle.fdb_txn.specs.book.Book.{Place}
-use Rattle.fdb_txn.specs.rules.Owners.{window}
+use Rattle.fdb_txn.specs.rules.Owners.{window, is_asked}
 use Rattle.fdb_txn.specs.rules.Admission.{admits}
 use Rattle.fdb_txn.specs.book.History.{IsHistory}
-use Rattle.fdb_txn.specs.rules.Resolvers.{last_commit_version, IsAdmittedBy, with_place, AgreeFrom, IsStateOf}
+use Rattle.fdb_txn.specs.rules.Resolvers.{part_writes, part_reads, last_commit_version, IsAdmittedBy, with_place, AgreeFrom, IsStateOf}
 
 -- One version for each point decides: a resolver admits a place exactly where the place is fresh and no point
 -- of the resolver's part of its read set has a last version above its read version.
@@ -23,6 +23,13 @@ OnePlaceMore =
     → IsHistory (suc (length splits)) (place ∷ earlier)
     → last_commit_version splits i (place ∷ earlier) x ≡ with_place splits i (admits splits i earlier place) place
     (last_commit_version splits i earlier) x
+
+-- A resolver is asked about a place, be it old or fresh, exactly where it has a part of it: some point of the write
+-- set or of the read set that it is sent.
+abbrev pub AskedWhereItHasAPart : Type 0
+AskedWhereItHasAPart =
+    (splits : List Point) (i : ℕ) (place : Place)
+    → (is_asked splits i place ≡ true) ↔ ((x : Point) × (part_writes splits i place x || part_reads splits i place x ≡ true))
 
 -- A state that answers from a floor on, which isn't above the begin of the place's window, decides as the rule does.
 abbrev pub StateDecides : Type 0

@@ -1,5 +1,5 @@
 -- What holds of a book's places, of the run, and of a longer book.
-use Rattle.std.specs.Prelude.{◌≡◌, ◌<◌, ◌↔◌, ℕ, suc, true, List, [], ◌∷◌, ◌++◌, fold, length}
+use Rattle.std.specs.Prelude.{◌≡◌, ◌<◌, ◌↔◌, ℕ, suc, true, List, [], ◌∷◌, ◌++◌, take, fold, length, Some, slice_get}
 use Rattle.std.specs.List.{AllByRecursion}
 use Rattle.std.specs.FinMap.{get}
 use Rattle.fdb_keys.specs.Points.{Point}
@@ -7,6 +7,7 @@ use Rattle.fdb_keys.specs.Ranges.{in_set}
 use Rattle.fdb_txn.specs.declared.entry.Entry.{Entry}
 use Rattle.fdb_txn.specs.book.Book.{Place, seen_of}
 use Rattle.fdb_txn.specs.rules.Admission.{committed}
+use Rattle.fdb_txn.specs.book.Places.{place_at}
 use Rattle.fdb_txn.specs.book.Once.{NoIdTwice}
 use Rattle.fdb_txn.specs.book.History.{IsBook, IsSealed, IsHistory, AreEntries}
 use Rattle.fdb_txn.specs.rules.SerialMap.{serial_map, serial_map_at}
@@ -21,6 +22,21 @@ BooksAreEntries =
 abbrev pub PlacesAreHistory : Type 0
 PlacesAreHistory = (resolvers : ℕ) (book : List Entry) → AreEntries resolvers 0 book
     → IsHistory resolvers (seen_of book).places
+
+-- the book right before place p of its entry n: that entry has the places before p alone, and no entry comes after it
+abbrev pub before_place : List Entry → ℕ → Entry → ℕ → List Entry
+before_place book n entry p = take n book ++ record entry { batch = take p entry.batch } ∷ []
+
+-- What is found by the numbers of a place is that place, with the places that were seen before it: the transaction is
+-- the entry's, the places before it are all those of the book right before it, and in the whole book they and the
+-- place come before newer ones.
+abbrev pub PlacesAreFoundInTheBook : Type 0
+PlacesAreFoundInTheBook =
+    (book : List Entry) (n p : ℕ) (entry : Entry) (place : Place) (earlier : List Place)
+    → slice_get book n ≡ Some entry → place_at book n p ≡ Some (place, earlier)
+    → (slice_get entry.batch p ≡ Some place.transaction)
+    × (earlier ≡ (seen_of (before_place book n entry p)).places)
+    × ((newer : List Place) × ((seen_of book).places ≡ newer ++ place ∷ earlier))
 
 -- Reads stand: what a committed transaction read at its read version stands there still where it commits. At
 -- every point of its read set, the map at its read version is the same as the map right before its place.

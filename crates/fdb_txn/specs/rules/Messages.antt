@@ -1,5 +1,6 @@
 -- What logs send a shard of each entry, and what the messages leave at a point.
 use Rattle.std.specs.Prelude.{◌≡◌, ◌↔◌, ℕ, Bool, true, nat_le, List, [], ◌∷◌, ◌++◌, fold, filter, Option, None, if◌then◌else◌}
+use Rattle.std.specs.List.{AllByRecursion}
 use Rattle.std.specs.FinMap.{get}
 use Rattle.fdb_keys.specs.Points.{Point}
 use Rattle.fdb_keys.specs.Ranges.{Range, in_range, ranges_meet}
@@ -65,6 +66,17 @@ abbrev pub MeetsAtSomePoint : Type 0
 MeetsAtSomePoint =
     (range : Range) (mutation : Mutation)
     → (meets_range range mutation ≡ true) ↔ ((x : Point) × (in_range range x ≡ true) × (names mutation x ≡ true))
+
+-- the message has nothing for others: each of its mutations names some point of the range
+abbrev pub IsForRange : Range → Message → Type 0
+IsForRange range message = AllByRecursion
+    (λ (mutation : Mutation). (x : Point) × (in_range range x ≡ true) × (names mutation x ≡ true)) message.body
+
+-- a shard's messages have nothing for other shards
+abbrev pub MessagesAreForTheRange : Type 0
+MessagesAreForTheRange =
+    (splits : List Point) (range : Range) (book : List Entry)
+    → AllByRecursion (IsForRange range) (messages_for splits range book)
 
 -- A shard holds the run: at each point of its range and each version, its messages leave what stands there on
 -- the run's map at that version.

@@ -1,4 +1,4 @@
-use Rattle.fdb_txn.proofs.rules.ExamplesLemmas.{one_batch_computes, write_skew_computes, false_conflict_computes, former_owner_computes, there_and_back_computes, equal_is_not_newer_computes, window_computes, old_reading_computes, two_moves_computes, spans_computes, at_bounds_computes, entries_are_judged, books_are_judged}
+use Rattle.fdb_txn.proofs.rules.ExamplesLemmas.{one_batch_computes, write_skew_computes, false_conflict_computes, former_owner_computes, there_and_back_computes, equal_is_not_newer_computes, window_computes, old_reading_computes, two_moves_computes, spans_computes, at_bounds_computes, shard_messages_compute, entries_are_judged, books_are_judged}
 use Rattle.fdb_txn.proofs.laws.worked_examples.Goals as goal
 
 pub returns : goal.returns
@@ -14,6 +14,7 @@ returns c = record {
   two_moves = two_moves_computes;
   spans = spans_computes;
   at_bounds = at_bounds_computes;
+  shard_messages = shard_messages_compute;
   entries = entries_are_judged;
   books = books_are_judged;
 }
