@@ -194,5 +194,6 @@ module _ (floor : ℕ) (f g : Point → ℕ) (left : (x : Point) → g x ≡ for
       (λ newer. ap (λ (n : ℕ). nat_lt bound n) (kept_above newer))
       (λ older.
       let none = no_greater_left in
-      le-ltb bound (g x) (omega (arith, none, older, reached)) ∙ sym (le-ltb bound (f x) (omega (arith, older, reached))))
+      le-ltb bound (g x) (omega (arith, none, older, reached))
+      ∙ sym (le-ltb bound (f x) (omega (arith, older, reached))))
       (cases_lt floor (f x))

@@ -216,7 +216,8 @@ module _ (resolvers : ℕ) where
     reads-of entry.version book entries.4,
   )
 
-  moves-of : (last : ℕ) (book : List Entry) → AreEntries resolvers last book → AllByRecursion (MovesExist resolvers) book
+  moves-of : (last : ℕ) (book : List Entry) → AreEntries resolvers last book
+      → AllByRecursion (MovesExist resolvers) book
   moves-of last [] entries = tt
   moves-of last (entry ∷ book) entries = (entries.2, moves-of entry.version book entries.4)
 
@@ -284,8 +285,9 @@ book-at (first ∷ book) (suc n) entry there = ap (λ (es : List Entry). first �
 pub places_are_found_in_the_book : PlacesAreFoundInTheBook
 places_are_found_in_the_book book n p entry place earlier there is =
     let before = seen_of (take n book) in
-    let found = place_in-found entry.version (add_moves entry.version entry.moves before.moves) entry.batch before.places
-    p (place, earlier) (sym (ap (place_of before p) there) ∙ is) in
+    let found =
+    place_in-found entry.version (add_moves entry.version entry.moves before.moves) entry.batch before.places p
+    (place, earlier) (sym (ap (place_of before p) there) ∙ is) in
     let rest = later-newer (add_entry before entry) (drop (suc n) book) in
     let whole : (seen_of book).places ≡ (fold add_entry (add_entry before entry) (drop (suc n) book)).places =
     ap (λ (es : List Entry). (seen_of es).places) (book-at book n entry there)

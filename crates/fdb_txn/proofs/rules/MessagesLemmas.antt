@@ -39,7 +39,8 @@ meets_at_some_point range mutation = (
 )
 
 -- what passes a filter by a test has what follows of the test
-all-filter : (keep : Mutation → Bool) (P : Mutation → Type 0) → ((mutation : Mutation) → keep mutation ≡ true → P mutation)
+all-filter : (keep : Mutation → Bool) (P : Mutation → Type 0)
+    → ((mutation : Mutation) → keep mutation ≡ true → P mutation)
     → (mutations : List Mutation) → AllByRecursion P (filter keep mutations)
 all-filter keep P passed [] = tt
 all-filter keep P passed (mutation ∷ mutations) = ⊎_elim

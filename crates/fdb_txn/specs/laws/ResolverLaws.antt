@@ -29,7 +29,8 @@ OnePlaceMore =
 abbrev pub AskedWhereItHasAPart : Type 0
 AskedWhereItHasAPart =
     (splits : List Point) (i : ℕ) (place : Place)
-    → (is_asked splits i place ≡ true) ↔ ((x : Point) × (part_writes splits i place x || part_reads splits i place x ≡ true))
+    → (is_asked splits i place ≡ true) ↔
+    ((x : Point) × (part_writes splits i place x || part_reads splits i place x ≡ true))
 
 -- A state that answers from a floor on, which isn't above the begin of the place's window, decides as the rule does.
 abbrev pub StateDecides : Type 0
