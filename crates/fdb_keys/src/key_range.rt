@@ -37,7 +37,7 @@ impl KeyRange {
     ghost use Rattle.fdb_keys.specs.Insertion.{joined_range};
     ghost use Rattle.fdb_keys.specs.Points.{Point, point_eq};
     ghost use Rattle.fdb_keys.specs.Ranges.{in_range, single_range, is_empty_range, ranges_meet};
-    ghost use Rattle.fdb_keys.specs.Texts.{range_fault};
+    ghost use Rattle.fdb_keys.specs.Texts.{is_bound, range_fault};
 
     /// The range from `begin` up to but not including `end`. Refused as `KeyTooLarge` where a bound
     /// exceeds 10,001 bytes, as `KeyOutsideLegalRange` where one comes after the one byte `FF`, and as
@@ -73,14 +73,16 @@ impl KeyRange {
 
     /// The bytes of the range's begin, which it includes.
     pub fn begin(&self) -> &[u8]
-        ensures { result.now ≡ self.now.begin }
+        ensures value { result.now ≡ self.now.begin }
+        ensures legal { IsTrue (is_bound self.now.begin) }
     {
         self.begin.as_slice()
     }
 
     /// The bytes of the range's end, which it doesn't include.
     pub fn end(&self) -> &[u8]
-        ensures { result.now ≡ self.now.end }
+        ensures value { result.now ≡ self.now.end }
+        ensures legal { IsTrue (is_bound self.now.end) }
     {
         self.end.as_slice()
     }
@@ -92,10 +94,12 @@ impl KeyRange {
         !is_before(key.bytes(), self.begin()) && is_before(key.bytes(), self.end())
     }
 
-    /// Whether some key or bound lies in both ranges.
+    /// Whether some key or bound lies in both ranges. Where any point does, a legal bound does.
     pub fn meets(&self, other: &KeyRange) -> bool
         ensures value { result ≡ ranges_meet self.now other.now }
         ensures common { IsTrue result ↔ ((x : Point) × (in_range self.now x ≡ true) × (in_range other.now x ≡ true)) }
+        ensures bound { IsTrue result → (x : Point) × (is_bound x ≡ true) × (in_range self.now x ≡ true)
+            × (in_range other.now x ≡ true) }
     {
         have_common_point(self.begin(), self.end(), other.begin(), other.end())
     }
