@@ -174,26 +174,3 @@ pub version_at-left : (floor : ℕ) (marks left : List Mark) → left ≡ filter
     → (x : Point) → version_at left x ≡ forgetting floor (version_at marks) x
 version_at-left floor marks left are_left x =
     ap (λ (ms : List Mark). version_at ms x) are_left ∙ version_at-above floor marks x
-
--- what is left of the versions above a floor
-module _ (floor : ℕ) (f g : Point → ℕ) (left : (x : Point) → g x ≡ forgetting floor f x) (x : Point) where
-  -- the versions above the floor are kept
-  pub kept_above : floor < f x → g x ≡ f x
-  kept_above newer = left x ∙ above-newer floor (f x) newer
-
-  -- no version is greater than before
-  pub no_greater_left : g x ≤ f x
-  no_greater_left = ⊎_elim
-      (λ newer. let same = kept_above newer in omega (arith, same))
-      (λ older. let none = left x ∙ above-older floor (f x) older in omega (arith, none))
-      (cases_lt floor (f x))
-
-  -- no bound from the floor on can tell
-  pub answers_left : (bound : ℕ) → floor ≤ bound → nat_lt bound (g x) ≡ nat_lt bound (f x)
-  answers_left bound reached = ⊎_elim
-      (λ newer. ap (λ (n : ℕ). nat_lt bound n) (kept_above newer))
-      (λ older.
-      let none = no_greater_left in
-      le-ltb bound (g x) (omega (arith, none, older, reached))
-      ∙ sym (le-ltb bound (f x) (omega (arith, older, reached))))
-      (cases_lt floor (f x))
