@@ -4,4 +4,5 @@ pub mod headline
 pub mod invariant
 pub mod machine
 pub mod programs
+pub mod readings
 pub mod refinement

@@ -1,6 +1,6 @@
-pub mod CommittedLaws
 pub mod OnceLaws
 pub mod RealTimeLaws
 pub mod SerializedLemmas
+pub mod SessionLaws
 pub mod SoundLaws
 pub mod SoundLemmas

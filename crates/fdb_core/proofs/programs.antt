@@ -1,3 +1,4 @@
 pub mod ProgramLaws
 pub mod ProgramsAgree
 pub mod ReadSetLemmas
+pub mod WriteSetLemmas

@@ -1,7 +1,9 @@
+pub mod Answers
+pub mod Books
 pub mod Examples
 pub mod Headline
-pub mod Once
 pub mod Promises
+pub mod Readings
 pub mod RealTime
 pub mod Serving
 pub mod Traces

@@ -2,6 +2,7 @@ pub mod ClientSteps
 pub mod CommitProxySteps
 pub mod GrvProxySteps
 pub mod InFlight
+pub mod Limits
 pub mod Machine
 pub mod RoleSteps
 pub mod Roles

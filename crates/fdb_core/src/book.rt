@@ -1,6 +1,6 @@
 // The versions of the book.
 ghost use Rattle.std.specs.Prelude.{◌≡◌, take};
-ghost use Rattle.fdb_core.specs.machine.Machine.{last_version};
+ghost use Rattle.fdb_txn.specs.book.Book.{last_version};
 
 use fdb_txn::Entry;
 

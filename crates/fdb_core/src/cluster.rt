@@ -1,5 +1,6 @@
 // The parts of a world: the machine's bookkeeping, and what the roles keep for themselves.
 ghost use Rattle.std.specs.Prelude.{◌≡◌, ◌≤◌, [], ◌∷◌, IfOk};
+ghost use Rattle.fdb_core.specs.machine.Limits.{entry_limit};
 ghost use Rattle.fdb_core.specs.machine.Worlds.{start};
 ghost use Rattle.fdb_core.specs.refinement.Cluster.{machine_of, Refines};
 
@@ -51,7 +52,7 @@ impl Cluster {
         requires logs { config.logs ≡ 1 }
         requires resolver_splits { config.resolver_splits ≡ [] }
         requires shard_splits { config.shard_splits ≡ [] }
-        requires book { config.book ≤ 1048576 }
+        requires book { config.book ≤ entry_limit }
         ensures machine { IfOk result (λ cluster. machine_of cluster ≡ start config) }
         ensures refines { IfOk result Refines }
     {

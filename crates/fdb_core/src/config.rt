@@ -1,5 +1,8 @@
 use fdb_keys::{Items, Key};
 
+/// The most entries that a book may have.
+pub const ENTRY_LIMIT: u32 = 1_048_576;
+
 /// How many of each role there are, and how keys are divided among them at the start.
 #[derive(Clone, Debug, Drop, PartialEq, Eq)]
 pub struct Config {

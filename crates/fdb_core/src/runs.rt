@@ -1,5 +1,6 @@
 ghost use Rattle.fdb_keys.specs.Answers.{Answers};
 ghost use Rattle.fdb_core.specs.headline.Headline.{IsStrictlySerializable};
+ghost use Rattle.fdb_core.specs.headline.Serving.{RolesKeep};
 ghost use Rattle.fdb_core.specs.machine.Worlds.{config_fault};
 
 use crate::config::Config;
@@ -10,14 +11,15 @@ use std::alloc::Global;
 
 /// Takes the steps one after another from the configuration's first world, and gives the last world with
 /// the answer to each step. Refused as `BadConfig` as `World::new` is. The world stands for these steps with
-/// these answers: for every list of steps, each acknowledged transaction is serialized at its spot, and every shard
-/// answers from the run's map, as `World::step` says.
+/// these answers: for every list of steps, each acknowledged transaction is serialized at its spot, every shard answers
+/// from the run's map, and each role keeps what the book says, as `World::step` says.
 pub fn run(
     alloc: Global,
     config: Config,
     steps: &[Step],
 ) -> Result<(World, Items<Result<Answered, Refusal>>), Refusal>
-    ensures { Answers result (config_fault config) (λ ran. IsStrictlySerializable config steps.now ran.1 ran.0) }
+    ensures { Answers result (config_fault config)
+        (λ ran. IsStrictlySerializable config steps.now ran.1 ran.0 × RolesKeep ran.0) }
 {
     let mut world = World::new(alloc, config)?;
     let mut answers = Items::new(alloc);

@@ -3,7 +3,7 @@ ghost use Rattle.fdb_core.specs.machine.Steps.{ran_out as has_run_out};
 
 use crate::check::serial::check_all;
 use crate::cluster::Cluster;
-use crate::config::Config;
+use crate::config::{Config, ENTRY_LIMIT};
 use crate::in_flight::InFlight;
 use crate::step::{Answered, Step};
 use fdb_keys::Refusal;
@@ -51,7 +51,7 @@ impl World {
     ghost use Rattle.fdb_core.specs.declared.step.Answered.{Answered};
     ghost use Rattle.fdb_core.specs.declared.step.Step.{Step};
     ghost use Rattle.fdb_core.specs.machine.InFlight.{in_flight};
-    ghost use Rattle.fdb_core.specs.headline.Headline.{AllSerialized, IsStrictlySerializable};
+    ghost use Rattle.fdb_core.specs.headline.Headline.{IsStrictlySerializable};
     ghost use Rattle.fdb_core.specs.headline.Serving.{RolesKeep};
     ghost use Rattle.fdb_core.specs.headline.Traces.{IsTraceOf};
     ghost use Rattle.fdb_core.specs.machine.Worlds.{config_fault, start, IsStep};
@@ -69,7 +69,7 @@ impl World {
         if !config.resolver_splits.is_empty() || !config.shard_splits.is_empty() {
             return Err(Refusal::BadConfig);
         }
-        if config.book < 1 || config.book > 1_048_576 {
+        if config.book < 1 || config.book > ENTRY_LIMIT {
             return Err(Refusal::BadConfig);
         }
         let cluster = Cluster::new(alloc, config)?;
@@ -89,7 +89,6 @@ impl World {
     /// every shard answers, at each version that it serves, from that run's map.
     pub fn step(&mut self, step: Step) -> Result<Answered, Refusal>
         ensures step { IsStep self.old.machine step result self.new.machine }
-        ensures serial { IfSome self.new.machine AllSerialized }
         ensures roles { RolesKeep self.new }
         ensures headline { (config : Config) (steps : List Step) (answers : List (Result Answered Refusal))
             → IsTraceOf config steps answers self.old.machine
@@ -100,7 +99,6 @@ impl World {
 
     pub(crate) fn take(&mut self, step: &Step) -> Result<Answered, Refusal>
         ensures step { IsStep self.old.machine step.now result self.new.machine }
-        ensures serial { IfSome self.new.machine AllSerialized }
         ensures roles { RolesKeep self.new }
     {
         if self.failed {

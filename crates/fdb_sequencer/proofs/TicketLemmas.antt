@@ -79,7 +79,7 @@ accepted-grows s [] = omega arith
 accepted-grows s (ticket ∷ tickets) = omega (arith, accepted-grows (accepting s ticket) tickets)
 
 -- a ticket whose index was given is stale
-passed_is_stale : (s : Sequencer) (ticket : Ticket) → ticket.index < s.accepted → accept_fault s ticket ≡ Some Stale
+pub passed_is_stale : (s : Sequencer) (ticket : Ticket) → ticket.index < s.accepted → accept_fault s ticket ≡ Some Stale
 passed_is_stale s ticket passed = grind (arith, common_steps)
 
 pub accepted_once : AcceptedOnce

@@ -135,8 +135,8 @@ pub fn one_more_entry_changes_nothing_earlier()
 
 /// A mutation meets a shard's range exactly where it names some point of it, and a shard's messages have no
 /// others. At each point of the range and each version, the mutations of committed transactions that meet the
-/// range leave what stands there on the run's map at that version.
-pub fn messages_of_a_shard_leave_the_run_on_its_range()
+/// range leave what stands there on the serial map at that version.
+pub fn messages_of_a_shard_leave_the_serial_map_on_its_range()
     ensures meets { MeetsAtSomePoint }
     ensures for_range { MessagesAreForTheRange }
     ensures holds { ShardsHoldTheRun }

@@ -13,7 +13,7 @@ use Rattle.fdb_txn.specs.declared.entry.Entry.{Entry}
 use Rattle.fdb_txn.specs.declared.spot.Spot.{Spot}
 use Rattle.fdb_txn.specs.declared.spot.Spot.TheVariants as spot
 use Rattle.fdb_txn.specs.book.Transactions.{Transaction}
-use Rattle.fdb_txn.specs.book.Book.{Seen, add_entry, seen_of}
+use Rattle.fdb_txn.specs.book.Book.{Seen, add_entry, seen_of, last_version, seen_before}
 use Rattle.fdb_txn.specs.book.Places.{place_of, place_at}
 use Rattle.fdb_txn.specs.rules.SerialMap.{serial_map, serial_map_at}
 use Rattle.fdb_txn.proofs.rules.MessagesLemmas.{serial_map-add_places}
@@ -26,7 +26,6 @@ use Rattle.fdb_core.specs.declared.world.CheckFault.{CheckFault}
 use Rattle.fdb_core.specs.check.Checking.{AnsweredIn, map_after, IsPlainBook, AgreesAt, Agrees, is_before, HasCome}
 use Rattle.fdb_core.specs.check.Comparing.{is_below, is_at, AnsweredAt, Differs, StopsBy}
 use Rattle.fdb_core.specs.headline.Headline.{AnsweredOn}
-use Rattle.fdb_core.specs.machine.Machine.{last_version, seen_before}
 use Rattle.fdb_core.specs.refinement.Resolving.{ResolverAt}
 use Rattle.fdb_core.specs.refinement.Roles.{body_by}
 use Rattle.fdb_core.specs.machine.Verdicts.{moves_through, outcomes_on}

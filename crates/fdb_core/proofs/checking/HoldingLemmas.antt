@@ -13,14 +13,13 @@ use Rattle.fdb_mutations.specs.Maps.{Map}
 use Rattle.fdb_mutations.specs.Mutations.{names, new_value}
 use Rattle.fdb_txn.specs.declared.entry.Entry.{Entry}
 use Rattle.fdb_txn.specs.book.Transactions.{Transaction, some_names}
-use Rattle.fdb_txn.specs.book.Book.{Stamped, Place, Seen, nothing, placed, add_entry, seen_of}
+use Rattle.fdb_txn.specs.book.Book.{Stamped, Place, Seen, nothing, placed, add_entry, seen_of, last_version, seen_before}
 use Rattle.fdb_txn.specs.rules.Admission.{committed}
 use Rattle.fdb_txn.specs.rules.Messages.{committed_from, value_after, Message, value_in, value_with}
 use Rattle.fdb_txn.specs.rules.SerialMap.{serial_map, serial_map_at}
 use Rattle.fdb_txn.proofs.rules.MessagesLemmas.{get-effects, serial_map-add_places}
 use Rattle.fdb_core.specs.check.Checking.{IsPlainBook}
 use Rattle.fdb_core.specs.check.Holding.{AreAlike, messages_name, batch_names, entries_name, HoldsTheRun}
-use Rattle.fdb_core.specs.machine.Machine.{last_version, seen_before}
 use Rattle.fdb_core.specs.machine.Verdicts.{moves_through}
 use Rattle.fdb_core.proofs.refinement.RoleTies.{take-next}
 use Rattle.fdb_core.proofs.refinement.RunLaws.{entries-rising, map-between}

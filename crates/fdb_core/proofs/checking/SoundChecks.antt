@@ -5,7 +5,7 @@ use Rattle.std.proofs.lemmas.Option.{same_Some, slice_get_read}
 use Rattle.fdb_keys.specs.Points.{Point}
 use Rattle.fdb_txn.specs.declared.spot.Spot.{Spot}
 use Rattle.fdb_txn.specs.declared.spot.Spot.TheVariants as spot
-use Rattle.fdb_txn.specs.book.Book.{Place, seen_of}
+use Rattle.fdb_txn.specs.book.Book.{Place, seen_of, last_version}
 use Rattle.fdb_txn.specs.rules.SerialMap.{serial_map, serial_map_at}
 use Rattle.fdb_core.specs.declared.cluster.Cluster.{Cluster}
 use Rattle.fdb_txn.specs.rules.Messages.{Message, value_in}
@@ -15,11 +15,11 @@ use Rattle.fdb_core.specs.declared.world.CheckFault.TheVariants.{NoMemory}
 use Rattle.fdb_core.specs.check.Checking.{IsPlainBook, AgreesAt, Agrees, Finds}
 use Rattle.fdb_core.specs.check.Comparing.{Differs}
 use Rattle.fdb_core.specs.check.Holding.{HoldsTheRun}
-use Rattle.fdb_core.specs.headline.Headline.{AnsweredOn, IsSerializedAtSpot, IsSerialized}
+use Rattle.fdb_core.specs.headline.Headline.{AnsweredOn, IsSerializedAtSpot}
 use Rattle.fdb_core.specs.refinement.Cluster.{machine_of, Refines}
-use Rattle.fdb_core.specs.machine.Machine.{Machine, last_version}
+use Rattle.fdb_core.specs.machine.Machine.{Machine}
 use Rattle.fdb_core.specs.refinement.Roles.{along, message_on}
-use Rattle.fdb_core.specs.invariant.Invariant.{Invariant}
+use Rattle.fdb_core.specs.invariant.Invariant.{Invariant, IsSerializedIn}
 use Rattle.fdb_core.proofs.common.AllLemmas.{all-at}
 use Rattle.fdb_core.proofs.refinement.RunLaws.{entries-rising, length-along, value-of-serial_map}
 
@@ -29,7 +29,7 @@ module _ (k : Cluster) (refines : Refines k) where
   plain-book = record { no_moves = refines.book.no_moves; entries = refines.book.entries }
 
   -- who is at a spot agrees with the book there
-  agrees-where-stands : (transcript : Transcript) (at : Spot) → IsSerializedAtSpot (machine_of k) transcript at
+  agrees-where-stands : (transcript : Transcript) (at : Spot) → IsSerializedAtSpot k.config.resolver_splits k.book.items transcript at
       → AgreesAt k.book.items transcript at
   agrees-where-stands transcript (spot.Entry i p version) stands = λ found at.
       let same : stands.0 ≡ found = same_Some stands.0 found (sym stands.1 ∙ at) in
@@ -66,7 +66,7 @@ module _ (k : Cluster) (refines : Refines k) where
       (⊎_elim (λ waits_for. waits_for) (λ (differs : Differs (Agrees k.book.items) k.acknowledged.items fault).
       let there = slice_get_read k.acknowledged.items (length k.acknowledged.items) differs.0 differs.1 refl differs.2
       (sym differs.3) in
-      let stands = all-at (IsSerialized (machine_of k)) k.acknowledged.items differs.0 differs.1 sound.acknowledged
+      let stands = all-at (IsSerializedIn (machine_of k)) k.acknowledged.items differs.0 differs.1 sound.acknowledged
       there in
       absurd (differs.4.1 (agrees-where-stands differs.1.transcript differs.1.spot stands))))
       (λ unlike. absurd (unlike.2 shard-holds))

@@ -7,13 +7,15 @@ use Rattle.std.specs.Cmp.Lexicographic.{slice_cmp}
 use Rattle.fdb_keys.specs.Points.{point_lt}
 use Rattle.fdb_keys.specs.Insertion as insertion
 use Rattle.fdb_mutations.specs.Mutations.{effects}
+use Rattle.fdb_mutations.specs.declared.mutation.Mutation.{Mutation}
+use Rattle.fdb_txn.specs.rules.Messages.{Message}
 use Rattle.fdb_txn.specs.book.Transactions.{Transaction}
 use Rattle.fdb_txn.specs.book.Book.{Place, placed}
 use Rattle.fdb_txn.specs.rules.SerialMap.{serial_map}
 use Rattle.fdb_txn.proofs.rules.MessagesLemmas.{get-effects}
 use Rattle.fdb_txn.specs.rules.Admission.{committed}
 use Rattle.fdb_core.specs.declared.roles.client.program.Reply.TheVariants as reply
-use Rattle.fdb_core.specs.headline.Examples.{reads_and_sets, OnlyTheFirstIsSerialized, ReadOnlyAtItsVersion, AfterAVersion, AnEmptyShardDoesNotServe, Traced}
+use Rattle.fdb_core.specs.headline.Examples.{reads_and_sets, OnlyTheFirstIsSerialized, ReadOnlyAtItsVersion, AfterAVersion, AnEmptyShardDoesNotServe, OnlyOrdinaryReadsCount, BegunByServing, ForgetfulRolesDoNotKeep, ReadOffTheTrace, Traced}
 use Rattle.fdb_core.specs.machine.GrvProxySteps.{asks, grants}
 use Rattle.fdb_core.specs.headline.Headline.{AnsweredOn}
 use Rattle.fdb_core.specs.programs.Programs.{commit_request_of}
@@ -67,7 +69,33 @@ read_only_at_its_version = (
   (λ stands. omega (arith, stands.0)),
   (λ stands. omega (arith, stands.1)),
   (λ stands. cc (stands.2)),
+  (λ stands. omega (arith, stands.0)),
 )
+
+pub only_ordinary_reads_count : OnlyOrdinaryReadsCount
+only_ordinary_reads_count = (
+  ((λ snapshot. cc), tt),
+  ((λ read. ap reply.Value (sym nothing_there)), tt),
+  (λ answers. let told : reply.Value (Some (codes "1")) ≡ reply.Value None = answers.0 refl ∙ ap reply.Value nothing_there in
+      different told),
+)
+
+pub begun_by_serving : BegunByServing
+begun_by_serving = (omega arith, (λ begun. omega (arith, begun)), (λ begun. omega (arith, begun)))
+
+pub forgetful_roles_do_not_keep : ForgetfulRolesDoNotKeep
+unfolding point_lt insertion.inserted
+forgetful_roles_do_not_keep = (
+  (λ state. let never : false ≡ true = state (codes "a") 0 (omega arith) in cc),
+  (λ kept. let wrong : [] ≡ (commit_request_of (reads_and_sets 0 None)).mutations = ap body_of kept in cc),
+)
+  where
+    body_of : List Message → List Mutation
+    body_of [] = []
+    body_of (message ∷ messages) = message.body
+
+pub read_off_the_trace : ReadOffTheTrace
+read_off_the_trace = (refl, refl, refl, refl, refl)
 
 pub after_a_version : AfterAVersion
 after_a_version = ((λ after. omega (arith, after)), omega arith, (λ after. omega (arith, after)), omega arith)

@@ -1,5 +1,5 @@
 -- What follows from the answer of one step.
-use Rattle.std.proofs.Common.{◌≡◌, ◌∙◌, sym, ap, refl, ℕ, Bool, true, false, List, Option, Some, None, Ok, Err, position, map, if◌then◌else◌}
+use Rattle.std.proofs.Common.{◌≡◌, ◌∙◌, sym, ap, refl, ℕ, Bool, true, false, List, Option, Some, None, Err, position, map, if◌then◌else◌}
 use Rattle.std.specs.Prelude.{◌↔◌, nat_lt}
 use Rattle.std.specs.List.{slice_get, list_any}
 use Rattle.std.specs.FinMap.{get}
@@ -14,10 +14,11 @@ use Rattle.fdb_core.specs.declared.step.Answered.TheVariants as answered
 use Rattle.fdb_core.specs.machine.ClientSteps.{gets, read_fault}
 use Rattle.fdb_core.specs.machine.GrvProxySteps.{grants, has_no_number}
 use Rattle.fdb_core.specs.machine.RoleSteps.{shard_fault, version_of_shard}
-use Rattle.fdb_core.specs.machine.Machine.{Machine, Transition, refused_by, is_of}
+use Rattle.fdb_core.specs.machine.Machine.{Machine, Transition, is_of}
 use Rattle.fdb_core.specs.programs.Programs.{program, copy, decided}
 use Rattle.fdb_core.specs.headline.Promises.{RefusalsChangeNothing, GrantsCommitted, GetsFromTheRun, GetsRefused}
 use Rattle.fdb_core.specs.machine.Steps.{after}
+use Rattle.fdb_core.proofs.machine.Transitions.{gets-refused, gets-faultless}
 use Rattle.fdb_core.proofs.machine.AcceptedTransitions.{of-accepted, past-found, past-test, past-fault, past-opened}
 
 -- a refused step changes nothing
@@ -54,21 +55,6 @@ gets_from_the_run m session key snapshot transition accepted =
         (get (copy (serial_map_at m.config.resolver_splits transcript.read_version (seen_of m.book).places)
         (program transcript.ops)) key))
 
--- why a read of an open transaction is refused
-gets-refused : (m : Machine) (session : ℕ) (key : List ℕ) (snapshot : Bool) (i : ℕ) (transcript : Transcript)
-    (why : Refusal)
-    → position (is_of session) m.opened ≡ Some i → slice_get m.opened i ≡ Some transcript
-    → (gets m session key snapshot ≡ Err why) ↔
-    (read_fault m (program transcript.ops) transcript.read_version key ≡ Some why)
-unfolding gets
-gets-refused m session key snapshot i transcript why at there =
-    rw (at, there) (by_fault (read_fault m (program transcript.ops) transcript.read_version key) _)
-  where
-    by_fault : (fault : Option Refusal) (transition : Transition)
-        → (refused_by fault (Ok transition) ≡ Err why) ↔ (fault ≡ Some why)
-    by_fault None transition = ((λ refused. cc), (λ faulty. cc))
-    by_fault (Some other) transition = ((λ refused. cc), (λ faulty. cc))
-
 -- a shard is ahead of a version exactly where it has it and is not there yet
 shard-after : (m : Machine) (version : ℕ) (there : Option ShardProgress)
     → (shard_fault m.book version there ≡ Some FutureVersion)
@@ -92,29 +78,70 @@ shard-after m version (Some progress) = (
     by_tests false true = ((λ faulty. (refl, refl)), (λ tests. refl))
     by_tests false false = ((λ faulty. cc), (λ tests. let h = tests.1 in cc))
 
--- a read of an open transaction is refused as in the future exactly where the key's shard is after
-pub gets_refused : GetsRefused
-gets_refused m session key snapshot i transcript at there = (
-  (λ refused. (by_decided (decided (program transcript.ops) key)).0 (answer.0 refused)),
-  (λ after. answer.1 ((by_decided (decided (program transcript.ops) key)).1 after)),
+-- and has forgotten a version exactly where it has it and its floor is above that
+shard-forgot : (m : Machine) (version : ℕ) (there : Option ShardProgress)
+    → (shard_fault m.book version there ≡ Some TransactionTooOld)
+    ↔ ((progress : ShardProgress) × (there ≡ Some progress) × (nat_lt version progress.floor ≡ true))
+shard-forgot m version None = ((λ faulty. cc), (λ forgot. let h = forgot.1 in cc))
+shard-forgot m version (Some progress) = (
+  (λ faulty. (progress, refl, (by_tests _ _).0 faulty)),
+  (λ forgot. let same : forgot.0 ≡ progress = cc (forgot.1) in
+      (by_tests _ _).1 (ap (λ (r : ShardProgress). nat_lt version r.floor) (sym same) ∙ forgot.2)),
 )
   where
-    answer : (gets m session key snapshot ≡ Err FutureVersion) ↔
-        (read_fault m (program transcript.ops) transcript.read_version key ≡ Some FutureVersion)
-    answer = gets-refused m session key snapshot i transcript FutureVersion at there
+    by_tests : (old late : Bool)
+        → ((if old then Some TransactionTooOld else (if late then Some FutureVersion else None))
+        ≡ Some TransactionTooOld) ↔ (old ≡ true)
+    by_tests true late = ((λ faulty. refl), (λ test. refl))
+    by_tests false true = ((λ faulty. cc), (λ test. cc))
+    by_tests false false = ((λ faulty. cc), (λ test. cc))
 
-    After : Type 0
-    After =
+-- A read of an open transaction is refused as in the future exactly where the key's shard lags, as too old exactly where
+-- it has forgotten, and not at all where the key is decided.
+pub gets_refused : GetsRefused
+gets_refused m session key snapshot i transcript at there = (
+  (
+    (λ refused. (by_lagging own).0 ((answer FutureVersion).0 refused)),
+    (λ lagging. (answer FutureVersion).1 ((by_lagging own).1 lagging)),
+  ),
+  (
+    (λ refused. (by_forgotten own).0 ((answer TransactionTooOld).0 refused)),
+    (λ forgotten. (answer TransactionTooOld).1 ((by_forgotten own).1 forgotten)),
+  ),
+  λ is_decided. gets-faultless m session key snapshot i transcript at there (rw is_decided refl),
+)
+  where
+    own : Bool
+    own = decided (program transcript.ops) key
+
+    answer : (why : Refusal) → (gets m session key snapshot ≡ Err why) ↔
+        (read_fault m (program transcript.ops) transcript.read_version key ≡ Some why)
+    answer why = gets-refused m session key snapshot i transcript why at there
+
+    Lags : Type 0
+    Lags =
         (progress : ShardProgress) × (slice_get m.shards (first_owner m.config.shard_splits key) ≡ Some progress)
         × (nat_lt transcript.read_version progress.floor ≡ false)
         × (nat_lt (version_of_shard m.book progress) transcript.read_version ≡ true)
 
+    Forgot : Type 0
+    Forgot =
+        (progress : ShardProgress) × (slice_get m.shards (first_owner m.config.shard_splits key) ≡ Some progress)
+        × (nat_lt transcript.read_version progress.floor ≡ true)
+
     shard : Option Refusal
     shard = shard_fault m.book transcript.read_version (slice_get m.shards (first_owner m.config.shard_splits key))
 
-    by_decided : (own : Bool) → ((if own then None else shard) ≡ Some FutureVersion) ↔ ((own ≡ false) × After)
-    by_decided true = ((λ faulty. cc), (λ after. let h = after.0 in cc))
-    by_decided false =
+    by_lagging : (own : Bool) → ((if own then None else shard) ≡ Some FutureVersion) ↔ ((own ≡ false) × Lags)
+    by_lagging true = ((λ faulty. cc), (λ lags. let h = lags.0 in cc))
+    by_lagging false =
         let there_after = shard-after m transcript.read_version
         (slice_get m.shards (first_owner m.config.shard_splits key)) in
-        ((λ faulty. (refl, there_after.0 faulty)), (λ after. there_after.1 after.1))
+        ((λ faulty. (refl, there_after.0 faulty)), (λ lags. there_after.1 lags.1))
+
+    by_forgotten : (own : Bool) → ((if own then None else shard) ≡ Some TransactionTooOld) ↔ ((own ≡ false) × Forgot)
+    by_forgotten true = ((λ faulty. cc), (λ forgot. let h = forgot.0 in cc))
+    by_forgotten false =
+        let there_forgot = shard-forgot m transcript.read_version
+        (slice_get m.shards (first_owner m.config.shard_splits key)) in
+        ((λ faulty. (refl, there_forgot.0 faulty)), (λ forgot. there_forgot.1 forgot.1))

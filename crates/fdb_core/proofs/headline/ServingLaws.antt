@@ -1,19 +1,20 @@
 -- What the one resolver, the log and the shard keep is what the book says of them.
-use Rattle.std.proofs.Common.{◌≡◌, ◌∙◌, sym, ap, refl, subst, ℕ, zero, suc, ◌-◌, false, List, [], ◌∷◌, map, take, slice_get, Some}
+use Rattle.std.proofs.Common.{◌≡◌, ◌∙◌, sym, ap, refl, subst, arith, ℕ, zero, suc, ◌-◌, false, List, [], ◌∷◌, map, take, length, slice_get, Some}
 use Rattle.std.specs.FinMap.{get}
+use Rattle.fdb_sequencer.proofs.TicketLemmas.{passed_is_stale}
 use Rattle.fdb_keys.specs.Points.{Point}
 use Rattle.fdb_interval.specs.Versions.{version_at}
-use Rattle.fdb_txn.specs.book.Book.{seen_of}
+use Rattle.fdb_txn.specs.book.Book.{seen_of, last_version, seen_before}
 use Rattle.fdb_txn.specs.rules.Owners.{window}
 use Rattle.fdb_txn.specs.rules.Resolvers.{IsStateOf}
 use Rattle.fdb_txn.specs.rules.SerialMap.{serial_map_at}
 use Rattle.fdb_core.specs.declared.cluster.Cluster.{Cluster}
 use Rattle.fdb_txn.specs.rules.Messages.{Message, value_in}
 use Rattle.fdb_core.specs.machine.Roles.{ShardProgress}
-use Rattle.fdb_core.specs.refinement.Cluster.{machine_of, system_of, Refines}
-use Rattle.fdb_core.specs.machine.Machine.{Machine, last_version, seen_before}
+use Rattle.fdb_core.specs.refinement.Cluster.{machine_of, shard_of, system_of, Refines}
+use Rattle.fdb_core.specs.machine.Machine.{Machine}
 use Rattle.fdb_core.specs.refinement.Roles.{along, message_on}
-use Rattle.fdb_core.specs.headline.Serving.{EachKeeps, ResolverKeeps, LogKeeps, ShardServes, RolesKeep}
+use Rattle.fdb_core.specs.headline.Serving.{Shard, EachKeeps, SequencerKeeps, ResolverKeeps, LogKeeps, ShardReaches, ShardServes, RolesKeep}
 use Rattle.fdb_core.proofs.refinement.RunLaws.{entries-rising, take-along, value-of-serial_map}
 use Rattle.fdb_core.specs.declared.roles.resolver.ResolverRole.{ResolverRole}
 use Rattle.fdb_core.specs.refinement.Resolving.{taken_by}
@@ -32,16 +33,28 @@ each-one {A} {B} P a b keeps = (refl, at)
 
 -- each role of the world keeps what the book says of it
 pub roles_keep : (k : Cluster) → Refines k → RolesKeep (system_of false k)
-roles_keep k refines = (resolver, log, shard)
+roles_keep k refines = (sequencer, resolver, log, reaches, (count, serves))
   where
     m : Machine
     m = machine_of k
+
+    sequencer : SequencerKeeps m k.sequencer
+    sequencer =
+        let ok = refines.sequencer in (
+          ok.accepted,
+          ok.last,
+          λ ticket below. passed_is_stale k.sequencer ticket (omega (arith, ok.accepted, below)),
+          refl,
+          ok.committed,
+        )
 
     resolver : EachKeeps (ResolverKeeps m) m.resolvers (map (λ (role : ResolverRole). role.core) k.resolvers.items)
     resolver =
         let role = refines.resolvers.role in
         let ok = refines.resolvers.ok in
         let keeps : ResolverKeeps m 0 role.taken role.core = (
+          ok.state.index,
+          ok.state.works,
           ok.state.last,
           subst (λ (splits : List Point). IsStateOf splits 0 (seen_before k.book.items role.taken).places
               (last_version (take role.taken k.book.items) - window) (version_at role.core.versions))
@@ -61,18 +74,40 @@ roles_keep k refines = (resolver, log, shard)
         subst (λ (far : List ℕ). EachKeeps (LogKeeps m) far (k.log.items ∷ [])) (sym ok.one_log)
         (each-one (LogKeeps m) ok.taken k.log.items keeps)
 
-    shard : EachKeeps (ShardServes m) m.shards (k.shard.items ∷ [])
-    shard =
-        let ok = refines.log in
-        let progress : ShardProgress = record { applied = ok.applied; floor = 0 } in
-        let serves : ShardServes m 0 progress k.shard.items =
-        λ v x above reached held.
+    progress : ShardProgress
+    progress = record { applied = refines.log.applied; floor = 0 }
+
+    one : Shard
+    one = shard_of k.book.items k.shard.items progress
+
+    shards : map (shard_of k.book.items k.shard.items) k.shards.items ≡ one ∷ []
+    shards = ap (map (shard_of k.book.items k.shard.items)) refines.log.one_shard
+
+    reaches : EachKeeps (ShardReaches m) m.shards (map (shard_of k.book.items k.shard.items) k.shards.items)
+    reaches = subst (λ (far : List ShardProgress). EachKeeps (ShardReaches m) far
+        (map (shard_of k.book.items k.shard.items) far)) (sym refines.log.one_shard)
+        (each-one (ShardReaches m) progress one (refl, refl))
+
+    count : length (map (shard_of k.book.items k.shard.items) k.shards.items) ≡ suc (length k.config.shard_splits)
+    count = ap (λ (all : List Shard). length all) shards
+        ∙ ap (λ (splits : List Point). suc (length splits)) (sym refines.plain.shard_splits)
+
+    serves_one : ShardServes m.config m.book 0 one
+    serves_one = λ v x above reached held.
         subst (λ (messages : List Message). value_in v x messages ≡ get
         (serial_map_at k.config.resolver_splits v (seen_of k.book.items).places) x)
-        (sym (ok.kept
-        ∙ ap (λ splits. take ok.applied (along (message_on splits) k.book.items))
+        (sym (refines.log.kept
+        ∙ ap (λ splits. take refines.log.applied (along (message_on splits) k.book.items))
         (sym refines.plain.resolver_splits)))
         (value-of-serial_map k.config.resolver_splits k.book.items (entries-rising 1 k.book.items refines.book.entries)
-        ok.applied v reached x) in
-        subst (λ (far : List ShardProgress). EachKeeps (ShardServes m) far (k.shard.items ∷ [])) (sym ok.one_shard)
-        (each-one (ShardServes m) progress k.shard.items serves)
+        refines.log.applied v reached x)
+
+    serves : (i : ℕ) (shard : Shard)
+        → slice_get (map (shard_of k.book.items k.shard.items) k.shards.items) i ≡ Some shard
+        → ShardServes m.config m.book i shard
+    serves i shard there =
+        only i shard (ap (λ (all : List Shard). slice_get all i) (sym shards) ∙ there)
+      where
+        only : (i : ℕ) (shard : Shard) → slice_get (one ∷ []) i ≡ Some shard → ShardServes m.config m.book i shard
+        only zero shard there = let same : one ≡ shard = cc in subst (ShardServes m.config m.book 0) same serves_one
+        only (suc i) shard there = cc

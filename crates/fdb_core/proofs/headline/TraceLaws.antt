@@ -1,13 +1,11 @@
 -- Traces: what every step keeps holds after any of them, and they tell the machine.
-use Rattle.std.proofs.Common.{◌≡◌, ◌∙◌, sym, ap, refl, ℕ, zero, suc, List, [], ◌∷◌, take, drop, Option, Some, None, Result, Ok, Err}
-use Rattle.std.specs.Prelude.{IfSome}
+use Rattle.std.proofs.Common.{◌≡◌, ◌∙◌, sym, ap, refl, ℕ, zero, suc, List, [], ◌∷◌, take, drop, Some, Result, Ok, Err}
 use Rattle.fdb_keys.specs.declared.refusal.Refusal.{Refusal}
-use Rattle.fdb_core.specs.declared.config.Config.{Config}
 use Rattle.fdb_core.specs.declared.step.Answered.{Answered}
 use Rattle.fdb_core.specs.declared.step.Step.{Step}
 use Rattle.fdb_core.specs.machine.Machine.{Machine, Transition}
 use Rattle.fdb_core.specs.machine.Steps.{next, answer_of, after}
-use Rattle.fdb_core.specs.headline.Traces.{after_step, after_steps, machine_of_trace, IsTraceOf, TracesDetermineTheMachine}
+use Rattle.fdb_core.specs.headline.Traces.{after_step, after_steps, TracesDetermineTheMachine}
 use Rattle.fdb_core.specs.machine.Worlds.{start, IsRun}
 use Rattle.fdb_core.proofs.headline.RunsLemmas.{run-next}
 
@@ -41,7 +39,7 @@ after_steps-parts (suc n) m (taken ∷ steps) (answer ∷ given) = after_steps-p
     given
 
 -- with the machine's own answer a step takes the machine on
-after_step-answered : (m : Machine) (taken : Step) (transition : Result Transition Refusal) → next m taken ≡ transition
+pub after_step-answered : (m : Machine) (taken : Step) (transition : Result Transition Refusal) → next m taken ≡ transition
     → after_step m taken (answer_of transition) ≡ after m (next m taken)
 after_step-answered m taken (Ok transition) is = refl
 after_step-answered m taken (Err refusal) is = ap (after m) (sym is)
@@ -60,10 +58,3 @@ run-after_steps m new (taken ∷ steps) (answer ∷ given) ran =
 
 pub traces_tell : TracesDetermineTheMachine
 traces_tell config steps given m stands = run-after_steps (start config) m steps given stands
-
--- the same of a world that may have run out of memory
-pub shows : (config : Config) (steps : List Step) (given : List (Result Answered Refusal)) (world : Option Machine)
-    → IsTraceOf config steps given world
-    → IfSome world (λ (m : Machine). m ≡ machine_of_trace config steps given)
-shows config steps given None stands = tt
-shows config steps given (Some m) stands = traces_tell config steps given m stands

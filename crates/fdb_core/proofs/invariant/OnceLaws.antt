@@ -1,26 +1,30 @@
 -- Each transaction is in the book at most once: how often there is one of a name, kept by every step.
-use Rattle.std.proofs.Common.{◌≡◌, ◌≢◌, ◌∙◌, ◌<◌, ◌≤◌, refl, sym, ap, subst, arith, ⊎_elim, ℕ, ◌+◌, min, true, false, cond, List, [], ◌∷◌, ◌++◌, take, fold, replicate, Option, Some, None, position, sum_by}
+use Rattle.std.proofs.Common.{◌≡◌, ◌≢◌, ◌∙◌, ◌<◌, ◌≤◌, refl, sym, ap, subst, arith, ⊎_elim, ℕ, ◌+◌, min, true, false, cond, List, [], ◌∷◌, ◌++◌, take, fold, replicate, Option, Some, None, Result, sum_by}
 use Rattle.std.specs.Prelude.{◌==◌, nat_le, unwrap_or}
 use Rattle.std.specs.List.{AllByRecursion, slice_get, slice_set, list_any, count_by}
 use Rattle.std.proofs.lemmas.List.Sums.{sum_by-cons, sum_by_push, sum_by-take-drop}
 use Rattle.std.proofs.lemmas.List.Folds.{sum_by-replicate}
 use Rattle.std.proofs.lemmas.Bool.{or_parts, cond_both, eq-eqb, eqb-true, eqb-false, ne_eqb, leb-true, le-leb}
 use Rattle.std.proofs.lemmas.Bool.Decides.{eqb_tells}
-use Rattle.fdb_txn.specs.declared.batch.TheConstants.{PLACE_LIMIT}
+use Rattle.fdb_keys.specs.declared.refusal.Refusal.{Refusal}
+use Rattle.fdb_txn.specs.Limits.{place_limit}
 use Rattle.fdb_txn.specs.declared.entry.Entry.{Entry}
 use Rattle.fdb_txn.specs.declared.txn_id.TxnId.{TxnId}
 use Rattle.fdb_txn.specs.book.Transactions.{Transaction}
 use Rattle.fdb_core.specs.declared.config.Config.{Config}
 use Rattle.fdb_core.specs.machine.Roles.{LastTransaction, Submission, CommitProxy}
 use Rattle.fdb_core.specs.declared.roles.client.program.Transcript.{Transcript}
-use Rattle.fdb_core.specs.headline.Once.{NoTraceHasAnIdTwice, same_name, times_named, times_in_book}
+use Rattle.fdb_core.specs.declared.step.Answered.{Answered}
+use Rattle.fdb_core.specs.declared.step.Step.{Step}
+use Rattle.fdb_txn.specs.book.Once.{NoIdTwice, same_name, times_named, times_in_book}
 use Rattle.fdb_core.specs.headline.Traces.{machine_of_trace}
-use Rattle.fdb_core.specs.machine.GrvProxySteps.{last_number, begin_next, next_number, greatest_number, has_used_up, first_of, serve, without, without_at, has_no_number}
-use Rattle.fdb_core.specs.machine.Machine.{Machine, is_of, waits_at_grv_proxy, waits_at_commit_proxy}
+use Rattle.fdb_core.specs.machine.GrvProxySteps.{last_number, begin_next, next_number, greatest_number, has_used_up, first_of, serve, has_no_number}
+use Rattle.fdb_core.specs.machine.Machine.{Machine, waits_at_grv_proxy, waits_at_commit_proxy}
 use Rattle.fdb_core.specs.machine.Worlds.{start, idle_proxy}
 use Rattle.fdb_core.specs.programs.Programs.{commit_request_of}
 use Rattle.fdb_core.proofs.common.AllLemmas.{all-at, all-set, all-replicate}
-use Rattle.fdb_core.proofs.common.SumLemmas.{sum-set, sum-remove, sum-remove-le, sum-made, count-none, none-at}
+use Rattle.fdb_core.proofs.common.SumLemmas.{sum-set, sum-remove, sum-made, count-none, none-at}
+use Rattle.fdb_core.proofs.invariant.SessionLaws.{times_asking_at, without-le}
 use Rattle.fdb_core.proofs.machine.LastNumbers.{last-next, last-others, next-within}
 use Rattle.fdb_core.proofs.machine.Steps.{KeptBySteps, kept-by_trace}
 use Rattle.fdb_core.proofs.refinement.SealLemmas.{sealed_entry, sealed_proxy, sealed_machine}
@@ -78,12 +82,9 @@ module _ (id : TxnId) where
   abbrev times_opened : List Transcript → ℕ
   times_opened opened = sum_by (λ (transcript : Transcript). once_for transcript.id) opened
 
-  -- how often the session asks at a read-version proxy
-  abbrev asks_in : List ℕ → ℕ
-  asks_in there = count_by (λ (asker : ℕ). asker == id.session) there
-
+  -- the session asks once at most at a read-version proxy
   abbrev AsksOnce : List ℕ → Type 0
-  AsksOnce there = asks_in there ≤ 1
+  AsksOnce there = times_asking_at id.session there ≤ 1
 
   -- 1 where the transaction has begun, else 0
   abbrev times_begun : List LastTransaction → ℕ
@@ -109,16 +110,17 @@ IsOnce id m = Once id m.book m.commit_proxies m.opened m.grv_proxies m.last_tran
 module _ (id : TxnId) where
   -- one who asks and isn't the session doesn't count
   asks-elsewhere : (session : ℕ) (sessions : List ℕ) → session == id.session ≡ false
-      → asks_in id (session ∷ sessions) ≡ asks_in id sessions
+      → times_asking_at id.session (session ∷ sessions) ≡ times_asking_at id.session sessions
   asks-elsewhere session sessions test =
       let none : cond {A = ℕ} (session == id.session) 1 0 ≡ 0 = rw test refl in
       omega (arith, none, sum_by-cons (λ (asker : ℕ). cond (asker == id.session) 1 0) session sessions)
 
   -- where the session asks it has a number left
-  abbrev Able : List LastTransaction → List ℕ → Type 0
-  Able last_transactions sessions = 0 < asks_in id sessions → has_no_number last_transactions id.session ≡ false
+  abbrev pub Able : List LastTransaction → List ℕ → Type 0
+  Able last_transactions sessions =
+      0 < times_asking_at id.session sessions → has_no_number last_transactions id.session ≡ false
 
-  able : (last_transactions : List LastTransaction) (sessions : List ℕ)
+  pub able : (last_transactions : List LastTransaction) (sessions : List ℕ)
       → list_any (has_no_number last_transactions) sessions ≡ false
       → Able last_transactions sessions
   able last_transactions [] free some = absurd (omega (arith, some))
@@ -148,9 +150,9 @@ module _ (id : TxnId) where
       let last = last_number id.session last_transactions in
       let first = first_of last_transactions version id.session in
       let itself : id.session == id.session ≡ true = eq-eqb id.session id.session refl in
-      let asks : asks_in id (id.session ∷ sessions) ≡ 1 + asks_in id sessions
+      let asks : times_asking_at id.session (id.session ∷ sessions) ≡ 1 + times_asking_at id.session sessions
       = sum_by-cons (λ (asker : ℕ). cond (asker == id.session) 1 0) id.session sessions ∙ rw itself refl in
-      let none : asks_in id sessions ≡ 0 = omega (arith, asks, ready.1) in
+      let none : times_asking_at id.session sessions ≡ 0 = omega (arith, asks, ready.1) in
       let now = last-next last_transactions id.session in
       let counts = counts-next id.number last ready.0 (ready.2 (omega (arith, asks))) in
       let one : once_for id first.id ≡ cond (next_number last == id.number) 1 0 = rw itself refl in
@@ -248,35 +250,28 @@ module _ (id : TxnId) where
   sealed-once m proxy advance commit_proxy once at =
       let weight : Submission → ℕ = λ s. once_for id s.sealed.id in
       let entry = sealed_entry m advance commit_proxy in
-      let sealed : times_named id entry.batch ≡ sum_by weight (take PLACE_LIMIT commit_proxy.waiting)
+      let sealed : times_named id entry.batch ≡ sum_by weight (take place_limit commit_proxy.waiting)
       = sum-made (λ (t : Transaction). once_for id t.id) (λ (submission : Submission). submission.sealed)
-      (take PLACE_LIMIT commit_proxy.waiting) in
+      (take place_limit commit_proxy.waiting) in
       still m once (omega (
         arith,
         once.stands,
         sealed,
-        sum_by-take-drop weight commit_proxy.waiting PLACE_LIMIT,
+        sum_by-take-drop weight commit_proxy.waiting place_limit,
         sum-set (waiting_in id) m.commit_proxies proxy commit_proxy (sealed_proxy m commit_proxy) at,
         sum_by_push (λ (e : Entry). times_named id e.batch) m.book entry,
       ))
-
-  -- without the session's open transaction there are no more
-  without-le : (session : ℕ) (opened : List Transcript)
-      → times_opened id (without session opened) ≤ times_opened id opened
-  without-le session opened =
-      elim (position (is_of session) opened)
-      as (λ there. times_opened id (without_at opened there) ≤ times_opened id opened)
-      [ None ↦ omega arith | Some i ↦ sum-remove-le (λ (t : Transcript). once_for id t.id) opened i ]
 
   -- one who doesn't ask goes on to ask once
   asks-more : (session : ℕ) (there : List ℕ) → waits_at_grv_proxy session there ≡ false → AsksOnce id there
       → AsksOnce id (there ++ session ∷ [])
   asks-more session there free once =
-      let more : asks_in id (there ++ session ∷ []) ≡ asks_in id there + cond (session == id.session) 1 0
+      let more : times_asking_at id.session (there ++ session ∷ [])
+      ≡ times_asking_at id.session there + cond (session == id.session) 1 0
       = sum_by_push (λ (asker : ℕ). cond (asker == id.session) 1 0) there session in
       ⊎_elim
       (λ (is : (session == id.session ≡ true) × (session ≡ id.session)).
-      let none : asks_in id there ≡ 0
+      let none : times_asking_at id.session there ≡ 0
       = subst (λ (s : ℕ). count_by (λ (asker : ℕ). asker == s) there ≡ 0) is.1
       (count-none (λ (asker : ℕ). asker == session) there free) in
       let one : cond {A = ℕ} (session == id.session) 1 0 ≡ 1 = rw is.0 refl in
@@ -289,7 +284,7 @@ module _ (id : TxnId) where
   -- every step keeps it
   once_steps : KeptBySteps (IsOnce id)
   once_steps = record {
-    roles = λ m resolvers logs shards once. once;
+    roles = λ m taken answer resolvers logs shards quiet once. once;
     asked = λ m session proxy there at free once.
         let parts = or_parts (list_any (waits_at_grv_proxy session) m.grv_proxies)
         (list_any (waits_at_commit_proxy session) m.commit_proxies) free in
@@ -298,7 +293,7 @@ module _ (id : TxnId) where
         record {
           within = once.within;
           asks_once = all-set (AsksOnce id) m.grv_proxies proxy _ once.asks_once (asks-more session there waits asks);
-          stands = omega (arith, once.stands, without-le session m.opened);
+          stands = omega (arith, once.stands, without-le (λ (t : Transcript). once_for id t.id) session m.opened);
         };
     granted = λ m proxy there at left once.
         let asks = all-at (AsksOnce id) m.grv_proxies proxy there once.asks_once at in
@@ -310,11 +305,11 @@ module _ (id : TxnId) where
           asks_once = all-set (AsksOnce id) m.grv_proxies proxy [] once.asks_once served.1;
           stands = served.3;
         };
-    operated = λ m i transcript operation there once. with-transcript m i transcript _ once there refl;
-    read_only = λ m i transcript there empty once.
+    operated = λ m taken session i transcript operation does is there once. with-transcript m i transcript _ once there refl;
+    read_only = λ m session proxy i transcript is there empty once.
         still m once (omega
         (arith, once.stands, sum-remove (λ (t : Transcript). once_for id t.id) m.opened i transcript there));
-    submitted = λ m proxy commit_proxy i transcript at there writes once.
+    submitted = λ m session proxy commit_proxy i transcript at is there writes once.
         let waits : Submission = record { sealed = commit_request_of transcript; transcript = transcript } in
         still m once (omega (
           arith,
@@ -325,7 +320,8 @@ module _ (id : TxnId) where
           sum_by_push (λ (s : Submission). once_for id s.sealed.id) commit_proxy.waiting waits,
         ));
     sealed = λ m proxy advance commit_proxy at idle few room once. sealed-once m proxy advance commit_proxy once at;
-    went_on = λ m proxy commit_proxy stage decided verdicts acknowledgements at busy goes_on unreported once.
+    went_on = λ m taken answer proxy commit_proxy stage decided verdicts acknowledgements quiet at busy goes_on
+        unreported once.
         with-commit_proxy m proxy commit_proxy _ once at refl;
     reported_version = λ m proxy commit_proxy entry at logging there once. with-commit_proxy m proxy commit_proxy _ once
         at refl;
@@ -344,8 +340,9 @@ module _ (id : TxnId) where
       }
 
 -- and so it is after every trace
-pub no_id_twice : NoTraceHasAnIdTwice
-no_id_twice config steps given id =
+pub machine-once : (config : Config) (steps : List Step) (given : List (Result Answered Refusal))
+    → NoIdTwice (machine_of_trace config steps given).book
+machine-once config steps given id =
     let once : IsOnce id (machine_of_trace config steps given) = kept-by_trace (IsOnce id) (once_steps id)
     (start config) steps given (once-start id config) in
     let m = machine_of_trace config steps given in

@@ -4,7 +4,7 @@ use Rattle.std.specs.Prelude.{◌==◌}
 use Rattle.std.specs.List.{AllByRecursion, slice_get, slice_set}
 use Rattle.std.proofs.lemmas.Bool.Decides.{eqb_tells}
 use Rattle.fdb_keys.specs.declared.refusal.Refusal.{Refusal}
-use Rattle.fdb_txn.specs.declared.batch.TheConstants.{PLACE_LIMIT}
+use Rattle.fdb_txn.specs.Limits.{place_limit}
 use Rattle.fdb_txn.specs.declared.spot.Spot.{Spot}
 use Rattle.fdb_txn.specs.declared.spot.Spot.TheVariants as spot
 use Rattle.fdb_txn.specs.declared.txn_id.TxnId.{TxnId}
@@ -17,7 +17,7 @@ use Rattle.fdb_core.specs.declared.step.Answered.{Answered}
 use Rattle.fdb_core.specs.declared.step.Outcome.{Outcome}
 use Rattle.fdb_core.specs.declared.step.Outcome.TheVariants as outcome
 use Rattle.fdb_core.specs.declared.step.Step.{Step}
-use Rattle.fdb_core.specs.headline.RealTime.{RealTime, HasBegun, AreAfterEarlier, IsAfterVersion, spot_version}
+use Rattle.fdb_core.specs.headline.RealTime.{IsAfterVersion, spot_version}
 use Rattle.fdb_core.specs.headline.Traces.{after_steps, machine_of_trace}
 use Rattle.fdb_core.specs.machine.GrvProxySteps.{last_number, begin_next, next_number, greatest_number, first_of}
 use Rattle.fdb_core.specs.machine.CommitProxySteps.{placed_from}
@@ -30,6 +30,18 @@ use Rattle.fdb_core.proofs.machine.LastNumbers.{last-next, last-others, next-wit
 use Rattle.fdb_core.proofs.invariant.SoundLaws.{sound_steps, sound-trace}
 use Rattle.fdb_core.proofs.invariant.SoundLemmas.{all-without, served-more, all-served}
 use Rattle.fdb_core.proofs.machine.Steps.{KeptBySteps, kept-by_trace}
+
+-- the transaction of this name has begun in the machine: the session's last one has its number or a greater one
+abbrev pub MachineHasBegun : Machine → TxnId → Type 0
+MachineHasBegun m id = (last : ℕ) × (last_number id.session m.last_transactions ≡ Some last) × (id.number ≤ last)
+
+-- what is acknowledged in a later machine, and hadn't begun in this one, is after what is acknowledged in this one
+abbrev pub MachineAfterEarlier : Machine → Machine → Type 0
+MachineAfterEarlier m later =
+    (i j : ℕ) (placed other : Placed) → slice_get m.acknowledged i ≡ Some placed
+    → slice_get later.acknowledged j ≡ Some other
+    → (MachineHasBegun m other.transcript.id → ⊥)
+    → (spot_version placed.spot ≤ other.transcript.read_version) × IsAfterVersion (spot_version placed.spot) other.spot
 
 -- the name's number is one that there is, and its session has begun it
 abbrev Begins : List LastTransaction → TxnId → Type 0
@@ -128,7 +140,7 @@ module _ (P : List LastTransaction → TxnId → ℕ → Type 0) (low : ℕ) whe
       → Has (begin_next last_transactions session) (first_of last_transactions version session))
       → KeptBySteps Kept
   kept_steps more new = record {
-    roles = λ m resolvers logs shards kept. kept;
+    roles = λ m taken answer resolvers logs shards quiet kept. kept;
     asked = λ m session proxy there at free kept.
         (kept.0, (all-without (Has m.last_transactions) session m.opened kept.1.0, kept.1.1, kept.1.2));
     granted = λ m proxy there at left kept.
@@ -139,7 +151,7 @@ module _ (P : List LastTransaction → TxnId → ℕ → Type 0) (low : ℕ) whe
         let others = all-more (Has m.last_transactions) _ [] m.commit_proxies m.acknowledged later
         (tt, kept.1.1, kept.1.2) in
         (kept.0, (opened, others.1, others.2));
-    operated = λ m i transcript operation there kept. (
+    operated = λ m taken session i transcript operation does is there kept. (
       kept.0,
       (
         all-set (Has m.last_transactions) m.opened i _ kept.1.0 (opened-has m kept i transcript there),
@@ -147,10 +159,10 @@ module _ (P : List LastTransaction → TxnId → ℕ → Type 0) (low : ℕ) whe
         kept.1.2,
       ),
     );
-    read_only = λ m i transcript there empty kept.
+    read_only = λ m session proxy i transcript is there empty kept.
         let placed = all-push _ m.acknowledged _ kept.1.2 (opened-has m kept i transcript there) in
         (kept.0, (all-remove (Has m.last_transactions) m.opened i kept.1.0, kept.1.1, placed));
-    submitted = λ m proxy commit_proxy i transcript at there writes kept.
+    submitted = λ m session proxy commit_proxy i transcript at is there writes kept.
         let was = proxy-has m kept proxy commit_proxy at in
         let proxies = set-proxy m kept proxy _
         (all-push _ commit_proxy.waiting _ was.0 (opened-has m kept i transcript there), was.1) in
@@ -158,13 +170,14 @@ module _ (P : List LastTransaction → TxnId → ℕ → Type 0) (low : ℕ) whe
     sealed = λ m proxy advance commit_proxy at idle few room kept.
         let waiting = (proxy-has m kept proxy commit_proxy at).0 in
         let proxies = set-proxy m kept proxy _ (
-          all-drop _ PLACE_LIMIT commit_proxy.waiting waiting,
+          all-drop _ place_limit commit_proxy.waiting waiting,
           all-map _ (Has m.last_transactions) (λ (submission : Submission). submission.transcript)
               (λ submission has. has) _
-              (all-take _ PLACE_LIMIT commit_proxy.waiting waiting),
+              (all-take _ place_limit commit_proxy.waiting waiting),
         ) in
         (kept.0, (kept.1.0, proxies, kept.1.2));
-    went_on = λ m proxy commit_proxy stage decided verdicts acknowledgements at busy goes_on unreported kept.
+    went_on = λ m taken answer proxy commit_proxy stage decided verdicts acknowledgements quiet at busy goes_on
+        unreported kept.
         (kept.0, (kept.1.0, set-proxy m kept proxy _ (proxy-has m kept proxy commit_proxy at), kept.1.2));
     reported_version = λ m proxy commit_proxy entry at logging there kept. (
       omega (arith, kept.0),
@@ -185,7 +198,7 @@ begun-start config = (omega arith, (tt, all-replicate _ idle_proxy config.proxie
 
 -- from the machine on: it had begun there, or reads at that committed version or a greater one
 abbrev HadBegun : Machine → List LastTransaction → TxnId → ℕ → Type 0
-HadBegun m last_transactions id read = HasBegun m id ⊎ (m.committed ≤ read)
+HadBegun m last_transactions id read = MachineHasBegun m id ⊎ (m.committed ≤ read)
 
 -- who reads at a version stands after what is of it
 stands-after : (v read : ℕ) (at : Spot) → v ≤ read → IsAfterVersion read at → IsAfterVersion v at
@@ -195,7 +208,7 @@ stands-after v read (spot.ReadOnly version) below is = omega (arith, is, below)
 -- after a machine and those after it
 after-earlier : (m : Machine) (steps : List Step) (given : List (Result Answered Refusal)) → Invariant m
     → Kept HasBegunThere 0 m
-    → AreAfterEarlier m (after_steps m steps given)
+    → MachineAfterEarlier m (after_steps m steps given)
 after-earlier m steps given sound begun i j one other at_one at_other fresh =
     let later = after_steps m steps given in
     let now : Kept (HadBegun m) m.committed m = (
@@ -215,12 +228,14 @@ after-earlier m steps given sound begun i j one other at_one at_other fresh =
     let stands = (all-at (IsReported later) later.acknowledged j other later_sound.reported at_other).1 in
     (after, stands-after (spot_version one.spot) other.transcript.read_version other.spot after stands)
 
-pub real_time : RealTime
-real_time config steps given n =
+-- and over the first steps of a trace and the whole
+pub after-first : (config : Config) (steps : List Step) (given : List (Result Answered Refusal)) (n : ℕ)
+    → MachineAfterEarlier (machine_of_trace config (take n steps) (take n given)) (machine_of_trace config steps given)
+after-first config steps given n =
     let m = machine_of_trace config (take n steps) (take n given) in
     let begun : Kept HasBegunThere 0 m = kept-by_trace (Kept HasBegunThere 0)
     (kept_steps HasBegunThere 0 (λ last_transactions session t. begins-more last_transactions session t.id)
     (λ last_transactions session version above. begins-new last_transactions session version))
     (start config) (take n steps) (take n given) (begun-start config) in
-    subst (AreAfterEarlier m) (after_steps-parts n (start config) steps given)
+    subst (MachineAfterEarlier m) (after_steps-parts n (start config) steps given)
     (after-earlier m (drop n steps) (drop n given) (sound-trace config (take n steps) (take n given)) begun)

@@ -9,7 +9,7 @@ use Rattle.fdb_txn.specs.declared.entry.Entry.{Entry}
 use Rattle.fdb_txn.specs.declared.spot.Spot.{Spot}
 use Rattle.fdb_txn.specs.declared.spot.Spot.TheVariants as spot
 use Rattle.fdb_txn.specs.book.Transactions.{Transaction}
-use Rattle.fdb_txn.specs.book.Book.{Stamped, Place, Seen, nothing, placed, add_places, add_entry, seen_of}
+use Rattle.fdb_txn.specs.book.Book.{Stamped, Place, Seen, nothing, placed, add_places, add_entry, seen_of, last_version, seen_before}
 use Rattle.fdb_txn.specs.book.Places.{place_in, place_of, place_at}
 use Rattle.fdb_txn.specs.rules.Admission.{is_fresh, committed}
 use Rattle.fdb_txn.specs.book.History.{IsHistory, AreEntries}
@@ -24,12 +24,12 @@ use Rattle.fdb_core.specs.declared.roles.client.program.Transcript.{Transcript}
 use Rattle.fdb_core.specs.declared.step.Outcome.{Outcome}
 use Rattle.fdb_core.specs.declared.step.Outcome.TheVariants as outcome
 use Rattle.fdb_core.specs.machine.ClientSteps.{is_nil}
-use Rattle.fdb_core.specs.headline.Headline.{replies_of, AnsweredOn, IsSerializedAtSpot, IsSerialized}
-use Rattle.fdb_core.specs.machine.Machine.{Machine, last_version, seen_before}
+use Rattle.fdb_core.specs.headline.Headline.{replies_of, AnsweredOn, IsSerializedAtSpot}
+use Rattle.fdb_core.specs.machine.Machine.{Machine}
 use Rattle.fdb_core.specs.programs.ProgramLaws.{AgreeWhereOrdinary}
 use Rattle.fdb_core.specs.programs.Programs.{program, exec, mutations_of, commit_request_of}
 use Rattle.fdb_core.specs.machine.CommitProxySteps.{placed_from}
-use Rattle.fdb_core.specs.invariant.Invariant.{IsReplied, IsReported}
+use Rattle.fdb_core.specs.invariant.Invariant.{IsReplied, IsSerializedIn, IsReported}
 use Rattle.fdb_core.specs.machine.Verdicts.{moves_through, outcomes_from, outcomes_on}
 use Rattle.fdb_core.proofs.programs.ProgramsAgree.{programs_agree}
 use Rattle.fdb_core.proofs.programs.ReadSetLemmas.{in_read_ranges}
@@ -37,7 +37,7 @@ use Rattle.fdb_core.proofs.refinement.RoleTies.{last-push}
 
 -- a transaction is serialized at its spot, which is reported
 abbrev pub Stands : Machine → Placed → Type 0
-Stands m placed = IsSerialized m placed × IsReported m placed
+Stands m placed = IsSerializedIn m placed × IsReported m placed
 
 -- the replies on a map agree with themselves
 agree-itself : (map : Map) (ops : List Op) → AgreeWhereOrdinary ops (exec map ops) (exec map ops)
@@ -45,7 +45,7 @@ agree-itself map [] = tt
 agree-itself map (op ∷ earlier) = (λ ordinary. refl, agree-itself map earlier)
 
 -- a list that is tested as empty has nothing
-nil-is : {A : Type 0} (xs : List A) → is_nil xs ≡ true → xs ≡ []
+pub nil-is : {A : Type 0} (xs : List A) → is_nil xs ≡ true → xs ≡ []
 nil-is [] none = refl
 nil-is (x ∷ xs) none = let counted : length (x ∷ xs) ≡ 0 = eqb-true (length (x ∷ xs)) 0 none in absurd
     (omega (arith, counted))
@@ -54,7 +54,7 @@ nil-is (x ∷ xs) none = let counted : length (x ∷ xs) ≡ 0 = eqb-true (lengt
 pub read_only_serialized : (m : Machine) (transcript : Transcript) → m.committed ≤ last_version m.book
     → IsReplied m transcript
     → is_nil (commit_request_of transcript).mutations && is_nil (commit_request_of transcript).writes ≡ true
-    → IsSerialized m (record { spot = spot.ReadOnly transcript.read_version; transcript = transcript })
+    → IsSerializedIn m (record { spot = spot.ReadOnly transcript.read_version; transcript = transcript })
 read_only_serialized m transcript reached told empty = (
   refl,
   le_trans told.0 reached,
@@ -79,7 +79,8 @@ place-stays seen (first ∷ book) entry (suc n) p there at = place-stays (add_en
 -- one more entry leaves everyone at his spot
 pub spot-stays : (m : Machine) (entry : Entry) (transcript : Transcript) (at : Spot)
     → last_version m.book < entry.version
-    → IsSerializedAtSpot m transcript at → IsSerializedAtSpot (record m { book = m.book ++ entry ∷ [] }) transcript at
+    → IsSerializedAtSpot m.config.resolver_splits m.book transcript at
+    → IsSerializedAtSpot m.config.resolver_splits (m.book ++ entry ∷ []) transcript at
 spot-stays m entry transcript (spot.Entry n p version) above stands =
     (stands.0, place-stays nothing m.book entry n p stands.0 stands.1, stands.2, stands.3, stands.4, stands.5)
 spot-stays m entry transcript (spot.ReadOnly version) above stands =

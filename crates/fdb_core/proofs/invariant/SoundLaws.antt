@@ -2,7 +2,7 @@
 use Rattle.std.proofs.Common.{◌≡◌, refl, sym, ◌∙◌, ap, subst, arith, ◌<◌, ◌≤◌, le_refl, le_trans, ℕ, suc, max, Bool, true, false, List, [], ◌∷◌, take, map, length, Some, Result}
 use Rattle.std.specs.List.{AllByRecursion, slice_get, slice_set}
 use Rattle.fdb_keys.specs.declared.refusal.Refusal.{Refusal}
-use Rattle.fdb_txn.specs.declared.batch.TheConstants.{PLACE_LIMIT}
+use Rattle.fdb_txn.specs.Limits.{place_limit}
 use Rattle.fdb_txn.specs.declared.entry.Entry.{Entry}
 use Rattle.fdb_txn.proofs.book.HistoryLemmas.{all-append, all-weaken, entries_go_on}
 use Rattle.fdb_core.specs.declared.config.Config.{Config}
@@ -11,13 +11,13 @@ use Rattle.fdb_core.specs.declared.roles.client.Placed.{Placed}
 use Rattle.fdb_core.specs.declared.roles.client.program.Transcript.{Transcript}
 use Rattle.fdb_core.specs.declared.step.Answered.{Answered}
 use Rattle.fdb_core.specs.declared.step.Step.{Step}
-use Rattle.fdb_core.specs.headline.Headline.{IsSerialized}
 use Rattle.fdb_core.specs.headline.Traces.{machine_of_trace}
 use Rattle.fdb_core.specs.machine.CommitProxySteps.{is_idle, is_reported}
-use Rattle.fdb_core.specs.machine.Machine.{Machine, last_version}
+use Rattle.fdb_txn.specs.book.Book.{last_version}
+use Rattle.fdb_core.specs.machine.Machine.{Machine}
 use Rattle.fdb_core.specs.machine.Worlds.{start, idle_proxy}
 use Rattle.fdb_core.specs.programs.Programs.{commit_request_of}
-use Rattle.fdb_core.specs.invariant.Invariant.{IsReplied, IsReported, Waits, CommitProxyIsSound, Invariant}
+use Rattle.fdb_core.specs.invariant.Invariant.{IsReplied, IsSerializedIn, IsReported, Waits, CommitProxyIsSound, Invariant}
 use Rattle.fdb_core.proofs.common.AllLemmas.{all-at, all-set, all-remove, all-push, all-drop, all-take, all-map, all-replicate}
 use Rattle.fdb_core.proofs.invariant.SerializedLemmas.{Stands, spot-stays, batch_serialized, read_only_serialized}
 use Rattle.fdb_core.proofs.invariant.SoundLemmas.{all-without, all-served, told-push, sealed-batch, sealed-in_flight, version-within, found-front, told-entry, commit_proxy-kept}
@@ -32,7 +32,7 @@ module _ (m : Machine) (sound : Invariant m) where
       {last_transactions : List LastTransaction} {opened : List Transcript} {commit_proxies : List CommitProxy}
       {acknowledged : List Placed}
       → AllByRecursion (IsReplied m) opened → AllByRecursion (CommitProxyIsSound m) commit_proxies
-      → AllByRecursion (IsSerialized m) acknowledged → AllByRecursion (IsReported m) acknowledged
+      → AllByRecursion (IsSerializedIn m) acknowledged → AllByRecursion (IsReported m) acknowledged
       → Invariant (record m {
         decided = decided;
         resolvers = resolvers;
@@ -100,13 +100,13 @@ sound-sealed m proxy advance commit_proxy sound at = record {
   opened = all-weaken (IsReplied m) (IsReplied after) told m.opened sound.opened;
   commit_proxies = all-set (CommitProxyIsSound after) m.commit_proxies proxy (sealed_proxy m commit_proxy)
       (all-weaken (CommitProxyIsSound m) (CommitProxyIsSound after) kept m.commit_proxies sound.commit_proxies) (
-        all-drop (Waits after) PLACE_LIMIT commit_proxy.waiting now.0,
+        all-drop (Waits after) place_limit commit_proxy.waiting now.0,
         all-map (Waits after) (IsReplied after) (λ (submission : Submission). submission.transcript)
             (λ submission waiting. waiting.1) sealing
-            (all-take (Waits after) PLACE_LIMIT commit_proxy.waiting now.0),
+            (all-take (Waits after) place_limit commit_proxy.waiting now.0),
         λ _. (entry, last-at m.book entry, sealed-in_flight m sealing waits, λ reported. cc),
       );
-  acknowledged = all-weaken (IsSerialized m) (IsSerialized after)
+  acknowledged = all-weaken (IsSerializedIn m) (IsSerializedIn after)
       (λ placed. spot-stays m entry placed.transcript placed.spot above)
       m.acknowledged sound.acknowledged;
   reported = sound.reported;
@@ -119,7 +119,7 @@ sound-sealed m proxy advance commit_proxy sound at = record {
     after = sealed_machine m proxy advance commit_proxy
 
     sealing : List Submission
-    sealing = take PLACE_LIMIT commit_proxy.waiting
+    sealing = take place_limit commit_proxy.waiting
 
     above : last_version m.book < entry.version
     above = omega arith
@@ -132,7 +132,7 @@ sound-sealed m proxy advance commit_proxy sound at = record {
         (λ i other there. found-front m.book (entry ∷ []) i other there)
 
     waits : AllByRecursion (Waits m) sealing
-    waits = all-take (Waits m) PLACE_LIMIT commit_proxy.waiting (commit_proxy-at m sound proxy commit_proxy at).0
+    waits = all-take (Waits m) place_limit commit_proxy.waiting (commit_proxy-at m sound proxy commit_proxy at).0
 
     now : CommitProxyIsSound after commit_proxy
     now = kept commit_proxy (commit_proxy-at m sound proxy commit_proxy at)
@@ -184,7 +184,7 @@ sound-reported m proxy commit_proxy entry sound at busy there = record {
 -- every step keeps a machine sound
 pub sound_steps : KeptBySteps Invariant
 sound_steps = record {
-  roles = λ m resolvers logs shards sound. same_book m sound sound.opened sound.commit_proxies sound.acknowledged
+  roles = λ m taken answer resolvers logs shards quiet sound. same_book m sound sound.opened sound.commit_proxies sound.acknowledged
       sound.reported;
   asked = λ m session proxy there at free sound.
       same_book m sound (all-without (IsReplied m) session m.opened sound.opened) sound.commit_proxies
@@ -194,18 +194,18 @@ sound_steps = record {
       (λ last_transactions session. (le_refl m.committed, refl)) in
       same_book m sound (first there m.last_transactions m.opened sound.opened) sound.commit_proxies sound.acknowledged
       sound.reported;
-  operated = λ m i transcript operation there sound.
+  operated = λ m taken session i transcript operation does is there sound.
       same_book m sound
       (all-set (IsReplied m) m.opened i _ sound.opened
       (told-push m transcript operation _ refl (opened-at m sound i transcript there)))
       sound.commit_proxies sound.acknowledged sound.reported;
-  read_only = λ m i transcript there empty sound.
+  read_only = λ m session proxy i transcript is there empty sound.
       let told = opened-at m sound i transcript there in
       same_book m sound (all-remove (IsReplied m) m.opened i sound.opened) sound.commit_proxies
-      (all-push (IsSerialized m) m.acknowledged _ sound.acknowledged
+      (all-push (IsSerializedIn m) m.acknowledged _ sound.acknowledged
       (read_only_serialized m transcript sound.committed told empty))
       (all-push (IsReported m) m.acknowledged _ sound.reported (told.0, le_refl transcript.read_version));
-  submitted = λ m proxy commit_proxy i transcript at there writes sound.
+  submitted = λ m session proxy commit_proxy i transcript at is there writes sound.
       let was = commit_proxy-at m sound proxy commit_proxy at in
       let waits : Submission = record { sealed = commit_request_of transcript; transcript = transcript } in
       let waiting = all-push (Waits m) commit_proxy.waiting waits was.0 (refl, opened-at m sound i transcript there) in
@@ -213,7 +213,8 @@ sound_steps = record {
       (with-commit_proxy m sound proxy _ (waiting, was.1, was.2))
       sound.acknowledged sound.reported;
   sealed = λ m proxy advance commit_proxy at idle few room sound. sound-sealed m proxy advance commit_proxy sound at;
-  went_on = λ m proxy commit_proxy stage decided verdicts acknowledgements at busy goes_on unreported sound.
+  went_on = λ m taken answer proxy commit_proxy stage decided verdicts acknowledgements quiet at busy goes_on
+      unreported sound.
       let was = commit_proxy-at m sound proxy commit_proxy at in
       let flies = was.2 busy in
       same_book m sound sound.opened
@@ -227,14 +228,14 @@ sound_steps = record {
       let stand = batch_serialized m commit_proxy entry sound.entries was.1 there flies.0
       (flies.1 (ap is_reported reported)) in
       same_book m sound sound.opened (with-commit_proxy m sound proxy _ (was.0, tt, λ busy. cc))
-      (all-append (IsSerialized m) m.acknowledged _ sound.acknowledged
-      (all-weaken (Stands m) (IsSerialized m) (λ placed stands. stands.0) _ stand))
+      (all-append (IsSerializedIn m) m.acknowledged _ sound.acknowledged
+      (all-weaken (Stands m) (IsSerializedIn m) (λ placed stands. stands.0) _ stand))
       (all-append (IsReported m) m.acknowledged _ sound.reported
       (all-weaken (Stands m) (IsReported m) (λ placed stands. stands.1) _ stand));
 }
 
 -- the machine before its first step is sound
-sound-start : (config : Config) → Invariant (start config)
+pub sound-start : (config : Config) → Invariant (start config)
 sound-start config = record {
   entries = tt;
   pending = tt;

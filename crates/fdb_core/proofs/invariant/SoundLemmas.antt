@@ -1,22 +1,15 @@
 -- What it takes to keep the machine sound: tests that accepted steps passed, transcripts, the book, and parts that
 -- change.
-use Rattle.std.proofs.Common.{◌≡◌, ◌∙◌, refl, sym, ap, ap₂, subst, arith, ◌<◌, ◌≤◌, le_refl, le_trans, ℕ, zero, suc, Bool, true, false, ◌||◌, List, [], ◌∷◌, ◌++◌, fold, map, Some, None, position}
+use Rattle.std.proofs.Common.{◌≡◌, ◌∙◌, refl, sym, ap, ap₂, subst, arith, ◌<◌, ◌≤◌, le_refl, le_trans, ℕ, zero, suc, List, [], ◌∷◌, ◌++◌, fold, map, Some, None, position}
 use Rattle.std.specs.List.{AllByRecursion, slice_get}
 use Rattle.std.proofs.lemmas.List.Sums.{fold-append}
-use Rattle.fdb_keys.specs.Insertion.{with_range}
-use Rattle.fdb_keys.specs.Points.{Point}
-use Rattle.fdb_keys.specs.Ranges.{Range, in_range, in_set}
-use Rattle.fdb_keys.proofs.SingleLemmas.{in_range-single}
-use Rattle.fdb_mutations.specs.declared.mutation.Mutation.{Mutation}
-use Rattle.fdb_mutations.specs.declared.mutation.Mutation.TheVariants.{Set, Clear}
 use Rattle.fdb_mutations.specs.Maps.{Map}
-use Rattle.fdb_mutations.specs.Mutations.{names, named_range}
 use Rattle.fdb_txn.specs.declared.entry.Entry.{Entry}
 use Rattle.fdb_txn.specs.book.Book.{seen_of}
 use Rattle.fdb_txn.specs.book.History.{AreEntries}
 use Rattle.fdb_txn.specs.rules.SerialMap.{serial_map_at}
 use Rattle.fdb_txn.specs.laws.SerialMapLaws.{version_after}
-use Rattle.fdb_txn.specs.book.Transactions.{Transaction, NamesWrites, with_named, some_names}
+use Rattle.fdb_txn.specs.book.Transactions.{Transaction, NamesWrites}
 use Rattle.fdb_txn.proofs.book.HistoryLemmas.{earlier_maps_stay}
 use Rattle.fdb_core.specs.machine.Roles.{LastTransaction, CommitProxy, Submission}
 use Rattle.fdb_core.specs.declared.roles.client.program.Op.{Op}
@@ -25,11 +18,11 @@ use Rattle.fdb_core.specs.declared.roles.client.program.Transcript.{Transcript}
 use Rattle.fdb_core.specs.machine.GrvProxySteps.{without, without_at, serve, begin_next, first_of}
 use Rattle.fdb_core.specs.headline.Headline.{replies_of}
 use Rattle.fdb_core.specs.machine.Machine.{Machine, is_of}
-use Rattle.fdb_core.specs.programs.Programs.{program, copy, reply_on, exec, commit_request_of, mutations_of}
+use Rattle.fdb_core.specs.programs.Programs.{program, copy, reply_on, exec, commit_request_of}
 use Rattle.fdb_core.specs.invariant.Invariant.{IsReplied, Waits, CommitProxyIsSound}
 use Rattle.fdb_core.proofs.common.AllLemmas.{all-push, all-remove, all-map}
 use Rattle.fdb_txn.proofs.book.HistoryLemmas.{all-weaken}
-use Rattle.fdb_core.proofs.programs.ReadSetLemmas.{in_with_range}
+use Rattle.fdb_core.proofs.programs.WriteSetLemmas.{commit_request_of-names}
 use Rattle.fdb_core.proofs.programs.ProgramLaws.{program-push}
 
 -- what holds of the open transactions holds of those but the session's
@@ -88,33 +81,6 @@ told-push m transcript op reply is told = (
   where
     there : Map
     there = serial_map_at m.config.resolver_splits transcript.read_version (seen_of m.book).places
-
--- the range of a mutation has the points that it names
-in_named_range : (mutation : Mutation) (x : Point) → in_range (named_range mutation) x ≡ names mutation x
-in_named_range (Set key value) x = in_range-single key x
-in_named_range (Clear key) x = in_range-single key x
-
--- a set with all that mutations name has their points and its own
-in_with_named : (mutations : List Mutation) (writes : List Range) (x : Point)
-    → in_set (with_named writes mutations) x ≡ (some_names mutations x || in_set writes x)
-in_with_named [] writes x = refl
-in_with_named (mutation ∷ mutations) writes x =
-    in_with_named mutations (with_range (named_range mutation) writes) x
-    ∙ ap (λ (own : Bool). some_names mutations x || own) (in_with_range (named_range mutation) writes x
-    ∙ ap (λ (here : Bool). here || in_set writes x) (in_named_range mutation x))
-    ∙ in_any_order (names mutation x) (some_names mutations x) (in_set writes x)
-  where
-    in_any_order : (a b c : Bool) → (b || (a || c)) ≡ ((a || b) || c)
-    in_any_order true true c = refl
-    in_any_order true false c = refl
-    in_any_order false true c = refl
-    in_any_order false false c = refl
-
--- what is submitted of a transcript has in its write set all that its mutations name
-pub commit_request_of-names : (transcript : Transcript) → NamesWrites (commit_request_of transcript)
-commit_request_of-names transcript x named =
-    let mutations = mutations_of (program transcript.ops) in
-    in_with_named mutations [] x ∙ ap (λ (some : Bool). some || false) named
 
 -- those who wait may be the batch of an entry of a version above the committed one
 pub sealed-batch : (m : Machine) (version : ℕ) (submissions : List Submission) → m.committed < version

@@ -11,7 +11,7 @@ use Rattle.fdb_core.specs.machine.Roles.{LastTransaction}
 use Rattle.fdb_core.specs.machine.GrvProxySteps.{last_number, begin_next, next_number, greatest_number}
 
 -- what passes is found at its place, and there is none where there is no place
-find-place : {X : Type 0} (p : X → Bool) (xs : List X)
+pub find-place : {X : Type 0} (p : X → Bool) (xs : List X)
     → ((position p xs ≡ None) × (find p xs ≡ None))
     ⊎ ((position p xs ≡ Some (position_or_len p xs)) × (position_or_len p xs < length xs))
 find-place p xs = by_test (nat_lt (position_or_len p xs) (length xs)) refl

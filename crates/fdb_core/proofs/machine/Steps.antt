@@ -1,13 +1,14 @@
 -- The walk over the steps of all kinds: what accepted steps change, and what they keep.
-use Rattle.std.proofs.Common.{◌≡◌, ◌<◌, ◌≤◌, refl, ap, subst, ℕ, ◌+◌, ◌%◌, min, max, Bool, true, false, not, ◌&&◌, List, [], ◌∷◌, ◌++◌, length, fold, Some, Result, Ok, Err}
+use Rattle.std.proofs.Common.{◌≡◌, ◌<◌, ◌≤◌, refl, ap, ℕ, ◌+◌, ◌%◌, min, max, Bool, true, false, not, ◌&&◌, List, [], ◌∷◌, ◌++◌, take, map, length, fold, Option, Some, None, position, Result, Ok, Err}
 use Rattle.std.specs.Prelude.{nat_lt, nat_le}
 use Rattle.std.specs.List.{slice_get, slice_set, list_any, remove}
 use Rattle.std.proofs.lemmas.Bool.{and_parts, not-false, ltb-false, leb-false}
 use Rattle.fdb_keys.specs.declared.refusal.Refusal.{Refusal}
 use Rattle.fdb_mutations.specs.Mutations.{mutation_fault}
+use Rattle.fdb_txn.specs.Limits.{place_limit}
 use Rattle.fdb_txn.specs.declared.entry.Entry.{Entry}
 use Rattle.fdb_txn.specs.declared.spot.Spot.TheVariants as spot
-use Rattle.fdb_txn.specs.book.Book.{seen_of}
+use Rattle.fdb_txn.specs.book.Book.{seen_of, last_version, seen_before}
 use Rattle.fdb_txn.specs.rules.SerialMap.{serial_map_at}
 use Rattle.fdb_sequencer.specs.Limits.{version_limit}
 use Rattle.fdb_sequencer.specs.Sequencer.{next_version}
@@ -16,16 +17,16 @@ use Rattle.fdb_core.specs.declared.roles.client.program.Op.{Op}
 use Rattle.fdb_core.specs.declared.roles.client.program.Op.TheVariants as op
 use Rattle.fdb_core.specs.declared.roles.client.program.Transcript.{Transcript}
 use Rattle.fdb_core.specs.declared.step.Answered.{Answered}
+use Rattle.fdb_core.specs.declared.step.Answered.TheVariants as answered
 use Rattle.fdb_core.specs.declared.step.Step.{Step}
 use Rattle.fdb_core.specs.declared.step.Step.TheVariants as step
-use Rattle.fdb_core.specs.headline.Promises.{reported}
 use Rattle.fdb_core.specs.headline.Traces.{after_steps}
-use Rattle.fdb_core.specs.machine.ClientSteps.{gets, writes, submits, add_operation, read_fault, is_nil}
+use Rattle.fdb_core.specs.machine.ClientSteps.{gets, writes, submits, answered_by, add_operation, read_fault, is_nil}
 use Rattle.fdb_core.specs.machine.GrvProxySteps.{asks, grants, without, serve, has_no_number}
-use Rattle.fdb_core.specs.machine.CommitProxySteps.{seals, taken_by_sender, awaits, with_received, receives, decides, reports, answers, is_idle, is_resolving, is_logging, is_reported, placed_from}
-use Rattle.fdb_core.specs.machine.Machine.{Machine, Transition, is_busy, is_set, first_missing, last_version, seen_before}
+use Rattle.fdb_core.specs.machine.CommitProxySteps.{seals, taken_by_sender, awaits, with_received, receives, decides, reports, answers, is_idle, is_resolving, is_logging, is_reported, placed_from, replies_from}
+use Rattle.fdb_core.specs.machine.Machine.{Machine, Transition, is_of, is_busy, is_set, first_missing}
 use Rattle.fdb_core.specs.machine.RoleSteps.{resolves, pushes, pulls}
-use Rattle.fdb_core.specs.machine.Steps.{next, answer_of, after}
+use Rattle.fdb_core.specs.machine.Steps.{next, after}
 use Rattle.fdb_core.specs.machine.Verdicts.{is_needed, outcomes_on}
 use Rattle.fdb_core.specs.programs.Programs.{program, copy, reply_on, commit_request_of}
 use Rattle.fdb_core.proofs.headline.TraceLaws.{kept-after_steps}
@@ -37,42 +38,61 @@ abbrev pub writes_nothing : Transcript → Bool
 writes_nothing transcript = is_nil (commit_request_of transcript).mutations && is_nil
     (commit_request_of transcript).writes
 
--- What accepted steps do, by the fields that they change. The relation is between the machine, the version that the
--- step reports, which is 0 at all but a report, and the machine after the step.
-pub record HoldsOfSteps (R : Machine → ℕ → Machine → Type 0) : Type 0 where
+-- the operation of a client's step, with its session
+abbrev pub operation_of : Step → Option (ℕ × Op)
+operation_of (step.Get session key snapshot) = Some (session, op.Get key snapshot)
+operation_of (step.Write session mutation) = Some (session, op.Write mutation)
+operation_of taken = None
+
+-- the step is one of a role that tells clients nothing
+abbrev pub is_quiet : Step → Bool
+is_quiet (step.Resolve i resolver) = true
+is_quiet (step.Verdict i resolver) = true
+is_quiet (step.Decide proxy) = true
+is_quiet (step.Push i log) = true
+is_quiet (step.Logged i log) = true
+is_quiet (step.Pull shard limit) = true
+is_quiet taken = false
+
+-- What accepted steps do, by the fields that they change. The relation is between the machine, the step with its answer,
+-- and the machine after the step.
+pub record HoldsOfSteps (R : Machine → Step → Answered → Machine → Type 0) : Type 0 where
   -- resolvers, logs and shards went on (Resolve, Push, Pull)
-  pub roles : (m : Machine) (resolvers logs : List ℕ) (shards : List ShardProgress)
-      → R m 0 (record m { resolvers = resolvers; logs = logs; shards = shards })
+  pub roles : (m : Machine) (taken : Step) (answer : Answered) (resolvers logs : List ℕ) (shards : List ShardProgress)
+      → is_quiet taken ≡ true → R m taken answer (record m { resolvers = resolvers; logs = logs; shards = shards })
   -- a session that waited nowhere asks (Ask)
   pub asked : (m : Machine) (session proxy : ℕ) (there : List ℕ) → slice_get m.grv_proxies proxy ≡ Some there
       → is_busy session m.grv_proxies m.commit_proxies ≡ false
-      → R m 0 (record m
+      → R m (step.Ask session proxy) answered.Done (record m
       { opened = without session m.opened; grv_proxies = slice_set m.grv_proxies proxy (there ++ session ∷ []) })
   -- those who ask are served, each of whom has a number left (Grant)
   pub granted : (m : Machine) (proxy : ℕ) (there : List ℕ) → slice_get m.grv_proxies proxy ≡ Some there
       → list_any (has_no_number m.last_transactions) there ≡ false
       → let served = fold (serve m.committed) (m.last_transactions, m.opened) there in
-      R m 0 (record m
+      R m (step.Grant proxy) (answered.Granted (map (λ (session : ℕ). (session, m.committed)) there)) (record m
       { last_transactions = served.0; opened = served.1; grv_proxies = slice_set m.grv_proxies proxy [] })
-  -- an operation went to an open transaction, with its reply (Get, Write)
-  pub operated : (m : Machine) (i : ℕ) (transcript : Transcript) (operation : Op)
+  -- an operation went to a session's open transaction, with its reply (Get, Write)
+  pub operated : (m : Machine) (taken : Step) (session i : ℕ) (transcript : Transcript) (operation : Op)
+      → operation_of taken ≡ Some (session, operation) → position (is_of session) m.opened ≡ Some i
       → slice_get m.opened i ≡ Some transcript
       → let there = serial_map_at m.config.resolver_splits transcript.read_version (seen_of m.book).places in
-      R m 0 (add_operation m i transcript operation (reply_on (copy there (program transcript.ops)) operation))
-  -- a transaction that writes nothing is acknowledged (Submit)
-  pub read_only : (m : Machine) (i : ℕ) (transcript : Transcript) → slice_get m.opened i ≡ Some transcript
+      let reply = reply_on (copy there (program transcript.ops)) operation in
+      R m taken (answered_by reply) (add_operation m i transcript operation reply)
+  -- a session's transaction that writes nothing is acknowledged (Submit)
+  pub read_only : (m : Machine) (session proxy i : ℕ) (transcript : Transcript)
+      → position (is_of session) m.opened ≡ Some i → slice_get m.opened i ≡ Some transcript
       → writes_nothing transcript ≡ true
-      → R m 0 (record m {
+      → R m (step.Submit session proxy) (answered.ReadOnly transcript.read_version) (record m {
         opened = remove m.opened i;
         acknowledged = m.acknowledged ++ record
             { spot = spot.ReadOnly transcript.read_version; transcript = transcript } ∷ [];
       })
   -- any other waits at a commit proxy (Submit)
-  pub submitted : (m : Machine) (proxy : ℕ) (commit_proxy : CommitProxy) (i : ℕ) (transcript : Transcript)
-      → slice_get m.commit_proxies proxy ≡ Some commit_proxy → slice_get m.opened i ≡ Some transcript
-      → writes_nothing transcript ≡ false
+  pub submitted : (m : Machine) (session proxy : ℕ) (commit_proxy : CommitProxy) (i : ℕ) (transcript : Transcript)
+      → slice_get m.commit_proxies proxy ≡ Some commit_proxy → position (is_of session) m.opened ≡ Some i
+      → slice_get m.opened i ≡ Some transcript → writes_nothing transcript ≡ false
       → let submission : Submission = record { sealed = commit_request_of transcript; transcript = transcript } in
-      R m 0 (record m {
+      R m (step.Submit session proxy) answered.Done (record m {
         opened = remove m.opened i;
         commit_proxies = slice_set m.commit_proxies proxy
             (record commit_proxy { waiting = commit_proxy.waiting ++ submission ∷ [] });
@@ -81,13 +101,17 @@ pub record HoldsOfSteps (R : Machine → ℕ → Machine → Type 0) : Type 0 wh
   pub sealed : (m : Machine) (proxy advance : ℕ) (commit_proxy : CommitProxy)
       → slice_get m.commit_proxies proxy ≡ Some commit_proxy → commit_proxy.stage ≡ Idle
       → next_version (last_version m.book) advance ≤ version_limit → length m.book < m.config.book
-      → R m 0 (sealed_machine m proxy advance commit_proxy)
+      → let prev = last_version m.book in
+      R m (step.Seal proxy advance)
+      (answered.Issued (length m.book) (next_version prev advance) prev (length (take place_limit commit_proxy.waiting)))
+      (sealed_machine m proxy advance commit_proxy)
   -- a proxy went on with its batch, which isn't reported (Verdict, Decide, Logged)
-  pub went_on : (m : Machine) (proxy : ℕ) (commit_proxy : CommitProxy) (stage : Stage)
-      (decided verdicts_received acknowledgements_received : List Bool)
+  pub went_on : (m : Machine) (taken : Step) (answer : Answered) (proxy : ℕ) (commit_proxy : CommitProxy)
+      (stage : Stage) (decided verdicts_received acknowledgements_received : List Bool)
+      → is_quiet taken ≡ true
       → slice_get m.commit_proxies proxy ≡ Some commit_proxy → is_idle commit_proxy.stage ≡ false
       → is_idle stage ≡ false → is_reported stage ≡ false
-      → R m 0 (record m {
+      → R m taken answer (record m {
         decided = decided;
         commit_proxies = slice_set m.commit_proxies proxy (record commit_proxy {
           stage = stage;
@@ -99,7 +123,7 @@ pub record HoldsOfSteps (R : Machine → ℕ → Machine → Type 0) : Type 0 wh
   pub reported_version : (m : Machine) (proxy : ℕ) (commit_proxy : CommitProxy) (entry : Entry)
       → slice_get m.commit_proxies proxy ≡ Some commit_proxy → commit_proxy.stage ≡ Logging
       → slice_get m.book commit_proxy.entry ≡ Some entry
-      → R m (max m.committed entry.version) (record m {
+      → R m (step.Report proxy) (answered.Version (max m.committed entry.version)) (record m {
         committed = max m.committed entry.version;
         commit_proxies = slice_set m.commit_proxies proxy (record commit_proxy { stage = Reported });
       })
@@ -108,7 +132,7 @@ pub record HoldsOfSteps (R : Machine → ℕ → Machine → Type 0) : Type 0 wh
       → slice_get m.commit_proxies proxy ≡ Some commit_proxy → commit_proxy.stage ≡ Reported
       → slice_get m.book commit_proxy.entry ≡ Some entry
       → let outcomes = outcomes_on m.config.resolver_splits (seen_before m.book commit_proxy.entry) entry in
-      R m 0 (record m {
+      R m (step.Answer proxy) (answered.Answers (replies_from commit_proxy.in_flight outcomes)) (record m {
         acknowledged = m.acknowledged ++ placed_from commit_proxy.entry commit_proxy.in_flight outcomes;
         commit_proxies = slice_set m.commit_proxies proxy (record commit_proxy { in_flight = []; stage = Idle });
       })
@@ -122,27 +146,28 @@ stage-is Resolving = (λ is. cc, λ is. refl, λ is. cc, λ is. cc)
 stage-is Logging = (λ is. cc, λ is. cc, λ is. refl, λ is. cc)
 stage-is Reported = (λ is. cc, λ is. cc, λ is. cc, λ is. refl)
 
-module _ (R : Machine → ℕ → Machine → Type 0) (holds : HoldsOfSteps R) where
+module _ (R : Machine → Step → Answered → Machine → Type 0) (holds : HoldsOfSteps R) where
   -- between the machine and where a step takes it
   abbrev Leads : Machine → Step → Transition → Type 0
-  Leads m taken transition = R m (reported taken (Ok transition.answer)) transition.next
+  Leads m taken transition = R m taken transition.answer transition.next
 
   -- what a proxy waits for comes
-  received : (m : Machine) (proxy : ℕ) (commit_proxy : CommitProxy) (i : ℕ) (sender : Sender)
-      → slice_get m.commit_proxies proxy ≡ Some commit_proxy
+  received : (m : Machine) (taken : Step) (proxy : ℕ) (commit_proxy : CommitProxy) (i : ℕ) (sender : Sender)
+      → is_quiet taken ≡ true → slice_get m.commit_proxies proxy ≡ Some commit_proxy
       → awaits commit_proxy i sender ≡ true
-      → R m 0 (record m { commit_proxies = slice_set m.commit_proxies proxy (with_received commit_proxy sender) })
-  received m proxy commit_proxy i (FromResolver resolver) at awaited =
+      → R m taken answered.Done
+      (record m { commit_proxies = slice_set m.commit_proxies proxy (with_received commit_proxy sender) })
+  received m taken proxy commit_proxy i (FromResolver resolver) quiet at awaited =
       let stage = (stage-is commit_proxy.stage).1 (and_parts _ _ (and_parts _ _ awaited).0).0 in
-      holds.went_on m proxy commit_proxy commit_proxy.stage m.decided _ _ at (ap is_idle stage) (ap is_idle stage)
-      (ap is_reported stage)
-  received m proxy commit_proxy i (FromLog log) at awaited =
+      holds.went_on m taken answered.Done proxy commit_proxy commit_proxy.stage m.decided _ _ quiet at
+      (ap is_idle stage) (ap is_idle stage) (ap is_reported stage)
+  received m taken proxy commit_proxy i (FromLog log) quiet at awaited =
       let stage = (stage-is commit_proxy.stage).2 (and_parts _ _ (and_parts _ _ awaited).0).0 in
-      holds.went_on m proxy commit_proxy commit_proxy.stage m.decided _ _ at (ap is_idle stage) (ap is_idle stage)
-      (ap is_reported stage)
+      holds.went_on m taken answered.Done proxy commit_proxy commit_proxy.stage m.decided _ _ quiet at
+      (ap is_idle stage) (ap is_idle stage) (ap is_reported stage)
 
   -- it holds of every accepted step
-  holds-next : (m : Machine) (taken : Step) → IfAccepted (Leads m taken) (next m taken)
+  pub holds-next : (m : Machine) (taken : Step) → IfAccepted (Leads m taken) (next m taken)
   unfolding asks grants gets writes submits seals resolves receives decides pushes reports answers pulls
   holds-next m (step.Ask session proxy) =
       past-found _ (slice_get m.grv_proxies proxy) _ (λ there at.
@@ -153,17 +178,18 @@ module _ (R : Machine → ℕ → Machine → Type 0) (holds : HoldsOfSteps R) w
       past-test _ (list_any (has_no_number m.last_transactions) there) _ _
       (λ left. holds.granted m proxy there at left))
   holds-next m (step.Get session key snapshot) =
-      past-opened _ session m.opened _ (λ i transcript _ there.
+      past-opened _ session m.opened _ (λ i transcript is there.
       past-fault _ (read_fault m (program transcript.ops) transcript.read_version key) _
-      (λ _. holds.operated m i transcript (op.Get key snapshot) there))
+      (λ _. holds.operated m (step.Get session key snapshot) session i transcript (op.Get key snapshot) refl is there))
   holds-next m (step.Write session mutation) =
-      past-opened _ session m.opened _ (λ i transcript _ there.
-      past-fault _ (mutation_fault mutation) _ (λ _. holds.operated m i transcript (op.Write mutation) there))
+      past-opened _ session m.opened _ (λ i transcript is there.
+      past-fault _ (mutation_fault mutation) _ (λ _.
+      holds.operated m (step.Write session mutation) session i transcript (op.Write mutation) refl is there))
   holds-next m (step.Submit session proxy) =
       past-found _ (slice_get m.commit_proxies proxy) _ (λ commit_proxy at.
-      past-opened _ session m.opened _ (λ i transcript _ there.
-      past-choice _ (writes_nothing transcript) _ _ (holds.read_only m i transcript there)
-      (holds.submitted m proxy commit_proxy i transcript at there)))
+      past-opened _ session m.opened _ (λ i transcript is there.
+      past-choice _ (writes_nothing transcript) _ _ (holds.read_only m session proxy i transcript is there)
+      (holds.submitted m session proxy commit_proxy i transcript at is there)))
   holds-next m (step.Seal proxy advance) =
       past-found _ (slice_get m.commit_proxies proxy) _ (λ commit_proxy at.
       past-test _ (not (is_idle commit_proxy.stage)) _ _ (λ idle.
@@ -173,13 +199,14 @@ module _ (R : Machine → ℕ → Machine → Type 0) (holds : HoldsOfSteps R) w
       (ltb-false _ _ few) (leb-false _ _ room)))))
   holds-next m (step.Resolve i resolver) =
       past-found _ (slice_get m.book i) _ (λ entry _. past-found _ (slice_get m.resolvers resolver) _ (λ taken _.
-      past-turn _ taken i entry _ (holds.roles m (slice_set m.resolvers resolver (taken + 1)) m.logs m.shards)))
+      past-turn _ taken i entry _ (holds.roles m (step.Resolve i resolver) _ (slice_set m.resolvers resolver (taken + 1)) m.logs m.shards refl)))
   holds-next m (step.Verdict i resolver) =
       past-found _ (taken_by_sender m (FromResolver resolver)) _ (λ taken _. past-test _ (nat_le taken i) _ _ (λ _.
       past-found _ (slice_get m.entry_proxies i) _
       (λ proxy _. past-found _ (slice_get m.commit_proxies proxy) _ (λ commit_proxy at.
       past-test _ (not (awaits commit_proxy i (FromResolver resolver))) _ _
-      (λ awaited. received m proxy commit_proxy i (FromResolver resolver) at (not-false _ awaited))))))
+      (λ awaited. received m (step.Verdict i resolver) proxy commit_proxy i (FromResolver resolver) refl at
+      (not-false _ awaited))))))
   holds-next m (step.Decide proxy) =
       past-found _ (slice_get m.commit_proxies proxy) _ (λ commit_proxy at.
       past-test _ (not (is_resolving commit_proxy.stage)) _ _ (λ resolving.
@@ -187,18 +214,18 @@ module _ (R : Machine → ℕ → Machine → Type 0) (holds : HoldsOfSteps R) w
       let before = seen_before m.book commit_proxy.entry in
       past-wait _ (first_missing (λ resolver. is_needed m.config.resolver_splits resolver before entry) 0
       commit_proxy.verdicts_received) _ (λ _.
-      holds.went_on m proxy commit_proxy Logging _ _ _ at
+      holds.went_on m (step.Decide proxy) _ proxy commit_proxy Logging _ _ _ refl at
       (ap is_idle ((stage-is commit_proxy.stage).1 (not-false _ resolving))) refl refl))))
   holds-next m (step.Push i log) =
       past-found _ (slice_get m.book i) _ (λ entry _. past-found _ (slice_get m.logs log) _ (λ taken _.
       past-test _ (not (is_set m.decided i)) _ _
-      (λ _. past-turn _ taken i entry _ (holds.roles m m.resolvers (slice_set m.logs log (taken + 1)) m.shards))))
+      (λ _. past-turn _ taken i entry _ (holds.roles m (step.Push i log) _ m.resolvers (slice_set m.logs log (taken + 1)) m.shards refl))))
   holds-next m (step.Logged i log) =
       past-found _ (taken_by_sender m (FromLog log)) _ (λ taken _. past-test _ (nat_le taken i) _ _ (λ _.
       past-found _ (slice_get m.entry_proxies i) _
       (λ proxy _. past-found _ (slice_get m.commit_proxies proxy) _ (λ commit_proxy at.
       past-test _ (not (awaits commit_proxy i (FromLog log))) _ _
-      (λ awaited. received m proxy commit_proxy i (FromLog log) at (not-false _ awaited))))))
+      (λ awaited. received m (step.Logged i log) proxy commit_proxy i (FromLog log) refl at (not-false _ awaited))))))
   holds-next m (step.Report proxy) =
       past-found _ (slice_get m.commit_proxies proxy) _ (λ commit_proxy at.
       past-test _ (not (is_logging commit_proxy.stage)) _ _ (λ logging.
@@ -215,32 +242,23 @@ module _ (R : Machine → ℕ → Machine → Type 0) (holds : HoldsOfSteps R) w
   holds-next m (step.Pull shard limit) =
       past-found _ (slice_get m.shards shard) _
       (λ progress _. past-found _ (slice_get m.logs (shard % length m.logs)) _ (λ has _.
-      holds.roles m m.resolvers m.logs
+      holds.roles m (step.Pull shard limit) _ m.resolvers m.logs
       (slice_set m.shards shard
-      (record progress { applied = max progress.applied (min has (progress.applied + limit)) }))))
-
-  -- and of every step, where it holds between a machine and itself, since a refused step leaves the machine as it is
-  pub holds-after : ((m : Machine) → R m 0 m) → (m : Machine) (taken : Step)
-      → R m (reported taken (answer_of (next m taken))) (after m (next m taken))
-  holds-after itself m taken = by_result (next m taken) (holds-next m taken)
-    where
-      none : (taken : Step) (refusal : Refusal) → 0 ≡ reported taken (Err refusal)
-      none (step.Report proxy) refusal = refl
-      none taken refusal = refl
-
-      by_result : (result : Result Transition Refusal) → IfAccepted (Leads m taken) result
-          → R m (reported taken (answer_of result)) (after m result)
-      by_result (Ok transition) leads = leads
-      by_result (Err refusal) leads = subst (λ (version : ℕ). R m version m) (none taken refusal) (itself m)
+      (record progress { applied = max progress.applied (min has (progress.applied + limit)) })) refl))
 
 -- What steps keep.
 abbrev pub KeptBySteps : (Machine → Type 0) → Type 0
-KeptBySteps P = HoldsOfSteps (λ m version after. P m → P after)
+KeptBySteps P = HoldsOfSteps (λ m taken answer after. P m → P after)
 
 module _ (P : Machine → Type 0) (keep : KeptBySteps P) where
   -- every step keeps it, refused ones too
   pub kept-next : (m : Machine) (taken : Step) → P m → P (after m (next m taken))
-  kept-next = holds-after (λ m version after. P m → P after) keep (λ m holds. holds)
+  kept-next m taken = by_result (next m taken) (holds-next (λ m taken answer after. P m → P after) keep m taken)
+    where
+      by_result : (result : Result Transition Refusal) → IfAccepted (λ transition. P m → P transition.next) result
+          → P m → P (after m result)
+      by_result (Ok transition) keeps = keeps
+      by_result (Err refusal) keeps = λ holds. holds
 
   -- and every trace
   pub kept-by_trace : (m : Machine) (steps : List Step) (given : List (Result Answered Refusal)) → P m

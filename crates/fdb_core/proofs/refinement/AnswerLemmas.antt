@@ -7,7 +7,7 @@ use Rattle.fdb_core.specs.machine.Roles.{CommitProxy, Stage, Idle, Resolving, Lo
 use Rattle.fdb_core.specs.declared.step.Answered.TheVariants as answered
 use Rattle.fdb_core.specs.declared.step.Outcome.{Outcome}
 use Rattle.fdb_core.specs.refinement.Cluster.{machine_of, CommitProxyRefines, Refines}
-use Rattle.fdb_core.specs.machine.Machine.{seen_before}
+use Rattle.fdb_txn.specs.book.Book.{seen_before}
 use Rattle.fdb_core.specs.machine.CommitProxySteps.{answers, is_idle, is_resolving, is_reported, placed_from, replies_from}
 use Rattle.fdb_core.specs.machine.Verdicts.{outcomes_on}
 use Rattle.fdb_core.proofs.refinement.BatchLaws.{length-outcomes_on}

@@ -8,7 +8,7 @@ use Rattle.std.proofs.lemmas.List.{length-set}
 use Rattle.fdb_keys.specs.declared.refusal.Refusal.TheVariants.{NotYet}
 use Rattle.fdb_mutations.specs.declared.mutation.Mutation.{Mutation}
 use Rattle.fdb_txn.specs.declared.entry.Entry.{Entry}
-use Rattle.fdb_txn.specs.book.Book.{Seen}
+use Rattle.fdb_txn.specs.book.Book.{Seen, seen_before}
 use Rattle.fdb_core.specs.declared.cluster.Cluster.{Cluster}
 use Rattle.fdb_core.specs.machine.Roles.{CommitProxy, Stage, Idle, Resolving, Logging, Reported}
 use Rattle.fdb_txn.specs.rules.Messages.{Message}
@@ -16,7 +16,7 @@ use Rattle.fdb_resolver.specs.declared.verdict.Verdict.{Verdict}
 use Rattle.fdb_core.specs.declared.step.Outcome.{Outcome}
 use Rattle.fdb_core.specs.declared.step.Answered.TheVariants as answered
 use Rattle.fdb_core.specs.refinement.Cluster.{machine_of, Refines, CommitProxyRefines, IsDecision, ReadsBelow}
-use Rattle.fdb_core.specs.machine.Machine.{is_set, first_missing, seen_before}
+use Rattle.fdb_core.specs.machine.Machine.{is_set, first_missing}
 use Rattle.fdb_core.specs.machine.CommitProxySteps.{decides, is_idle, is_resolving}
 use Rattle.fdb_core.specs.refinement.Roles.{along, message_on, outcomes_by, body_by}
 use Rattle.fdb_core.specs.machine.Verdicts.{verdicts_on, is_needed, outcomes_on}

@@ -2,8 +2,7 @@
 use Rattle.std.proofs.Common.{◌≡◌, ◌∙◌, sym, ap, refl, ℕ, zero, suc, List, [], ◌∷◌, ◌++◌, take, fold, slice_get, Some}
 use Rattle.fdb_txn.specs.declared.entry.Move.{Move}
 use Rattle.fdb_txn.specs.declared.entry.Entry.{Entry}
-use Rattle.fdb_txn.specs.book.Book.{Seen, nothing, add_moves, add_entry, seen_of}
-use Rattle.fdb_core.specs.machine.Machine.{seen_before}
+use Rattle.fdb_txn.specs.book.Book.{Seen, nothing, add_moves, add_entry, seen_of, seen_before}
 use Rattle.fdb_core.specs.refinement.Resolving.{NoMovesIn}
 use Rattle.fdb_core.specs.machine.Verdicts.{moves_through}
 

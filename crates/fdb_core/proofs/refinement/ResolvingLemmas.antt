@@ -7,7 +7,7 @@ use Rattle.fdb_keys.specs.Points.{Point}
 use Rattle.fdb_interval.specs.Versions.{version_at}
 use Rattle.fdb_txn.specs.declared.entry.Entry.{Entry}
 use Rattle.fdb_txn.specs.book.Transactions.{Transaction}
-use Rattle.fdb_txn.specs.book.Book.{Stamped, Place, Seen, placed, add_places, seen_of}
+use Rattle.fdb_txn.specs.book.Book.{Stamped, Place, Seen, placed, add_places, seen_of, last_version}
 use Rattle.fdb_txn.specs.rules.Owners.{window}
 use Rattle.fdb_txn.specs.rules.Admission.{has_points, admits}
 use Rattle.fdb_txn.specs.book.History.{IsHistory, AreEntries}
@@ -24,7 +24,6 @@ use Rattle.fdb_resolver.specs.Parts.{AreRising, IsPart}
 use Rattle.fdb_resolver.specs.Resolvers.{Resolver, part_fault, IsAnswer, HasTaken}
 use Rattle.fdb_resolver.specs.Rule.{AreVerdicts, versions_with, versions_after}
 use Rattle.fdb_resolver.proofs.BookLemmas.{verdicts_are_by_the_book, places_keep_state}
-use Rattle.fdb_core.specs.machine.Machine.{last_version}
 use Rattle.fdb_core.specs.refinement.Resolving.{is_judged, item_of, items_from, ResolverAt, IsNext}
 use Rattle.fdb_core.specs.machine.Verdicts.{verdict_at, verdicts_from, moves_through, verdicts_on}
 use Rattle.fdb_core.specs.refinement.Cluster.{ReadsBelow}

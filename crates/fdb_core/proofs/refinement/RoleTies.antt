@@ -6,7 +6,7 @@ use Rattle.std.proofs.lemmas.List.{length-take, take_all}
 use Rattle.std.proofs.lemmas.Option.{slice_get_within}
 use Rattle.std.proofs.Math.Seq.{take-add}
 use Rattle.fdb_txn.specs.declared.entry.Entry.{Entry}
-use Rattle.fdb_txn.specs.book.Book.{add_entry, seen_of}
+use Rattle.fdb_txn.specs.book.Book.{add_entry, seen_of, last_version, seen_before}
 use Rattle.fdb_txn.specs.book.History.{AreEntries}
 use Rattle.fdb_resolver.specs.Resolvers.{Resolver}
 use Rattle.fdb_core.specs.machine.Roles.{CommitProxy, ShardProgress}
@@ -15,7 +15,6 @@ use Rattle.fdb_core.specs.declared.roles.resolver.ResolverRole.{ResolverRole}
 use Rattle.fdb_core.specs.declared.step.Outcome.{Outcome}
 use Rattle.fdb_resolver.specs.declared.verdict.Verdict.{Verdict}
 use Rattle.fdb_core.specs.refinement.Cluster.{IsRising, ResolverRefines, ResolversRefine, LogRefines, CommitProxyRefines, CommitProxiesRefine}
-use Rattle.fdb_core.specs.machine.Machine.{last_version, seen_before}
 use Rattle.fdb_core.specs.refinement.Resolving.{NoMovesIn, ResolverAt, IsNext, TakesNext, taken_by, sent_by}
 use Rattle.fdb_core.specs.refinement.Roles.{along, message_on}
 use Rattle.fdb_core.specs.machine.Verdicts.{verdicts_on}

@@ -3,9 +3,9 @@ use Rattle.std.proofs.Common.{◌≡◌, ◌∙◌, refl, sym, ap, subst, ℕ, z
 use Rattle.std.specs.List.{AllByRecursion, slice_get, slice_set}
 use Rattle.std.proofs.lemmas.Bool.{le-ltb, lt-leb}
 use Rattle.std.proofs.lemmas.List.{length-append, length-map, length-replicate, length-take, take-append-le}
-use Rattle.fdb_txn.specs.declared.batch.TheConstants.{PLACE_LIMIT}
+use Rattle.fdb_txn.specs.Limits.{place_limit}
 use Rattle.fdb_txn.specs.declared.entry.Entry.{Entry}
-use Rattle.fdb_txn.specs.book.Book.{Seen, seen_of}
+use Rattle.fdb_txn.specs.book.Book.{Seen, seen_of, last_version}
 use Rattle.fdb_txn.specs.book.History.{AreEntries}
 use Rattle.fdb_txn.specs.book.Transactions.{Transaction, NamesWrites}
 use Rattle.fdb_txn.proofs.book.HistoryLemmas.{entries_go_on}
@@ -18,7 +18,7 @@ use Rattle.fdb_core.specs.declared.roles.client.program.Transcript.{Transcript}
 use Rattle.fdb_core.specs.declared.step.Answered.TheVariants as answered
 use Rattle.fdb_core.specs.declared.step.Outcome.{Outcome}
 use Rattle.fdb_core.specs.refinement.Cluster.{BookRefines, ResolversRefine, LogRefines, WaitsRefines, CommitProxyRefines}
-use Rattle.fdb_core.specs.machine.Machine.{Machine, is_set, last_version}
+use Rattle.fdb_core.specs.machine.Machine.{Machine, is_set}
 use Rattle.fdb_core.specs.machine.CommitProxySteps.{seals, is_idle, with_batch}
 use Rattle.fdb_core.specs.refinement.Resolving.{ResolverAt}
 use Rattle.fdb_core.specs.refinement.Roles.{along, message_on}
@@ -33,7 +33,7 @@ sealed_entry m advance commit_proxy = record {
   version = next_version (last_version m.book) advance;
   prev = last_version m.book;
   moves = m.pending;
-  batch = map (λ (submission : Submission). submission.sealed) (take PLACE_LIMIT commit_proxy.waiting);
+  batch = map (λ (submission : Submission). submission.sealed) (take place_limit commit_proxy.waiting);
 }
 
 -- the commit proxy with its batch in flight
@@ -56,7 +56,7 @@ pub seals-transition : (m : Machine) (proxy advance : ℕ) (commit_proxy : Commi
     → next_version (last_version m.book) advance ≤ version_limit → length m.book < m.config.book
     → seals m proxy advance ≡ Ok (record {
       answer = answered.Issued (length m.book) (next_version (last_version m.book) advance) (last_version m.book)
-          (length (take PLACE_LIMIT commit_proxy.waiting));
+          (length (take place_limit commit_proxy.waiting));
       next = sealed_machine m proxy advance commit_proxy;
     })
 unfolding seals
@@ -71,15 +71,15 @@ seals-transition m proxy advance commit_proxy there idle few room =
 
 -- as many transactions as transcripts, and at most as many as a batch may have
 pub length-sealed : (waiting : List Submission) (batch : List Transaction)
-    → batch ≡ map (λ (submission : Submission). submission.sealed) (take PLACE_LIMIT waiting)
-    → length batch ≡ length (take PLACE_LIMIT waiting)
+    → batch ≡ map (λ (submission : Submission). submission.sealed) (take place_limit waiting)
+    → length batch ≡ length (take place_limit waiting)
 length-sealed waiting batch is = ap length is
-    ∙ length-map (take PLACE_LIMIT waiting) (λ (submission : Submission). submission.sealed)
+    ∙ length-map (take place_limit waiting) (λ (submission : Submission). submission.sealed)
 
 pub batch-fits : (waiting : List Submission) (batch : List Transaction)
-    → batch ≡ map (λ (submission : Submission). submission.sealed) (take PLACE_LIMIT waiting)
-    → length batch ≤ PLACE_LIMIT
-batch-fits waiting batch is = omega (arith, length-sealed waiting batch is, length-take PLACE_LIMIT waiting)
+    → batch ≡ map (λ (submission : Submission). submission.sealed) (take place_limit waiting)
+    → length batch ≤ place_limit
+batch-fits waiting batch is = omega (arith, length-sealed waiting batch is, length-take place_limit waiting)
 
 -- what comes at the end of a list leaves what stands before it
 front-at : {A : Type 0} (xs ys : List A) (i : ℕ) → i < length xs → slice_get (xs ++ ys) i ≡ slice_get xs i

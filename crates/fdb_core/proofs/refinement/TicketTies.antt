@@ -14,7 +14,8 @@ use Rattle.fdb_core.specs.declared.cluster.Cluster.{Cluster}
 use Rattle.fdb_core.specs.machine.Roles.{CommitProxy, Stage, Idle, Resolving, Logging, Reported}
 use Rattle.fdb_core.specs.declared.step.Answered.TheVariants as answered
 use Rattle.fdb_core.specs.refinement.Cluster.{machine_of, Refines}
-use Rattle.fdb_core.specs.machine.Machine.{Machine, first_missing, last_version}
+use Rattle.fdb_txn.specs.book.Book.{last_version}
+use Rattle.fdb_core.specs.machine.Machine.{Machine, first_missing}
 use Rattle.fdb_core.specs.machine.CommitProxySteps.{seals, reports, is_idle, is_logging}
 
 module _ (k : Cluster) (refines : Refines k) (proxy advance : ℕ) (commit_proxy : CommitProxy)

@@ -1,9 +1,7 @@
 -- The ties between the machine and the roles' own lists, kept through the steps.
-use Rattle.std.proofs.Common.{◌≡◌, sym, ap, refl, ℕ, Bool, List, [], ◌∷◌, ◌++◌, fold, Option, Some, None, Ok, Err, arith, Vec, Global}
+use Rattle.std.proofs.Common.{◌≡◌, ℕ, Bool, List, [], ◌∷◌, ◌++◌, fold, Some, None, arith, Vec, Global}
 use Rattle.std.specs.List.{AllByRecursion, slice_get}
 use Rattle.std.specs.Prelude.{position}
-use Rattle.fdb_keys.specs.declared.refusal.Refusal.{Refusal}
-use Rattle.fdb_keys.specs.Answers.{AnswersExactly}
 use Rattle.fdb_mutations.specs.declared.mutation.Mutation.{Mutation}
 use Rattle.fdb_mutations.specs.Mutations.{mutation_fault}
 use Rattle.fdb_core.specs.declared.roles.client.program.Op.TheVariants as op

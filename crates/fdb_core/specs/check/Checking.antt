@@ -7,7 +7,7 @@ use Rattle.fdb_txn.specs.declared.entry.Entry.{Entry}
 use Rattle.fdb_txn.specs.declared.spot.Spot.{Spot}
 use Rattle.fdb_txn.specs.declared.spot.Spot.TheVariants as spot
 use Rattle.fdb_txn.specs.book.Transactions.{Transaction}
-use Rattle.fdb_txn.specs.book.Book.{Place, seen_of}
+use Rattle.fdb_txn.specs.book.Book.{Place, seen_of, last_version, seen_before}
 use Rattle.fdb_txn.specs.book.History.{AreEntries}
 use Rattle.fdb_txn.specs.book.Places.{place_at}
 use Rattle.fdb_txn.specs.rules.SerialMap.{serial_map, serial_map_at}
@@ -22,7 +22,6 @@ use Rattle.fdb_core.specs.declared.world.CheckFault.TheVariants.{Shard}
 use Rattle.fdb_core.specs.check.Comparing.{AnsweredAt, StopsBy}
 use Rattle.fdb_core.specs.headline.Headline.{AnsweredOn}
 use Rattle.fdb_core.specs.check.Holding.{HoldsTheRun}
-use Rattle.fdb_core.specs.machine.Machine.{last_version, seen_before}
 use Rattle.fdb_core.specs.refinement.Resolving.{NoMovesIn, ResolverAt}
 use Rattle.fdb_core.specs.refinement.Roles.{body_by}
 

@@ -6,10 +6,9 @@ use Rattle.fdb_keys.specs.Points.{Point}
 use Rattle.fdb_mutations.specs.Maps.{Map}
 use Rattle.fdb_txn.specs.declared.entry.Entry.{Entry}
 use Rattle.fdb_txn.specs.book.Transactions.{Transaction, some_names}
-use Rattle.fdb_txn.specs.book.Book.{seen_of}
+use Rattle.fdb_txn.specs.book.Book.{seen_of, last_version}
 use Rattle.fdb_txn.specs.rules.SerialMap.{serial_map_at}
 use Rattle.fdb_txn.specs.rules.Messages.{Message, value_in}
-use Rattle.fdb_core.specs.machine.Machine.{last_version}
 
 -- the messages of version at most v answer as the map at the points with the test
 abbrev pub AreAlike : Map → List Message → ℕ → (Point → Bool) → Type 0

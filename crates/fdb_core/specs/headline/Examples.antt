@@ -1,19 +1,28 @@
 -- What the headline says of small worlds: who stands where, what a shard has to answer, and which answers a trace has.
-use Rattle.std.specs.Prelude.{◌≡◌, ℕ, false, List, [], ◌∷◌, Option, Some, None, Ok, Err, codes}
+use Rattle.std.specs.Prelude.{◌≡◌, ℕ, Bool, true, false, List, [], ◌∷◌, Option, Some, None, Result, Ok, Err, codes}
+use Rattle.std.specs.FinMap.{empty}
+use Rattle.fdb_keys.specs.declared.refusal.Refusal.{Refusal}
 use Rattle.fdb_keys.specs.declared.refusal.Refusal.TheVariants.{Unknown}
 use Rattle.fdb_mutations.specs.declared.mutation.Mutation.TheVariants.{Set}
+use Rattle.fdb_txn.specs.declared.entry.Entry.{Entry}
 use Rattle.fdb_txn.specs.declared.spot.Spot.TheVariants as spot
+use Rattle.fdb_txn.specs.book.Book.{seen_of}
+use Rattle.fdb_txn.specs.rules.Resolvers.{IsStateOf}
 use Rattle.fdb_core.specs.declared.config.Config.{Config}
 use Rattle.fdb_core.specs.declared.roles.client.program.Op.TheVariants as op
 use Rattle.fdb_core.specs.declared.roles.client.program.Reply.TheVariants as reply
 use Rattle.fdb_core.specs.declared.roles.client.program.Transcript.{Transcript}
+use Rattle.fdb_core.specs.declared.step.Answered.{Answered}
 use Rattle.fdb_core.specs.declared.step.Answered.TheVariants as answered
+use Rattle.fdb_core.specs.declared.step.Outcome.TheVariants as outcome
+use Rattle.fdb_core.specs.declared.step.Step.{Step}
 use Rattle.fdb_core.specs.declared.step.Step.TheVariants as step
-use Rattle.fdb_core.specs.headline.Headline.{IsSerializedAtSpot}
+use Rattle.fdb_core.specs.headline.Headline.{AnsweredOn, IsSerializedAtSpot}
+use Rattle.fdb_core.specs.headline.Readings.{Readings, nothing_read, readings_of}
 use Rattle.fdb_core.specs.machine.Machine.{Machine}
 use Rattle.fdb_core.specs.programs.Programs.{commit_request_of}
-use Rattle.fdb_core.specs.headline.RealTime.{IsAfterVersion}
-use Rattle.fdb_core.specs.headline.Serving.{ShardServes}
+use Rattle.fdb_core.specs.headline.RealTime.{HasBegun, IsAfterVersion}
+use Rattle.fdb_core.specs.headline.Serving.{LogKeeps, ShardServes}
 use Rattle.fdb_core.specs.headline.Traces.{machine_of_trace, IsTraceOf}
 use Rattle.fdb_core.specs.machine.Worlds.{start}
 
@@ -35,35 +44,55 @@ abbrev pub does_nothing : Transcript
 does_nothing = record { id = record { session = 0; number = 0 }; read_version = 0; ops = [] }
 
 -- both sessions' transactions are the places of one entry at version 100
-abbrev pub two_in_one_entry : Machine
-two_in_one_entry = record (start plain) {
-  book = record {
-    version = 100;
-    prev = 0;
-    moves = [];
-    batch = commit_request_of (reads_and_sets 0 None) ∷ commit_request_of (reads_and_sets 1 None) ∷ [];
-  } ∷ [];
-}
+abbrev pub two_in_one_entry : List Entry
+two_in_one_entry = record {
+  version = 100;
+  prev = 0;
+  moves = [];
+  batch = commit_request_of (reads_and_sets 0 None) ∷ commit_request_of (reads_and_sets 1 None) ∷ [];
+} ∷ []
 
 -- The first one is serialized at its place, under the entry's version. It isn't serialized at the other place or under
 -- another version, and didn't if it had been answered otherwise. The second one read what the first one wrote, so it
 -- isn't committed and stands nowhere.
 abbrev pub OnlyTheFirstIsSerialized : Type 0
 OnlyTheFirstIsSerialized =
-    IsSerializedAtSpot two_in_one_entry (reads_and_sets 0 None) (spot.Entry 0 0 100)
-    × (IsSerializedAtSpot two_in_one_entry (reads_and_sets 0 None) (spot.Entry 0 1 100) → ⊥)
-    × (IsSerializedAtSpot two_in_one_entry (reads_and_sets 0 None) (spot.Entry 0 0 101) → ⊥)
-    × (IsSerializedAtSpot two_in_one_entry (reads_and_sets 0 (Some (codes "1"))) (spot.Entry 0 0 100) → ⊥)
-    × (IsSerializedAtSpot two_in_one_entry (reads_and_sets 1 None) (spot.Entry 0 1 100) → ⊥)
+    IsSerializedAtSpot [] two_in_one_entry (reads_and_sets 0 None) (spot.Entry 0 0 100)
+    × (IsSerializedAtSpot [] two_in_one_entry (reads_and_sets 0 None) (spot.Entry 0 1 100) → ⊥)
+    × (IsSerializedAtSpot [] two_in_one_entry (reads_and_sets 0 None) (spot.Entry 0 0 101) → ⊥)
+    × (IsSerializedAtSpot [] two_in_one_entry (reads_and_sets 0 (Some (codes "1"))) (spot.Entry 0 0 100) → ⊥)
+    × (IsSerializedAtSpot [] two_in_one_entry (reads_and_sets 1 None) (spot.Entry 0 1 100) → ⊥)
 
 -- A transaction that wrote nothing is serialized at its read version alone, and at none that the book hasn't reached.
 -- One that wrote is serialized at no such spot.
 abbrev pub ReadOnlyAtItsVersion : Type 0
 ReadOnlyAtItsVersion =
-    IsSerializedAtSpot two_in_one_entry does_nothing (spot.ReadOnly 0)
-    × (IsSerializedAtSpot two_in_one_entry does_nothing (spot.ReadOnly 1) → ⊥)
-    × (IsSerializedAtSpot two_in_one_entry (record does_nothing { read_version = 101 }) (spot.ReadOnly 101) → ⊥)
-    × (IsSerializedAtSpot two_in_one_entry (reads_and_sets 0 None) (spot.ReadOnly 0) → ⊥)
+    IsSerializedAtSpot [] two_in_one_entry does_nothing (spot.ReadOnly 0)
+    × (IsSerializedAtSpot [] two_in_one_entry does_nothing (spot.ReadOnly 1) → ⊥)
+    × (IsSerializedAtSpot [] two_in_one_entry (record does_nothing { read_version = 101 }) (spot.ReadOnly 101) → ⊥)
+    × (IsSerializedAtSpot [] two_in_one_entry (reads_and_sets 0 None) (spot.ReadOnly 0) → ⊥)
+    × (IsSerializedAtSpot [] two_in_one_entry (record does_nothing { read_version = 1 }) (spot.ReadOnly 0) → ⊥)
+
+-- of a session, which read the key a, and was answered so
+abbrev pub reads_only : Bool → Option (List ℕ) → Transcript
+reads_only snapshot answer = record does_nothing { ops = (op.Get (codes "a") snapshot, reply.Value answer) ∷ [] }
+
+-- A snapshot read may be answered otherwise than the run answers, an ordinary one may not.
+abbrev pub OnlyOrdinaryReadsCount : Type 0
+OnlyOrdinaryReadsCount =
+    AnsweredOn empty (reads_only true (Some (codes "1"))) × AnsweredOn empty (reads_only false None)
+    × (AnsweredOn empty (reads_only false (Some (codes "1"))) → ⊥)
+
+-- A session's first transaction has begun where the session was served once, and neither its second one nor another
+-- session's.
+abbrev pub BegunByServing : Type 0
+BegunByServing =
+    HasBegun served (record { session = 5; number = 0 })
+    × (HasBegun served (record { session = 5; number = 1 }) → ⊥)
+    × (HasBegun served (record { session = 6; number = 0 }) → ⊥)
+  where
+    served : Readings
+    served = record nothing_read { begun = 5 ∷ [] }
 
 -- An entry at a version isn't after that version, but who reads at it alone is.
 abbrev pub AfterAVersion : Type 0
@@ -71,9 +100,43 @@ AfterAVersion =
     (IsAfterVersion 100 (spot.Entry 0 0 100) → ⊥) × IsAfterVersion 100 (spot.Entry 0 0 101)
     × (IsAfterVersion 100 (spot.ReadOnly 99) → ⊥) × IsAfterVersion 100 (spot.ReadOnly 100)
 
--- A shard that applied the entry and has nothing at the key that it sets doesn't serve.
+-- A shard that serves up to the entry and has nothing at the key that it sets doesn't answer from the run.
 abbrev pub AnEmptyShardDoesNotServe : Type 0
-AnEmptyShardDoesNotServe = ShardServes two_in_one_entry 0 (record { applied = 1; floor = 0 }) [] → ⊥
+AnEmptyShardDoesNotServe =
+    ShardServes plain two_in_one_entry 0 (record { floor = 0; version = 100; messages = [] }) → ⊥
+
+-- A resolver that took the entry and knows of no write, and a log that took it and has an empty message of it, keep
+-- something else than the book says.
+abbrev pub ForgetfulRolesDoNotKeep : Type 0
+ForgetfulRolesDoNotKeep =
+    (IsStateOf [] 0 (seen_of two_in_one_entry).places 0 (λ x. 0) → ⊥)
+    × (LogKeeps (record (start plain) { book = two_in_one_entry }) 0 1 (record { version = 100; body = [] } ∷ []) → ⊥)
+
+-- both sessions ask and are served, read the key a, set it and submit; their batch is sealed, and they are told
+abbrev pub two_sessions : List Step
+two_sessions =
+    step.Ask 0 0 ∷ step.Ask 1 0 ∷ step.Grant 0 ∷ step.Get 0 (codes "a") false ∷ step.Write 0 (Set (codes "a") (codes "1"))
+    ∷ step.Get 1 (codes "a") false ∷ step.Write 1 (Set (codes "a") (codes "1")) ∷ step.Submit 0 0 ∷ step.Submit 1 0
+    ∷ step.Seal 0 100 ∷ step.Report 0 ∷ step.Answer 0 ∷ []
+
+-- the second one of a conflict
+abbrev pub one_commits : List (Result Answered Refusal)
+one_commits =
+    Ok answered.Done ∷ Ok answered.Done ∷ Ok (answered.Granted ((0, 0) ∷ (1, 0) ∷ []))
+    ∷ Ok (answered.Value None) ∷ Ok answered.Done ∷ Ok (answered.Value None) ∷ Ok answered.Done
+    ∷ Ok answered.Done ∷ Ok answered.Done ∷ Ok (answered.Issued 0 100 0 2) ∷ Ok (answered.Version 100)
+    ∷ Ok (answered.Answers ((0, outcome.Commit 100 0) ∷ (1, outcome.Conflict) ∷ [])) ∷ []
+
+-- From these answers alone are read the entry with both, the version that was reported, and that the first one alone is
+-- acknowledged, at its place.
+abbrev pub ReadOffTheTrace : Type 0
+ReadOffTheTrace =
+    ((readings_of two_sessions one_commits).book ≡ two_in_one_entry)
+    × ((readings_of two_sessions one_commits).acknowledged ≡ record
+    { spot = spot.Entry 0 0 100; transcript = reads_and_sets 0 None } ∷ [])
+    × ((readings_of two_sessions one_commits).reported ≡ 100)
+    × ((readings_of two_sessions one_commits).answered ≡ 0 ∷ [])
+    × ((readings_of two_sessions one_commits).opened ≡ [])
 
 -- A refused step leaves the machine, and no world stands for a trace with another answer than the machine's.
 abbrev pub Traced : Type 0

@@ -1,11 +1,13 @@
 -- What an acknowledgement means: where the transaction stands, and what its reads were answered.
-use Rattle.std.specs.Prelude.{◌≡◌, ◌≤◌, ℕ, true, List, [], ◌∷◌, fold, Some, IfSome, Result}
+use Rattle.std.specs.Prelude.{◌≡◌, ◌≤◌, ℕ, true, List, [], ◌∷◌, fold, Option, Some, IfSome, Result}
 use Rattle.std.specs.List.{AllByRecursion}
 use Rattle.fdb_keys.specs.declared.refusal.Refusal.{Refusal}
+use Rattle.fdb_keys.specs.Points.{Point}
 use Rattle.fdb_mutations.specs.Maps.{Map}
+use Rattle.fdb_txn.specs.declared.entry.Entry.{Entry}
 use Rattle.fdb_txn.specs.declared.spot.Spot.{Spot}
 use Rattle.fdb_txn.specs.declared.spot.Spot.TheVariants as spot
-use Rattle.fdb_txn.specs.book.Book.{Place, seen_of}
+use Rattle.fdb_txn.specs.book.Book.{Place, seen_of, last_version}
 use Rattle.fdb_txn.specs.book.Places.{place_at}
 use Rattle.fdb_txn.specs.rules.Admission.{committed}
 use Rattle.fdb_txn.specs.rules.SerialMap.{serial_map, serial_map_at}
@@ -16,13 +18,14 @@ use Rattle.fdb_core.specs.declared.roles.client.program.Reply.{Reply}
 use Rattle.fdb_core.specs.declared.roles.client.program.Transcript.{Transcript}
 use Rattle.fdb_core.specs.declared.step.Answered.{Answered}
 use Rattle.fdb_core.specs.declared.step.Step.{Step}
-use Rattle.fdb_core.specs.machine.Machine.{Machine, last_version}
+use Rattle.fdb_core.specs.machine.Machine.{Machine}
+use Rattle.fdb_core.specs.headline.Readings.{Readings, readings_of}
 use Rattle.fdb_core.specs.programs.ProgramLaws.{AgreeWhereOrdinary}
 use Rattle.fdb_core.specs.programs.Programs.{program, exec, mutations_of, commit_request_of}
-use Rattle.fdb_core.specs.headline.Once.{NoIdTwice}
+use Rattle.fdb_core.specs.headline.Books.{HasBook}
 use Rattle.fdb_core.specs.headline.RealTime.{KeepsRealTime}
 use Rattle.fdb_core.specs.headline.Serving.{System, AllServe}
-use Rattle.fdb_core.specs.headline.Traces.{machine_of_trace, IsTraceOf}
+use Rattle.fdb_core.specs.headline.Traces.{IsTraceOf}
 
 -- a transcript's replies in the order of its program, which has the newest operation first
 abbrev pub replies_of : List (Op × Reply) → List Reply
@@ -35,50 +38,51 @@ AnsweredOn map transcript = AgreeWhereOrdinary (program transcript.ops) (replies
 
 -- The transaction is at its place of the book, under its version, and is committed there; it was answered as
 -- on the map of the run right before that place.
-abbrev pub IsSerializedAt : Machine → Transcript → ℕ → ℕ → ℕ → Type 0
-IsSerializedAt m transcript entry place version =
-    (there : Place × List Place) × (place_at m.book entry place ≡ Some there)
+abbrev pub IsSerializedAt : List Point → List Entry → Transcript → ℕ → ℕ → ℕ → Type 0
+IsSerializedAt splits book transcript entry place version =
+    (there : Place × List Place) × (place_at book entry place ≡ Some there)
     × (there.0.version ≡ version) × (there.0.transaction ≡ commit_request_of transcript)
-    × (committed m.config.resolver_splits there.1 there.0 ≡ true)
-    × AnsweredOn (serial_map m.config.resolver_splits there.1) transcript
+    × (committed splits there.1 there.0 ≡ true)
+    × AnsweredOn (serial_map splits there.1) transcript
 
 -- The transaction wrote nothing, and was answered as on the map of the run after all entries of version at most
 -- its read version.
-abbrev pub IsReadOnlyAt : Machine → Transcript → ℕ → Type 0
-IsReadOnlyAt m transcript version =
-    (version ≡ transcript.read_version) × (version ≤ last_version m.book)
+abbrev pub IsReadOnlyAt : List Point → List Entry → Transcript → ℕ → Type 0
+IsReadOnlyAt splits book transcript version =
+    (version ≡ transcript.read_version) × (version ≤ last_version book)
     × (mutations_of (program transcript.ops) ≡ [])
-    × AnsweredOn (serial_map_at m.config.resolver_splits version (seen_of m.book).places) transcript
+    × AnsweredOn (serial_map_at splits version (seen_of book).places) transcript
 
 -- the transaction is serialized at its spot
-abbrev pub IsSerializedAtSpot : Machine → Transcript → Spot → Type 0
-IsSerializedAtSpot m transcript (spot.Entry entry place version) = IsSerializedAt m transcript entry place version
-IsSerializedAtSpot m transcript (spot.ReadOnly version) = IsReadOnlyAt m transcript version
+abbrev pub IsSerializedAtSpot : List Point → List Entry → Transcript → Spot → Type 0
+IsSerializedAtSpot splits book transcript (spot.Entry entry place version) =
+    IsSerializedAt splits book transcript entry place version
+IsSerializedAtSpot splits book transcript (spot.ReadOnly version) = IsReadOnlyAt splits book transcript version
 
-abbrev pub IsSerialized : Machine → Placed → Type 0
-IsSerialized m placed = IsSerializedAtSpot m placed.transcript placed.spot
+abbrev pub IsSerialized : List Point → List Entry → Placed → Type 0
+IsSerialized splits book placed = IsSerializedAtSpot splits book placed.transcript placed.spot
 
 -- each acknowledged transaction is serialized at its spot
-abbrev pub AllSerialized : Machine → Type 0
-AllSerialized m = AllByRecursion (IsSerialized m) m.acknowledged
+abbrev pub AllSerialized : List Point → Readings → Type 0
+AllSerialized splits r = AllByRecursion (IsSerialized splits r.book) r.acknowledged
 
 -- Over every trace, each acknowledged transaction is serialized at its spot: it is committed there, and each of its
 -- ordinary reads was answered as when the committed transactions run one at a time from the empty map, by commit
 -- version and place in the batch.
 abbrev pub AcknowledgedAreSerialized : Type 0
 AcknowledgedAreSerialized =
-    (config : Config) (steps : List Step) (answers : List (Result Answered Refusal))
-    → AllSerialized (machine_of_trace config steps answers)
+    (config : Config) (steps : List Step) (answers : List (Result Answered Refusal)) (world : Option Machine)
+    → IsTraceOf config steps answers world
+    → AllSerialized config.resolver_splits (readings_of steps answers)
 
--- What holds of a trace and of the world that stands for it: the world shows the trace's machine; no transaction stands
--- in the book twice; each that the trace acknowledged is serialized at its spot, and after those that were acknowledged
--- before it began; and every shard answers, at each version that it serves, from the run of the committed transactions
--- one at a time.
+-- What holds of a trace, by what is read off it alone, and of the world whose trace it is: the trace's entries are a
+-- book, with no transaction twice; each that the trace acknowledged is serialized at its spot, and after those that were
+-- acknowledged before it began; and every shard of the world answers, at each version that it serves, from the run of
+-- the committed transactions one at a time.
 pub record IsStrictlySerializable (config : Config) (steps : List Step) (answers : List (Result Answered Refusal))
     (system : System) : Type 0 where
   pub is_trace_of : IsTraceOf config steps answers system.machine
-  pub shown : IfSome system.machine (λ (m : Machine). m ≡ machine_of_trace config steps answers)
-  pub once : NoIdTwice (machine_of_trace config steps answers).book
-  pub serial : AllSerialized (machine_of_trace config steps answers)
-  pub real_time : KeepsRealTime config steps answers
-  pub served : IfSome system.machine (λ (m : Machine). AllServe m system.shards)
+  pub book : HasBook config (readings_of steps answers)
+  pub serial : AllSerialized config.resolver_splits (readings_of steps answers)
+  pub real_time : KeepsRealTime steps answers
+  pub served : IfSome system.machine (λ _. AllServe config (readings_of steps answers).book system.shards)

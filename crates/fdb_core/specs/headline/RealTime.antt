@@ -1,5 +1,5 @@
 -- Real time: who begins after another transaction was acknowledged is never ordered before it.
-use Rattle.std.specs.Prelude.{◌≡◌, ◌<◌, ◌≤◌, ℕ, List, take, Some, Result, slice_get}
+use Rattle.std.specs.Prelude.{◌≡◌, ◌<◌, ◌≤◌, ℕ, List, take, Option, Some, Result, slice_get}
 use Rattle.fdb_keys.specs.declared.refusal.Refusal.{Refusal}
 use Rattle.fdb_txn.specs.declared.spot.Spot.{Spot}
 use Rattle.fdb_txn.specs.declared.spot.Spot.TheVariants as spot
@@ -8,18 +8,18 @@ use Rattle.fdb_core.specs.declared.config.Config.{Config}
 use Rattle.fdb_core.specs.declared.roles.client.Placed.{Placed}
 use Rattle.fdb_core.specs.declared.step.Answered.{Answered}
 use Rattle.fdb_core.specs.declared.step.Step.{Step}
-use Rattle.fdb_core.specs.machine.GrvProxySteps.{last_number}
 use Rattle.fdb_core.specs.machine.Machine.{Machine}
-use Rattle.fdb_core.specs.headline.Traces.{machine_of_trace}
+use Rattle.fdb_core.specs.headline.Readings.{Readings, readings_of, times_begun}
+use Rattle.fdb_core.specs.headline.Traces.{IsTraceOf}
 
 -- the version of the spot: of one in an entry the entry's, of one after all entries up to a version that version
 abbrev pub spot_version : Spot → ℕ
 spot_version (spot.Entry entry place version) = version
 spot_version (spot.ReadOnly version) = version
 
--- the transaction of this name has begun: the session's last one has its number or a greater one
-abbrev pub HasBegun : Machine → TxnId → Type 0
-HasBegun m id = (last : ℕ) × (last_number id.session m.last_transactions ≡ Some last) × (id.number ≤ last)
+-- the transaction of this name has begun: its session began more than those before it
+abbrev pub HasBegun : Readings → TxnId → Type 0
+HasBegun r id = id.number < times_begun id.session r.begun
 
 -- The spot is ordered after the entries up to a version: one in an entry is of a greater version, one after all entries
 -- up to a version is of that version or a greater one.
@@ -27,22 +27,22 @@ abbrev pub IsAfterVersion : ℕ → Spot → Type 0
 IsAfterVersion v (spot.Entry entry place version) = v < version
 IsAfterVersion v (spot.ReadOnly version) = v ≤ version
 
--- A transaction that is acknowledged in the later machine, and hadn't begun where another was acknowledged, reads
--- at that one's version or a greater one, and is ordered after it.
-abbrev pub AreAfterEarlier : Machine → Machine → Type 0
-AreAfterEarlier m later =
-    (i j : ℕ) (placed other : Placed) → slice_get m.acknowledged i ≡ Some placed
+-- A transaction that is acknowledged later, and hadn't begun where another was acknowledged, reads at that one's version
+-- or a greater one, and is ordered after it.
+abbrev pub AreAfterEarlier : Readings → Readings → Type 0
+AreAfterEarlier r later =
+    (i j : ℕ) (placed other : Placed) → slice_get r.acknowledged i ≡ Some placed
     → slice_get later.acknowledged j ≡ Some other
-    → (HasBegun m other.transcript.id → ⊥)
+    → (HasBegun r other.transcript.id → ⊥)
     → (spot_version placed.spot ≤ other.transcript.read_version) × IsAfterVersion (spot_version placed.spot) other.spot
 
 -- Real time over a trace: it holds of what was acknowledged in any number of its first steps.
-abbrev pub KeepsRealTime : Config → List Step → List (Result Answered Refusal) → Type 0
-KeepsRealTime config steps answers =
-    (n : ℕ) → AreAfterEarlier (machine_of_trace config (take n steps) (take n answers))
-    (machine_of_trace config steps answers)
+abbrev pub KeepsRealTime : List Step → List (Result Answered Refusal) → Type 0
+KeepsRealTime steps answers =
+    (n : ℕ) → AreAfterEarlier (readings_of (take n steps) (take n answers)) (readings_of steps answers)
 
 -- every trace keeps real time
 abbrev pub RealTime : Type 0
-RealTime = (config : Config) (steps : List Step) (answers : List (Result Answered Refusal))
-    → KeepsRealTime config steps answers
+RealTime =
+    (config : Config) (steps : List Step) (answers : List (Result Answered Refusal)) (world : Option Machine)
+    → IsTraceOf config steps answers world → KeepsRealTime steps answers

@@ -3,7 +3,7 @@ use Rattle.std.specs.Prelude.{◌≡◌, ◌<◌, ◌≤◌, suc, true, false, l
 use Rattle.std.specs.List.{AllByRecursion}
 use Rattle.fdb_txn.specs.declared.entry.Entry.{Entry}
 use Rattle.fdb_txn.specs.declared.entry.Move.{Move}
-use Rattle.fdb_txn.specs.book.Book.{seen_of}
+use Rattle.fdb_txn.specs.book.Book.{seen_of, last_version}
 use Rattle.fdb_txn.specs.book.History.{AreEntries}
 use Rattle.fdb_txn.specs.rules.SerialMap.{serial_map_at}
 use Rattle.fdb_core.specs.machine.Roles.{CommitProxy, Submission}
@@ -11,7 +11,7 @@ use Rattle.fdb_core.specs.declared.roles.client.Placed.{Placed}
 use Rattle.fdb_core.specs.declared.roles.client.program.Transcript.{Transcript}
 use Rattle.fdb_core.specs.headline.Headline.{replies_of, IsSerialized}
 use Rattle.fdb_core.specs.headline.RealTime.{spot_version, IsAfterVersion}
-use Rattle.fdb_core.specs.machine.Machine.{Machine, last_version}
+use Rattle.fdb_core.specs.machine.Machine.{Machine}
 use Rattle.fdb_core.specs.programs.Programs.{program, exec, commit_request_of}
 use Rattle.fdb_core.specs.machine.CommitProxySteps.{is_idle, is_reported}
 
@@ -41,6 +41,10 @@ abbrev pub CommitProxyIsSound : Machine → CommitProxy → Type 0
 CommitProxyIsSound m commit_proxy = AllByRecursion (Waits m) commit_proxy.waiting
     × AllByRecursion (IsReplied m) commit_proxy.in_flight × IsInFlight m commit_proxy
 
+-- an acknowledged transaction is serialized at its spot
+abbrev pub IsSerializedIn : Machine → Placed → Type 0
+IsSerializedIn m placed = IsSerialized m.config.resolver_splits m.book placed
+
 -- an acknowledged transaction is at a spot of at most the committed version, after the version that it read at
 abbrev pub IsReported : Machine → Placed → Type 0
 IsReported m placed = (spot_version placed.spot ≤ m.committed)
@@ -52,5 +56,5 @@ pub record Invariant (m : Machine) : Type 0 where
   pub committed : m.committed ≤ last_version m.book
   pub opened : AllByRecursion (IsReplied m) m.opened
   pub commit_proxies : AllByRecursion (CommitProxyIsSound m) m.commit_proxies
-  pub acknowledged : AllByRecursion (IsSerialized m) m.acknowledged
+  pub acknowledged : AllByRecursion (IsSerializedIn m) m.acknowledged
   pub reported : AllByRecursion (IsReported m) m.acknowledged

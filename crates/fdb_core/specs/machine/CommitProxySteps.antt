@@ -2,7 +2,7 @@
 use Rattle.std.specs.Prelude.{ℕ, max, Bool, true, false, not, ◌&&◌, ◌==◌, nat_lt, nat_le, List, [], ◌∷◌, ◌++◌, take, drop, map, length, replicate, Result, Ok, slice_get, slice_set, Option}
 use Rattle.fdb_keys.specs.declared.refusal.Refusal.{Refusal}
 use Rattle.fdb_keys.specs.declared.refusal.Refusal.TheVariants.{Unknown, Stale, NotYet, Exhausted, BookFull, WrongState}
-use Rattle.fdb_txn.specs.declared.batch.TheConstants.{PLACE_LIMIT}
+use Rattle.fdb_txn.specs.Limits.{place_limit}
 use Rattle.fdb_txn.specs.declared.spot.Spot.TheVariants as spot
 use Rattle.fdb_sequencer.specs.Limits.{version_limit}
 use Rattle.fdb_sequencer.specs.Sequencer.{next_version}
@@ -12,7 +12,8 @@ use Rattle.fdb_core.specs.declared.roles.client.program.Transcript.{Transcript}
 use Rattle.fdb_core.specs.declared.step.Outcome.{Outcome}
 use Rattle.fdb_core.specs.declared.step.Outcome.TheVariants as outcome
 use Rattle.fdb_core.specs.declared.step.Answered.TheVariants as answered
-use Rattle.fdb_core.specs.machine.Machine.{Machine, Transition, found, refused_where, waits_for, is_set, first_missing, last_version, seen_before}
+use Rattle.fdb_txn.specs.book.Book.{last_version, seen_before}
+use Rattle.fdb_core.specs.machine.Machine.{Machine, Transition, found, refused_where, waits_for, is_set, first_missing}
 use Rattle.fdb_core.specs.machine.Verdicts.{is_needed, outcomes_on}
 
 abbrev pub is_idle : Stage → Bool
@@ -43,8 +44,8 @@ is_reported Reported = true
 abbrev pub with_batch : CommitProxy → ℕ → ℕ → ℕ → CommitProxy
 with_batch commit_proxy entry resolvers logs =
     record {
-      waiting = drop PLACE_LIMIT commit_proxy.waiting;
-      in_flight = map (λ (submission : Submission). submission.transcript) (take PLACE_LIMIT commit_proxy.waiting);
+      waiting = drop place_limit commit_proxy.waiting;
+      in_flight = map (λ (submission : Submission). submission.transcript) (take place_limit commit_proxy.waiting);
       stage = Resolving;
       entry = entry;
       verdicts_received = replicate resolvers false;
@@ -57,7 +58,7 @@ seals m proxy advance = found (slice_get m.commit_proxies proxy) (λ commit_prox
     let prev = last_version m.book in
     let version = next_version prev advance in
     let index = length m.book in
-    let sealing = take PLACE_LIMIT commit_proxy.waiting in
+    let sealing = take place_limit commit_proxy.waiting in
     refused_where (not (is_idle commit_proxy.stage)) WrongState
     (refused_where (nat_lt version_limit version) Exhausted
     (refused_where (nat_le m.config.book index) BookFull

@@ -76,14 +76,6 @@ abbrev pub first_missing : (ℕ → Bool) → ℕ → List Bool → Option ℕ
 first_missing needed n [] = None
 first_missing needed n (flag ∷ flags) = if needed n && not flag then Some n else first_missing needed (suc n) flags
 
--- the version of the last entry, 0 where there is none
-abbrev pub last_version : List Entry → ℕ
-last_version book = fold (λ (last : ℕ) (entry : Entry). entry.version) 0 book
-
--- what was seen before entry i
-abbrev pub seen_before : List Entry → ℕ → Seen
-seen_before book i = seen_of (take i book)
-
 -- the transcript is of the session
 abbrev pub is_of : ℕ → Transcript → Bool
 is_of session transcript = transcript.id.session == session

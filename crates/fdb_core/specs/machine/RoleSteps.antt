@@ -5,7 +5,8 @@ use Rattle.fdb_keys.specs.declared.refusal.Refusal.TheVariants.{Unknown, Transac
 use Rattle.fdb_txn.specs.declared.entry.Entry.{Entry}
 use Rattle.fdb_core.specs.machine.Roles.{ShardProgress}
 use Rattle.fdb_core.specs.declared.step.Answered.TheVariants as answered
-use Rattle.fdb_core.specs.machine.Machine.{Machine, Transition, found, refused_where, in_turn, is_set, last_version, seen_before}
+use Rattle.fdb_txn.specs.book.Book.{last_version, seen_before}
+use Rattle.fdb_core.specs.machine.Machine.{Machine, Transition, found, refused_where, in_turn, is_set}
 use Rattle.fdb_core.specs.machine.Verdicts.{verdicts_on}
 
 -- Resolve: entries are taken in order, each once.

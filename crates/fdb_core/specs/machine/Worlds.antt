@@ -7,14 +7,15 @@ use Rattle.fdb_core.specs.machine.Roles.{CommitProxy, Idle}
 use Rattle.fdb_core.specs.declared.step.Answered.{Answered}
 use Rattle.fdb_core.specs.declared.step.Step.{Step}
 use Rattle.fdb_core.specs.machine.ClientSteps.{is_nil}
+use Rattle.fdb_core.specs.machine.Limits.{entry_limit}
 use Rattle.fdb_core.specs.machine.Machine.{Machine}
 use Rattle.fdb_core.specs.machine.Steps.{next, answer_of, after}
 
--- for now a world has one of each role; its book has from 1 to 1,048,576 entries
+-- for now a world has one of each role; its book has from 1 to the limit of entries
 abbrev pub is_served : Config → Bool
 is_served config =
     (config.proxies == 1) && (config.logs == 1) && is_nil config.resolver_splits && is_nil config.shard_splits
-    && (nat_le 1 config.book && nat_le config.book 1048576)
+    && (nat_le 1 config.book && nat_le config.book entry_limit)
 
 -- why a configuration is refused
 abbrev pub config_fault : Config → Option Refusal

@@ -2,11 +2,14 @@
 use Rattle.std.specs.Prelude.{◌≡◌, ⊤, Bool, true, not, List, [], ◌∷◌}
 use Rattle.std.specs.FinMap.{get}
 use Rattle.fdb_keys.specs.Points.{Point}
+use Rattle.fdb_keys.specs.Ranges.{in_set}
 use Rattle.fdb_mutations.specs.Maps.{Map}
+use Rattle.fdb_mutations.specs.Mutations.{effects}
 use Rattle.fdb_core.specs.declared.roles.client.program.Op.{Op}
 use Rattle.fdb_core.specs.declared.roles.client.program.Op.TheVariants.{Get, Write}
 use Rattle.fdb_core.specs.declared.roles.client.program.Reply.{Reply}
-use Rattle.fdb_core.specs.programs.Programs.{exec, read_set}
+use Rattle.fdb_core.specs.declared.roles.client.program.Transcript.{Transcript}
+use Rattle.fdb_core.specs.programs.Programs.{program, exec, copy, read_set, write_set, commit_request_of}
 
 -- Every operation is an ordinary one but a snapshot read, which adds nothing to the read set.
 abbrev pub is_ordinary : Op → Bool
@@ -30,3 +33,14 @@ abbrev pub ProgramsAgree : Type 0
 ProgramsAgree =
     (m n : Map) (ops : List Op) → AgreeOnReads m n ops
     → AgreeWhereOrdinary ops (exec m ops) (exec n ops) × ((x : Point) → read_set m ops x ≡ read_set n ops x)
+
+-- The sealed ranges hold exactly the points of the program's read set, on whatever map, and of its write set, and the
+-- mutations leave a map as executing the program does.
+abbrev pub CommitRequestsAreWhole : Type 0
+CommitRequestsAreWhole =
+    (transcript : Transcript) (map : Map) →
+    let ops = program transcript.ops in
+    let sealed = commit_request_of transcript in
+    ((x : Point) → in_set sealed.reads x ≡ read_set map ops x)
+    × ((x : Point) → in_set sealed.writes x ≡ write_set ops x)
+    × (effects map sealed.mutations ≡ copy map ops)

@@ -14,12 +14,15 @@ use Rattle.fdb_core.specs.declared.roles.resolver.ResolverRole.{ResolverRole}
 use Rattle.fdb_core.specs.declared.roles.client.program.Transcript.{Transcript}
 use Rattle.fdb_resolver.specs.declared.verdict.Verdict.{Verdict}
 use Rattle.fdb_core.specs.declared.step.Outcome.{Outcome}
-use Rattle.fdb_core.specs.machine.Machine.{Machine, is_set, last_version, seen_before}
+use Rattle.fdb_core.specs.machine.Limits.{entry_limit}
+use Rattle.fdb_txn.specs.book.Book.{last_version, seen_before}
+use Rattle.fdb_core.specs.machine.Machine.{Machine, is_set}
 use Rattle.fdb_core.specs.refinement.Resolving.{NoMovesIn, ResolverAt, taken_by}
 use Rattle.fdb_core.specs.programs.Programs.{program, mutations_of}
 use Rattle.fdb_core.specs.machine.CommitProxySteps.{is_idle, is_resolving}
 use Rattle.fdb_core.specs.refinement.Roles.{along, message_on, outcomes_by, body_by}
-use Rattle.fdb_core.specs.headline.Serving.{System}
+use Rattle.fdb_core.specs.headline.Serving.{System, Shard}
+use Rattle.fdb_core.specs.machine.RoleSteps.{version_of_shard}
 use Rattle.fdb_core.specs.machine.Verdicts.{verdicts_on, outcomes_on}
 
 -- the machine that the world's parts stand for
@@ -42,14 +45,25 @@ machine_of k =
       acknowledged = k.acknowledged.items;
     }
 
--- what the world shows: the machine unless memory ran out, and what its one resolver, log and shard keep
+-- what a shard shows that applied these messages and is so far
+abbrev pub shard_of : List Entry → List Message → ShardProgress → Shard
+shard_of book messages progress =
+    record {
+      floor = progress.floor;
+      version = version_of_shard book progress;
+      messages = messages;
+    }
+
+-- what the world shows: the machine unless memory ran out, and what its sequencer, its one resolver and its log keep and
+-- its shard shows
 abbrev pub system_of : Bool → Cluster → System
 system_of failed k =
     record {
       machine = if failed then None else Some (machine_of k);
+      sequencer = k.sequencer;
       resolvers = map (λ (role : ResolverRole). role.core) k.resolvers.items;
       logs = k.log.items ∷ [];
-      shards = k.shard.items ∷ [];
+      shards = map (shard_of k.book.items k.shard.items) k.shards.items;
     }
 
 -- each entry's version is above that of the entry before it
@@ -64,7 +78,7 @@ ReadsBelow entry = AllByRecursion (λ (t : Transaction). t.read < entry.version)
 pub record IsPlain (config : Config) : Type 0 where
   pub resolver_splits : config.resolver_splits ≡ []
   pub shard_splits : config.shard_splits ≡ []
-  pub book : config.book ≤ 1048576
+  pub book : config.book ≤ entry_limit
 
 -- the book, with what stands beside each entry
 pub record BookRefines (book : List Entry) (entry_proxies : List ℕ) (decided : List Bool)

@@ -2,11 +2,10 @@
 ghost use Rattle.std.specs.Prelude.{◌≡◌, ◌↔◌, ◌≤◌, ◌<◌, ◌+◌, ◌++◌, List, [], ◌∷◌, length, take, IsTrue, IfOk, IfErr, OnOk, if◌then◌else◌};
 ghost use Rattle.fdb_mutations.specs.Mutations.{effects};
 ghost use Rattle.fdb_txn.specs.declared.entry.Entry.{Entry};
-ghost use Rattle.fdb_txn.specs.book.Book.{seen_of};
+ghost use Rattle.fdb_txn.specs.book.Book.{seen_of, last_version};
 ghost use Rattle.fdb_core.specs.check.Checking.{AnsweredIn, map_after, IsPlainBook, HasCome, ComesTo, Finds};
 ghost use Rattle.fdb_core.specs.check.Comparing.{AnsweredAt, Checks};
 ghost use Rattle.fdb_core.specs.check.Holding.{AreAlike, messages_name, entries_name};
-ghost use Rattle.fdb_core.specs.machine.Machine.{last_version};
 ghost use Rattle.fdb_core.specs.refinement.Resolving.{ResolverAt, IsNext};
 ghost use Rattle.fdb_core.specs.refinement.Roles.{is_commit};
 ghost use Rattle.fdb_core.specs.machine.Verdicts.{outcomes_on};

@@ -61,7 +61,7 @@ impl Model for CommitProxy {
 
 impl CommitProxy {
     ghost use Rattle.std.specs.Prelude.{◌≡◌, true, [], ◌∷◌, ◌++◌, map, take, slice_set, IfOk, OnOk};
-    ghost use Rattle.fdb_txn.specs.declared.batch.TheConstants.{PLACE_LIMIT};
+    ghost use Rattle.fdb_txn.specs.Limits.{place_limit};
     ghost use Rattle.fdb_core.specs.machine.CommitProxySteps.{is_idle, is_resolving, is_logging, is_reported, awaits, with_batch, with_received};
     ghost use Rattle.fdb_core.specs.refinement.Views.{sender_of};
     ghost use Rattle.fdb_core.specs.machine.Roles.{Idle, Logging, Reported};
@@ -173,7 +173,7 @@ impl CommitProxy {
         resolvers: usize,
         logs: usize,
     ) -> Result<Items<Sealed>, AllocError>
-        ensures batch { IfOk result (λ batch. batch ≡ map (λ submission. submission.sealed) (take PLACE_LIMIT self.old.waiting)) }
+        ensures batch { IfOk result (λ batch. batch ≡ map (λ submission. submission.sealed) (take place_limit self.old.waiting)) }
         ensures after { OnOk result (self.new ≡ with_batch self.old entry resolvers logs) }
     {
         let verdicts_received = unset(alloc, resolvers)?;

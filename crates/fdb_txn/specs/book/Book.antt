@@ -1,5 +1,5 @@
 -- The book, read as places with all that a rule about a place looks at.
-use Rattle.std.specs.Prelude.{ℕ, List, [], ◌∷◌, fold}
+use Rattle.std.specs.Prelude.{ℕ, List, [], ◌∷◌, fold, take}
 use Rattle.fdb_keys.specs.Ranges.{Range}
 use Rattle.fdb_txn.specs.declared.entry.Move.{Move}
 use Rattle.fdb_txn.specs.declared.entry.Entry.{Entry}
@@ -49,3 +49,11 @@ add_entry seen entry =
 -- all moves and places of a book, of which the oldest entry is the first
 abbrev pub seen_of : List Entry → Seen
 seen_of book = fold add_entry nothing book
+
+-- the version of the last entry, 0 where there is none
+abbrev pub last_version : List Entry → ℕ
+last_version book = fold (λ (last : ℕ) (entry : Entry). entry.version) 0 book
+
+-- what was seen before entry i
+abbrev pub seen_before : List Entry → ℕ → Seen
+seen_before book i = seen_of (take i book)

@@ -1,4 +1,4 @@
-use Rattle.fdb_core.proofs.headline.HeadlineLaws.{acknowledged_stand}
+use Rattle.fdb_core.proofs.readings.TraceReadings.{acknowledged_stand}
 use Rattle.fdb_core.proofs.laws.acknowledged_transactions_are_serialized_at_their_spots.Goals as goal
 
 pub returns : goal.returns

@@ -1,4 +1,4 @@
-use Rattle.fdb_core.proofs.invariant.RealTimeLaws.{real_time}
+use Rattle.fdb_core.proofs.readings.TraceReadings.{real_time}
 use Rattle.fdb_core.proofs.laws.who_begins_after_an_acknowledgement_is_ordered_after_it.Goals as goal
 
 pub returns : goal.returns

@@ -1,4 +1,4 @@
-use Rattle.fdb_core.proofs.headline.ExamplesLemmas.{only_the_first_stands, read_only_at_its_version, after_a_version, an_empty_shard_does_not_serve, traced}
+use Rattle.fdb_core.proofs.headline.ExamplesLemmas.{only_the_first_stands, read_only_at_its_version, after_a_version, an_empty_shard_does_not_serve, only_ordinary_reads_count, begun_by_serving, forgetful_roles_do_not_keep, read_off_the_trace, traced}
 use Rattle.fdb_core.proofs.laws.worked_examples.Goals as goal
 
 pub returns : goal.returns
@@ -6,7 +6,10 @@ returns c = record {
   spots = only_the_first_stands;
   read_only = read_only_at_its_version;
   after = after_a_version;
-  shard =
-      an_empty_shard_does_not_serve;
+  shard = an_empty_shard_does_not_serve;
+  ordinary = only_ordinary_reads_count;
+  begun = begun_by_serving;
+  roles = forgetful_roles_do_not_keep;
+  readings = read_off_the_trace;
   traces = traced;
 }

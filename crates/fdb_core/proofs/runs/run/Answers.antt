@@ -29,8 +29,10 @@ returns c =
     let steps = c.args.steps.now in
     let after : length steps ≤ c.loop-step.step-index = search rules in
     let whole : take c.loop-step.step-index steps ≡ steps = take_all c.loop-step.step-index steps after in
-    rw c.loop-step.invariant.legal
-    (strictly_serializable c.args.config steps c.loop-step.answers c.loop-step.world
-    (subst (λ (taken : List Step). IsTraceOf c.args.config taken c.loop-step.answers c.loop-step.world.machine) whole
-    c.loop-step.invariant.stands)
-    c.loop-step.invariant.keep)
+    rw c.loop-step.invariant.legal (
+      strictly_serializable c.args.config steps c.loop-step.answers c.loop-step.world
+          (subst (λ (taken : List Step). IsTraceOf c.args.config taken c.loop-step.answers c.loop-step.world.machine)
+          whole c.loop-step.invariant.stands)
+          c.loop-step.invariant.keep,
+      c.loop-step.invariant.keep,
+    )

@@ -1,6 +1,6 @@
 // The first of those who wait at a commit proxy become a batch.
 ghost use Rattle.std.specs.Prelude.{◌≡◌, take, drop, map, IfOk, OnOk};
-ghost use Rattle.fdb_txn.specs.declared.batch.TheConstants.{PLACE_LIMIT};
+ghost use Rattle.fdb_txn.specs.Limits.{place_limit};
 
 use crate::roles::client::Submission;
 use crate::roles::client::program::Transcript;
@@ -35,8 +35,8 @@ fn sort(
 
 // Leaves at most as many as a batch may have, and gives the others.
 fn cut(alloc: Global, waiting: &mut Vec<Submission>) -> Result<Vec<Submission>, AllocError>
-    ensures rest { IfOk result (λ rest. rest.items ≡ drop PLACE_LIMIT waiting.old.items) }
-    ensures first { OnOk result (waiting.new.items ≡ take PLACE_LIMIT waiting.old.items) }
+    ensures rest { IfOk result (λ rest. rest.items ≡ drop place_limit waiting.old.items) }
+    ensures first { OnOk result (waiting.new.items ≡ take place_limit waiting.old.items) }
 {
     if waiting.len() <= PLACE_LIMIT {
         return Ok(Vec::new(alloc));
@@ -47,10 +47,10 @@ fn cut(alloc: Global, waiting: &mut Vec<Submission>) -> Result<Vec<Submission>, 
 
 /// Takes at most as many as a batch may have, in order.
 pub(crate) fn take_batch(alloc: Global, waiting: Items<Submission>) -> Result<Taken, AllocError>
-    ensures batch { IfOk result (λ taken. taken.batch ≡ map (λ submission. submission.sealed) (take PLACE_LIMIT waiting)) }
+    ensures batch { IfOk result (λ taken. taken.batch ≡ map (λ submission. submission.sealed) (take place_limit waiting)) }
     ensures transcripts { IfOk result
-        (λ taken. taken.transcripts ≡ map (λ submission. submission.transcript) (take PLACE_LIMIT waiting)) }
-    ensures rest { IfOk result (λ taken. taken.rest ≡ drop PLACE_LIMIT waiting) }
+        (λ taken. taken.transcripts ≡ map (λ submission. submission.transcript) (take place_limit waiting)) }
+    ensures rest { IfOk result (λ taken. taken.rest ≡ drop place_limit waiting) }
 {
     let mut sealing = waiting.into_vec();
     let rest = Items::from_vec(cut(alloc, &mut sealing)?);

@@ -1,5 +1,5 @@
-use Rattle.std.proofs.Common.{◌≡◌, ◌∙◌, refl, sym, ap, ap₂, ◌<◌, subst, length, get_or, ℕ, [], true, List, ◌++◌, Some, slice_get, slice_set, Ok, rules}
-use Rattle.std.proofs.lemmas.Option.{slice_get_read, slice_get_within}
+use Rattle.std.proofs.Common.{◌≡◌, ◌∙◌, sym, ap, ap₂, ◌<◌, length, get_or, ℕ, [], true, List, ◌++◌, Some, slice_get, slice_set, Ok, rules}
+use Rattle.std.proofs.lemmas.Option.{slice_get_within}
 use Rattle.fdb_txn.specs.declared.entry.Entry.{Entry}
 use Rattle.fdb_core.specs.declared.cluster.Cluster.{Cluster}
 use Rattle.fdb_core.specs.declared.roles.client.Placed.{Placed}
@@ -10,7 +10,6 @@ use Rattle.fdb_core.specs.declared.step.Outcome.{Outcome}
 use Rattle.fdb_core.specs.refinement.Cluster.{machine_of}
 use Rattle.fdb_core.specs.machine.CommitProxySteps.{is_reported, placed_from, replies_from}
 use Rattle.fdb_core.specs.machine.Steps.{answer_of, after}
-use Rattle.fdb_core.proofs.common.AllLemmas.{within-item}
 use Rattle.fdb_core.proofs.refinement.DecideLemmas.{one-item, proxy-and-entry}
 use Rattle.fdb_core.proofs.refinement.AnswerLemmas.{Answering, outcome-each, answers-transition}
 use Rattle.fdb_core.proofs.cluster.Cluster.answer.Goals as goal

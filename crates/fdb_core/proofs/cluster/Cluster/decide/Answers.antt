@@ -1,7 +1,7 @@
-use Rattle.std.proofs.Common.{◌≡◌, ◌∙◌, refl, sym, ap, subst, ◌<◌, length, get_or, true, false, ◌&&◌, not, List, ℕ, Bool, Some, Ok, Err, slice_get, slice_set, rules}
+use Rattle.std.proofs.Common.{◌≡◌, ◌∙◌, sym, ap, subst, ◌<◌, length, get_or, true, false, ◌&&◌, not, List, ℕ, Bool, Some, Ok, Err, slice_get, slice_set, rules}
 use Rattle.std.specs.Vec.{with_item}
 use Rattle.std.proofs.lemmas.Bool.{and_left, and_right}
-use Rattle.std.proofs.lemmas.Option.{slice_get_read, slice_get_within}
+use Rattle.std.proofs.lemmas.Option.{slice_get_within}
 use Rattle.fdb_keys.specs.declared.refusal.Refusal.TheVariants.{NotYet}
 use Rattle.fdb_txn.specs.declared.entry.Entry.{Entry}
 use Rattle.fdb_core.specs.machine.Roles.{CommitProxy, Logging}
@@ -13,7 +13,6 @@ use Rattle.fdb_core.specs.refinement.Cluster.{machine_of, IsDecision, Refines}
 use Rattle.fdb_core.specs.machine.Machine.{is_set}
 use Rattle.fdb_core.specs.machine.CommitProxySteps.{decides, is_resolving}
 use Rattle.fdb_core.specs.machine.Steps.{answer_of, after}
-use Rattle.fdb_core.proofs.common.AllLemmas.{within-item}
 use Rattle.fdb_core.proofs.refinement.DecideLemmas.{same-items, one-item, proxy-and-entry, Deciding, is_any_judged, decides-waits, decides-transition, verdicts_received-taken, decision-outcomes, decision-message, decided-refines}
 use Rattle.fdb_core.proofs.cluster.Cluster.decide.Goals as goal
 use Rattle.fdb_core.proofs.cluster.Cluster.decide.Goals.{After-is_set-is_received, Then-are_any_judged, In_ok-answer, else-not-is_received-via-then-not-is_received+else-are_any_judged, else-not-is_received-via-else-not-is_received}
@@ -32,8 +31,7 @@ found_at c =
     c.entry-i.ensures in_book in
     let resolving : is_resolving commit_proxy.stage ≡ true = search rules in
     let verdicts_received : is_set commit_proxy.verdicts_received 0 ≡ c.is_set-is_received.result =
-    ap (λ (flags : List Bool). is_set flags 0) (sym c.verdicts_received.ensures) ∙ sym c.is_set-is_received.ensures in
-    (
+    ap (λ (flags : List Bool). is_set flags 0) (sym c.verdicts_received.ensures) ∙ sym c.is_set-is_received.ensures in (
       read.1.0,
       record { proxy_there = read.0; resolving = resolving; entry_there = read.1.1 },
       verdicts_received,

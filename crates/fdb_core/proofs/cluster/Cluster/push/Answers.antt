@@ -3,7 +3,8 @@ use Rattle.std.proofs.lemmas.Option.{slice_get_read}
 use Rattle.fdb_txn.specs.declared.entry.Entry.{Entry}
 use Rattle.fdb_txn.specs.rules.Messages.{Message}
 use Rattle.fdb_core.specs.refinement.Cluster.{machine_of}
-use Rattle.fdb_core.specs.machine.Machine.{is_set, seen_before}
+use Rattle.fdb_txn.specs.book.Book.{seen_before}
+use Rattle.fdb_core.specs.machine.Machine.{is_set}
 use Rattle.fdb_core.specs.refinement.Roles.{message_on}
 use Rattle.fdb_core.proofs.common.AllLemmas.{within-item}
 use Rattle.fdb_core.proofs.refinement.RoleTies.{log-next}

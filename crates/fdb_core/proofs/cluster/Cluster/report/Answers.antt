@@ -3,7 +3,8 @@ use Rattle.std.proofs.lemmas.Option.{slice_get_read}
 use Rattle.fdb_core.specs.machine.Roles.{CommitProxy, Logging, Reported}
 use Rattle.fdb_core.specs.declared.step.Answered.TheVariants as answered
 use Rattle.fdb_core.specs.refinement.Cluster.{machine_of, OpenRefines}
-use Rattle.fdb_core.specs.machine.Machine.{first_missing, last_version}
+use Rattle.fdb_txn.specs.book.Book.{last_version}
+use Rattle.fdb_core.specs.machine.Machine.{first_missing}
 use Rattle.fdb_core.specs.machine.CommitProxySteps.{is_logging, reports}
 use Rattle.fdb_txn.proofs.book.HistoryLemmas.{all-weaken}
 use Rattle.fdb_core.proofs.refinement.CommitProxyTies.{commit_proxies-set, commit_proxy-reported}

@@ -7,7 +7,7 @@ use Rattle.fdb_core.specs.declared.cluster.Cluster.{Cluster}
 use Rattle.fdb_core.specs.declared.roles.resolver.ResolverRole.{ResolverRole}
 use Rattle.fdb_core.specs.machine.RoleSteps.{resolves}
 use Rattle.fdb_core.specs.refinement.Cluster.{machine_of, CommitProxiesRefine}
-use Rattle.fdb_core.specs.machine.Machine.{seen_before}
+use Rattle.fdb_txn.specs.book.Book.{seen_before}
 use Rattle.fdb_core.specs.refinement.Resolving.{TakesNext, taken_by}
 use Rattle.fdb_core.specs.machine.Verdicts.{verdicts_on}
 use Rattle.fdb_core.proofs.refinement.DecideLemmas.{one-item}

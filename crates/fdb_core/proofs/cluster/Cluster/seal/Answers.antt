@@ -3,7 +3,7 @@ use Rattle.std.proofs.lemmas.List.{length-append, length-map}
 use Rattle.std.proofs.lemmas.Option.{slice_get_read}
 use Rattle.std.proofs.lemmas.Result.{err_from_is_err_and}
 use Rattle.fdb_keys.specs.declared.refusal.Refusal.TheVariants.{Exhausted}
-use Rattle.fdb_txn.specs.declared.batch.TheConstants.{PLACE_LIMIT}
+use Rattle.fdb_txn.specs.Limits.{place_limit}
 use Rattle.fdb_txn.specs.declared.entry.Entry.{Entry}
 use Rattle.fdb_sequencer.specs.declared.ticket.Ticket.{Ticket}
 use Rattle.fdb_sequencer.specs.Limits.{version_limit}
@@ -12,7 +12,7 @@ use Rattle.fdb_core.specs.machine.Roles.{CommitProxy, Submission}
 use Rattle.fdb_core.specs.declared.step.Answered.TheVariants as answered
 use Rattle.fdb_core.specs.declared.roles.resolver.ResolverRole.{ResolverRole}
 use Rattle.fdb_core.specs.refinement.Cluster.{machine_of, WaitsRefines, CommitProxiesRefine}
-use Rattle.fdb_core.specs.machine.Machine.{last_version}
+use Rattle.fdb_txn.specs.book.Book.{last_version}
 use Rattle.fdb_core.specs.machine.CommitProxySteps.{seals, is_idle, with_batch}
 use Rattle.fdb_core.proofs.common.AllLemmas.{all-take}
 use Rattle.fdb_core.proofs.refinement.CommitProxyTies.{commit_proxies-set}
@@ -26,7 +26,7 @@ use Rattle.fdb_core.proofs.cluster.Cluster.seal.Goals.{After-drop-ticket-2, In_e
 use Rattle.fdb_core.specs.refinement.Resolving.{taken_by}
 
 pub overflow_cast-places : goal.overflow_cast-places
-overflow_cast-places c = let few : length c.in_ok-batch.batch ≤ PLACE_LIMIT = batch-fits _ _
+overflow_cast-places c = let few : length c.in_ok-batch.batch ≤ place_limit = batch-fits _ _
     c.in_ok-batch.ensures.batch in omega (arith, few)
 
 pub new-batch-requires : goal.new-batch-requires
@@ -81,7 +81,7 @@ room c = search rules
 
 batch : (c : After-drop-ticket-2)
     → c.in_ok-batch.batch ≡ map (λ (submission : Submission). submission.sealed)
-    (take PLACE_LIMIT c.index_mut-commit_proxy.result.now.waiting)
+    (take place_limit c.index_mut-commit_proxy.result.now.waiting)
 batch c = c.in_ok-batch.ensures.batch
 
 -- the new entry, and the commit proxy
@@ -148,7 +148,7 @@ returns-in_err-ticket-clause-after c =
 
 pub returns-clause-answer : goal.returns-clause-answer
 returns-clause-answer c =
-    let places : c.len-places.result ≡ length (take PLACE_LIMIT c.index_mut-commit_proxy.result.now.waiting) =
+    let places : c.len-places.result ≡ length (take place_limit c.index_mut-commit_proxy.result.now.waiting) =
     c.len-places.ensures
     ∙ length-sealed c.index_mut-commit_proxy.result.now.waiting c.in_ok-batch.batch (batch c) in
     rw (seals-transition (machine_of c.args.self.now) c.args.proxy c.args.advance c.index_mut-commit_proxy.result.now
@@ -177,15 +177,15 @@ returns-clause-refines c =
     let above : last_version k.book.items < e.version = omega arith in
     let ok = commit_proxy-at k.book.items (taken_by k.resolvers.items) k.sequencer.committed k.commit_proxies.items
     k.outcomes c.args.proxy commit_proxy before.commit_proxies (there c) in
-    let reads = sealed-below k.sequencer.committed e.version (take PLACE_LIMIT commit_proxy.waiting)
+    let reads = sealed-below k.sequencer.committed e.version (take place_limit commit_proxy.waiting)
     (omega (arith, above, before.sequencer.committed))
-    (all-take (WaitsRefines k.sequencer.committed) PLACE_LIMIT commit_proxy.waiting ok.waiting) in
+    (all-take (WaitsRefines k.sequencer.committed) place_limit commit_proxy.waiting ok.waiting) in
     let one : length (taken_by k.resolvers.items) ≡ 1 = ap (λ (rs : List ResolverRole). length (taken_by rs))
     before.resolvers.one in
     let fits : length k.book.items < k.config.book = room c in
-    let aligned = length-map (take PLACE_LIMIT commit_proxy.waiting)
+    let aligned = length-map (take place_limit commit_proxy.waiting)
     (λ (submission : Submission). submission.transcript)
-    ∙ sym (length-map (take PLACE_LIMIT commit_proxy.waiting) (λ (submission : Submission). submission.sealed)) in
+    ∙ sym (length-map (take place_limit commit_proxy.waiting) (λ (submission : Submission). submission.sealed)) in
     record {
       plain = before.plain;
       room = rw (book_then c) (omega (arith, length-append k.book.items (e ∷ []), fits));
@@ -209,7 +209,7 @@ returns-clause-refines c =
           k.commit_proxies.items c.args.proxy commit_proxy (sealed_proxy m commit_proxy)
           before.commit_proxies (there c)
           (commit_proxy-seal k.book.items e (taken_by k.resolvers.items) k.sequencer.committed commit_proxy k.outcomes
-          PLACE_LIMIT (sealed_proxy m commit_proxy).in_flight
+          place_limit (sealed_proxy m commit_proxy).in_flight
           (sealed_proxy m commit_proxy).acknowledgements_received one aligned)));
       opened = rw c.issue.ensures before.opened;
     }

@@ -5,7 +5,7 @@ use Rattle.fdb_core.specs.machine.Roles.{Submission}
 use Rattle.fdb_core.specs.refinement.Cluster.{OpenRefines, WaitsRefines}
 use Rattle.fdb_core.proofs.common.AllLemmas.{all-at, all-remove}
 use Rattle.fdb_core.proofs.refinement.CommitProxyTies.{commit_proxies-set, commit_proxy-submit}
-use Rattle.fdb_core.proofs.invariant.SoundLemmas.{commit_request_of-names}
+use Rattle.fdb_core.proofs.programs.WriteSetLemmas.{commit_request_of-names}
 use Rattle.fdb_core.proofs.cluster.Cluster.submit.Goals as goal
 use Rattle.fdb_core.specs.refinement.Resolving.{taken_by}
 

@@ -2,13 +2,12 @@ use Rattle.std.proofs.Common.{◌≡◌, ◌∙◌, refl, ap, ◌≤◌, ℕ, tr
 use Rattle.std.specs.FinMap.{get}
 use Rattle.std.proofs.lemmas.Bool.{le-ltb}
 use Rattle.fdb_txn.specs.declared.entry.Entry.{Entry}
-use Rattle.fdb_txn.specs.book.Book.{seen_of}
+use Rattle.fdb_txn.specs.book.Book.{seen_of, last_version}
 use Rattle.fdb_txn.specs.rules.Owners.{first_owner}
 use Rattle.fdb_txn.specs.rules.SerialMap.{serial_map_at}
 use Rattle.fdb_core.specs.machine.Roles.{ShardProgress}
 use Rattle.fdb_core.specs.machine.RoleSteps.{shard_fault}
 use Rattle.fdb_core.specs.refinement.Cluster.{machine_of}
-use Rattle.fdb_core.specs.machine.Machine.{last_version}
 use Rattle.fdb_core.specs.programs.Programs.{program, decided, value_after_op}
 use Rattle.fdb_txn.specs.rules.Messages.{value_in}
 use Rattle.fdb_core.proofs.refinement.RunLaws.{entries-rising, value-of-serial_map}

@@ -1,7 +1,5 @@
-use Rattle.std.proofs.Common.{◌≡◌, ◌∙◌, sym, subst, Bool, true, false}
+use Rattle.std.proofs.Common.{sym, subst, Bool, true, false}
 use Rattle.fdb_core.specs.declared.cluster.Cluster.{Cluster}
-use Rattle.std.specs.Prelude.{IfSome}
-use Rattle.fdb_core.specs.headline.Headline.{AllSerialized}
 use Rattle.fdb_core.specs.headline.Serving.{RolesKeep}
 use Rattle.fdb_core.specs.invariant.Invariant.{Invariant}
 use Rattle.fdb_core.specs.machine.Steps.{Unless, ran_out}
@@ -13,11 +11,6 @@ use Rattle.fdb_core.proofs.world.World.take.Goals as goal
 use Rattle.fdb_core.proofs.world.World.take.Goals.{After-ran_out-self-inside}
 
 -- what holds of the parts unless memory ran out holds of what the world shows
-serial-shown : (failed : Bool) (k : Cluster) → Unless failed (Invariant (machine_of k))
-    → IfSome (system_of failed k).machine AllSerialized
-serial-shown true k sound = tt
-serial-shown false k sound = sound.acknowledged
-
 roles-shown : (failed : Bool) (k : Cluster) → Unless failed (Refines k) → RolesKeep (system_of failed k)
 roles-shown true k refines = tt
 roles-shown false k refines = roles_keep k refines
@@ -35,10 +28,6 @@ refines c = rw c.ran_out-self-inside.ensures c.step-answer.ensures.refines
 pub invariant_of-self : goal.invariant_of-self
 invariant_of-self c = let taken = (goal.at.invariant_of-self c).After-ran_out-self-inside in
     λ here. (held _ _ (refines taken) here, held _ _ (sound taken) here)
-
-pub returns-clause-serial : goal.returns-clause-serial
-returns-clause-serial c = serial-shown _ c.step-answer.new.self
-    (sound (goal.at.returns-clause-serial c).After-ran_out-self-inside)
 
 pub returns-clause-roles : goal.returns-clause-roles
 returns-clause-roles c = roles-shown _ c.step-answer.new.self

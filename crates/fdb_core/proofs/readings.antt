@@ -1,0 +1,7 @@
+pub mod Agreement
+pub mod AnswerReadings
+pub mod AnswersByTrace
+pub mod GrantLemmas
+pub mod SessionLists
+pub mod StepReadings
+pub mod TraceReadings

@@ -1,0 +1,170 @@
+-- Each accepted step is answered by what the trace told before.
+use Rattle.std.proofs.Common.{◌≡◌, ◌∙◌, refl, sym, ap, subst, ⊎_elim, ℕ, max, true, List, [], ◌∷◌, map, length, take, Option, Some, None, Result, Ok, Err}
+use Rattle.std.specs.List.{AllByRecursion, slice_get}
+use Rattle.std.specs.FinMap.{get}
+use Rattle.std.proofs.lemmas.Bool.{and_parts}
+use Rattle.std.proofs.lemmas.List.{length-map, take-map}
+use Rattle.std.proofs.lemmas.Option.{same_Some}
+use Rattle.fdb_keys.specs.declared.refusal.Refusal.{Refusal}
+use Rattle.fdb_keys.specs.Points.{Point}
+use Rattle.fdb_txn.specs.Limits.{place_limit}
+use Rattle.fdb_txn.specs.declared.entry.Entry.{Entry}
+use Rattle.fdb_txn.specs.book.Book.{seen_of, last_version, seen_before}
+use Rattle.fdb_txn.specs.rules.SerialMap.{serial_map_at}
+use Rattle.fdb_core.specs.declared.config.Config.{Config}
+use Rattle.fdb_core.specs.declared.roles.client.program.Op.{Op}
+use Rattle.fdb_core.specs.declared.roles.client.program.Op.TheVariants as op
+use Rattle.fdb_core.specs.declared.roles.client.program.Transcript.{Transcript}
+use Rattle.fdb_core.specs.declared.step.Answered.{Answered}
+use Rattle.fdb_core.specs.declared.step.Answered.TheVariants as answered
+use Rattle.fdb_core.specs.declared.step.Step.{Step}
+use Rattle.fdb_core.specs.declared.step.Step.TheVariants as step
+use Rattle.fdb_core.specs.headline.Answers.{IsAnswered, HasOpened, AnsweredByTheTrace}
+use Rattle.fdb_core.specs.headline.Readings.{Readings, of_session, readings_of}
+use Rattle.fdb_core.specs.machine.ClientSteps.{answered_by}
+use Rattle.fdb_core.specs.machine.CommitProxySteps.{is_idle, replies_from}
+use Rattle.fdb_core.specs.machine.Machine.{Machine, Transition}
+use Rattle.fdb_core.specs.machine.Steps.{next, answer_of}
+use Rattle.fdb_core.specs.machine.Verdicts.{outcomes_on}
+use Rattle.fdb_core.specs.machine.Worlds.{start, IsRun, IsStep}
+use Rattle.fdb_core.specs.programs.Programs.{program, copy, reply_on, mutations_of}
+use Rattle.fdb_core.proofs.headline.RunsLemmas.{run-last}
+use Rattle.fdb_core.proofs.headline.TraceLaws.{traces_tell}
+use Rattle.fdb_core.proofs.invariant.SerializedLemmas.{nil-is}
+use Rattle.fdb_core.proofs.machine.AcceptedTransitions.{IfAccepted}
+use Rattle.fdb_core.proofs.machine.Steps.{HoldsOfSteps, holds-next, is_quiet, operation_of}
+use Rattle.fdb_core.proofs.readings.Agreement.{TellsMachine}
+use Rattle.fdb_core.proofs.readings.SessionLists.{found-at}
+use Rattle.fdb_core.proofs.readings.StepReadings.{batch-at}
+use Rattle.fdb_core.proofs.readings.TraceReadings.{config-kept, trace-tells}
+
+-- an accepted step is answered by what is told of the machine
+abbrev AnswersTold : Machine → Step → Answered → Machine → Type 0
+AnswersTold m taken answer after =
+    (r : Readings) → TellsMachine r m → IsAnswered m.config.resolver_splits r taken answer
+
+-- nothing is said of the answer to a quiet step
+quiet-answered : (splits : List Point) (r : Readings) (taken : Step) (answer : Answered) → is_quiet taken ≡ true
+    → IsAnswered splits r taken answer
+quiet-answered splits r (step.Ask session proxy) answer quiet = cc
+quiet-answered splits r (step.Grant proxy) answer quiet = cc
+quiet-answered splits r (step.Get session key snapshot) answer quiet = cc
+quiet-answered splits r (step.Write session mutation) answer quiet = cc
+quiet-answered splits r (step.Submit session proxy) answer quiet = cc
+quiet-answered splits r (step.Seal proxy advance) answer quiet = cc
+quiet-answered splits r (step.Resolve i resolver) answer quiet = tt
+quiet-answered splits r (step.Verdict i resolver) answer quiet = tt
+quiet-answered splits r (step.Decide proxy) answer quiet = tt
+quiet-answered splits r (step.Push i log) answer quiet = tt
+quiet-answered splits r (step.Logged i log) answer quiet = tt
+quiet-answered splits r (step.Report proxy) answer quiet = cc
+quiet-answered splits r (step.Answer proxy) answer quiet = cc
+quiet-answered splits r (step.Pull shard limit) answer quiet = tt
+
+-- all who ask are told the same version
+all-granted : (version reported : ℕ) (sessions : List ℕ) → version ≡ reported
+    → AllByRecursion (λ (grant : ℕ × ℕ). grant.1 ≡ reported) (map (λ (session : ℕ). (session, version)) sessions)
+all-granted version reported [] same = tt
+all-granted version reported (session ∷ sessions) same = (same, all-granted version reported sessions same)
+
+-- an operation is replied from the map at the read version
+operation-answered : (splits : List Point) (r : Readings) (book : List Entry) (taken : Step) (session : ℕ)
+    (operation : Op) (transcript : Transcript)
+    → r.book ≡ book → HasOpened r session transcript → operation_of taken ≡ Some (session, operation)
+    → IsAnswered splits r taken (answered_by (reply_on
+    (copy (serial_map_at splits transcript.read_version (seen_of book).places) (program transcript.ops)) operation))
+operation-answered splits r book (step.Get own key snapshot) session operation transcript same opened is =
+    let done = same_Some (own, op.Get key snapshot) (session, operation) is in
+    subst (λ (pair : ℕ × Op). IsAnswered splits r (step.Get own key snapshot) (answered_by (reply_on
+    (copy (serial_map_at splits transcript.read_version (seen_of book).places) (program transcript.ops)) pair.1)))
+    done (
+      transcript,
+      subst (λ (s : ℕ). HasOpened r s transcript) (sym (ap (λ (pair : ℕ × Op). pair.0) done)) opened,
+      ap (λ (b : List Entry). get
+          (copy (serial_map_at splits transcript.read_version (seen_of b).places) (program transcript.ops)) key) (sym same),
+    )
+operation-answered splits r book (step.Write own mutation) session operation transcript same opened is =
+    subst (λ (pair : ℕ × Op). IsAnswered splits r (step.Write own mutation) (answered_by (reply_on
+    (copy (serial_map_at splits transcript.read_version (seen_of book).places) (program transcript.ops)) pair.1)))
+    (same_Some (own, op.Write mutation) (session, operation) is) refl
+operation-answered splits r book (step.Ask own proxy) session operation transcript same opened is = cc
+operation-answered splits r book (step.Grant proxy) session operation transcript same opened is = cc
+operation-answered splits r book (step.Submit own proxy) session operation transcript same opened is = cc
+operation-answered splits r book (step.Seal proxy advance) session operation transcript same opened is = cc
+operation-answered splits r book (step.Resolve i resolver) session operation transcript same opened is = cc
+operation-answered splits r book (step.Verdict i resolver) session operation transcript same opened is = cc
+operation-answered splits r book (step.Decide proxy) session operation transcript same opened is = cc
+operation-answered splits r book (step.Push i log) session operation transcript same opened is = cc
+operation-answered splits r book (step.Logged i log) session operation transcript same opened is = cc
+operation-answered splits r book (step.Report proxy) session operation transcript same opened is = cc
+operation-answered splits r book (step.Answer proxy) session operation transcript same opened is = cc
+operation-answered splits r book (step.Pull shard limit) session operation transcript same opened is = cc
+
+answered_steps : HoldsOfSteps AnswersTold
+answered_steps = record {
+  roles = λ m taken answer resolvers logs shards quiet r tells. quiet-answered _ r taken answer quiet;
+  asked = λ m session proxy there at free r tells. refl;
+  granted = λ m proxy there at left r tells. all-granted m.committed r.reported there (sym tells.reported_told);
+  operated = λ m taken session i transcript operation does is there r tells.
+      operation-answered m.config.resolver_splits r m.book taken session operation transcript tells.book_told
+      (ap (of_session session) tells.opened_told ∙ found-at session m.opened i transcript is there) does;
+  read_only = λ m session proxy i transcript is there empty r tells. (
+    transcript,
+    ap (of_session session) tells.opened_told ∙ found-at session m.opened i transcript is there,
+    refl,
+    nil-is (mutations_of (program transcript.ops)) (and_parts _ _ empty).0,
+  );
+  submitted = λ m session proxy commit_proxy i transcript at is there writes r tells. refl;
+  sealed = λ m proxy advance commit_proxy at idle few room r tells.
+      let was = tells.proxies_told proxy commit_proxy at in (
+        ap (λ (b : List Entry). length b) (sym tells.book_told),
+        ap last_version (sym tells.book_told),
+        refl,
+        sym (ap (λ (waits : List Transcript). length (take place_limit waits)) was.waiting_told
+            ∙ ap (λ (batch : List Transcript). length batch)
+            (take-map (λ submission. submission.transcript) place_limit commit_proxy.waiting)
+            ∙ length-map (take place_limit commit_proxy.waiting) (λ submission. submission.transcript)),
+      );
+  went_on = λ m taken answer proxy commit_proxy stage decided verdicts acknowledgements quiet at busy goes_on
+      unreported r tells. quiet-answered _ r taken answer quiet;
+  reported_version = λ m proxy commit_proxy entry at logging there r tells.
+      let batch = batch-at r m proxy commit_proxy entry tells at (ap is_idle logging) there in
+      λ k. answered.Version (max (sym tells.reported_told k) (sym batch k).version);
+  told = λ m proxy commit_proxy entry at reported there r tells.
+      let batch = batch-at r m proxy commit_proxy entry tells at (ap is_idle reported) there in
+      let splits = m.config.resolver_splits in (
+        entry,
+        (λ k. slice_get (tells.book_told k) (batch k).entry) ∙ there,
+        λ k. replies_from (sym batch k).transcripts
+            (outcomes_on splits (seen_before (sym tells.book_told k) (sym batch k).entry) entry),
+      );
+}
+
+pub answered_by_trace : AnsweredByTheTrace
+answered_by_trace config steps given taken answer world stands =
+    let last = run-last (Some (start config)) world steps given taken (Ok answer) stands in
+    from_mid last.0 last.1 last.2
+  where
+    from_result : (m : Machine) (r : Readings) (result : Result Transition Refusal)
+        → IfAccepted (λ transition. (r : Readings) → TellsMachine r m
+        → IsAnswered m.config.resolver_splits r taken transition.answer) result
+        → TellsMachine r m → Ok answer ≡ answer_of result → IsAnswered m.config.resolver_splits r taken answer
+    from_result m r (Ok transition) holds tells is =
+        let same : transition.answer ≡ answer = cc in
+        subst (IsAnswered m.config.resolver_splits r taken) same (holds r tells)
+    from_result m r (Err refusal) holds tells is = cc
+
+    from_mid : (mid : Option Machine) → IsRun (Some (start config)) steps given mid → IsStep mid taken (Ok answer) world
+        → IsAnswered config.resolver_splits (readings_of steps given) taken answer
+    from_mid None ran stepped = let wrong = stepped.0 in cc
+    from_mid (Some m) ran stepped =
+        let is = traces_tell config steps given m ran in
+        let tells = subst (TellsMachine (readings_of steps given)) (sym is)
+        (trace-tells config steps given (Some m) ran) in
+        subst (λ (c : Config). IsAnswered c.resolver_splits (readings_of steps given) taken answer)
+        (ap (λ (n : Machine). n.config) is ∙ config-kept config steps given)
+        (⊎_elim
+        (λ went. from_result m (readings_of steps given) (next m taken) (holds-next AnswersTold answered_steps m taken)
+        tells went.0)
+        (λ failed. let wrong = failed.0 in cc)
+        stepped)

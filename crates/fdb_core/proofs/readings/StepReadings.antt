@@ -1,0 +1,320 @@
+-- Every accepted step tells, with its answer, what it does to the machine.
+use Rattle.std.proofs.Common.{◌≡◌, ◌≢◌, ◌∙◌, ◌≤◌, le_refl, refl, sym, ap, ap₂, subst, ℕ, max, false, List, [], ◌∷◌, ◌++◌, take, drop, map, length, fold, Some, position}
+use Rattle.std.specs.List.{AllByRecursion, slice_get, slice_set, remove}
+use Rattle.std.proofs.lemmas.Option.{same_Some}
+use Rattle.std.proofs.lemmas.List.{map-append, take-map, drop-map}
+use Rattle.fdb_txn.specs.Limits.{place_limit}
+use Rattle.fdb_txn.specs.declared.entry.Entry.{Entry}
+use Rattle.fdb_txn.specs.declared.spot.Spot.TheVariants as spot
+use Rattle.fdb_txn.specs.book.Book.{seen_of, seen_before, last_version}
+use Rattle.fdb_txn.specs.rules.SerialMap.{serial_map_at}
+use Rattle.fdb_core.specs.declared.roles.client.Placed.{Placed}
+use Rattle.fdb_core.specs.declared.roles.client.program.Transcript.{Transcript}
+use Rattle.fdb_core.specs.headline.Readings.{Readings, SealedBatch, begins, waits_at, seals_entry, of_session, others_than, with_one_more, with_at, all_acknowledged_by}
+use Rattle.fdb_core.specs.invariant.Invariant.{Invariant, Waits, CommitProxyIsSound}
+use Rattle.fdb_core.specs.machine.ClientSteps.{add_operation}
+use Rattle.fdb_core.specs.machine.CommitProxySteps.{is_idle, replies_from}
+use Rattle.fdb_core.specs.machine.GrvProxySteps.{serve, without}
+use Rattle.fdb_core.specs.machine.Machine.{Machine, is_of}
+use Rattle.fdb_core.specs.machine.Roles.{CommitProxy, Submission, Reported, Idle}
+use Rattle.fdb_core.specs.machine.Verdicts.{outcomes_on}
+use Rattle.fdb_core.specs.programs.Programs.{program, copy, reply_on, commit_request_of}
+use Rattle.fdb_sequencer.specs.Sequencer.{next_version}
+use Rattle.fdb_core.proofs.common.AllLemmas.{all-at, all-take}
+use Rattle.fdb_core.proofs.invariant.OnceLaws.{able}
+use Rattle.fdb_core.proofs.invariant.SoundLemmas.{sealed-in_flight}
+use Rattle.fdb_core.proofs.machine.Steps.{HoldsOfSteps}
+use Rattle.fdb_core.proofs.readings.Agreement.{AtProxy, TellsMachine, TellsOn, transcripts_of, quiet-tells, operation-tells, changed-there, changed-elsewhere, one-changes, book-grows, AnsweredOnce, flies, once-goes_on, once-answered, once-sealed}
+use Rattle.fdb_core.proofs.readings.AnswerReadings.{acknowledged-placed}
+use Rattle.fdb_core.proofs.readings.GrantLemmas.{HaveNumbers, grant-begins}
+use Rattle.fdb_core.proofs.readings.SessionLists.{found-at, others-removed, others-without, one_more-set}
+use Rattle.fdb_core.proofs.refinement.SealLemmas.{last-at, sealed_entry, sealed_proxy, sealed_machine}
+
+-- where only the open transactions change, and who is told to be open
+with-opened : (r : Readings) (m : Machine) (told opened : List Transcript) → TellsMachine r m → told ≡ opened
+    → TellsMachine (record r { opened = told }) (record m { opened = opened })
+with-opened r m told opened tells same = record {
+  book_told = tells.book_told;
+  opened_told = same;
+  acknowledged_told = tells.acknowledged_told;
+  reported_told = tells.reported_told;
+  no_moves = tells.no_moves;
+  begun_told = tells.begun_told;
+  proxies_told = tells.proxies_told;
+  once_told = tells.once_told;
+}
+
+-- where a version is reported
+with-reported : (r : Readings) (m : Machine) (told committed : ℕ) → TellsMachine r m → told ≡ committed
+    → TellsMachine (record r { reported = told }) (record m { committed = committed })
+with-reported r m told committed tells same = record {
+  book_told = tells.book_told;
+  opened_told = tells.opened_told;
+  acknowledged_told = tells.acknowledged_told;
+  reported_told = same;
+  no_moves = tells.no_moves;
+  begun_told = tells.begun_told;
+  proxies_told = tells.proxies_told;
+  once_told = tells.once_told;
+}
+
+-- where some are acknowledged
+with-acknowledged : (r : Readings) (m : Machine) (told acknowledged : List Placed) → TellsMachine r m
+    → told ≡ acknowledged
+    → TellsMachine (record r { acknowledged = told }) (record m { acknowledged = acknowledged })
+with-acknowledged r m told acknowledged tells same = record {
+  book_told = tells.book_told;
+  opened_told = tells.opened_told;
+  acknowledged_told = same;
+  reported_told = tells.reported_told;
+  no_moves = tells.no_moves;
+  begun_told = tells.begun_told;
+  proxies_told = tells.proxies_told;
+  once_told = tells.once_told;
+}
+
+-- where a commit proxy changes, and what is told of it
+with-proxy : (r : Readings) (m : Machine) (waiting : ℕ → List Transcript) (answered : List ℕ) (proxy : ℕ)
+    (new : CommitProxy)
+    → TellsMachine r m → ((other : ℕ) → other ≢ proxy → r.waiting other ≡ waiting other)
+    → AtProxy m.book (waiting proxy) (r.sealed proxy) new
+    → AnsweredOnce m.book answered (slice_set m.commit_proxies proxy new)
+    → TellsMachine (record r { waiting = waiting; answered = answered })
+    (record m { commit_proxies = slice_set m.commit_proxies proxy new })
+with-proxy r m waiting answered proxy new tells others has once = record {
+  book_told = tells.book_told;
+  opened_told = tells.opened_told;
+  acknowledged_told = tells.acknowledged_told;
+  reported_told = tells.reported_told;
+  no_moves = tells.no_moves;
+  begun_told = tells.begun_told;
+  proxies_told = one-changes m.book r.waiting waiting r.sealed r.sealed m.commit_proxies proxy new tells.proxies_told
+      (λ other differs. (others other differs, refl)) has;
+  once_told = once;
+}
+
+-- the same where nothing is told of it
+proxy-goes_on : (r : Readings) (m : Machine) (proxy : ℕ) (old new : CommitProxy)
+    → slice_get m.commit_proxies proxy ≡ Some old → TellsMachine r m
+    → AtProxy m.book (r.waiting proxy) (r.sealed proxy) new → ((entry : ℕ) → flies entry new ≤ flies entry old)
+    → TellsMachine r (record m { commit_proxies = slice_set m.commit_proxies proxy new })
+proxy-goes_on r m proxy old new at tells has less =
+    with-proxy r m r.waiting r.answered proxy new tells (λ other differs. refl) has
+    (once-goes_on m.book r.answered m.commit_proxies proxy old new at tells.once_told less)
+
+-- those who begin are granted
+granted-told : (r : Readings) (m : Machine) (there : List ℕ) → TellsMachine r m → HaveNumbers m.last_transactions there
+    → let served = fold (serve m.committed) (m.last_transactions, m.opened) there in
+    TellsMachine (fold begins r (map (λ (session : ℕ). (session, m.committed)) there))
+    (record m { last_transactions = served.0; opened = served.1 })
+granted-told r m there tells have =
+    let served = fold (serve m.committed) (m.last_transactions, m.opened) there in
+    let begun = grant-begins m.committed there r m.last_transactions m.opened tells.opened_told tells.begun_told have in
+    subst (λ (told : Readings). TellsMachine told (record m { last_transactions = served.0; opened = served.1 }))
+    (sym begun.0)
+    (record {
+      book_told = tells.book_told;
+      opened_told = refl;
+      acknowledged_told = tells.acknowledged_told;
+      reported_told = tells.reported_told;
+      no_moves = tells.no_moves;
+      begun_told = begun.1;
+      proxies_told = tells.proxies_told;
+      once_told = tells.once_told;
+    })
+
+-- a transaction that waits at a proxy
+submitted-told : (r : Readings) (m : Machine) (session proxy : ℕ) (commit_proxy : CommitProxy) (i : ℕ)
+    (transcript : Transcript) (submission : Submission)
+    → TellsMachine r m → slice_get m.commit_proxies proxy ≡ Some commit_proxy
+    → position (is_of session) m.opened ≡ Some i → slice_get m.opened i ≡ Some transcript
+    → transcript ≡ submission.transcript
+    → TellsMachine (waits_at r session proxy) (record m {
+      opened = remove m.opened i;
+      commit_proxies = slice_set m.commit_proxies proxy
+          (record commit_proxy { waiting = commit_proxy.waiting ++ submission ∷ [] });
+    })
+submitted-told r m session proxy commit_proxy i transcript submission tells at is there same =
+    let was = tells.proxies_told proxy commit_proxy at in
+    let alone = ap (of_session session) tells.opened_told ∙ found-at session m.opened i transcript is there in
+    let waits = with_at proxy (r.waiting proxy ++ of_session session r.opened) r.waiting in
+    let there_waits : waits proxy ≡ transcripts_of (commit_proxy.waiting ++ submission ∷ []) =
+    changed-there proxy (r.waiting proxy ++ of_session session r.opened) r.waiting
+    ∙ ap₂ (λ (first found : List Transcript). first ++ found) was.waiting_told
+    (alone ∙ ap (λ (t : Transcript). t ∷ []) same)
+    ∙ sym (map-append (λ (s : Submission). s.transcript) commit_proxy.waiting (submission ∷ [])) in
+    with-opened (record r { waiting = waits }) (record m {
+      commit_proxies = slice_set m.commit_proxies proxy
+          (record commit_proxy { waiting = commit_proxy.waiting ++ submission ∷ [] });
+    })
+    (others_than session r.opened) (remove m.opened i)
+    (with-proxy r m waits r.answered proxy (record commit_proxy { waiting = commit_proxy.waiting ++ submission ∷ [] })
+    tells
+    (λ other differs. sym (changed-elsewhere proxy _ r.waiting other differs))
+    (record { waiting_told = there_waits; batch_told = was.batch_told })
+    (once-goes_on m.book r.answered m.commit_proxies proxy commit_proxy _ at tells.once_told
+    (λ entry. le_refl (flies entry commit_proxy))))
+    (ap (others_than session) tells.opened_told ∙ sym (others-removed session m.opened i is))
+
+-- a proxy that seals
+sealed-told : (r : Readings) (m : Machine) (proxy advance : ℕ) (commit_proxy : CommitProxy)
+    → TellsMachine r m → Invariant m → slice_get m.commit_proxies proxy ≡ Some commit_proxy
+    → commit_proxy.stage ≡ Idle
+    → TellsMachine
+    (seals_entry r proxy (length m.book) (next_version (last_version m.book) advance) (last_version m.book))
+    (sealed_machine m proxy advance commit_proxy)
+sealed-told r m proxy advance commit_proxy tells sound at idle = record {
+  book_told = λ i. tells.book_told i ++ entry_told i ∷ [];
+  opened_told = tells.opened_told;
+  acknowledged_told = tells.acknowledged_told;
+  reported_told = tells.reported_told;
+  no_moves = refl;
+  begun_told = tells.begun_told;
+  proxies_told = one-changes (m.book ++ entry ∷ []) r.waiting after.waiting r.sealed after.sealed m.commit_proxies proxy
+      (sealed_proxy m commit_proxy)
+      (λ other old there. book-grows m.book (entry ∷ []) (r.waiting other) (r.sealed other) old
+      (tells.proxies_told other old there))
+      (λ other differs. (
+        sym (changed-elsewhere proxy _ r.waiting other differs),
+        sym (changed-elsewhere proxy _ r.sealed other differs),
+      ))
+      (record {
+        waiting_told = changed-there proxy _ r.waiting ∙ ap (drop place_limit) was.waiting_told
+            ∙ drop-map (λ (s : Submission). s.transcript) place_limit commit_proxy.waiting;
+        batch_told = λ busy. (
+          entry,
+          last-at m.book entry,
+          changed-there proxy _ r.sealed
+              ∙ (λ i. record { entry = length m.book; version = entry.version; transcripts = batch_told i }),
+        );
+      });
+  once_told = once-sealed m.book r.answered m.commit_proxies proxy commit_proxy (sealed_proxy m commit_proxy) at
+      tells.once_told entry (ap is_idle idle) refl refl;
+}
+  where
+    entry : Entry
+    entry = sealed_entry m advance commit_proxy
+
+    after : Readings
+    after = seals_entry r proxy (length m.book) (next_version (last_version m.book) advance) (last_version m.book)
+
+    was : AtProxy m.book (r.waiting proxy) (r.sealed proxy) commit_proxy
+    was = tells.proxies_told proxy commit_proxy at
+
+    sealing : List Submission
+    sealing = take place_limit commit_proxy.waiting
+
+    batch_told : take place_limit (r.waiting proxy) ≡ transcripts_of sealing
+    batch_told = ap (take place_limit) was.waiting_told
+        ∙ take-map (λ (s : Submission). s.transcript) place_limit commit_proxy.waiting
+
+    waits : AllByRecursion (Waits m) sealing
+    waits = all-take (Waits m) place_limit commit_proxy.waiting
+        (all-at (CommitProxyIsSound m) m.commit_proxies proxy commit_proxy sound.commit_proxies at).0
+
+    judged : map commit_request_of (take place_limit (r.waiting proxy)) ≡ entry.batch
+    judged = ap (map commit_request_of) batch_told ∙ sym (sealed-in_flight m sealing waits)
+
+    entry_told : Path Entry (record {
+      version = entry.version;
+      prev = entry.prev;
+      moves = [];
+      batch = map commit_request_of (take place_limit (r.waiting proxy));
+    }) entry
+    entry_told = λ i. record {
+      version = entry.version;
+      prev = entry.prev;
+      moves = sym tells.no_moves i;
+      batch = judged i;
+    }
+
+-- a proxy with a batch in flight: its entry is the one that is found in the book
+pub batch-at : (r : Readings) (m : Machine) (proxy : ℕ) (commit_proxy : CommitProxy) (entry : Entry) → TellsMachine r m
+    → slice_get m.commit_proxies proxy ≡ Some commit_proxy → is_idle commit_proxy.stage ≡ false
+    → slice_get m.book commit_proxy.entry ≡ Some entry
+    → r.sealed proxy ≡ record
+    { entry = commit_proxy.entry; version = entry.version; transcripts = commit_proxy.in_flight }
+batch-at r m proxy commit_proxy entry tells at busy there =
+    let batch = (tells.proxies_told proxy commit_proxy at).batch_told busy in
+    let same : batch.0 ≡ entry = same_Some batch.0 entry (sym batch.1 ∙ there) in
+    batch.2 ∙ (λ i. record
+    { entry = commit_proxy.entry; version = (same i).version; transcripts = commit_proxy.in_flight })
+
+pub tells_steps : HoldsOfSteps TellsOn
+tells_steps = record {
+  roles = λ m taken answer resolvers logs shards quiet r sound once tells.
+      subst (λ (told : Readings). TellsMachine told m) (quiet-tells r taken answer quiet) tells;
+  asked = λ m session proxy there at free r sound once tells.
+      with-opened r m (others_than session r.opened) (without session m.opened) tells
+      (ap (others_than session) tells.opened_told ∙ sym (others-without session m.opened));
+  granted = λ m proxy there at left r sound once tells.
+      granted-told r m there tells
+      (λ session. (
+        once.0 proxy there at session,
+        able (record { session = session; number = 0 }) m.last_transactions there left,
+      ));
+  operated = λ m taken session i transcript operation does is there r sound once tells.
+      let on = copy (serial_map_at m.config.resolver_splits transcript.read_version (seen_of m.book).places)
+      (program transcript.ops) in
+      let after = add_operation m i transcript operation (reply_on on operation) in
+      subst (λ (told : Readings). TellsMachine told after) (operation-tells r taken session operation on does)
+      (with-opened r m (with_one_more session operation (reply_on on operation) r.opened) after.opened tells
+      (ap (with_one_more session operation (reply_on on operation)) tells.opened_told
+      ∙ sym (one_more-set session operation (reply_on on operation) m.opened i transcript is there)));
+  read_only = λ m session proxy i transcript is there empty r sound once tells.
+      let alone = ap (of_session session) tells.opened_told ∙ found-at session m.opened i transcript is there in
+      with-acknowledged (record r { opened = others_than session r.opened })
+      (record m { opened = remove m.opened i }) _ _
+      (with-opened r m (others_than session r.opened) (remove m.opened i) tells
+      (ap (others_than session) tells.opened_told ∙ sym (others-removed session m.opened i is)))
+      (λ k. tells.acknowledged_told k ++ map (told_at transcript.read_version) (alone k));
+  submitted = λ m session proxy commit_proxy i transcript at is there writes r sound once tells.
+      submitted-told r m session proxy commit_proxy i transcript
+      (record { sealed = commit_request_of transcript; transcript = transcript }) tells at is there refl;
+  sealed = λ m proxy advance commit_proxy at idle few room r sound once tells.
+      sealed-told r m proxy advance commit_proxy tells sound at idle;
+  went_on = λ m taken answer proxy commit_proxy stage decided verdicts acknowledgements quiet at busy goes_on unreported
+      r sound once tells.
+      let was = tells.proxies_told proxy commit_proxy at in
+      subst (λ (told : Readings). TellsMachine told (record m {
+        commit_proxies = slice_set m.commit_proxies proxy (record commit_proxy {
+          stage = stage;
+          verdicts_received = verdicts;
+          acknowledgements_received = acknowledgements;
+        });
+      })) (quiet-tells r taken answer quiet)
+      (proxy-goes_on r m proxy commit_proxy _ at tells
+      (record { waiting_told = was.waiting_told; batch_told = λ _. was.batch_told busy })
+      (λ entry. rw (goes_on, busy) (le_refl _)));
+  reported_version = λ m proxy commit_proxy entry at logging there r sound once tells.
+      let was = tells.proxies_told proxy commit_proxy at in
+      let batch = batch-at r m proxy commit_proxy entry tells at (ap is_idle logging) there in
+      with-reported r
+      (record m { commit_proxies = slice_set m.commit_proxies proxy (record commit_proxy { stage = Reported }) })
+      _ _
+      (proxy-goes_on r m proxy commit_proxy _ at tells
+      (record { waiting_told = was.waiting_told; batch_told = λ _. was.batch_told (ap is_idle logging) })
+      (λ one. rw (ap is_idle logging) (le_refl _)))
+      (λ k. max (tells.reported_told k) (batch k).version);
+  told = λ m proxy commit_proxy entry at reported there r sound once tells.
+      let was = tells.proxies_told proxy commit_proxy at in
+      let batch = batch-at r m proxy commit_proxy entry tells at (ap is_idle reported) there in
+      let outcomes = outcomes_on m.config.resolver_splits (seen_before m.book commit_proxy.entry) entry in
+      let done : CommitProxy = record commit_proxy { in_flight = []; stage = Idle } in
+      with-acknowledged (record r { answered = r.answered ++ (r.sealed proxy).entry ∷ [] })
+      (record m { commit_proxies = slice_set m.commit_proxies proxy done }) _ _
+      (with-proxy r m r.waiting (r.answered ++ (r.sealed proxy).entry ∷ []) proxy done tells
+      (λ other differs. refl)
+      (record { waiting_told = was.waiting_told; batch_told = λ busy. cc })
+      (subst (λ (answered : ℕ). AnsweredOnce m.book (r.answered ++ answered ∷ [])
+      (slice_set m.commit_proxies proxy done)) (sym (ap (λ (b : SealedBatch). b.entry) batch))
+      (once-answered m.book r.answered m.commit_proxies proxy commit_proxy done at tells.once_told
+      (ap is_idle reported) refl)))
+      (ap₂ (λ (first more : List Placed). first ++ more) tells.acknowledged_told
+      (ap (λ (b : SealedBatch). all_acknowledged_by b (replies_from commit_proxy.in_flight outcomes)) batch
+      ∙ acknowledged-placed commit_proxy.entry entry.version commit_proxy.in_flight outcomes
+      (once.1 proxy commit_proxy at)));
+}
+  where
+    told_at : ℕ → Transcript → Placed
+    told_at version transcript = record { spot = spot.ReadOnly version; transcript = transcript }

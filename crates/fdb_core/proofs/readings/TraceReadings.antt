@@ -1,0 +1,228 @@
+-- After every trace the machine is what the trace tells, and so what holds of the machine holds of what is read off.
+use Rattle.std.proofs.Common.{◌≡◌, ◌∙◌, ◌<◌, ◌≤◌, refl, sym, ap, subst, arith, ⊎_elim, ℕ, zero, suc, min, Bool, true, false, cond, List, [], ◌∷◌, length, take, Option, Some, None, Result, Ok, Err}
+use Rattle.std.specs.Prelude.{nat_lt}
+use Rattle.std.specs.List.{AllByRecursion, slice_get}
+use Rattle.std.proofs.lemmas.List.Folds.{sum_by-replicate}
+use Rattle.fdb_keys.specs.declared.refusal.Refusal.{Refusal}
+use Rattle.fdb_keys.specs.Points.{Point}
+use Rattle.fdb_txn.specs.declared.entry.Entry.{Entry}
+use Rattle.fdb_txn.specs.book.History.{AreEntries, IsBook, IsSealed}
+use Rattle.fdb_txn.proofs.book.HistoryLemmas.{books_are_entries}
+use Rattle.fdb_txn.specs.declared.txn_id.TxnId.{TxnId}
+use Rattle.fdb_core.specs.declared.config.Config.{Config}
+use Rattle.fdb_core.specs.declared.roles.client.Placed.{Placed}
+use Rattle.fdb_core.specs.declared.step.Answered.{Answered}
+use Rattle.fdb_core.specs.declared.step.Step.{Step}
+use Rattle.fdb_core.specs.headline.Headline.{AcknowledgedAreSerialized, IsSerialized}
+use Rattle.fdb_core.specs.headline.Books.{TracesTellBooks, EntriesAreAnsweredOnce}
+use Rattle.fdb_core.specs.headline.Promises.{CommittedIsGreatestReported}
+use Rattle.fdb_core.specs.headline.Readings.{Readings, nothing_read, read_step, read_steps, readings_of, times_begun}
+use Rattle.fdb_core.specs.headline.RealTime.{RealTime, HasBegun}
+use Rattle.fdb_core.specs.headline.Traces.{after_step, after_steps, machine_of_trace, IsTraceOf}
+use Rattle.fdb_core.specs.invariant.Invariant.{Invariant}
+use Rattle.fdb_core.specs.machine.GrvProxySteps.{greatest_number}
+use Rattle.fdb_core.specs.machine.Machine.{Machine, Transition}
+use Rattle.fdb_core.specs.machine.Roles.{CommitProxy}
+use Rattle.fdb_core.specs.machine.Steps.{next, answer_of, after}
+use Rattle.fdb_core.specs.machine.Worlds.{start, idle_proxy, IsRun}
+use Rattle.fdb_core.proofs.common.AllLemmas.{all-at, all-replicate}
+use Rattle.fdb_core.proofs.headline.TraceLaws.{after_step-answered, traces_tell}
+use Rattle.fdb_core.proofs.invariant.OnceLaws.{machine-once}
+use Rattle.fdb_core.proofs.invariant.RealTimeLaws.{MachineHasBegun, after-first}
+use Rattle.fdb_core.proofs.invariant.SessionLaws.{IsOnceAtMost, session_steps, session-start, asks_once, in_flight_once}
+use Rattle.fdb_core.proofs.invariant.SoundLaws.{sound_steps, sound-start, sound-trace}
+use Rattle.fdb_core.proofs.machine.AcceptedTransitions.{IfAccepted}
+use Rattle.fdb_core.proofs.machine.Steps.{KeptBySteps, holds-next, kept-next, kept-by_trace}
+use Rattle.fdb_core.proofs.readings.Agreement.{AtProxy, flies, TellsMachine, TellsOn, AreOnce}
+use Rattle.fdb_core.proofs.readings.GrantLemmas.{last_of}
+use Rattle.fdb_core.proofs.readings.StepReadings.{tells_steps}
+
+-- what the machine keeps to be what is told
+abbrev IsGood : Machine → Type 0
+IsGood m = Invariant m × ((session : ℕ) → IsOnceAtMost session m)
+
+good-next : (m : Machine) (taken : Step) → IsGood m → IsGood (after m (next m taken))
+good-next m taken good = (
+  kept-next Invariant sound_steps m taken good.0,
+  λ session. kept-next (IsOnceAtMost session) (session_steps session) m taken (good.1 session),
+)
+
+are-once : (m : Machine) → ((session : ℕ) → IsOnceAtMost session m) → AreOnce m
+are-once m once = (
+  λ proxy there at session. asks_once m session (once session) proxy there at,
+  λ proxy commit_proxy at session. in_flight_once m session (once session) proxy commit_proxy at,
+)
+
+-- a step that is answered as the machine answers it tells what the machine goes on to
+step-tells : (m : Machine) (r : Readings) (taken : Step) → IsGood m → TellsMachine r m
+    → TellsMachine (read_step r taken (answer_of (next m taken))) (after m (next m taken))
+step-tells m r taken good tells = by_result (next m taken) (holds-next TellsOn tells_steps m taken)
+  where
+    by_result : (result : Result Transition Refusal)
+        → IfAccepted (λ transition. TellsOn m taken transition.answer transition.next) result
+        → TellsMachine (read_step r taken (answer_of result)) (after m result)
+    by_result (Ok transition) leads = leads r good.0 (are-once m good.1) tells
+    by_result (Err refusal) leads = tells
+
+-- once memory ran out nothing is told any more
+nothing-more : (m : Machine) (r : Readings) (steps : List Step) (given : List (Result Answered Refusal))
+    (world : Option Machine)
+    → IsRun None steps given world → (read_steps r steps given ≡ r) × (after_steps m steps given ≡ m)
+nothing-more m r [] [] world ran = (refl, refl)
+nothing-more m r [] (answer ∷ given) world ran = absurd ran
+nothing-more m r (taken ∷ steps) [] world ran = absurd ran
+nothing-more m r (taken ∷ steps) (answer ∷ given) world ran =
+    let rest = nothing-more m r steps given world (subst (λ (mid : Option Machine). IsRun mid steps given world) ran.1.1
+    ran.2) in (
+      ap (λ (a : Result Answered Refusal). read_steps (read_step r taken a) steps given) ran.1.0 ∙ rest.0,
+      ap (λ (a : Result Answered Refusal). after_steps (after_step m taken a) steps given) ran.1.0 ∙ rest.1,
+    )
+
+-- so the steps of a run tell what the machine goes on to
+run-tells : (m : Machine) (r : Readings) (steps : List Step) (given : List (Result Answered Refusal))
+    (world : Option Machine) → IsGood m → TellsMachine r m → IsRun (Some m) steps given world
+    → TellsMachine (read_steps r steps given) (after_steps m steps given)
+run-tells m r [] [] world good tells ran = tells
+run-tells m r [] (answer ∷ given) world good tells ran = absurd ran
+run-tells m r (taken ∷ steps) [] world good tells ran = absurd ran
+run-tells m r (taken ∷ steps) (answer ∷ given) world good tells ran = ⊎_elim
+    (λ went. let goes_on = subst (λ (mid : Option Machine). IsRun mid steps given world) went.1 ran.2 in
+    let rest = run-tells (after m (next m taken)) (read_step r taken (answer_of (next m taken))) steps given world
+    (good-next m taken good) (step-tells m r taken good tells) goes_on in
+    subst (λ (a : Result Answered Refusal). TellsMachine (read_steps (read_step r taken a) steps given)
+    (after_steps (after_step m taken a) steps given)) (sym went.0)
+    (subst (λ (mid : Machine). TellsMachine (read_steps (read_step r taken (answer_of (next m taken))) steps given)
+    (after_steps mid steps given)) (sym (after_step-answered m taken (next m taken) refl)) rest))
+    (λ failed. let rest = nothing-more m r steps given world
+    (subst (λ (mid : Option Machine). IsRun mid steps given world) failed.1 ran.2) in
+    subst (λ (a : Result Answered Refusal). TellsMachine (read_steps (read_step r taken a) steps given)
+    (after_steps (after_step m taken a) steps given)) (sym failed.0)
+    (subst (λ (told : Readings). TellsMachine told (after_steps m steps given)) (sym rest.0)
+    (subst (TellsMachine r) (sym rest.1) tells)))
+    ran.1
+
+-- before the first step nothing is told
+start-tells : (config : Config) → TellsMachine nothing_read (start config)
+start-tells config = record {
+  book_told = refl;
+  opened_told = refl;
+  acknowledged_told = refl;
+  reported_told = refl;
+  no_moves = refl;
+  begun_told = λ session. refl;
+  proxies_told = λ proxy commit_proxy there. all-at Idle (start config).commit_proxies proxy commit_proxy
+      (all-replicate Idle idle_proxy config.proxies (record { waiting_told = refl; batch_told = λ busy. cc })) there;
+  once_told = λ entry. omega (arith, sum_by-replicate (flies entry) config.proxies idle_proxy);
+}
+  where
+    Idle : CommitProxy → Type 0
+    Idle commit_proxy = AtProxy [] [] (record { entry = 0; version = 0; transcripts = [] }) commit_proxy
+
+-- a trace tells its machine
+pub trace-tells : (config : Config) (steps : List Step) (given : List (Result Answered Refusal)) (world : Option Machine)
+    → IsTraceOf config steps given world
+    → TellsMachine (readings_of steps given) (machine_of_trace config steps given)
+trace-tells config steps given world stands =
+    run-tells (start config) nothing_read steps given world
+    (sound-start config, λ session. session-start session config) (start-tells config) stands
+
+-- the configuration stays
+config_steps : (config : Config) → KeptBySteps (λ m. m.config ≡ config)
+config_steps config = record {
+  roles = λ m taken answer resolvers logs shards quiet same. same;
+  asked = λ m session proxy there at free same. same;
+  granted = λ m proxy there at left same. same;
+  operated = λ m taken session i transcript operation does is there same. same;
+  read_only = λ m session proxy i transcript is there empty same. same;
+  submitted = λ m session proxy commit_proxy i transcript at is there writes same. same;
+  sealed = λ m proxy advance commit_proxy at idle few room same. same;
+  went_on = λ m taken answer proxy commit_proxy stage decided verdicts acknowledgements quiet at busy goes_on
+      unreported same. same;
+  reported_version = λ m proxy commit_proxy entry at logging there same. same;
+  told = λ m proxy commit_proxy entry at reported there same. same;
+}
+
+pub config-kept : (config : Config) (steps : List Step) (given : List (Result Answered Refusal))
+    → (machine_of_trace config steps given).config ≡ config
+config-kept config steps given = kept-by_trace (λ m. m.config ≡ config) (config_steps config) (start config) steps given
+    refl
+
+-- the committed version is the greatest one that was reported
+pub committed_is_greatest_reported : CommittedIsGreatestReported
+committed_is_greatest_reported config steps given m stands =
+    ap (λ (n : Machine). n.committed) (traces_tell config steps given m stands)
+    ∙ sym (trace-tells config steps given (Some m) stands).reported_told
+
+-- the entries are a book
+pub traces_tell_books : TracesTellBooks
+traces_tell_books config steps given world stands =
+    let m = machine_of_trace config steps given in
+    let resolvers = suc (length config.resolver_splits) in
+    let entries : AreEntries resolvers 0 m.book = subst (λ (c : Config). AreEntries (suc (length c.resolver_splits)) 0
+    m.book) (config-kept config steps given) (sound-trace config steps given).entries in
+    subst (λ (book : List Entry). IsBook resolvers book × AllByRecursion IsSealed book)
+    (sym (trace-tells config steps given world stands).book_told)
+    ((books_are_entries resolvers m.book).1 (entries, machine-once config steps given))
+
+-- and no entry is answered twice
+pub entries_answered_once : EntriesAreAnsweredOnce
+entries_answered_once config steps given world stands entry =
+    let m = machine_of_trace config steps given in
+    let once = (trace-tells config steps given world stands).once_told entry in
+    omega (arith, once, one (nat_lt entry (length m.book)))
+  where
+    one : (test : Bool) → cond {A = ℕ} test 1 0 ≤ 1
+    one true = omega arith
+    one false = omega arith
+
+-- each acknowledged transaction is serialized at its spot
+pub acknowledged_stand : AcknowledgedAreSerialized
+acknowledged_stand config steps given world stands =
+    let m = machine_of_trace config steps given in
+    let told = trace-tells config steps given world stands in
+    subst (λ (acknowledged : List Placed). AllByRecursion
+    (IsSerialized config.resolver_splits (readings_of steps given).book) acknowledged)
+    (sym told.acknowledged_told)
+    (subst (λ (book : List Entry). AllByRecursion (IsSerialized config.resolver_splits book) m.acknowledged)
+    (sym told.book_told)
+    (subst (λ (splits : List Point). AllByRecursion (IsSerialized splits m.book) m.acknowledged)
+    (ap (λ (c : Config). c.resolver_splits) (config-kept config steps given))
+    (sound-trace config steps given).acknowledged))
+
+-- the first steps of a run are one
+run-first : (n : ℕ) (old : Option Machine) (steps : List Step) (given : List (Result Answered Refusal))
+    (world : Option Machine) → IsRun old steps given world
+    → (mid : Option Machine) × IsRun old (take n steps) (take n given) mid
+run-first zero old steps given world ran = (old, refl)
+run-first (suc n) old [] [] world ran = (old, refl)
+run-first (suc n) old [] (answer ∷ given) world ran = absurd ran
+run-first (suc n) old (taken ∷ steps) [] world ran = absurd ran
+run-first (suc n) old (taken ∷ steps) (answer ∷ given) world ran =
+    let rest = run-first n ran.0 steps given world ran.2 in (rest.0, (ran.0, ran.1, rest.1))
+
+-- the number of the last of those that began is below how many they are
+last-below : (times last : ℕ) → last_of times ≡ Some last → last < times
+last-below zero last is = cc
+last-below (suc n) last is =
+    let same : min n greatest_number ≡ last = cc in below n last greatest_number same
+  where
+    below : (n last greatest : ℕ) → min n greatest ≡ last → last < suc n
+    below n last greatest same = omega (arith, same)
+
+-- what has begun in the machine is told to have begun
+begun-told : (r : Readings) (m : Machine) (id : TxnId) → TellsMachine r m → MachineHasBegun m id → HasBegun r id
+begun-told r m id tells begun =
+    let below = last-below (times_begun id.session r.begun) begun.0 (sym (tells.begun_told id.session) ∙ begun.1) in
+    omega (arith, below, begun.2)
+
+-- who begins after an acknowledgement is ordered after it
+pub real_time : RealTime
+real_time config steps given world stands n i j one other at_one at_other fresh =
+    let first = run-first n (Some (start config)) steps given world stands in
+    let earlier = trace-tells config (take n steps) (take n given) first.0 first.1 in
+    let later = trace-tells config steps given world stands in
+    let m = machine_of_trace config (take n steps) (take n given) in
+    after-first config steps given n i j one other
+    (ap (λ (placed : List Placed). slice_get placed i) (sym earlier.acknowledged_told) ∙ at_one)
+    (ap (λ (placed : List Placed). slice_get placed j) (sym later.acknowledged_told) ∙ at_other)
+    (λ begun. fresh (begun-told (readings_of (take n steps) (take n given)) m other.transcript.id earlier begun))
