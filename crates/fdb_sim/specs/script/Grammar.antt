@@ -100,9 +100,20 @@ mutation_fault (Clear key) = key_fault key
 
 -- why the step's key, if it has one, is no key
 abbrev pub step_fault : Step → Option Refusal
+step_fault (made.Ask session proxy) = None
+step_fault (made.Grant proxy) = None
 step_fault (made.Get session key snapshot) = key_fault key
 step_fault (made.Write session mutation) = mutation_fault mutation
-step_fault other = None
+step_fault (made.Submit session proxy) = None
+step_fault (made.Seal proxy advance) = None
+step_fault (made.Resolve entry resolver) = None
+step_fault (made.Verdict entry resolver) = None
+step_fault (made.Decide proxy) = None
+step_fault (made.Push entry log) = None
+step_fault (made.Logged entry log) = None
+step_fault (made.Report proxy) = None
+step_fault (made.Answer proxy) = None
+step_fault (made.Pull shard limit) = None
 
 -- why the key of the line's step, if it has one, is no key
 abbrev pub read_fault : Line → Option Refusal
