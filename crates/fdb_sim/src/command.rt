@@ -1,7 +1,7 @@
-ghost use Rattle.std.specs.Prelude.{◌≡◌, ◌≢◌, ◌≤◌, ◌⊎◌, IfOk, IfErr, map};
-ghost use Rattle.std.specs.Io.KnownBytes.{Keeps};
+ghost use Rattle.std.specs.Prelude.{◌≡◌, ◌≤◌, ◌⊎◌, IfOk, IfErr, OnOk, map};
+ghost use Rattle.std.specs.Io.KnownBytes.{Appends};
 ghost use Rattle.clap.specs.Words.{FailsBy, app_of, fault_of, kind_of};
-ghost use Rattle.fdb_sim.specs.Commands.{commands, Obeys};
+ghost use Rattle.fdb_sim.specs.Commands.{EndsBy, LackMemory, Obeys, commands, out_of_memory};
 
 use crate::play::script::run_script;
 use clap::error::ErrorKind;
@@ -13,12 +13,15 @@ use std::io::{Read, Write};
 /// The status of words that give no command.
 const BAD_WORDS: u8 = 2;
 
+/// The status of words that ask for help.
+const HELPED: u8 = 0;
+
 /// Runs the command that the words give, which are those after the program's own name, and answers the
 /// status. `run` runs the script that the reader gives, and prints to `out`.
 ///
-/// Help is printed to `out`, with status 0. Words that give no command print what is wrong with them to
-/// `err`, with status 2 and nothing on `out`, and so does want of memory while they are read. A read or a
-/// write that fails is answered as that error.
+/// Words that ask for help print it to `out`, with status 0. Others that give no command print what is wrong
+/// with them to `err`, with status 2 and nothing on `out`. Want of memory while they are read does so too, and
+/// prints `error: out of memory`. A read or a write that fails is answered as that error.
 pub fn run_words<R: Read, O: Write, E: Write>(
     alloc: Global,
     words: &[&str],
@@ -29,7 +32,7 @@ pub fn run_words<R: Read, O: Write, E: Write>(
     ensures bound { IfOk result (λ status. status ≤ 2) }
     ensures obeys { IfOk result
         (λ status. Obeys (map (λ word. word.now) words.now) (R.remaining reader.old) (O.contents out.old)
-        (O.contents out.new) status) }
+        (O.contents out.new) (E.contents err.old) (E.contents err.new) status) }
 {
     match read_command(alloc, words) {
         Ok(()) => run_script(alloc, reader, out),
@@ -62,15 +65,27 @@ fn commands<'a>(alloc: Global) -> Result<Command<'a>, Error>
 // Prints a fault to where it belongs. Help is none of the words' faults, and goes to the output.
 fn print_fault<O: Write, E: Write>(fault: &Error, out: &mut O, err: &mut E) -> Result<u8, io::Error>
     ensures bound { IfOk result (λ status. status ≤ 2) }
-    ensures fault { IfOk result
-        (λ status. ((status ≡ 2) × Keeps (O.contents out.old) (O.contents out.new))
-        ⊎ ((status ≡ 0) × (kind_of fault.now ≢ ErrorKind.OutOfMemory))) }
+    ensures ends { IfOk result
+        (λ status. EndsBy (kind_of fault.now) (O.contents out.old) (O.contents out.new) status) }
+    ensures memory { IfOk result
+        (λ status. kind_of fault.now ≡ ErrorKind.OutOfMemory
+        → LackMemory (O.contents out.old) (O.contents out.new) (E.contents err.old) (E.contents err.new) status) }
 {
+    if let ErrorKind::OutOfMemory = fault.kind() {
+        print_want_of_memory(err)?;
+        return Ok(BAD_WORDS);
+    }
     if fault.use_stderr() {
         write!(err, "{fault}")?;
         Ok(BAD_WORDS)
     } else {
         write!(out, "{fault}")?;
-        Ok(0)
+        Ok(HELPED)
     }
+}
+
+fn print_want_of_memory<E: Write>(err: &mut E) -> Result<(), io::Error>
+    ensures { OnOk result (Appends (E.contents err.old) (E.contents err.new) out_of_memory) }
+{
+    writeln!(err, "error: out of memory")
 }

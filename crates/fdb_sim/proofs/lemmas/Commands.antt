@@ -2,13 +2,13 @@
 use Rattle.std.proofs.Common.{refl, Bool, true, false, ◌≡◌, [], ◌∷◌, codes}
 use Rattle.clap.specs.Words.{Kinds, fault_of}
 use Rattle.clap.proofs.OnLiterals.{clap_on_literals}
-use Rattle.fdb_sim.specs.Commands.{commands, IsCommand}
+use Rattle.fdb_sim.specs.Commands.{commands}
 
 abbrev has_fault : Kinds → Bool
 has_fault [] = false
 has_fault (kind ∷ kinds) = true
 
-run_is_one : IsCommand (codes "run" ∷ [])
+run_is_one : fault_of commands (codes "run" ∷ []) ≡ []
 unfolding clap_on_literals
 run_is_one = refl
 
