@@ -1,12 +1,16 @@
 -- Words that write a configuration, and pieces that write texts.
-use Rattle.std.proofs.Common.{◌≡◌, ℕ, ◌+◌, ◌<◌, List, [], ◌∷◌, ◌++◌, Some, length, take, get_or, subst, ap, sym, ◌∙◌, codes}
-use Rattle.std.specs.List.{AllZip}
+use Rattle.std.proofs.Common.{◌≡◌, refl, ℕ, ◌+◌, ◌<◌, Bool, true, false, ◌||◌, List, [], ◌∷◌, ◌++◌, Option, Some, None, length, take, get_or, subst, ap, sym, ◌∙◌, if◌then◌else◌, codes}
+use Rattle.std.specs.List.{AllZip, list_any}
 use Rattle.std.specs.Option.{option_or}
+use Rattle.std.proofs.lemmas.Bool.{or_from}
 use Rattle.std.proofs.lemmas.List.{take_more}
 use Rattle.std.proofs.lemmas.List.Elements.{AllZip-push, AllZip-get_or}
+use Rattle.std.proofs.lemmas.List.Folds.{list_any-append}
 use Rattle.fdb_core.specs.declared.config.Config.{Config}
 use Rattle.fdb_keys.specs.declared.refusal.Refusal.{Refusal}
-use Rattle.fdb_sim.specs.script.Configs.{WritesConfig, WritesOutline, WritesSplits, line_fault, splits_fault}
+use Rattle.fdb_keys.specs.declared.refusal.Refusal.TheVariants.{KeyTooLarge, KeyOutsideLegalRange}
+use Rattle.fdb_keys.specs.Texts.{begins_with_ff, key_fault}
+use Rattle.fdb_sim.specs.script.Configs.{WritesConfig, WritesOutline, WritesSplits, first_fault, is_too_long, line_fault, splits_fault}
 use Rattle.fdb_sim.specs.script.Grammar.{WritesText}
 use Rattle.fdb_sim.specs.script.Words.{words_of}
 
@@ -48,6 +52,51 @@ no_texts pieces n piece within is none texts written =
     (subst (λ p. WritesText p (get_or texts n [])) (sym is)
     (AllZip-get_or WritesText pieces texts n piece [] written within))
 
+-- ---- splits that are refused
+
+-- one text more, of which none is too long
+text_more : (long more ff others : Bool) (first : Option Refusal) → (long || more) ≡ false
+    → (more ≡ false → (if more then Some KeyTooLarge else (if others then Some KeyOutsideLegalRange else None)) ≡ first)
+    → (if (long || more) then Some KeyTooLarge else (if (ff || others) then Some KeyOutsideLegalRange else None))
+    ≡ option_or (if long then Some KeyTooLarge else (if ff then Some KeyOutsideLegalRange else None)) first
+text_more true more ff others first none same = cc
+text_more false more true others first none same = rw none refl
+text_more false more false others first none same = same none
+
+-- where no text is too long, the first one that is no key begins with FF
+first_of_short : (texts : List (List ℕ)) → list_any is_too_long texts ≡ false → splits_fault texts ≡ first_fault texts
+first_of_short [] none = refl
+first_of_short (text ∷ texts) none =
+    text_more (is_too_long text) (list_any is_too_long texts) (begins_with_ff text) (list_any begins_with_ff texts)
+    (first_fault texts) none (first_of_short texts)
+
+or_assoc : (a b c : Option Refusal) → option_or a (option_or b c) ≡ option_or (option_or a b) c
+or_assoc None b c = refl
+or_assoc (Some why) b c = refl
+
+first_of_both : (texts more : List (List ℕ))
+    → first_fault (texts ++ more) ≡ option_or (first_fault texts) (first_fault more)
+first_of_both [] more = refl
+first_of_both (text ∷ texts) more =
+    ap (λ fault. option_or (key_fault text) fault) (first_of_both texts more)
+    ∙ or_assoc (key_fault text) (first_fault texts) (first_fault more)
+
+-- the first split that is no key, where none is too long
+pub short_splits : (resolvers shards : List (List ℕ)) → list_any is_too_long resolvers ≡ false
+    → list_any is_too_long shards ≡ false
+    → splits_fault (resolvers ++ shards) ≡ option_or (first_fault resolvers) (first_fault shards)
+short_splits resolvers shards one other =
+    first_of_short (resolvers ++ shards)
+    (list_any-append is_too_long resolvers shards
+    ∙ or_from (list_any is_too_long resolvers) (list_any is_too_long shards) one other)
+    ∙ first_of_both resolvers shards
+
+-- some split is too long
+pub long_splits : (resolvers shards : List (List ℕ))
+    → (list_any is_too_long resolvers || list_any is_too_long shards) ≡ true
+    → splits_fault (resolvers ++ shards) ≡ Some KeyTooLarge
+long_splits resolvers shards some = rw (list_any-append is_too_long resolvers shards ∙ some) refl
+
 module _ (line : List ℕ) (p l k : ℕ) (x y : List ℕ) (outline : WritesOutline (words_of line) p l x y k) where
   pub no_resolvers : ((splits : List (List ℕ)) → ¬ WritesSplits x splits) → (config : Config)
       → ¬ WritesConfig line config
@@ -63,7 +112,7 @@ module _ (line : List ℕ) (p l k : ℕ) (x y : List ℕ) (outline : WritesOutli
       none config.shard_splits (subst (λ w. WritesSplits w config.shard_splits) (sym same) written.4)
 
   pub config_refused : (resolvers shards : List (List ℕ)) → WritesSplits x resolvers → WritesSplits y shards
-      → (why : Refusal) → option_or (splits_fault resolvers) (splits_fault shards) ≡ Some why → (config : Config)
+      → (why : Refusal) → splits_fault (resolvers ++ shards) ≡ Some why → (config : Config)
       × WritesConfig line config × (line_fault config ≡ Some why)
   config_refused resolvers shards first second why is = (
     record { proxies = p; logs = l; resolver_splits = resolvers; shard_splits = shards; book = k },

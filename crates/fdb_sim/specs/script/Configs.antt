@@ -1,10 +1,12 @@
 -- The line that gives a configuration.
-use Rattle.std.specs.Prelude.{◌≡◌, ℕ, ◌==◌, Bool, ◌⊎◌, List, [], ◌∷◌, Option, None, codes}
-use Rattle.std.specs.List.{slice_split, AllZip}
+use Rattle.std.specs.Prelude.{◌≡◌, ℕ, ◌==◌, nat_lt, Bool, ◌⊎◌, List, [], ◌∷◌, ◌++◌, length, Option, Some, None, if◌then◌else◌, codes}
+use Rattle.std.specs.List.{list_any, slice_split, AllZip}
 use Rattle.std.specs.Option.{option_or}
 use Rattle.fdb_core.specs.declared.config.Config.{Config}
-use Rattle.fdb_keys.specs.Texts.{key_fault}
+use Rattle.fdb_keys.specs.Texts.{begins_with_ff, key_fault}
+use Rattle.fdb_keys.specs.declared.key.TheConstants.{KEY_LIMIT}
 use Rattle.fdb_keys.specs.declared.refusal.Refusal.{Refusal}
+use Rattle.fdb_keys.specs.declared.refusal.Refusal.TheVariants.{KeyTooLarge, KeyOutsideLegalRange}
 use Rattle.fdb_sim.specs.script.Grammar.{WritesSmall, WritesText}
 use Rattle.fdb_sim.specs.script.Words.{words_of}
 
@@ -35,11 +37,21 @@ WritesConfig line config =
     × WritesOutline (words_of line) config.proxies config.logs resolvers shards config.book
     × WritesSplits resolvers config.resolver_splits × WritesSplits shards config.shard_splits
 
--- why the first split that is no key is none
-abbrev pub splits_fault : List (List ℕ) → Option Refusal
-splits_fault [] = None
-splits_fault (split ∷ splits) = option_or (key_fault split) (splits_fault splits)
+-- why the first text that is no key is none
+abbrev pub first_fault : List (List ℕ) → Option Refusal
+first_fault [] = None
+first_fault (text ∷ texts) = option_or (key_fault text) (first_fault texts)
 
--- the same of a configuration's splits, the resolvers' first
+-- the text has more bytes than a key may have
+abbrev pub is_too_long : List ℕ → Bool
+is_too_long text = nat_lt KEY_LIMIT (length text)
+
+-- why texts of which some are no keys are refused: a text that is too long goes before one that begins with FF
+abbrev pub splits_fault : List (List ℕ) → Option Refusal
+splits_fault texts =
+    if list_any is_too_long texts then Some KeyTooLarge
+    else (if list_any begins_with_ff texts then Some KeyOutsideLegalRange else None)
+
+-- why the splits of a configuration are refused, the resolvers' and the shards' together
 abbrev pub line_fault : Config → Option Refusal
-line_fault config = option_or (splits_fault config.resolver_splits) (splits_fault config.shard_splits)
+line_fault config = splits_fault (config.resolver_splits ++ config.shard_splits)

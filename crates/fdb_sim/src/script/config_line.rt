@@ -1,5 +1,6 @@
-ghost use Rattle.std.specs.Prelude.{◌≡◌, ◌≢◌, ℕ, List, ◌∷◌, None, Some, IfOk, IfErr};
-ghost use Rattle.fdb_sim.specs.script.Configs.{WritesConfig, WritesOutline, WritesSplits, WritesTexts, line_fault, splits_fault};
+ghost use Rattle.std.specs.Prelude.{◌≡◌, ◌≢◌, ◌++◌, ℕ, List, ◌∷◌, None, Some, IfOk, IfErr};
+ghost use Rattle.std.specs.List.{list_any};
+ghost use Rattle.fdb_sim.specs.script.Configs.{WritesConfig, WritesOutline, WritesSplits, WritesTexts, first_fault, is_too_long, line_fault, splits_fault};
 ghost use Rattle.fdb_sim.specs.script.Faults.{MatchFault, Reads};
 ghost use Rattle.fdb_sim.specs.script.Grammar.{WritesSmall, WritesText};
 ghost use Rattle.fdb_sim.specs.script.Words.{words_of};
@@ -8,7 +9,7 @@ use crate::script::fault::Fault;
 use crate::script::texts::{make_key, read_text};
 use crate::script::words::Words;
 use fdb_core::Config;
-use fdb_keys::{Items, Key};
+use fdb_keys::{Items, KEY_LIMIT, Key, Refusal};
 use std::alloc::Global;
 
 // The words of a configuration whose splits are not read yet.
@@ -22,16 +23,19 @@ struct Outline<'a> {
 }
 
 /// The configuration that the line gives. A line of another form is bad, also where one of its splits
-/// would be refused as a key. Refused as `make_key` refuses the first split that is no key, of the
-/// resolvers' splits and then of the shards'.
+/// would be refused as a key. Refused where a split is no key: as `KeyTooLarge` where one is too long, and
+/// else as `KeyOutsideLegalRange`.
 pub fn read_config(alloc: Global, line: &[u8]) -> Result<Config, Fault>
     ensures { Reads result (WritesConfig line.now) line_fault }
 {
     let outline = read_outline(line)?;
     let resolvers = read_splits(alloc, outline.resolvers)?;
     let shards = read_splits(alloc, outline.shards)?;
-    let resolver_splits = make_keys(alloc, resolvers.as_slice())?;
-    let shard_splits = make_keys(alloc, shards.as_slice())?;
+    let (resolver_splits, shard_splits) = make_splits(
+        alloc,
+        resolvers.as_slice(),
+        shards.as_slice(),
+    )?;
     Ok(Config {
         proxies: outline.proxies,
         logs: outline.logs,
@@ -120,10 +124,43 @@ fn read_piece(alloc: Global, piece: &[u8]) -> Result<Items<u8>, Fault>
     }
 }
 
+// The keys of the resolvers' and of the shards' splits, refused as the first refusal of the documented order.
+#[tactic(auto, using(crate::proofs::lemmas::Configs::long_splits, crate::proofs::lemmas::Configs::short_splits))]
+fn make_splits(
+    alloc: Global,
+    resolvers: &[Items<u8>],
+    shards: &[Items<u8>],
+) -> Result<(Items<Key>, Items<Key>), Fault>
+    ensures ok { IfOk result
+        (λ keys. (keys.0 ≡ resolvers.now) × (keys.1 ≡ shards.now)
+        × (splits_fault (resolvers.now ++ shards.now) ≡ None)) }
+    ensures refused { IfErr result
+        (λ fault. MatchFault fault ⊥ (λ why. splits_fault (resolvers.now ++ shards.now) ≡ Some why)) }
+{
+    if has_long(resolvers) || has_long(shards) {
+        return Err(Fault::Refused(Refusal::KeyTooLarge));
+    }
+    let resolver_splits = make_keys(alloc, resolvers)?;
+    let shard_splits = make_keys(alloc, shards)?;
+    Ok((resolver_splits, shard_splits))
+}
+
+fn has_long(texts: &[Items<u8>]) -> bool
+    ensures { result ≡ list_any is_too_long texts.now }
+{
+    texts.iter().any(|text| is_too_long(text.as_slice()))
+}
+
+fn is_too_long(text: &[u8]) -> bool
+    ensures { result ≡ is_too_long text.now }
+{
+    text.len() > KEY_LIMIT
+}
+
 // The keys of these texts, refused as the first one that is no key.
 fn make_keys(alloc: Global, texts: &[Items<u8>]) -> Result<Items<Key>, Fault>
-    ensures ok { IfOk result (λ keys. (keys ≡ texts.now) × (splits_fault texts.now ≡ None)) }
-    ensures refused { IfErr result (λ fault. MatchFault fault ⊥ (λ why. splits_fault texts.now ≡ Some why)) }
+    ensures ok { IfOk result (λ keys. (keys ≡ texts.now) × (first_fault texts.now ≡ None)) }
+    ensures refused { IfErr result (λ fault. MatchFault fault ⊥ (λ why. first_fault texts.now ≡ Some why)) }
 {
     let mut keys = Items::new(alloc);
     for text in texts {

@@ -233,7 +233,7 @@ fn a_split_that_is_no_key(rt: HostRuntime) -> Result<(), Fail> {
         2,
         b"refused 2004 KeyOutsideLegalRange\n",
     )?;
-    let mut long = Vec::from_slice(rt.alloc(), b"config proxies 1 logs 1 resolvers ")?;
+    let mut long = Vec::from_slice(rt.alloc(), b"config proxies 1 logs 1 resolvers %ff,")?;
     long.resize(long.len().saturating_add(10_001), b'k')?;
     long.extend_from_slice(b" shards - book 100")?;
     check_script(

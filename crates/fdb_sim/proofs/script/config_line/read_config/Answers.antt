@@ -1,6 +1,5 @@
-use Rattle.std.proofs.Common.{◌≡◌, Some, ap, sym, ◌∙◌}
+use Rattle.std.proofs.Common.{◌≡◌, ℕ, List, ◌++◌, Some, ap, sym, ◌∙◌}
 use Rattle.std.proofs.lemmas.Result.{err_from_is_err_and}
-use Rattle.std.specs.Option.{option_or}
 use Rattle.fdb_sim.specs.script.Configs.{splits_fault}
 use Rattle.fdb_sim.proofs.lemmas.Configs.{no_resolvers, no_shards, config_refused}
 use Rattle.fdb_sim.proofs.lemmas.Faults.{MatchFault-bad_alone, MatchFault-refused_alone}
@@ -30,23 +29,10 @@ pub returns-in_err-resolver_splits : goal.returns-in_err-resolver_splits
 returns-in_err-resolver_splits c =
     let p = err_from_is_err_and c.from_residual-in_err-resolver_splits.result
     c.from_residual-in_err-resolver_splits.ensures.1 in
+    let splits = ap (λ (texts : List (List ℕ)). texts ++ c.as_slice-2.result.now) c.as_slice.ensures
+    ∙ ap (λ (texts : List (List ℕ)). c.in_ok-resolvers.resolvers ++ texts) c.as_slice-2.ensures in
     rw (p.1, p.2)
-    (MatchFault-refused_alone _ _ (λ why. splits_fault c.as_slice.result.now ≡ Some why) _
+    (MatchFault-refused_alone _ _ (λ why. splits_fault (c.as_slice.result.now ++ c.as_slice-2.result.now) ≡ Some why) _
     c.in_err-resolver_splits.ensures.refused
     (λ why is. config_refused c.args.line.now _ _ _ _ _ c.in_ok-outline.ensures.ok _ _ c.in_ok-resolvers.ensures.ok
-    c.in_ok-shards.ensures.ok why
-    (ap (λ fault. option_or fault (splits_fault c.in_ok-shards.shards))
-    (ap splits_fault (sym c.as_slice.ensures) ∙ is))))
-
-pub returns-in_err-shard_splits : goal.returns-in_err-shard_splits
-returns-in_err-shard_splits c =
-    let p = err_from_is_err_and c.from_residual-in_err-shard_splits.result
-    c.from_residual-in_err-shard_splits.ensures.1 in
-    let legal = ap splits_fault (sym c.as_slice.ensures) ∙ c.in_ok-resolver_splits.ensures.ok.1 in
-    rw (p.1, p.2)
-    (MatchFault-refused_alone _ _ (λ why. splits_fault c.as_slice-2.result.now ≡ Some why) _
-    c.in_err-shard_splits.ensures.refused
-    (λ why is. config_refused c.args.line.now _ _ _ _ _ c.in_ok-outline.ensures.ok _ _ c.in_ok-resolvers.ensures.ok
-    c.in_ok-shards.ensures.ok why
-    (ap (λ fault. option_or fault (splits_fault c.in_ok-shards.shards)) legal
-    ∙ ap splits_fault (sym c.as_slice-2.ensures) ∙ is)))
+    c.in_ok-shards.ensures.ok why (ap splits_fault (sym splits) ∙ is)))
