@@ -1,4 +1,5 @@
-pub mod script
+pub mod Commands
+pub mod Streams
 pub mod play
 pub mod print
-pub mod Commands
+pub mod script

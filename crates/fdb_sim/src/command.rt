@@ -1,14 +1,15 @@
 ghost use Rattle.std.specs.Prelude.{◌≡◌, ◌≤◌, ◌⊎◌, IfOk, IfErr, OnOk, map};
 ghost use Rattle.std.specs.Io.KnownBytes.{Appends};
 ghost use Rattle.clap.specs.Words.{FailsBy, app_of, fault_of, kind_of};
+ghost use Rattle.fdb_sim.specs.Streams.{IsStreamError};
 ghost use Rattle.fdb_sim.specs.Commands.{EndsBy, LackMemory, Obeys, commands, out_of_memory};
 
 use crate::play::script::run_script;
+use crate::streams::{Sink, Source};
 use clap::error::ErrorKind;
 use clap::{Command, Error};
 use std::alloc::Global;
 use std::io;
-use std::io::{Read, Write};
 
 /// The status of words that give no command.
 const BAD_WORDS: u8 = 2;
@@ -21,8 +22,8 @@ const HELPED: u8 = 0;
 ///
 /// Words that ask for help print it to `out`, with status 0. Others that give no command print what is wrong
 /// with them to `err`, with status 2 and nothing on `out`. Want of memory while they are read does so too, and
-/// prints `error: out of memory`. A read or a write that fails is answered as that error.
-pub fn run_words<R: Read, O: Write, E: Write>(
+/// prints `error: out of memory`. A read or a write that fails is answered as that error, and no other error is.
+pub fn run_words<R: Source, O: Sink, E: Sink>(
     alloc: Global,
     words: &[&str],
     reader: &mut R,
@@ -33,6 +34,8 @@ pub fn run_words<R: Read, O: Write, E: Write>(
     ensures obeys { IfOk result
         (λ status. Obeys (map (λ word. word.now) words.now) (R.remaining reader.old) (O.contents out.old)
         (O.contents out.new) (E.contents err.old) (E.contents err.new) status) }
+    ensures errors { IfErr result
+        (IsStreamError R.errors (IsStreamError O.errors E.errors)) }
 {
     match read_command(alloc, words) {
         Ok(()) => run_script(alloc, reader, out),
@@ -63,13 +66,14 @@ fn commands<'a>(alloc: Global) -> Result<Command<'a>, Error>
 }
 
 // Prints a fault to where it belongs. Help is none of the words' faults, and goes to the output.
-fn print_fault<O: Write, E: Write>(fault: &Error, out: &mut O, err: &mut E) -> Result<u8, io::Error>
+fn print_fault<O: Sink, E: Sink>(fault: &Error, out: &mut O, err: &mut E) -> Result<u8, io::Error>
     ensures bound { IfOk result (λ status. status ≤ 2) }
     ensures ends { IfOk result
         (λ status. EndsBy (kind_of fault.now) (O.contents out.old) (O.contents out.new) status) }
     ensures memory { IfOk result
         (λ status. kind_of fault.now ≡ ErrorKind.OutOfMemory
         → LackMemory (O.contents out.old) (O.contents out.new) (E.contents err.old) (E.contents err.new) status) }
+    ensures errors { IfErr result (IsStreamError O.errors E.errors) }
 {
     if let ErrorKind::OutOfMemory = fault.kind() {
         print_want_of_memory(err)?;
@@ -84,8 +88,9 @@ fn print_fault<O: Write, E: Write>(fault: &Error, out: &mut O, err: &mut E) -> R
     }
 }
 
-fn print_want_of_memory<E: Write>(err: &mut E) -> Result<(), io::Error>
-    ensures { OnOk result (Appends (E.contents err.old) (E.contents err.new) out_of_memory) }
+fn print_want_of_memory<E: Sink>(err: &mut E) -> Result<(), io::Error>
+    ensures printed { OnOk result (Appends (E.contents err.old) (E.contents err.new) out_of_memory) }
+    ensures errors { IfErr result E.errors }
 {
     writeln!(err, "error: out of memory")
 }

@@ -7,6 +7,7 @@ use Rattle.fdb_core.specs.machine.Machine.{Machine}
 use Rattle.fdb_core.specs.machine.Worlds.{config_fault, start}
 use Rattle.std.specs.Prelude.{IfOk, OnOk, IfErr, IfSome, codes}
 use Rattle.std.specs.Io.KnownBytes.{IsAtEnd, Appends}
+use Rattle.std.specs.declared.io.Error.{Error}
 use Rattle.fdb_keys.specs.declared.refusal.Refusal.TheVariants.{NoMemory}
 use Rattle.fdb_sim.specs.script.Configs.{WritesConfig, line_fault}
 use Rattle.fdb_sim.specs.declared.play.stop.Stop.{Stop}
@@ -95,12 +96,12 @@ plays_on-out number world [] = inr (inr (refl, refl))
 plays_on-out number world (line ∷ lines) = inr (inr (inr (refl, refl)))
 
 -- where reading stops, what is printed is that memory ran out
-reading-says : (stopped : Stop) (P : List ℕ → Type 0) → IsInputFault stopped → P (refused_line NoMemory)
+reading-says : (errors : Error → Type 0) (stopped : Stop) (P : List ℕ → Type 0) → IsInputFault errors stopped → P (refused_line NoMemory)
     → Says stopped P
-reading-says (stop.BadLine number) P reading out = absurd reading
-reading-says (stop.Refused refusal) P reading out = absurd reading
-reading-says stop.NoMemory P reading out = out
-reading-says (stop.Io error) P reading out = tt
+reading-says errors (stop.BadLine number) P reading out = absurd reading
+reading-says errors (stop.Refused refusal) P reading out = absurd reading
+reading-says errors stop.NoMemory P reading out = out
+reading-says errors (stop.Io error) P reading out = tt
 
 says-map : (stopped : Stop) (P Q : List ℕ → Type 0) → ((last : List ℕ) → P last → Q last) → Says stopped P
     → Says stopped Q
@@ -128,12 +129,12 @@ appends_both (Some xs) (Some ys) (Some zs) said told one other = other ∙ ap (�
     ∙ append_assoc xs said told
 
 -- the first lines: reading stops
-pub config_reading_stops : (old mid : Option (List ℕ)) (first number : ℕ) (stopped : Stop)
-    → Reaches old mid [] (Plays first) (Plays number) → IsInputFault stopped
+pub config_reading_stops : (errors : Error → Type 0) (old mid : Option (List ℕ)) (first number : ℕ) (stopped : Stop)
+    → Reaches old mid [] (Plays first) (Plays number) → IsInputFault errors stopped
     → Says stopped (λ last. Knows old (λ lines. Plays first lines last 2))
-config_reading_stops old mid first number stopped reached reading =
+config_reading_stops errors old mid first number stopped reached reading =
     reaches_stop old mid [] (Plays first) (Plays number) stopped reached
-    (λ lines. reading-says stopped _ reading (plays-out number lines))
+    (λ lines. reading-says errors stopped _ reading (plays-out number lines))
 
 -- the first line that says anything is a configuration
 pub config_found : (old mid new : Option (List ℕ)) (line : List ℕ) (first number next : ℕ) (config : Config)
@@ -178,17 +179,17 @@ if_err_map (Ok value) P Q map holds = tt
 if_err_map (Err fault) P Q map holds = map fault holds
 
 -- reading stops after the configuration
-pub steps_reading_stops : (old mid writer written : Option (List ℕ)) (first number : ℕ) (before now : Option Machine)
-    (stopped : Stop)
+pub steps_reading_stops : (errors : Error → Type 0) (old mid writer written : Option (List ℕ)) (first number : ℕ)
+    (before now : Option Machine) (stopped : Stop)
     → Printed writer written (λ said. Reaches old mid said (PlaysOn first before) (PlaysOn number now))
-    → IsInputFault stopped
+    → IsInputFault errors stopped
     → Says stopped
     (λ last. Printed writer written (λ printed. Knows old (λ all. PlaysOn first before all (printed ++ last) 2)))
-steps_reading_stops old mid writer written first number before now stopped reached reading =
+steps_reading_stops errors old mid writer written first number before now stopped reached reading =
     says-printed stopped writer written reached.0
     (λ printed last. Knows old (λ all. PlaysOn first before all (printed ++ last) 2)) reached.1
     (reaches_stop old mid reached.0 (PlaysOn first before) (PlaysOn number now) stopped reached.2
-    (λ lines. reading-says stopped _ reading (plays_on-out number now lines)))
+    (λ lines. reading-says errors stopped _ reading (plays_on-out number now lines)))
 
 -- no line is left, and the check prints what it found
 pub steps_checked : (old mid writer written closed : Option (List ℕ)) (first number status : ℕ)

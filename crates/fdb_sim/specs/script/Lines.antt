@@ -2,7 +2,7 @@
 use Rattle.std.specs.Prelude.{◌≡◌, ℕ, ◌-◌, ◌==◌, List, ◌∷◌, length, take, slice_index, ⊤, Option, None, Some, if◌then◌else◌}
 use Rattle.std.specs.Str.Lines.{lines, strip_carriage_return}
 use Rattle.std.specs.Io.Buffered.{reader_remaining}
-use Rattle.fdb_sim.specs.declared.script.lines.Limited.{Limited}
+use Rattle.std.specs.declared.io.Error.{Error}
 use Rattle.fdb_sim.specs.declared.script.lines.Lines.{Lines}
 use Rattle.fdb_sim.specs.declared.play.stop.Stop.{Stop}
 use Rattle.fdb_sim.specs.declared.play.stop.Stop.TheVariants.{BadLine, Refused, NoMemory, Io}
@@ -17,13 +17,9 @@ abbrev pub without_line_end : List ℕ → List ℕ
 without_line_end line = if slice_index line (length line - 1) == 10 then strip_carriage_return
     (take (length line - 1) line) else line
 
--- what the limited reader has left
-abbrev pub limited_remaining : {R : Type 0} → (R → Option (List ℕ)) → Limited R → Option (List ℕ)
-limited_remaining remaining limited = remaining limited.reader
-
 -- what is left of the input, where that is known
 abbrev pub left : {R : Type 0} → (R → Option (List ℕ)) → Lines R → Option (List ℕ)
-left remaining lines = reader_remaining (limited_remaining remaining) lines.reader
+left remaining lines = reader_remaining remaining lines.reader
 
 -- the current line
 abbrev pub line_text : {R : Type 0} → Lines R → List ℕ
@@ -39,9 +35,9 @@ LosesLine None new line = ⊤
 LosesLine (Some xs) None line = ⊥
 LosesLine (Some xs) (Some ys) line = lines_of xs ≡ line ∷ lines_of ys
 
--- memory ran out or the input failed, and no line was judged
-abbrev pub IsInputFault : Stop → Type 0
-IsInputFault (BadLine number) = ⊥
-IsInputFault (Refused refusal) = ⊥
-IsInputFault NoMemory = ⊤
-IsInputFault (Io error) = ⊤
+-- memory ran out or the input failed with one of the errors, and no line was judged
+abbrev pub IsInputFault : (Error → Type 0) → Stop → Type 0
+IsInputFault errors (BadLine number) = ⊥
+IsInputFault errors (Refused refusal) = ⊥
+IsInputFault errors NoMemory = ⊤
+IsInputFault errors (Io error) = errors error

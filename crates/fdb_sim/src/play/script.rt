@@ -1,5 +1,6 @@
 ghost use Rattle.std.specs.Prelude.{◌≡◌, ◌<◌, ◌≤◌, ◌++◌, ℕ, List, [], Some, None, true, false, IfOk, IfErr, OnOk, string_bytes};
 ghost use Rattle.fdb_core.specs.machine.Worlds.{config_fault, start};
+ghost use Rattle.fdb_sim.specs.Streams.{FailsWith, IsStreamError};
 ghost use Rattle.fdb_sim.specs.script.Configs.{WritesConfig, line_fault};
 ghost use Rattle.fdb_sim.specs.script.Lines.{left, line_text, line_number};
 ghost use Rattle.fdb_sim.specs.play.Scripts.{is_silent, AnswersLine, PlaysOn, PlaysFrom, Plays, Unconfigured, StopsAt, Printed, Knows, Says, Reaches};
@@ -13,10 +14,10 @@ use crate::script::fault::Fault;
 use crate::script::line::{Line, read_line};
 use crate::script::lines::Lines;
 use crate::script::step_line::Kind;
+use crate::streams::{Sink, Source};
 use fdb_core::{Config, World};
 use std::alloc::Global;
 use std::io;
-use std::io::{Read, Write};
 
 /// Runs the script that the reader gives, and writes what it prints to the writer, which isn't flushed.
 /// Answers the status: 0 where the check at the end held, 1 where it failed, and 2 where the script ended
@@ -24,9 +25,8 @@ use std::io::{Read, Write};
 /// are said of a reader whose bytes and a writer whose contents are known, as those over memory.
 ///
 /// A read or a write that fails is answered as that error, and what was written then is a prefix of what
-/// the script prints. A read that was interrupted did not fail, and is made again. A reader that does not
-/// end is given up after 2^32 reads, with an error of `ErrorKind::Other`.
-pub fn run_script<R: Read, W: Write>(
+/// the script prints. A read that was interrupted did not fail, and is made again. No other error is answered.
+pub fn run_script<R: Source, W: Sink>(
     alloc: Global,
     reader: &mut R,
     writer: &mut W,
@@ -34,6 +34,7 @@ pub fn run_script<R: Read, W: Write>(
     ensures bound { IfOk result (λ status. status ≤ 2) }
     ensures printed { IfOk result (λ status. Printed (W.contents writer.old) (W.contents writer.new) (λ printed.
         Knows (R.remaining reader.old) (λ lines. Plays 0 lines printed status))) }
+    ensures errors { IfErr result (IsStreamError R.errors W.errors) }
 {
     match run_to_end(alloc, reader, writer) {
         Ok(status) => Ok(status),
@@ -41,12 +42,14 @@ pub fn run_script<R: Read, W: Write>(
     }
 }
 
-fn run_to_end<R: Read, W: Write>(alloc: Global, reader: &mut R, writer: &mut W) -> Result<u8, Stop>
+fn run_to_end<R: Source, W: Sink>(alloc: Global, reader: &mut R, writer: &mut W) -> Result<u8, Stop>
     ensures bound { IfOk result (λ status. status < 2) }
     ensures printed { IfOk result (λ status. Printed (W.contents writer.old) (W.contents writer.new) (λ printed.
         Knows (R.remaining reader.old) (λ lines. Plays 0 lines printed status))) }
-    ensures stops { IfErr result (λ stop. Says stop (λ last. Printed (W.contents writer.old) (W.contents writer.new) (λ printed.
+    ensures stops { IfErr result (λ stop. Says stop (λ last.
+        Printed (W.contents writer.old) (W.contents writer.new) (λ printed.
         Knows (R.remaining reader.old) (λ lines. Plays 0 lines (printed ++ last) 2)))) }
+    ensures errors { IfErr result (FailsWith (IsStreamError R.errors W.errors)) }
 {
     let mut lines = Lines::new(alloc, reader)?;
     let config = first_config(alloc, &mut lines)?;
@@ -56,11 +59,12 @@ fn run_to_end<R: Read, W: Write>(alloc: Global, reader: &mut R, writer: &mut W) 
 }
 
 // The configuration, which stands in the first line that says anything.
-fn first_config<R: Read + Drop>(alloc: Global, lines: &mut Lines<R>) -> Result<Config, Stop>
+fn first_config<R: Source + Drop>(alloc: Global, lines: &mut Lines<R>) -> Result<Config, Stop>
     ensures ok { IfOk result (λ config. Reaches (left R.remaining lines.old) (left R.remaining lines.new) []
         (Plays (line_number lines.old)) (PlaysFrom (line_number lines.new) config)) }
     ensures stops { IfErr result (λ stop. Says stop (λ last.
         Knows (left R.remaining lines.old) (λ all. Plays (line_number lines.old) all last 2))) }
+    ensures errors { IfErr result (FailsWith R.errors) }
 {
     for _ in 0..u64::MAX {
         if !lines.advance()? {
@@ -70,12 +74,15 @@ fn first_config<R: Read + Drop>(alloc: Global, lines: &mut Lines<R>) -> Result<C
             return config_of(alloc, lines);
         }
     }
-    Err(Stop::Io(too_many_lines()))
+    // No input has so many lines.
+    Err(Stop::NoMemory)
 }
 
-fn config_of<R: Read + Drop>(alloc: Global, lines: &Lines<R>) -> Result<Config, Stop>
+fn config_of<R: Source + Drop>(alloc: Global, lines: &Lines<R>) -> Result<Config, Stop>
     ensures ok { IfOk result (λ config. WritesConfig (line_text lines.now) config × (line_fault config ≡ None)) }
-    ensures stops { IfErr result (λ stop. Says stop (λ last. Unconfigured (line_number lines.now) (line_text lines.now) last 2)) }
+    ensures stops { IfErr result (λ stop. Says stop (λ last.
+        Unconfigured (line_number lines.now) (line_text lines.now) last 2)) }
+    ensures errors { IfErr result (FailsWith (λ _. ⊥)) }
 {
     match read_config(alloc, lines.text()) {
         Ok(config) => Ok(config),
@@ -89,6 +96,7 @@ fn make_world(alloc: Global, config: Config) -> Result<World, Stop>
     ensures ok { IfOk result (λ world. (config_fault config ≡ None) × (world.machine ≡ Some (start config))) }
     ensures stops { IfErr result
         (λ stop. Says stop (λ last. (number : ℕ) (lines : List (List ℕ)) → PlaysFrom number config lines last 2)) }
+    ensures errors { IfErr result (FailsWith (λ _. ⊥)) }
 {
     match World::new(alloc, config) {
         Ok(world) => Ok(world),
@@ -97,7 +105,7 @@ fn make_world(alloc: Global, config: Config) -> Result<World, Stop>
 }
 
 // Takes the steps of the lines that are left, and prints what each answers and what the check found.
-fn take_steps<R: Read + Drop, W: Write>(
+fn take_steps<R: Source + Drop, W: Sink>(
     alloc: Global,
     lines: &mut Lines<R>,
     world: &mut World,
@@ -105,9 +113,13 @@ fn take_steps<R: Read + Drop, W: Write>(
 ) -> Result<u8, Stop>
     ensures bound { IfOk result (λ status. status < 2) }
     ensures printed { IfOk result (λ status. Printed (W.contents writer.old) (W.contents writer.new) (λ printed.
-        Knows (left R.remaining lines.old) (λ all. PlaysOn (line_number lines.old) world.old.machine all printed status))) }
-    ensures stops { IfErr result (λ stop. Says stop (λ last. Printed (W.contents writer.old) (W.contents writer.new) (λ printed.
-        Knows (left R.remaining lines.old) (λ all. PlaysOn (line_number lines.old) world.old.machine all (printed ++ last) 2)))) }
+        Knows (left R.remaining lines.old) (λ all.
+        PlaysOn (line_number lines.old) world.old.machine all printed status))) }
+    ensures stops { IfErr result (λ stop. Says stop (λ last.
+        Printed (W.contents writer.old) (W.contents writer.new) (λ printed.
+        Knows (left R.remaining lines.old) (λ all.
+        PlaysOn (line_number lines.old) world.old.machine all (printed ++ last) 2)))) }
+    ensures errors { IfErr result (FailsWith (IsStreamError R.errors W.errors)) }
 {
     let mut text = String::new(alloc);
     for _ in 0..u64::MAX {
@@ -120,7 +132,8 @@ fn take_steps<R: Read + Drop, W: Write>(
             writer.write_all(text.as_bytes())?;
         }
     }
-    Err(Stop::Io(too_many_lines()))
+    // No input has so many lines.
+    Err(Stop::NoMemory)
 }
 
 // A line that prints nothing.
@@ -134,7 +147,7 @@ fn is_silent(line: &[u8]) -> bool
 }
 
 // Takes the step or the steps that the current line gives, and writes what the line prints to the empty text.
-fn take_line<R: Read + Drop>(
+fn take_line<R: Source + Drop>(
     alloc: Global,
     lines: &Lines<R>,
     world: &mut World,
@@ -143,7 +156,9 @@ fn take_line<R: Read + Drop>(
     ensures ok { OnOk result
         ((said : List ℕ) × (string_bytes text.new ≡ string_bytes text.old ++ said)
         × AnswersLine (line_text lines.now) world.old.machine said world.new.machine) }
-    ensures stops { IfErr result (λ stop. Says stop (λ last. StopsAt (line_number lines.now) (line_text lines.now) last 2)) }
+    ensures stops { IfErr result (λ stop. Says stop (λ last.
+        StopsAt (line_number lines.now) (line_text lines.now) last 2)) }
+    ensures errors { IfErr result (FailsWith (λ _. ⊥)) }
 {
     match read_line(alloc, lines.text()) {
         Ok(Line::Step { kind, step }) => Ok(push_result(text, kind, world.step(step))?),
@@ -152,8 +167,4 @@ fn take_line<R: Read + Drop>(
         Err(Fault::Bad) => Err(Stop::BadLine(lines.number())),
         Err(Fault::NoMemory) => Err(Stop::NoMemory),
     }
-}
-
-fn too_many_lines() -> io::Error {
-    io::Error::other("the script did not end")
 }

@@ -1,16 +1,18 @@
 // What is printed at a script's end: what the check found, or why there was none.
-ghost use Rattle.std.specs.Prelude.{◌≡◌, ◌<◌, ◌++◌, List, ℕ, Some, IfOk, IfErr, OnOk, codes};
+ghost use Rattle.std.specs.Prelude.{◌≡◌, ◌⊎◌, ◌<◌, ◌++◌, List, ℕ, Some, IfOk, IfErr, OnOk, codes};
 ghost use Rattle.std.specs.Fmt.{decimal};
 ghost use Rattle.std.specs.Io.KnownBytes.{Appends};
+ghost use Rattle.fdb_sim.specs.Streams.{FailsWith};
+ghost use Rattle.fdb_sim.specs.declared.play.stop.Stop.TheVariants.{Io};
 ghost use Rattle.fdb_sim.specs.play.Scripts.{IsChecked, Printed, Says, printed_line, refused_line, stop_text};
 
 use crate::play::stop::Stop;
 use crate::print::refusals::RefusalLine;
+use crate::streams::Sink;
 use fdb_core::{CheckFault, World};
 use fdb_keys::Refusal;
 use fdb_txn::TxnId;
 use std::io;
-use std::io::Write;
 
 /// The status of a script whose check held.
 const CHECKED: u8 = 0;
@@ -22,7 +24,7 @@ const FAILED: u8 = 1;
 const ENDED: u8 = 2;
 
 /// Checks the world, prints what the check found, and answers the status.
-pub fn print_check<W: Write>(world: &World, writer: &mut W) -> Result<u8, Stop>
+pub fn print_check<W: Sink>(world: &World, writer: &mut W) -> Result<u8, Stop>
     ensures bound { IfOk result (λ status. status < 2) }
     ensures printed { IfOk result
         (λ status. Printed (W.contents writer.old) (W.contents writer.new)
@@ -31,6 +33,7 @@ pub fn print_check<W: Write>(world: &World, writer: &mut W) -> Result<u8, Stop>
         (λ stop. Says stop
         (λ last. Printed (W.contents writer.old) (W.contents writer.new)
         (λ printed. IsChecked world.now.machine (printed ++ last) 2))) }
+    ensures errors { IfErr result (FailsWith W.errors) }
 {
     match world.check() {
         Ok(count) => {
@@ -49,37 +52,42 @@ pub fn print_check<W: Write>(world: &World, writer: &mut W) -> Result<u8, Stop>
     }
 }
 
-fn print_count<W: Write>(count: u64, writer: &mut W) -> Result<(), io::Error>
-    ensures { OnOk result
+fn print_count<W: Sink>(count: u64, writer: &mut W) -> Result<(), io::Error>
+    ensures printed { OnOk result
         (Appends (W.contents writer.old) (W.contents writer.new) (printed_line (codes "checked " ++ decimal count))) }
+    ensures errors { IfErr result W.errors }
 {
     writeln!(writer, "checked {count}")
 }
 
-fn print_txn<W: Write>(id: TxnId, writer: &mut W) -> Result<(), io::Error>
-    ensures { OnOk result
+fn print_txn<W: Sink>(id: TxnId, writer: &mut W) -> Result<(), io::Error>
+    ensures printed { OnOk result
         (Appends (W.contents writer.old) (W.contents writer.new)
         (printed_line (codes "failed txn " ++ decimal id.session ++ codes ":" ++ decimal id.number))) }
+    ensures errors { IfErr result W.errors }
 {
     let session = id.session;
     let number = id.number;
     writeln!(writer, "failed txn {session}:{number}")
 }
 
-fn print_shard<W: Write>(shard: u32, writer: &mut W) -> Result<(), io::Error>
-    ensures { OnOk result
+fn print_shard<W: Sink>(shard: u32, writer: &mut W) -> Result<(), io::Error>
+    ensures printed { OnOk result
         (Appends (W.contents writer.old) (W.contents writer.new)
         (printed_line (codes "failed shard " ++ decimal shard))) }
+    ensures errors { IfErr result W.errors }
 {
     writeln!(writer, "failed shard {shard}")
 }
 
-/// Prints why the script ended early, and answers the status. It takes no memory.
-pub fn print_stop<W: Write>(stop: Stop, writer: &mut W) -> Result<u8, io::Error>
+/// Prints why the script ended early, and answers the status. It takes no memory. An error of the input or the
+/// output is answered as that error.
+pub fn print_stop<W: Sink>(stop: Stop, writer: &mut W) -> Result<u8, io::Error>
     ensures status { IfOk result (λ status. status ≡ ENDED) }
     ensures printed { OnOk result
         ((last : List ℕ) × (stop_text stop ≡ Some last)
         × Appends (W.contents writer.old) (W.contents writer.new) last) }
+    ensures errors { IfErr result (λ error. (stop ≡ Io error) ⊎ W.errors error) }
 {
     match stop {
         Stop::BadLine(number) => writeln!(writer, "bad line {number}")?,
@@ -90,8 +98,9 @@ pub fn print_stop<W: Write>(stop: Stop, writer: &mut W) -> Result<u8, io::Error>
     Ok(ENDED)
 }
 
-fn print_refusal<W: Write>(refusal: Refusal, writer: &mut W) -> Result<(), io::Error>
-    ensures { OnOk result (Appends (W.contents writer.old) (W.contents writer.new) (refused_line refusal)) }
+fn print_refusal<W: Sink>(refusal: Refusal, writer: &mut W) -> Result<(), io::Error>
+    ensures printed { OnOk result (Appends (W.contents writer.old) (W.contents writer.new) (refused_line refusal)) }
+    ensures errors { IfErr result W.errors }
 {
     let line = RefusalLine(refusal);
     writeln!(writer, "{line}")

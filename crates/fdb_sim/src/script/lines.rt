@@ -4,49 +4,70 @@ ghost use Rattle.std.specs.Str.Lines.{strip_carriage_return};
 ghost use Rattle.fdb_sim.specs.script.Lines.{without_line_end};
 
 use crate::play::stop::Stop;
+use crate::streams::Source;
 use std::alloc::{AllocError, Global};
 use std::io;
 use std::io::{BufRead, BufReader, Read};
+use std::marker::Model;
 
-/// How many reads an input may take.
-const READ_LIMIT: u64 = 1 << 32;
-
-/// A reader that refuses reads beyond `READ_LIMIT`. `failed` says that the last read gave an error, which tells
-/// that error from want of memory for the line.
+/// A reader that keeps the error that its last read answered, which tells that error from want of memory for
+/// the line.
 #[derive(Drop)]
-struct Limited<R> {
+struct Noting<R: Source> {
     reader: R,
-    reads: u64,
-    failed: bool,
+    fault: Option<io::Error>,
 }
 
-impl<R: Read> Read for Limited<R> {
-    ghost use Rattle.fdb_sim.specs.script.Lines.{limited_remaining};
+impl<R: Source> Model for Noting<R> {
+    ghost use Rattle.std.specs.Prelude.{IfSome};
 
-    ghost remaining = { limited_remaining R.remaining };
+    ghost Value = { R };
+
+    ghost view = { λ noting. noting.reader };
+
+    ghost invariant = { λ noting. IfSome noting.fault R.errors };
+}
+
+impl<R: Source> Noting<R> {
+    ghost use Rattle.std.specs.Prelude.{IfSome};
+
+    fn new(reader: R) -> Noting<R>
+        ensures { result ≡ reader }
+    {
+        Noting {
+            reader,
+            fault: None,
+        }
+    }
+
+    // The error that the last read answered.
+    fn fault(&self) -> Option<io::Error>
+        ensures { IfSome result R.errors }
+    {
+        self.fault
+    }
+}
+
+impl<R: Source> Read for Noting<R> {
+    ghost remaining = { R.remaining };
 
     fn read(&mut self, buffer: &mut [u8]) -> io::Result<usize> {
-        self.failed = true;
-        if self.reads >= READ_LIMIT {
-            return Err(too_many_reads());
-        }
-        self.reads += 1;
-        let count = self.reader.read(buffer)?;
-        self.failed = false;
-        Ok(count)
+        let result = self.reader.read(buffer);
+        self.fault = result.err();
+        result
     }
 }
 
 /// The lines of an input, of which only the current one is held. A line ends with an `LF`; what stands
 /// after the last `LF` is a line where it isn't empty.
 #[derive(Drop)]
-pub struct Lines<R> {
-    reader: BufReader<Limited<R>>,
+pub struct Lines<R: Source> {
+    reader: BufReader<Noting<R>>,
     line: Vec<u8>,
     number: u64,
 }
 
-impl<R: Read + Drop> Lines<R> {
+impl<R: Source + Drop> Lines<R> {
     ghost use Rattle.fdb_sim.specs.script.Lines.{IsInputFault, LosesLine, left, line_number, line_text};
 
     /// The lines of what the reader has left. The current line is empty and has the number 0 until the
@@ -56,12 +77,7 @@ impl<R: Read + Drop> Lines<R> {
         ensures text { IfOk result (λ lines. line_text lines ≡ []) }
         ensures number { IfOk result (λ lines. line_number lines ≡ 0) }
     {
-        let limited = Limited {
-            reader,
-            reads: 0,
-            failed: false,
-        };
-        match BufReader::new(alloc, limited) {
+        match BufReader::new(alloc, Noting::new(reader)) {
             Ok(reader) => Ok(Lines {
                 reader,
                 line: Vec::new(alloc),
@@ -85,18 +101,18 @@ impl<R: Read + Drop> Lines<R> {
         self.number
     }
 
-    /// Goes to the next line, and answers whether there is one. It fails where a read fails, where
-    /// memory runs out, and as `ErrorKind::Other` where it would take more than 2^32 reads in all or
-    /// the line's number would not fit. Nothing is known of the lines after a failure.
+    /// Goes to the next line, and answers whether there is one. It fails where a read fails, with that error,
+    /// and where memory runs out; the number of a line that would not fit counts as want of memory, since no
+    /// input is that long. Nothing is known of the lines after a failure.
     pub fn advance(&mut self) -> Result<bool, Stop>
         ensures line { result ≡ Ok true
             → LosesLine (left R.remaining self.old) (left R.remaining self.new) (line_text self.new) }
         ensures end { result ≡ Ok false → IsAtEnd (left R.remaining self.old)
             × Keeps (left R.remaining self.old) (left R.remaining self.new) }
-        ensures fault { IfErr result IsInputFault }
+        ensures fault { IfErr result (IsInputFault R.errors) }
         ensures number { OnOk result (line_number self.new ≡ suc (line_number self.old)) }
     {
-        self.number = self.number.checked_add(1).ok_or_else(too_many_reads)?;
+        self.number = self.number.checked_add(1).ok_or(Stop::NoMemory)?;
         self.line.clear();
         match self.reader.read_until(b'\n', &mut self.line) {
             Ok(0) => Ok(false),
@@ -104,18 +120,17 @@ impl<R: Read + Drop> Lines<R> {
                 drop_line_end(&mut self.line);
                 Ok(true)
             }
-            Err(error) => Err(self.stop_of(error)),
+            Err(_) => Err(self.stop()),
         }
     }
 
-    // An error that is not the reader's is want of memory for the line.
-    fn stop_of(&self, error: io::Error) -> Stop
-        ensures { IsInputFault result }
+    // Why the next line wasn't read: where no read failed, there was no memory for it.
+    fn stop(&self) -> Stop
+        ensures { IsInputFault R.errors result }
     {
-        if self.reader.get_ref().failed {
-            Stop::Io(error)
-        } else {
-            Stop::NoMemory
+        match self.reader.get_ref().fault() {
+            Some(error) => Stop::Io(error),
+            None => Stop::NoMemory,
         }
     }
 }
@@ -135,8 +150,4 @@ fn drop_carriage_return(line: &mut Vec<u8>)
     if line.as_slice().last() == Some(&b'\r') {
         line.pop();
     }
-}
-
-fn too_many_reads() -> io::Error {
-    io::Error::other("the input did not end")
 }

@@ -1,8 +1,10 @@
 // Readers and writers over memory, of which one call fails.
 use crate::play::script::run_script;
+use crate::streams::{Sink, Source};
 use std::alloc::Global;
+use std::fmt::Display;
 use std::io;
-use std::io::{ErrorKind, Read, Write};
+use std::io::{ErrorKind, Write};
 use std::test::Fail;
 
 const SCRIPT: &[u8] = b"config proxies 1 logs 1 resolvers - shards - book 100\n\
@@ -20,7 +22,7 @@ struct ChoppyReader<'a> {
     error: io::Error,
 }
 
-impl<'a> Read for ChoppyReader<'a> {
+impl<'a> Source for ChoppyReader<'a> {
     fn read(&mut self, buffer: &mut [u8]) -> io::Result<usize> {
         let call = self.calls;
         self.calls = call.saturating_add(1);
@@ -54,6 +56,16 @@ impl Write for ChoppyWriter {
 
     fn flush(&mut self) -> io::Result<()> {
         Ok(())
+    }
+}
+
+impl Sink for ChoppyWriter {
+    fn write_all(&mut self, bytes: &[u8]) -> io::Result<()> {
+        Write::write_all(self, bytes)
+    }
+
+    fn write_fmt<D: Display + Drop>(&mut self, text: D) -> io::Result<()> {
+        Write::write_fmt(self, text)
     }
 }
 

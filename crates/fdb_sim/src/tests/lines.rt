@@ -1,9 +1,9 @@
 // The lines of readers that give few bytes a call, and many.
 use crate::play::stop::Stop;
 use crate::script::lines::Lines;
+use crate::streams::Source;
 use std::alloc::{AllocError, Global};
 use std::io;
-use std::io::Read;
 use std::test::Fail;
 
 /// Gives its text at most so many bytes a call.
@@ -13,7 +13,7 @@ struct PieceReader<'a> {
     most: usize,
 }
 
-impl<'a> Read for PieceReader<'a> {
+impl<'a> Source for PieceReader<'a> {
     fn read(&mut self, buffer: &mut [u8]) -> io::Result<usize> {
         let most = buffer.len().min(self.most);
         self.rest.read(&mut buffer[..most])

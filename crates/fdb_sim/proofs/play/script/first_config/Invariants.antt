@@ -6,5 +6,5 @@ use Rattle.fdb_sim.proofs.play.script.first_config.Given as goal
 -- what the lines that are left print is what the script prints
 abbrev pub invariant-loop : goal.invariant-loop
 invariant-loop g l =
-    Reaches (left g.R.Read.remaining l.initial.lines) (left g.R.Read.remaining l.lines) []
+    Reaches (left g.R.Source.remaining l.initial.lines) (left g.R.Source.remaining l.lines) []
     (Plays (line_number l.initial.lines)) (Plays (line_number l.lines))

@@ -5,14 +5,14 @@ use Rattle.fdb_sim.proofs.play.script.run_to_end.Goals as goal
 pub returns-in_err-lines-clause-stops : goal.returns-in_err-lines-clause-stops
 returns-in_err-lines-clause-stops g c =
     let p = err_from_is_err_and c.from_residual.result c.from_residual.ensures.1 in
-    rw p.1 (run_out_at_once (g.R.Read.remaining c.args.reader.now) (g.W.Write.contents c.args.writer.now) _ p.2)
+    rw p.1 (run_out_at_once (g.R.Source.remaining c.args.reader.now) (g.W.Sink.contents c.args.writer.now) _ p.2)
 
 pub returns-in_err-config-clause-stops : goal.returns-in_err-config-clause-stops
 returns-in_err-config-clause-stops g c =
     let p = err_from_is_err_and c.from_residual-in_err-config.result c.from_residual-in_err-config.ensures.1 in
     let made = c.in_ok-lines.ensures in
     rw p.1 (rw p.2
-    (run_unconfigured (g.R.Read.remaining c.args.reader.now) _ (g.W.Write.contents c.args.writer.now) _ _ made.left
+    (run_unconfigured (g.R.Source.remaining c.args.reader.now) _ (g.W.Sink.contents c.args.writer.now) _ _ made.left
     made.number c.in_err-config.ensures.stops))
 
 pub returns-in_err-world-clause-stops : goal.returns-in_err-world-clause-stops
@@ -20,7 +20,7 @@ returns-in_err-world-clause-stops g c =
     let p = err_from_is_err_and c.from_residual-in_err-world.result c.from_residual-in_err-world.ensures.1 in
     let made = c.in_ok-lines.ensures in
     rw p.1 (rw p.2
-    (run_refused (g.R.Read.remaining c.args.reader.now) _ _ (g.W.Write.contents c.args.writer.now) _ _
+    (run_refused (g.R.Source.remaining c.args.reader.now) _ _ (g.W.Sink.contents c.args.writer.now) _ _
     c.in_ok-config.config _ made.left made.number c.in_ok-config.ensures.ok c.in_err-world.ensures.stops))
 
 pub returns-clause-printed : goal.returns-clause-printed

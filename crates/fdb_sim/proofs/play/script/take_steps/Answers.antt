@@ -2,12 +2,13 @@ use Rattle.std.proofs.Common.{sym, ap, ◌∙◌, ◌++◌, Ok}
 use Rattle.std.proofs.lemmas.Result.{err_from_is_err_and}
 use Rattle.fdb_sim.proofs.lemmas.Script.{if_ok_map, if_err_map, steps_reading_stops, steps_checked, steps_unchecked, steps_line_stops, steps_silent, steps_line}
 use Rattle.fdb_sim.proofs.play.script.take_steps.Goals.{then-not-is_silent+in_ok-take_line+in_ok-write_all, else-not-is_silent}
+use Rattle.fdb_sim.specs.declared.play.stop.Stop.TheVariants.{NoMemory}
 use Rattle.fdb_sim.proofs.play.script.take_steps.Goals as goal
 
 pub returns-in_err-advance-clause-stops : goal.returns-in_err-advance-clause-stops
 returns-in_err-advance-clause-stops g c =
     let p = err_from_is_err_and c.from_residual.result c.from_residual.ensures.1 in
-    rw p.1 (rw p.2 (steps_reading_stops _ _ _ _ _ _ _ _ _ c.loop.invariant c.in_err-advance.ensures.fault))
+    rw p.1 (rw p.2 (steps_reading_stops _ _ _ _ _ _ _ _ _ _ c.loop.invariant c.in_err-advance.ensures.fault))
 
 pub returns-then-not-branch-clause-printed : goal.returns-then-not-branch-clause-printed
 returns-then-not-branch-clause-printed g c =
@@ -48,3 +49,6 @@ loop-preserved g c =
           (steps_silent _ _ _ _ _ _ _ _ _ _ _ c.loop.invariant takes c.in_ok-advance.ensures.number
           (sym silent ∙ w.if-not-is_silent.false))
     ]
+
+pub returns-clause-stops : goal.returns-clause-stops
+returns-clause-stops g c = steps_reading_stops g.R.Source.errors _ _ _ _ _ _ _ _ NoMemory c.loop.invariant tt

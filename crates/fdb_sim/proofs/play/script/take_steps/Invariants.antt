@@ -5,6 +5,6 @@ use Rattle.fdb_sim.proofs.play.script.take_steps.Given as goal
 -- the script prints what was printed, and then what the lines that are left print
 abbrev pub invariant-loop : goal.invariant-loop
 invariant-loop g l =
-    Printed (g.W.Write.contents l.initial.writer) (g.W.Write.contents l.writer) (λ said.
-    Reaches (left g.R.Read.remaining l.initial.lines) (left g.R.Read.remaining l.lines) said
+    Printed (g.W.Sink.contents l.initial.writer) (g.W.Sink.contents l.writer) (λ said.
+    Reaches (left g.R.Source.remaining l.initial.lines) (left g.R.Source.remaining l.lines) said
     (PlaysOn (line_number l.initial.lines) l.initial.world.machine) (PlaysOn (line_number l.lines) l.world.machine))
