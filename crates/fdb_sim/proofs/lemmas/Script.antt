@@ -96,8 +96,8 @@ plays_on-out number world [] = inr (inr (refl, refl))
 plays_on-out number world (line ∷ lines) = inr (inr (inr (refl, refl)))
 
 -- where reading stops, what is printed is that memory ran out
-reading-says : (errors : Error → Type 0) (stopped : Stop) (P : List ℕ → Type 0) → IsInputFault errors stopped → P (refused_line NoMemory)
-    → Says stopped P
+reading-says : (errors : Error → Type 0) (stopped : Stop) (P : List ℕ → Type 0) → IsInputFault errors stopped
+    → P (refused_line NoMemory) → Says stopped P
 reading-says errors (stop.BadLine number) P reading out = absurd reading
 reading-says errors (stop.Refused refusal) P reading out = absurd reading
 reading-says errors stop.NoMemory P reading out = out
