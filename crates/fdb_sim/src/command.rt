@@ -1,7 +1,7 @@
 ghost use Rattle.std.specs.Prelude.{◌≡◌, ◌≤◌, ◌⊎◌, IfOk, IfErr, OnOk, map};
 ghost use Rattle.std.specs.Io.KnownBytes.{Appends};
 ghost use Rattle.clap.specs.Words.{FailsBy, app_of, fault_of, kind_of};
-ghost use Rattle.fdb_sim.specs.Streams.{IsStreamError};
+ghost use Rattle.fdb_sim.specs.Streams.{IsLimitedError, IsStreamError};
 ghost use Rattle.fdb_sim.specs.Commands.{EndsBy, LackMemory, Obeys, commands, out_of_memory};
 
 use crate::play::script::run_script;
@@ -35,7 +35,7 @@ pub fn run_words<R: Source, O: Sink, E: Sink>(
         (λ status. Obeys (map (λ word. word.now) words.now) (R.remaining reader.old) (O.contents out.old)
         (O.contents out.new) (E.contents err.old) (E.contents err.new) status) }
     ensures errors { IfErr result
-        (IsStreamError R.errors (IsStreamError O.errors E.errors)) }
+        (IsStreamError (IsLimitedError R.errors) (IsStreamError O.errors E.errors)) }
 {
     match read_command(alloc, words) {
         Ok(()) => run_script(alloc, reader, out),

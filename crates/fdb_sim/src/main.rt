@@ -11,7 +11,6 @@ mod streams;
 mod tests;
 
 use crate::command::run_words;
-use crate::streams::Limited;
 use std::io::{BufWriter, Write};
 use std::process::ExitCode;
 use std::{env, io};
@@ -34,7 +33,7 @@ fn run(rt: &HostRuntime) -> io::Result<u8> {
     let alloc = rt.alloc();
     let args: Vec<String> = env::args(rt)?.skip(1).collect(alloc)?;
     let words: Vec<&str> = args.iter().map(|word| word.as_str()).collect(alloc)?;
-    let mut input = Limited::new(rt.stdin());
+    let mut input = rt.stdin();
     let mut out = BufWriter::new(alloc, rt.stdout())?;
     let mut err = rt.stderr();
     let ended = run_words(alloc, words.as_slice(), &mut input, &mut out, &mut err);

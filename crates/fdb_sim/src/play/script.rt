@@ -1,6 +1,6 @@
 ghost use Rattle.std.specs.Prelude.{◌≡◌, ◌<◌, ◌≤◌, ◌++◌, ℕ, List, [], Some, None, true, false, IfOk, IfErr, OnOk, string_bytes};
 ghost use Rattle.fdb_core.specs.machine.Worlds.{config_fault, start};
-ghost use Rattle.fdb_sim.specs.Streams.{FailsWith, IsStreamError};
+ghost use Rattle.fdb_sim.specs.Streams.{FailsWith, IsLimitedError, IsStreamError};
 ghost use Rattle.fdb_sim.specs.script.Configs.{WritesConfig, line_fault};
 ghost use Rattle.fdb_sim.specs.script.Lines.{left, line_text, line_number};
 ghost use Rattle.fdb_sim.specs.play.Scripts.{is_silent, AnswersLine, PlaysOn, PlaysFrom, Plays, Unconfigured, StopsAt, Printed, Knows, Says, Reaches};
@@ -14,7 +14,7 @@ use crate::script::fault::Fault;
 use crate::script::line::{Line, read_line};
 use crate::script::lines::Lines;
 use crate::script::step_line::Kind;
-use crate::streams::{Sink, Source};
+use crate::streams::{Limited, Sink, Source};
 use fdb_core::{Config, World};
 use std::alloc::Global;
 use std::io;
@@ -25,12 +25,24 @@ use std::io;
 /// are said of a reader whose bytes and a writer whose contents are known, as those over memory.
 ///
 /// A read or a write that fails is answered as that error, and what was written then is a prefix of what
-/// the script prints. A read that was interrupted did not fail, and is made again. No other error is answered.
+/// the script prints. A read that was interrupted did not fail, and is made again. A reader that does not end
+/// is given up after 2^32 reads, with an error of `ErrorKind::Other`. No other error is answered.
 pub fn run_script<R: Source, W: Sink>(
     alloc: Global,
     reader: &mut R,
     writer: &mut W,
 ) -> Result<u8, io::Error>
+    ensures bound { IfOk result (λ status. status ≤ 2) }
+    ensures printed { IfOk result (λ status. Printed (W.contents writer.old) (W.contents writer.new) (λ printed.
+        Knows (R.remaining reader.old) (λ lines. Plays 0 lines printed status))) }
+    ensures errors { IfErr result (IsStreamError (IsLimitedError R.errors) W.errors) }
+{
+    let mut limited = Limited::new(reader);
+    play(alloc, &mut limited, writer)
+}
+
+// The same of a reader that gives itself up. It answers no error but of its reader and its writer, whatever they are.
+fn play<R: Source, W: Sink>(alloc: Global, reader: &mut R, writer: &mut W) -> Result<u8, io::Error>
     ensures bound { IfOk result (λ status. status ≤ 2) }
     ensures printed { IfOk result (λ status. Printed (W.contents writer.old) (W.contents writer.new) (λ printed.
         Knows (R.remaining reader.old) (λ lines. Plays 0 lines printed status))) }

@@ -1,5 +1,5 @@
 use Rattle.fdb_sim.proofs.lemmas.Script.{run_answered}
-use Rattle.fdb_sim.proofs.play.script.run_script.Goals as goal
+use Rattle.fdb_sim.proofs.play.script.play.Goals as goal
 
 pub returns-in-Err-clause-printed : goal.returns-in-Err-clause-printed
 returns-in-Err-clause-printed g c =
