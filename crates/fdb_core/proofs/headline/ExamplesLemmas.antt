@@ -35,9 +35,9 @@ nothing_there = get-empty {X = List ℕ} (slice_cmp nat_cmp) (codes "a")
 different : reply.Value (Some (codes "1")) ≡ reply.Value None → ⊥
 different told = cc
 
-pub only_the_first_stands : OnlyTheFirstIsSerialized
+pub only_the_first_is_serialized : OnlyTheFirstIsSerialized
 unfolding point_lt insertion.inserted
-only_the_first_stands = (
+only_the_first_is_serialized = (
   ((first, []), refl, refl, refl, refl, ((λ write. refl), ((λ read. ap reply.Value (sym nothing_there)), tt))),
   (λ stands.
       let same : Path (Place × List Place) (second, first ∷ []) stands.0 = cc (stands.1) in

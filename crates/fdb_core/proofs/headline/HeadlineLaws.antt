@@ -17,7 +17,7 @@ use Rattle.fdb_core.specs.machine.Worlds.{start, IsStep}
 use Rattle.fdb_core.proofs.headline.RunsLemmas.{run-push}
 use Rattle.fdb_core.proofs.headline.TraceLaws.{traces_tell}
 use Rattle.fdb_core.proofs.invariant.SoundLaws.{sound_steps}
-use Rattle.fdb_core.proofs.readings.TraceReadings.{acknowledged_stand, config-kept, traces_tell_books, real_time, trace-tells}
+use Rattle.fdb_core.proofs.readings.TraceReadings.{acknowledged_serialized, config-kept, traces_tell_books, real_time, trace-tells}
 use Rattle.fdb_core.proofs.machine.Steps.{kept-next}
 
 -- every step leaves a sound machine sound
@@ -31,7 +31,7 @@ pub strictly_serializable : (config : Config) (steps : List Step) (given : List 
 strictly_serializable config steps given system stands keep = record {
   is_trace_of = stands;
   book = traces_tell_books config steps given system.machine stands;
-  serial = acknowledged_stand config steps given system.machine stands;
+  serial = acknowledged_serialized config steps given system.machine stands;
   real_time = real_time config steps given system.machine stands;
   served = served system.machine stands keep;
 }

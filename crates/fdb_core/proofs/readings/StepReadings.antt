@@ -30,48 +30,24 @@ use Rattle.fdb_core.proofs.readings.GrantLemmas.{HaveNumbers, grant-begins}
 use Rattle.fdb_core.proofs.readings.SessionLists.{found-at, others-removed, others-without, one_more-set}
 use Rattle.fdb_core.proofs.refinement.SealLemmas.{last-at, sealed_entry, sealed_proxy, sealed_machine}
 
--- where only the open transactions change, and who is told to be open
-with-opened : (r : Readings) (m : Machine) (told opened : List Transcript) → TellsMachine r m → told ≡ opened
-    → TellsMachine (record r { opened = told }) (record m { opened = opened })
-with-opened r m told opened tells same = record {
-  book_told = tells.book_told;
-  opened_told = same;
-  acknowledged_told = tells.acknowledged_told;
-  reported_told = tells.reported_told;
-  no_moves = tells.no_moves;
-  begun_told = tells.begun_told;
-  proxies_told = tells.proxies_told;
-  once_told = tells.once_told;
-}
-
--- where a version is reported
-with-reported : (r : Readings) (m : Machine) (told committed : ℕ) → TellsMachine r m → told ≡ committed
-    → TellsMachine (record r { reported = told }) (record m { committed = committed })
-with-reported r m told committed tells same = record {
-  book_told = tells.book_told;
-  opened_told = tells.opened_told;
-  acknowledged_told = tells.acknowledged_told;
-  reported_told = same;
-  no_moves = tells.no_moves;
-  begun_told = tells.begun_told;
-  proxies_told = tells.proxies_told;
-  once_told = tells.once_told;
-}
-
--- where some are acknowledged
-with-acknowledged : (r : Readings) (m : Machine) (told acknowledged : List Placed) → TellsMachine r m
-    → told ≡ acknowledged
-    → TellsMachine (record r { acknowledged = told }) (record m { acknowledged = acknowledged })
-with-acknowledged r m told acknowledged tells same = record {
-  book_told = tells.book_told;
-  opened_told = tells.opened_told;
-  acknowledged_told = same;
-  reported_told = tells.reported_told;
-  no_moves = tells.no_moves;
-  begun_told = tells.begun_told;
-  proxies_told = tells.proxies_told;
-  once_told = tells.once_told;
-}
+-- where the proxies stay, and what is told of the sessions and of reports is what changes of the machine
+with-clients : (r : Readings) (m : Machine) (told_opened opened : List Transcript)
+    (told_acknowledged acknowledged : List Placed) (told_reported committed : ℕ) → TellsMachine r m
+    → told_opened ≡ opened → told_acknowledged ≡ acknowledged → told_reported ≡ committed
+    → TellsMachine
+    (record r { opened = told_opened; acknowledged = told_acknowledged; reported = told_reported })
+    (record m { opened = opened; acknowledged = acknowledged; committed = committed })
+with-clients r m told_opened opened told_acknowledged acknowledged told_reported committed tells same placed reported =
+    record {
+      book_told = tells.book_told;
+      opened_told = same;
+      acknowledged_told = placed;
+      reported_told = reported;
+      no_moves = tells.no_moves;
+      begun_told = tells.begun_told;
+      proxies_told = tells.proxies_told;
+      once_told = tells.once_told;
+    }
 
 -- where a commit proxy changes, and what is told of it
 with-proxy : (r : Readings) (m : Machine) (waiting : ℕ → List Transcript) (answered : List ℕ) (proxy : ℕ)
@@ -143,11 +119,11 @@ submitted-told r m session proxy commit_proxy i transcript submission tells at i
     ∙ ap₂ (λ (first found : List Transcript). first ++ found) was.waiting_told
     (alone ∙ ap (λ (t : Transcript). t ∷ []) same)
     ∙ sym (map-append (λ (s : Submission). s.transcript) commit_proxy.waiting (submission ∷ [])) in
-    with-opened (record r { waiting = waits }) (record m {
+    with-clients (record r { waiting = waits }) (record m {
       commit_proxies = slice_set m.commit_proxies proxy
           (record commit_proxy { waiting = commit_proxy.waiting ++ submission ∷ [] });
     })
-    (others_than session r.opened) (remove m.opened i)
+    (others_than session r.opened) (remove m.opened i) _ _ _ _
     (with-proxy r m waits r.answered proxy (record commit_proxy { waiting = commit_proxy.waiting ++ submission ∷ [] })
     tells
     (λ other differs. sym (changed-elsewhere proxy _ r.waiting other differs))
@@ -155,6 +131,7 @@ submitted-told r m session proxy commit_proxy i transcript submission tells at i
     (once-goes_on m.book r.answered m.commit_proxies proxy commit_proxy _ at tells.once_told
     (λ entry. le_refl (flies entry commit_proxy))))
     (ap (others_than session) tells.opened_told ∙ sym (others-removed session m.opened i is))
+    tells.acknowledged_told tells.reported_told
 
 -- a proxy that seals
 sealed-told : (r : Readings) (m : Machine) (proxy advance : ℕ) (commit_proxy : CommitProxy)
@@ -245,8 +222,9 @@ tells_steps = record {
   roles = λ m taken answer resolvers logs shards quiet r sound once tells.
       subst (λ (told : Readings). TellsMachine told m) (quiet-tells r taken answer quiet) tells;
   asked = λ m session proxy there at free r sound once tells.
-      with-opened r m (others_than session r.opened) (without session m.opened) tells
-      (ap (others_than session) tells.opened_told ∙ sym (others-without session m.opened));
+      with-clients r m (others_than session r.opened) (without session m.opened) _ _ _ _ tells
+      (ap (others_than session) tells.opened_told ∙ sym (others-without session m.opened))
+      tells.acknowledged_told tells.reported_told;
   granted = λ m proxy there at left r sound once tells.
       granted-told r m there tells
       (λ session. (
@@ -258,16 +236,15 @@ tells_steps = record {
       (program transcript.ops) in
       let after = add_operation m i transcript operation (reply_on on operation) in
       subst (λ (told : Readings). TellsMachine told after) (operation-tells r taken session operation on does)
-      (with-opened r m (with_one_more session operation (reply_on on operation) r.opened) after.opened tells
+      (with-clients r m (with_one_more session operation (reply_on on operation) r.opened) after.opened _ _ _ _ tells
       (ap (with_one_more session operation (reply_on on operation)) tells.opened_told
-      ∙ sym (one_more-set session operation (reply_on on operation) m.opened i transcript is there)));
+      ∙ sym (one_more-set session operation (reply_on on operation) m.opened i transcript is there))
+      tells.acknowledged_told tells.reported_told);
   read_only = λ m session proxy i transcript is there empty r sound once tells.
       let alone = ap (of_session session) tells.opened_told ∙ found-at session m.opened i transcript is there in
-      with-acknowledged (record r { opened = others_than session r.opened })
-      (record m { opened = remove m.opened i }) _ _
-      (with-opened r m (others_than session r.opened) (remove m.opened i) tells
-      (ap (others_than session) tells.opened_told ∙ sym (others-removed session m.opened i is)))
-      (λ k. tells.acknowledged_told k ++ map (told_at transcript.read_version) (alone k));
+      with-clients r m (others_than session r.opened) (remove m.opened i) _ _ _ _ tells
+      (ap (others_than session) tells.opened_told ∙ sym (others-removed session m.opened i is))
+      (λ k. tells.acknowledged_told k ++ map (told_at transcript.read_version) (alone k)) tells.reported_told;
   submitted = λ m session proxy commit_proxy i transcript at is there writes r sound once tells.
       submitted-told r m session proxy commit_proxy i transcript
       (record { sealed = commit_request_of transcript; transcript = transcript }) tells at is there refl;
@@ -289,20 +266,20 @@ tells_steps = record {
   reported_version = λ m proxy commit_proxy entry at logging there r sound once tells.
       let was = tells.proxies_told proxy commit_proxy at in
       let batch = batch-at r m proxy commit_proxy entry tells at (ap is_idle logging) there in
-      with-reported r
+      with-clients r
       (record m { commit_proxies = slice_set m.commit_proxies proxy (record commit_proxy { stage = Reported }) })
-      _ _
+      _ _ _ _ _ _
       (proxy-goes_on r m proxy commit_proxy _ at tells
       (record { waiting_told = was.waiting_told; batch_told = λ _. was.batch_told (ap is_idle logging) })
       (λ one. rw (ap is_idle logging) (le_refl _)))
-      (λ k. max (tells.reported_told k) (batch k).version);
+      tells.opened_told tells.acknowledged_told (λ k. max (tells.reported_told k) (batch k).version);
   told = λ m proxy commit_proxy entry at reported there r sound once tells.
       let was = tells.proxies_told proxy commit_proxy at in
       let batch = batch-at r m proxy commit_proxy entry tells at (ap is_idle reported) there in
       let outcomes = outcomes_on m.config.resolver_splits (seen_before m.book commit_proxy.entry) entry in
       let done : CommitProxy = record commit_proxy { in_flight = []; stage = Idle } in
-      with-acknowledged (record r { answered = r.answered ++ (r.sealed proxy).entry ∷ [] })
-      (record m { commit_proxies = slice_set m.commit_proxies proxy done }) _ _
+      with-clients (record r { answered = r.answered ++ (r.sealed proxy).entry ∷ [] })
+      (record m { commit_proxies = slice_set m.commit_proxies proxy done }) _ _ _ _ _ _
       (with-proxy r m r.waiting (r.answered ++ (r.sealed proxy).entry ∷ []) proxy done tells
       (λ other differs. refl)
       (record { waiting_told = was.waiting_told; batch_told = λ busy. cc })
@@ -310,10 +287,12 @@ tells_steps = record {
       (slice_set m.commit_proxies proxy done)) (sym (ap (λ (b : SealedBatch). b.entry) batch))
       (once-answered m.book r.answered m.commit_proxies proxy commit_proxy done at tells.once_told
       (ap is_idle reported) refl)))
+      tells.opened_told
       (ap₂ (λ (first more : List Placed). first ++ more) tells.acknowledged_told
       (ap (λ (b : SealedBatch). all_acknowledged_by b (replies_from commit_proxy.in_flight outcomes)) batch
       ∙ acknowledged-placed commit_proxy.entry entry.version commit_proxy.in_flight outcomes
-      (once.1 proxy commit_proxy at)));
+      (once.1 proxy commit_proxy at)))
+      tells.reported_told;
 }
   where
     told_at : ℕ → Transcript → Placed

@@ -176,8 +176,8 @@ entries_answered_once config steps given world stands entry =
     one false = omega arith
 
 -- each acknowledged transaction is serialized at its spot
-pub acknowledged_stand : AcknowledgedAreSerialized
-acknowledged_stand config steps given world stands =
+pub acknowledged_serialized : AcknowledgedAreSerialized
+acknowledged_serialized config steps given world stands =
     let m = machine_of_trace config steps given in
     let told = trace-tells config steps given world stands in
     subst (λ (acknowledged : List Placed). AllByRecursion

@@ -13,7 +13,7 @@ use Rattle.fdb_resolver.specs.declared.verdict.Verdict.{Verdict}
 use Rattle.fdb_resolver.specs.declared.verdict.Verdict.TheVariants as verdict
 use Rattle.fdb_core.specs.declared.step.Outcome.TheVariants as outcome
 use Rattle.fdb_core.specs.machine.Verdicts.{verdict_at, outcome_at, verdicts_from, asks_about, outcomes_from, moves_through, verdicts_on, is_needed, outcomes_on}
-use Rattle.fdb_core.specs.refinement.Cluster.{ReadsBelow}
+use Rattle.fdb_txn.specs.book.History.{ReadsBelow}
 use Rattle.fdb_core.specs.refinement.Roles.{outcome_by, verdict_for, outcomes_by, is_commit, body_by}
 use Rattle.fdb_txn.specs.rules.Messages.{committed_from}
 use Rattle.fdb_core.specs.refinement.Resolving.{is_judged}

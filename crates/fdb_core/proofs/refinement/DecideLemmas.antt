@@ -15,7 +15,8 @@ use Rattle.fdb_txn.specs.rules.Messages.{Message}
 use Rattle.fdb_resolver.specs.declared.verdict.Verdict.{Verdict}
 use Rattle.fdb_core.specs.declared.step.Outcome.{Outcome}
 use Rattle.fdb_core.specs.declared.step.Answered.TheVariants as answered
-use Rattle.fdb_core.specs.refinement.Cluster.{machine_of, Refines, CommitProxyRefines, IsDecision, ReadsBelow}
+use Rattle.fdb_txn.specs.book.History.{ReadsBelow}
+use Rattle.fdb_core.specs.refinement.Cluster.{machine_of, Refines, CommitProxyRefines, IsDecision}
 use Rattle.fdb_core.specs.machine.Machine.{is_set, first_missing}
 use Rattle.fdb_core.specs.machine.CommitProxySteps.{decides, is_idle, is_resolving}
 use Rattle.fdb_core.specs.refinement.Roles.{along, message_on, outcomes_by, body_by}

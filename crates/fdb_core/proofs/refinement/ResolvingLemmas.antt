@@ -10,7 +10,7 @@ use Rattle.fdb_txn.specs.book.Transactions.{Transaction}
 use Rattle.fdb_txn.specs.book.Book.{Stamped, Place, Seen, placed, add_places, seen_of, last_version}
 use Rattle.fdb_txn.specs.rules.Owners.{window}
 use Rattle.fdb_txn.specs.rules.Admission.{has_points, admits}
-use Rattle.fdb_txn.specs.book.History.{IsHistory, AreEntries}
+use Rattle.fdb_txn.specs.book.History.{IsHistory, AreEntries, ReadsBelow}
 use Rattle.fdb_txn.specs.rules.Resolvers.{part_writes, IsStateOf}
 use Rattle.fdb_txn.specs.laws.SerialMapLaws.{version_after}
 use Rattle.fdb_txn.proofs.rules.AskedLemmas.{points_from-in_set}
@@ -26,7 +26,6 @@ use Rattle.fdb_resolver.specs.Rule.{AreVerdicts, versions_with, versions_after}
 use Rattle.fdb_resolver.proofs.BookLemmas.{verdicts_are_by_the_book, places_keep_state}
 use Rattle.fdb_core.specs.refinement.Resolving.{is_judged, item_of, items_from, ResolverAt, IsNext}
 use Rattle.fdb_core.specs.machine.Verdicts.{verdict_at, verdicts_from, moves_through, verdicts_on}
-use Rattle.fdb_core.specs.refinement.Cluster.{ReadsBelow}
 use Rattle.fdb_core.proofs.refinement.NoMoves.{no_moves-through, no_moves-seen, no_moves-front}
 use Rattle.fdb_core.proofs.refinement.OneResolver.{part_writes-all, item-is, asked-points}
 

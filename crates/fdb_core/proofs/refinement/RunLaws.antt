@@ -13,12 +13,12 @@ use Rattle.fdb_txn.specs.declared.entry.Entry.{Entry}
 use Rattle.fdb_txn.specs.book.Transactions.{Transaction}
 use Rattle.fdb_txn.specs.book.Book.{Stamped, Place, Seen, nothing, placed, add_places, add_entry, seen_of, last_version, seen_before}
 use Rattle.fdb_txn.specs.rules.SerialMap.{serial_map, up_to, serial_map_at}
-use Rattle.fdb_txn.specs.book.History.{AreEntries}
+use Rattle.fdb_txn.specs.book.History.{AreEntries, ReadsBelow}
 use Rattle.fdb_txn.proofs.book.HistoryLemmas.{all-weaken, AtMost, add_places-newer, up_to-above, up_to-all}
 use Rattle.fdb_txn.proofs.rules.MessagesLemmas.{at_most-more, get-effects, serial_map-add_places}
 use Rattle.fdb_txn.specs.rules.Messages.{Message, value_in, committed_from, value_after, value_with}
 use Rattle.fdb_core.specs.machine.Verdicts.{moves_through}
-use Rattle.fdb_core.specs.refinement.Cluster.{IsRising, ReadsBelow}
+use Rattle.fdb_core.specs.refinement.Cluster.{IsRising}
 use Rattle.fdb_core.specs.refinement.Roles.{along, message_on}
 
 -- `along` from what was seen before, by recursion from the front

@@ -52,9 +52,9 @@ two_in_one_entry = record {
   batch = commit_request_of (reads_and_sets 0 None) ∷ commit_request_of (reads_and_sets 1 None) ∷ [];
 } ∷ []
 
--- The first one is serialized at its place, under the entry's version. It isn't serialized at the other place or under
--- another version, and didn't if it had been answered otherwise. The second one read what the first one wrote, so it
--- isn't committed and stands nowhere.
+-- The first one is serialized at its place, under the entry's version; not at the other place or under another version,
+-- and not if it had been answered otherwise. The second one read what the first one wrote, so it isn't committed, and is
+-- serialized nowhere.
 abbrev pub OnlyTheFirstIsSerialized : Type 0
 OnlyTheFirstIsSerialized =
     IsSerializedAtSpot [] two_in_one_entry (reads_and_sets 0 None) (spot.Entry 0 0 100)

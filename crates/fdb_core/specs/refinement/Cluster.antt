@@ -70,10 +70,6 @@ system_of failed k =
 abbrev pub IsRising : List Entry → Type 0
 IsRising book = (i : ℕ) (entry : Entry) → slice_get book i ≡ Some entry → last_version (take i book) < entry.version
 
--- each transaction of the entry has a read version below the entry's
-abbrev pub ReadsBelow : Entry → Type 0
-ReadsBelow entry = AllByRecursion (λ (t : Transaction). t.read < entry.version) entry.batch
-
 -- the configurations that these roles serve: one of each role
 pub record IsPlain (config : Config) : Type 0 where
   pub resolver_splits : config.resolver_splits ≡ []
