@@ -5,7 +5,7 @@ ghost use Rattle.fdb_core.specs.headline.RealTime.{RealTime};
 ghost use Rattle.fdb_core.specs.programs.ProgramLaws.{CommitRequestsAreWhole, ProgramsAgree};
 ghost use Rattle.fdb_core.specs.headline.Examples.{OnlyTheFirstIsSerialized, ReadOnlyAtItsVersion, AfterAVersion, AnEmptyShardDoesNotServe, OnlyOrdinaryReadsCount, BegunByServing, ForgetfulRolesDoNotKeep, ReadOffTheTrace, Traced};
 ghost use Rattle.fdb_core.specs.headline.Headline.{AcknowledgedAreSerialized};
-ghost use Rattle.fdb_core.specs.headline.Traces.{TracesDetermineTheMachine};
+ghost use Rattle.fdb_core.specs.headline.Traces.{TracesDetermineTheMachine, WorldsShowWhatIsTold};
 ghost use Rattle.fdb_core.specs.headline.Books.{TracesTellBooks, EntriesAreAnsweredOnce};
 
 /// A refused step changes nothing.
@@ -55,9 +55,12 @@ pub fn programs_agree_on_maps_that_agree_where_they_read()
 {}
 
 /// A trace determines the machine: a world that stands for a list of steps with their answers shows the machine
-/// that the list takes the first one to, an accepted step after another.
+/// that the list takes the first one to, an accepted step after another. And what the machine has of the entries, of
+/// transactions that are open, wait, are in flight or are acknowledged, and of versions that were reported, is what is
+/// read off the steps and their answers.
 pub fn traces_determine_the_machine()
-    ensures { TracesDetermineTheMachine }
+    ensures determined { TracesDetermineTheMachine }
+    ensures told { WorldsShowWhatIsTold }
 {}
 
 /// Over every trace, each acknowledged transaction is serialized at its spot. At a spot in an entry it is committed

@@ -95,7 +95,7 @@ forgetful_roles_do_not_keep = (
     body_of (message ∷ messages) = message.body
 
 pub read_off_the_trace : ReadOffTheTrace
-read_off_the_trace = (refl, refl, refl, refl, refl)
+read_off_the_trace = (refl, refl, refl, refl, refl, refl)
 
 pub after_a_version : AfterAVersion
 after_a_version = ((λ after. omega (arith, after)), omega arith, (λ after. omega (arith, after)), omega arith)

@@ -18,7 +18,7 @@ use Rattle.fdb_core.specs.headline.Books.{TracesTellBooks, EntriesAreAnsweredOnc
 use Rattle.fdb_core.specs.headline.Promises.{CommittedIsGreatestReported}
 use Rattle.fdb_core.specs.headline.Readings.{Readings, nothing_read, read_step, read_steps, readings_of, times_begun}
 use Rattle.fdb_core.specs.headline.RealTime.{RealTime, HasBegun}
-use Rattle.fdb_core.specs.headline.Traces.{after_step, after_steps, machine_of_trace, IsTraceOf}
+use Rattle.fdb_core.specs.headline.Traces.{after_step, after_steps, machine_of_trace, IsTraceOf, WorldsShowWhatIsTold}
 use Rattle.fdb_core.specs.invariant.Invariant.{Invariant}
 use Rattle.fdb_core.specs.machine.GrvProxySteps.{greatest_number}
 use Rattle.fdb_core.specs.machine.Machine.{Machine, Transition}
@@ -152,6 +152,22 @@ pub committed_is_greatest_reported : CommittedIsGreatestReported
 committed_is_greatest_reported config steps given m stands =
     ap (λ (n : Machine). n.committed) (traces_tell config steps given m stands)
     ∙ sym (trace-tells config steps given (Some m) stands).reported_told
+
+-- a world shows what its trace tells
+pub worlds_show_what_is_told : WorldsShowWhatIsTold
+worlds_show_what_is_told config steps given m stands =
+    let tells : TellsMachine (readings_of steps given) m = subst (TellsMachine (readings_of steps given))
+    (sym (traces_tell config steps given m stands)) (trace-tells config steps given (Some m) stands) in
+    record {
+      book = sym tells.book_told;
+      opened = sym tells.opened_told;
+      waiting = λ proxy commit_proxy at. sym (tells.proxies_told proxy commit_proxy at).waiting_told;
+      in_flight = λ proxy commit_proxy at busy.
+          let batch = ((tells.proxies_told proxy commit_proxy at).batch_told busy).2 in
+          (λ i. (sym batch i).entry, λ i. (sym batch i).transcripts);
+      acknowledged = sym tells.acknowledged_told;
+      committed = sym tells.reported_told;
+    }
 
 -- the entries are a book
 pub traces_tell_books : TracesTellBooks

@@ -127,8 +127,16 @@ one_commits =
     ∷ Ok answered.Done ∷ Ok answered.Done ∷ Ok (answered.Issued 0 100 0 2) ∷ Ok (answered.Version 100)
     ∷ Ok (answered.Answers ((0, outcome.Commit 100 0) ∷ (1, outcome.Conflict) ∷ [])) ∷ []
 
+-- one session is served, asks again, which drops its transaction, and is served again
+abbrev pub asks_again : List Step
+asks_again = step.Ask 5 0 ∷ step.Grant 0 ∷ step.Ask 5 0 ∷ step.Grant 0 ∷ []
+
+abbrev pub served_twice : List (Result Answered Refusal)
+served_twice =
+    Ok answered.Done ∷ Ok (answered.Granted ((5, 0) ∷ [])) ∷ Ok answered.Done ∷ Ok (answered.Granted ((5, 100) ∷ [])) ∷ []
+
 -- From these answers alone are read the entry with both, the version that was reported, and that the first one alone is
--- acknowledged, at its place.
+-- acknowledged, at its place. The session that was served twice has its second transaction open.
 abbrev pub ReadOffTheTrace : Type 0
 ReadOffTheTrace =
     ((readings_of two_sessions one_commits).book ≡ two_in_one_entry)
@@ -137,6 +145,8 @@ ReadOffTheTrace =
     × ((readings_of two_sessions one_commits).reported ≡ 100)
     × ((readings_of two_sessions one_commits).answered ≡ 0 ∷ [])
     × ((readings_of two_sessions one_commits).opened ≡ [])
+    × ((readings_of asks_again served_twice).opened ≡ record
+    { id = record { session = 5; number = 1 }; read_version = 100; ops = [] } ∷ [])
 
 -- A refused step leaves the machine, and no world stands for a trace with another answer than the machine's.
 abbrev pub Traced : Type 0

@@ -1,10 +1,13 @@
 -- Traces: steps with their answers, and the machine that they determine.
-use Rattle.std.specs.Prelude.{◌≡◌, List, [], ◌∷◌, Option, Some, Result, Ok, Err}
+use Rattle.std.specs.Prelude.{◌≡◌, ℕ, false, map, slice_get, List, [], ◌∷◌, Option, Some, Result, Ok, Err}
 use Rattle.fdb_keys.specs.declared.refusal.Refusal.{Refusal}
 use Rattle.fdb_core.specs.declared.config.Config.{Config}
 use Rattle.fdb_core.specs.declared.step.Answered.{Answered}
 use Rattle.fdb_core.specs.declared.step.Step.{Step}
+use Rattle.fdb_core.specs.headline.Readings.{Readings, readings_of}
+use Rattle.fdb_core.specs.machine.CommitProxySteps.{is_idle}
 use Rattle.fdb_core.specs.machine.Machine.{Machine}
+use Rattle.fdb_core.specs.machine.Roles.{CommitProxy, Submission}
 use Rattle.fdb_core.specs.machine.Steps.{next, after}
 use Rattle.fdb_core.specs.machine.Worlds.{start, IsRun}
 
@@ -33,3 +36,23 @@ abbrev pub TracesDetermineTheMachine : Type 0
 TracesDetermineTheMachine =
     (config : Config) (steps : List Step) (answers : List (Result Answered Refusal)) (m : Machine)
     → IsTraceOf config steps answers (Some m) → m ≡ machine_of_trace config steps answers
+
+-- The machine has in its fields what is told: the entries, the open transactions with their operations and replies, those
+-- who wait at each commit proxy, the batch that it has in flight, the acknowledged transactions with their spots, and the
+-- greatest version that was reported.
+pub record HasWhatIsTold (r : Readings) (m : Machine) : Type 0 where
+  pub book : m.book ≡ r.book
+  pub opened : m.opened ≡ r.opened
+  pub waiting : (proxy : ℕ) (commit_proxy : CommitProxy) → slice_get m.commit_proxies proxy ≡ Some commit_proxy
+      → map (λ (submission : Submission). submission.transcript) commit_proxy.waiting ≡ r.waiting proxy
+  pub in_flight : (proxy : ℕ) (commit_proxy : CommitProxy) → slice_get m.commit_proxies proxy ≡ Some commit_proxy
+      → is_idle commit_proxy.stage ≡ false
+      → (commit_proxy.entry ≡ (r.sealed proxy).entry) × (commit_proxy.in_flight ≡ (r.sealed proxy).transcripts)
+  pub acknowledged : m.acknowledged ≡ r.acknowledged
+  pub committed : m.committed ≡ r.reported
+
+-- a world that stands for a trace shows what the trace tells
+abbrev pub WorldsShowWhatIsTold : Type 0
+WorldsShowWhatIsTold =
+    (config : Config) (steps : List Step) (answers : List (Result Answered Refusal)) (m : Machine)
+    → IsTraceOf config steps answers (Some m) → HasWhatIsTold (readings_of steps answers) m

@@ -3,7 +3,7 @@ use Rattle.std.specs.Prelude.{◌≡◌, ℕ, ◌<◌, ◌≤◌, Bool, true, fa
 use Rattle.std.specs.List.{AllByRecursion}
 use Rattle.fdb_mutations.specs.Mutations.{mutation_fault}
 use Rattle.fdb_txn.specs.declared.entry.Entry.{Entry}
-use Rattle.fdb_txn.specs.book.Transactions.{Transaction, NamesWrites}
+use Rattle.fdb_txn.specs.book.Transactions.{NamesWrites}
 use Rattle.fdb_txn.specs.book.History.{AreEntries}
 use Rattle.fdb_sequencer.specs.Sequencer.{Sequencer}
 use Rattle.fdb_core.specs.declared.config.Config.{Config}
