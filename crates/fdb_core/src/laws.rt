@@ -29,21 +29,21 @@ pub fn gets_answer_as_the_program_run_on_the_map_at_its_read_version()
 /// Over every trace, each accepted step is answered by what the trace told before: a grant gives the greatest version
 /// that was reported; a read what stands at the key after the transaction's own operations, executed on the serial map
 /// at its read version; a transaction that is done when it is submitted wrote nothing; a seal gives the number of the
-/// entry, its version, the previous one and how many places it has; a report the greatest version that was reported; and
-/// an answer tells each client of the batch once, by place, what became of its transaction by the rule.
+/// entry, its version, the previous one and how many places it has; a report the greatest version that was reported;
+/// and an answer tells each client of the batch once, by place, what became of its transaction by the rule.
 pub fn accepted_steps_are_answered_by_what_the_trace_told_before()
     ensures { AnsweredByTheTrace }
 {}
 
-/// A read of an open transaction is refused as `FutureVersion` exactly where its own operations don't decide the key and
-/// the shard that holds the key still serves the read version but hasn't reached it, and as `TransactionTooOld` exactly
-/// where they don't and that shard no longer serves it. A key that they decide is answered.
+/// A read of an open transaction is refused as `FutureVersion` exactly where its own operations don't decide the key
+/// and the shard that holds the key still serves the read version but hasn't reached it, and as `TransactionTooOld`
+/// exactly where they don't and that shard no longer serves it. A key that they decide is answered.
 pub fn gets_are_refused_exactly_where_the_shard_does_not_serve()
     ensures { GetsRefused }
 {}
 
-/// What is submitted of a transcript holds just the points that its program reads, on any map, and those that it writes,
-/// and its mutations leave any map as executing the program leaves it.
+/// What is submitted of a transcript holds just the points that its program reads, on any map, and those that it
+/// writes, and its mutations leave any map as executing the program leaves it.
 pub fn commit_requests_have_what_their_programs_read_and_write()
     ensures { CommitRequestsAreWhole }
 {}
@@ -71,15 +71,15 @@ pub fn acknowledged_transactions_are_serialized_at_their_spots()
     ensures { AcknowledgedAreSerialized }
 {}
 
-/// Real time, over every trace: a transaction that begins after another was acknowledged reads at that one's version or a
-/// greater one, and is never ordered before it.
+/// Real time, over every trace: a transaction that begins after another was acknowledged reads at that one's version or
+/// a greater one, and is never ordered before it.
 pub fn who_begins_after_an_acknowledgement_is_ordered_after_it()
     ensures { RealTime }
 {}
 
-/// What the headline says of small worlds: which transactions are serialized at which spots and which aren't, who is ordered
-/// after a version, what an empty shard would have to answer, which reads count, who has begun, what a role that forgets
-/// would have to keep, what is read off a trace with a conflict, and which answers a trace has.
+/// What the headline says of small worlds: which transactions are serialized at which spots and which aren't, who is
+/// ordered after a version, what an empty shard would have to answer, which reads count, who has begun, what a role
+/// that forgets would have to keep, what is read off a trace with a conflict, and which answers a trace has.
 pub fn worked_examples()
     ensures spots { OnlyTheFirstIsSerialized }
     ensures read_only { ReadOnlyAtItsVersion }
@@ -93,9 +93,9 @@ pub fn worked_examples()
 {}
 
 /// Over every trace the entries are a book: their versions rise, and each previous version is that of the entry before;
-/// each transaction reads below its entry's version; moves go to resolvers that exist; and no two places, of one entry or
-/// of two, are of transactions with the same name. Each transaction's write set has all that its mutations name.
-/// The clients of an entry are told at most once.
+/// each transaction reads below its entry's version; moves go to resolvers that exist; and no two places, of one entry
+/// or of two, are of transactions with the same name. Each transaction's write set has all that its mutations name. The
+/// clients of an entry are told at most once.
 pub fn entries_of_traces_are_books()
     ensures books { TracesTellBooks }
     ensures answered { EntriesAreAnsweredOnce }

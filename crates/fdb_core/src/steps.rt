@@ -20,7 +20,8 @@ impl Cluster {
     pub(crate) fn step(&mut self, step: &Step) -> Result<Answered, Refusal>
         requires { Refines self.old }
         ensures answer { Unless (ran_out result) (result ≡ answer_of (next (machine_of self.old) step.now)) }
-        ensures after { Unless (ran_out result) (machine_of self.new ≡ after (machine_of self.old) (next (machine_of self.old) step.now)) }
+        ensures after { Unless (ran_out result)
+            (machine_of self.new ≡ after (machine_of self.old) (next (machine_of self.old) step.now)) }
         ensures refines { Unless (ran_out result) (Refines self.new) }
     {
         match step {

@@ -29,7 +29,8 @@ module _ (k : Cluster) (refines : Refines k) where
   plain-book = record { no_moves = refines.book.no_moves; entries = refines.book.entries }
 
   -- who is at a spot agrees with the book there
-  agrees-where-stands : (transcript : Transcript) (at : Spot) → IsSerializedAtSpot k.config.resolver_splits k.book.items transcript at
+  agrees-where-stands : (transcript : Transcript) (at : Spot)
+      → IsSerializedAtSpot k.config.resolver_splits k.book.items transcript at
       → AgreesAt k.book.items transcript at
   agrees-where-stands transcript (spot.Entry i p version) stands = λ found at.
       let same : stands.0 ≡ found = same_Some stands.0 found (sym stands.1 ∙ at) in

@@ -76,7 +76,8 @@ pub only_ordinary_reads_count : OnlyOrdinaryReadsCount
 only_ordinary_reads_count = (
   ((λ snapshot. cc), tt),
   ((λ read. ap reply.Value (sym nothing_there)), tt),
-  (λ answers. let told : reply.Value (Some (codes "1")) ≡ reply.Value None = answers.0 refl ∙ ap reply.Value nothing_there in
+  (λ answers. let told : reply.Value (Some (codes "1")) ≡ reply.Value None = answers.0 refl
+      ∙ ap reply.Value nothing_there in
       different told),
 )
 

@@ -96,8 +96,8 @@ shard-forgot m version (Some progress) = (
     by_tests false true = ((λ faulty. cc), (λ test. cc))
     by_tests false false = ((λ faulty. cc), (λ test. cc))
 
--- A read of an open transaction is refused as in the future exactly where the key's shard lags, as too old exactly where
--- it has forgotten, and not at all where the key is decided.
+-- A read of an open transaction is refused as in the future exactly where the key's shard lags, as too old exactly
+-- where it has forgotten, and not at all where the key is decided.
 pub gets_refused : GetsRefused
 gets_refused m session key snapshot i transcript at there = (
   (

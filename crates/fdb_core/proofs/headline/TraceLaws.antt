@@ -39,7 +39,8 @@ after_steps-parts (suc n) m (taken ∷ steps) (answer ∷ given) = after_steps-p
     given
 
 -- with the machine's own answer a step takes the machine on
-pub after_step-answered : (m : Machine) (taken : Step) (transition : Result Transition Refusal) → next m taken ≡ transition
+pub after_step-answered : (m : Machine) (taken : Step) (transition : Result Transition Refusal)
+    → next m taken ≡ transition
     → after_step m taken (answer_of transition) ≡ after m (next m taken)
 after_step-answered m taken (Ok transition) is = refl
 after_step-answered m taken (Err refusal) is = ap (after m) (sym is)

@@ -305,7 +305,8 @@ module _ (id : TxnId) where
           asks_once = all-set (AsksOnce id) m.grv_proxies proxy [] once.asks_once served.1;
           stands = served.3;
         };
-    operated = λ m taken session i transcript operation does is there once. with-transcript m i transcript _ once there refl;
+    operated = λ m taken session i transcript operation does is there once.
+        with-transcript m i transcript _ once there refl;
     read_only = λ m session proxy i transcript is there empty once.
         still m once (omega
         (arith, once.stands, sum-remove (λ (t : Transcript). once_for id t.id) m.opened i transcript there));

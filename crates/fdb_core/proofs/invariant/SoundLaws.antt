@@ -184,8 +184,8 @@ sound-reported m proxy commit_proxy entry sound at busy there = record {
 -- every step keeps a machine sound
 pub sound_steps : KeptBySteps Invariant
 sound_steps = record {
-  roles = λ m taken answer resolvers logs shards quiet sound. same_book m sound sound.opened sound.commit_proxies sound.acknowledged
-      sound.reported;
+  roles = λ m taken answer resolvers logs shards quiet sound.
+      same_book m sound sound.opened sound.commit_proxies sound.acknowledged sound.reported;
   asked = λ m session proxy there at free sound.
       same_book m sound (all-without (IsReplied m) session m.opened sound.opened) sound.commit_proxies
       sound.acknowledged sound.reported;

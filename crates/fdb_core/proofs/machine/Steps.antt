@@ -54,8 +54,8 @@ is_quiet (step.Logged i log) = true
 is_quiet (step.Pull shard limit) = true
 is_quiet taken = false
 
--- What accepted steps do, by the fields that they change. The relation is between the machine, the step with its answer,
--- and the machine after the step.
+-- What accepted steps do, by the fields that they change. The relation is between the machine, the step with its
+-- answer, and the machine after the step.
 pub record HoldsOfSteps (R : Machine → Step → Answered → Machine → Type 0) : Type 0 where
   -- resolvers, logs and shards went on (Resolve, Push, Pull)
   pub roles : (m : Machine) (taken : Step) (answer : Answered) (resolvers logs : List ℕ) (shards : List ShardProgress)
@@ -103,7 +103,8 @@ pub record HoldsOfSteps (R : Machine → Step → Answered → Machine → Type 
       → next_version (last_version m.book) advance ≤ version_limit → length m.book < m.config.book
       → let prev = last_version m.book in
       R m (step.Seal proxy advance)
-      (answered.Issued (length m.book) (next_version prev advance) prev (length (take place_limit commit_proxy.waiting)))
+      (answered.Issued (length m.book) (next_version prev advance) prev
+      (length (take place_limit commit_proxy.waiting)))
       (sealed_machine m proxy advance commit_proxy)
   -- a proxy went on with its batch, which isn't reported (Verdict, Decide, Logged)
   pub went_on : (m : Machine) (taken : Step) (answer : Answered) (proxy : ℕ) (commit_proxy : CommitProxy)
@@ -199,7 +200,8 @@ module _ (R : Machine → Step → Answered → Machine → Type 0) (holds : Hol
       (ltb-false _ _ few) (leb-false _ _ room)))))
   holds-next m (step.Resolve i resolver) =
       past-found _ (slice_get m.book i) _ (λ entry _. past-found _ (slice_get m.resolvers resolver) _ (λ taken _.
-      past-turn _ taken i entry _ (holds.roles m (step.Resolve i resolver) _ (slice_set m.resolvers resolver (taken + 1)) m.logs m.shards refl)))
+      past-turn _ taken i entry _
+      (holds.roles m (step.Resolve i resolver) _ (slice_set m.resolvers resolver (taken + 1)) m.logs m.shards refl)))
   holds-next m (step.Verdict i resolver) =
       past-found _ (taken_by_sender m (FromResolver resolver)) _ (λ taken _. past-test _ (nat_le taken i) _ _ (λ _.
       past-found _ (slice_get m.entry_proxies i) _
@@ -219,7 +221,8 @@ module _ (R : Machine → Step → Answered → Machine → Type 0) (holds : Hol
   holds-next m (step.Push i log) =
       past-found _ (slice_get m.book i) _ (λ entry _. past-found _ (slice_get m.logs log) _ (λ taken _.
       past-test _ (not (is_set m.decided i)) _ _
-      (λ _. past-turn _ taken i entry _ (holds.roles m (step.Push i log) _ m.resolvers (slice_set m.logs log (taken + 1)) m.shards refl))))
+      (λ _. past-turn _ taken i entry _
+      (holds.roles m (step.Push i log) _ m.resolvers (slice_set m.logs log (taken + 1)) m.shards refl))))
   holds-next m (step.Logged i log) =
       past-found _ (taken_by_sender m (FromLog log)) _ (λ taken _. past-test _ (nat_le taken i) _ _ (λ _.
       past-found _ (slice_get m.entry_proxies i) _

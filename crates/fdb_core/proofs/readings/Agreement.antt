@@ -59,8 +59,9 @@ AnsweredOnce book answered commit_proxies =
     ≤ cond (nat_lt entry (length book)) 1 0
 
 -- the fields of the machine are what is told
-pub record Tells (r : Readings) (book : List Entry) (opened : List Transcript) (acknowledged : List Placed) (committed : ℕ)
-    (pending : List Move) (last_transactions : List LastTransaction) (commit_proxies : List CommitProxy) : Type 0 where
+pub record Tells (r : Readings) (book : List Entry) (opened : List Transcript) (acknowledged : List Placed)
+    (committed : ℕ) (pending : List Move) (last_transactions : List LastTransaction)
+    (commit_proxies : List CommitProxy) : Type 0 where
   pub book_told : r.book ≡ book
   pub opened_told : r.opened ≡ opened
   pub acknowledged_told : r.acknowledged ≡ acknowledged
@@ -156,7 +157,8 @@ one-changes book waiting new_waiting sealed new_sealed commit_proxies proxy new 
     (item-after-set commit_proxies proxy new other commit_proxy there)
 
 -- a longer book takes nothing from what is told
-pub book-grows : (book more : List Entry) (waiting : List Transcript) (sealed : SealedBatch) (commit_proxy : CommitProxy)
+pub book-grows : (book more : List Entry) (waiting : List Transcript) (sealed : SealedBatch)
+    (commit_proxy : CommitProxy)
     → AtProxy book waiting sealed commit_proxy → AtProxy (book ++ more) waiting sealed commit_proxy
 book-grows book more waiting sealed commit_proxy has = record {
   waiting_told = has.waiting_told;

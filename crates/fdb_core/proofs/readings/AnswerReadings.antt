@@ -1,4 +1,5 @@
--- The transactions that an Answer acknowledges: what the machine takes by place, a trace takes by the session that is told.
+-- The transactions that an Answer acknowledges: what the machine takes by place, a trace takes by the session that is
+-- told.
 use Rattle.std.proofs.Common.{◌≡◌, ◌∙◌, ◌≤◌, refl, sym, ap, subst, arith, ⊎_elim, ℕ, cond, List, [], ◌∷◌, ◌++◌}
 use Rattle.std.specs.List.{count_by}
 use Rattle.std.proofs.lemmas.Bool.{cases_Bool, eq-eqb}
@@ -66,7 +67,8 @@ acknowledged-from entry version batch before (transcript ∷ transcripts) (first
         (replies_from (transcript ∷ transcripts) (first ∷ outcomes))
         ≡ placed_from entry (transcript ∷ transcripts) (first ∷ outcomes)
     by_outcome (outcome.Commit at place) rest = rw alone
-        (ap (λ (placed : List Placed). record { spot = spot.Entry entry place at; transcript = transcript } ∷ placed) rest)
+        (ap (λ (placed : List Placed). record { spot = spot.Entry entry place at; transcript = transcript } ∷ placed)
+        rest)
     by_outcome outcome.Conflict rest = rest
     by_outcome outcome.Old rest = rest
 

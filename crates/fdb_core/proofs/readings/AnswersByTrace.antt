@@ -81,7 +81,8 @@ operation-answered splits r book (step.Get own key snapshot) session operation t
       transcript,
       subst (λ (s : ℕ). HasOpened r s transcript) (sym (ap (λ (pair : ℕ × Op). pair.0) done)) opened,
       ap (λ (b : List Entry). get
-          (copy (serial_map_at splits transcript.read_version (seen_of b).places) (program transcript.ops)) key) (sym same),
+          (copy (serial_map_at splits transcript.read_version (seen_of b).places) (program transcript.ops)) key)
+          (sym same),
     )
 operation-answered splits r book (step.Write own mutation) session operation transcript same opened is =
     subst (λ (pair : ℕ × Op). IsAnswered splits r (step.Write own mutation) (answered_by (reply_on

@@ -73,7 +73,8 @@ module _ (last_transactions : List LastTransaction) (begun : List ℕ) (session 
       let one_more : times_begun other (begun ++ session ∷ []) ≡ suc (times_begun session begun) =
       subst (λ (s : ℕ). times_begun s (begun ++ session ∷ []) ≡ suc (times_begun session begun)) (sym is.1)
       (omega (arith, sum_by_push (λ (o : ℕ). cond (o == session) 1 0) begun session, itself)) in
-      subst (λ (s : ℕ). last_number s (begin_next last_transactions session) ≡ last_of (suc (times_begun session begun)))
+      subst (λ (s : ℕ). last_number s (begin_next last_transactions session)
+      ≡ last_of (suc (times_begun session begun)))
       (sym is.1)
       (last-next last_transactions session ∙ ap (λ (last : Option ℕ). Some (next_number last)) (numbers session)
       ∙ next-of (times_begun session begun))

@@ -122,7 +122,8 @@ module _ (session : ℕ) where
       ∙ one_more-place operation reply opened transcript (ap (slice_get opened) (sym is.0) ∙ there)
 
 -- what is found in a list after a change is the new item, or what stood there
-pub item-after-set : {A : Type 0} (xs : List A) (i : ℕ) (x : A) (j : ℕ) (y : A) → slice_get (slice_set xs i x) j ≡ Some y
+pub item-after-set : {A : Type 0} (xs : List A) (i : ℕ) (x : A) (j : ℕ) (y : A)
+    → slice_get (slice_set xs i x) j ≡ Some y
     → ((j ≡ i) × (x ≡ y)) ⊎ ((j ≢ i) × (slice_get xs j ≡ Some y))
 item-after-set [] zero x j y there = cc
 item-after-set [] (suc i) x j y there = cc

@@ -119,7 +119,8 @@ start-tells config = record {
     Idle commit_proxy = AtProxy [] [] (record { entry = 0; version = 0; transcripts = [] }) commit_proxy
 
 -- a trace tells its machine
-pub trace-tells : (config : Config) (steps : List Step) (given : List (Result Answered Refusal)) (world : Option Machine)
+pub trace-tells : (config : Config) (steps : List Step) (given : List (Result Answered Refusal))
+    (world : Option Machine)
     → IsTraceOf config steps given world
     → TellsMachine (readings_of steps given) (machine_of_trace config steps given)
 trace-tells config steps given world stands =

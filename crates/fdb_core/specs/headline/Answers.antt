@@ -28,8 +28,8 @@ abbrev pub HasOpened : Readings → ℕ → Transcript → Type 0
 HasOpened r session transcript = of_session session r.opened ≡ transcript ∷ []
 
 module _ (splits : List Point) (r : Readings) where
-  -- A read answers what stands at the key after the transaction's own operations, executed on the serial map at its read
-  -- version.
+  -- A read answers what stands at the key after the transaction's own operations, executed on the serial map at its
+  -- read version.
   abbrev pub IsRead : ℕ → List ℕ → Option (List ℕ) → Type 0
   IsRead session key value =
       (transcript : Transcript) × HasOpened r session transcript × (value ≡ get
@@ -41,8 +41,8 @@ module _ (splits : List Point) (r : Readings) where
       (transcript : Transcript) × HasOpened r session transcript × (version ≡ transcript.read_version)
       × (mutations_of (program transcript.ops) ≡ [])
 
-  -- an entry has the number of those before it, the version of the last of them as the previous one, the next version, and
-  -- as many places as wait at the proxy, or as a batch may have
+  -- an entry has the number of those before it, the version of the last of them as the previous one, the next version,
+  -- and as many places as wait at the proxy, or as a batch may have
   abbrev pub IsIssued : ℕ → ℕ → ℕ → ℕ → ℕ → ℕ → Type 0
   IsIssued proxy advance index version prev places =
       (index ≡ length r.book) × (prev ≡ last_version r.book) × (version ≡ next_version prev advance)

@@ -53,8 +53,8 @@ two_in_one_entry = record {
 } ∷ []
 
 -- The first one is serialized at its place, under the entry's version; not at the other place or under another version,
--- and not if it had been answered otherwise. The second one read what the first one wrote, so it isn't committed, and is
--- serialized nowhere.
+-- and not if it had been answered otherwise. The second one read what the first one wrote, so it isn't committed, and
+-- is serialized nowhere.
 abbrev pub OnlyTheFirstIsSerialized : Type 0
 OnlyTheFirstIsSerialized =
     IsSerializedAtSpot [] two_in_one_entry (reads_and_sets 0 None) (spot.Entry 0 0 100)
@@ -115,7 +115,8 @@ ForgetfulRolesDoNotKeep =
 -- both sessions ask and are served, read the key a, set it and submit; their batch is sealed, and they are told
 abbrev pub two_sessions : List Step
 two_sessions =
-    step.Ask 0 0 ∷ step.Ask 1 0 ∷ step.Grant 0 ∷ step.Get 0 (codes "a") false ∷ step.Write 0 (Set (codes "a") (codes "1"))
+    step.Ask 0 0 ∷ step.Ask 1 0 ∷ step.Grant 0
+    ∷ step.Get 0 (codes "a") false ∷ step.Write 0 (Set (codes "a") (codes "1"))
     ∷ step.Get 1 (codes "a") false ∷ step.Write 1 (Set (codes "a") (codes "1")) ∷ step.Submit 0 0 ∷ step.Submit 1 0
     ∷ step.Seal 0 100 ∷ step.Report 0 ∷ step.Answer 0 ∷ []
 
@@ -133,7 +134,8 @@ asks_again = step.Ask 5 0 ∷ step.Grant 0 ∷ step.Ask 5 0 ∷ step.Grant 0 ∷
 
 abbrev pub served_twice : List (Result Answered Refusal)
 served_twice =
-    Ok answered.Done ∷ Ok (answered.Granted ((5, 0) ∷ [])) ∷ Ok answered.Done ∷ Ok (answered.Granted ((5, 100) ∷ [])) ∷ []
+    Ok answered.Done ∷ Ok (answered.Granted ((5, 0) ∷ []))
+    ∷ Ok answered.Done ∷ Ok (answered.Granted ((5, 100) ∷ [])) ∷ []
 
 -- From these answers alone are read the entry with both, the version that was reported, and that the first one alone is
 -- acknowledged, at its place. The session that was served twice has its second transaction open.

@@ -76,9 +76,9 @@ AcknowledgedAreSerialized =
     → AllSerialized config.resolver_splits (readings_of steps answers)
 
 -- What holds of a trace, by what is read off it alone, and of the world whose trace it is: the trace's entries are a
--- book, with no transaction twice; each that the trace acknowledged is serialized at its spot, and after those that were
--- acknowledged before it began; and every shard of the world answers, at each version that it serves, from the run of
--- the committed transactions one at a time.
+-- book, with no transaction twice; each that the trace acknowledged is serialized at its spot, and after those that
+-- were acknowledged before it began; and every shard of the world answers, at each version that it serves, from the run
+-- of the committed transactions one at a time.
 pub record IsStrictlySerializable (config : Config) (steps : List Step) (answers : List (Result Answered Refusal))
     (system : System) : Type 0 where
   pub is_trace_of : IsTraceOf config steps answers system.machine

@@ -65,8 +65,8 @@ HasForgotten m transcript key =
     × ((progress : ShardProgress) × (slice_get m.shards (first_owner m.config.shard_splits key) ≡ Some progress)
     × (nat_lt transcript.read_version progress.floor ≡ true))
 
--- A read of an open transaction is refused as in the future where the key's shard lags, as too old where it has forgotten
--- the read version, and as either only there; a key that the transaction's own operations decide is answered.
+-- A read of an open transaction is refused as in the future where the key's shard lags, as too old where it has
+-- forgotten the read version, and as either only there; a key that the transaction's own operations decide is answered.
 abbrev pub GetsRefused : Type 0
 GetsRefused =
     (m : Machine) (session : ℕ) (key : List ℕ) (snapshot : Bool) (i : ℕ) (transcript : Transcript)

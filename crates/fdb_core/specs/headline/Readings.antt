@@ -89,7 +89,7 @@ with_one_more session operation reply (transcript ∷ others) =
 abbrev pub times_begun : ℕ → List ℕ → ℕ
 times_begun session begun = count_by (λ (other : ℕ). other == session) begun
 
--- a session begins a transaction, which has the number of those that it began before, at the version that it was granted
+-- a session begins a transaction at the version that it was granted, with the number of those that it began before
 abbrev pub begins : Readings → ℕ × ℕ → Readings
 begins r (session, version) = record r {
   begun = r.begun ++ session ∷ [];
@@ -131,8 +131,8 @@ seals_entry r proxy index version prev =
       sealed = with_at proxy (record { entry = index; version = version; transcripts = batch }) r.sealed;
     }
 
--- a session that is told of a commit has the transaction acknowledged that it had in the batch, at the entry of that, at
--- the place and the version that it is told
+-- a session that is told of a commit has the transaction acknowledged that it had in the batch, at the entry of that,
+-- at the place and the version that it is told
 abbrev pub acknowledged_by : SealedBatch → ℕ × Outcome → List Placed
 acknowledged_by batch (session, outcome.Commit version place) =
     map (λ (transcript : Transcript). record

@@ -27,8 +27,8 @@ abbrev pub IsAfterVersion : ℕ → Spot → Type 0
 IsAfterVersion v (spot.Entry entry place version) = v < version
 IsAfterVersion v (spot.ReadOnly version) = v ≤ version
 
--- A transaction that is acknowledged later, and hadn't begun where another was acknowledged, reads at that one's version
--- or a greater one, and is ordered after it.
+-- A transaction that is acknowledged later, and hadn't begun where another was acknowledged, reads at that one's
+-- version or a greater one, and is ordered after it.
 abbrev pub AreAfterEarlier : Readings → Readings → Type 0
 AreAfterEarlier r later =
     (i j : ℕ) (placed other : Placed) → slice_get r.acknowledged i ≡ Some placed

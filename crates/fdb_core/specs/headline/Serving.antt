@@ -46,17 +46,17 @@ EachKeeps {A} {B} P far kept =
     (length kept ≡ length far)
     × ((i : ℕ) (a : A) (b : B) → slice_get far i ≡ Some a → slice_get kept i ≡ Some b → P i a b)
 
--- The sequencer gave each entry its version, and accepts no ticket of an entry again. It keeps the greatest version that
--- was reported, which is none above them.
+-- The sequencer gave each entry its version, and accepts no ticket of an entry again. It keeps the greatest version
+-- that was reported, which is none above them.
 abbrev pub SequencerKeeps : Machine → Sequencer → Type 0
 SequencerKeeps m sequencer =
     (sequencer.accepted ≡ length m.book) × (sequencer.last ≡ last_version m.book)
     × ((ticket : Ticket) → ticket.index < length m.book → accept_fault sequencer ticket ≡ Some Stale)
     × (sequencer.committed ≡ m.committed) × (sequencer.committed ≤ last_version m.book)
 
--- A resolver that took so many entries has its number, has not failed, and has the version of the last of them. From the
--- begin of that one's window on it tells at each point the greatest version of a place of theirs that it admitted and
--- that wrote the point where the resolver owned it.
+-- A resolver that took so many entries has its number, has not failed, and has the version of the last of them. From
+-- the begin of that one's window on it tells at each point the greatest version of a place of theirs that it admitted
+-- and that wrote the point where the resolver owned it.
 abbrev pub ResolverKeeps : Machine → ℕ → ℕ → Resolver → Type 0
 ResolverKeeps m i taken resolver =
     let last = last_version (take taken m.book) in

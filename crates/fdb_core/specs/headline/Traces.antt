@@ -37,9 +37,9 @@ TracesDetermineTheMachine =
     (config : Config) (steps : List Step) (answers : List (Result Answered Refusal)) (m : Machine)
     → IsTraceOf config steps answers (Some m) → m ≡ machine_of_trace config steps answers
 
--- The machine has in its fields what is told: the entries, the open transactions with their operations and replies, those
--- who wait at each commit proxy, the batch that it has in flight, the acknowledged transactions with their spots, and the
--- greatest version that was reported.
+-- The machine has in its fields what is told: the entries, the open transactions with their operations and replies,
+-- those who wait at each commit proxy, the batch that it has in flight, the acknowledged transactions with their spots,
+-- and the greatest version that was reported.
 pub record HasWhatIsTold (r : Readings) (m : Machine) : Type 0 where
   pub book : m.book ≡ r.book
   pub opened : m.opened ≡ r.opened

@@ -54,8 +54,8 @@ shard_of book messages progress =
       messages = messages;
     }
 
--- what the world shows: the machine unless memory ran out, and what its sequencer, its one resolver and its log keep and
--- its shard shows
+-- what the world shows: the machine unless memory ran out, and what its sequencer, its one resolver and its log keep
+-- and its shard shows
 abbrev pub system_of : Bool → Cluster → System
 system_of failed k =
     record {

@@ -99,7 +99,8 @@ fn run_batch(
 ) -> Result<(), CheckFault>
     requires { length batch.now ≡ length outcomes.now }
     ensures map { OnOk result (map.new ≡ map_after map.old batch.now outcomes.now (length batch.now)) }
-    ensures compared { Checks result (AnsweredIn map.old batch.now outcomes.now entry (length batch.now)) acknowledged.now }
+    ensures compared { Checks result
+        (AnsweredIn map.old batch.now outcomes.now entry (length batch.now)) acknowledged.now }
 {
     for (place, txn) in batch.iter().enumerate() {
         let before = Moment::Before { entry, place };

@@ -173,7 +173,8 @@ impl CommitProxy {
         resolvers: usize,
         logs: usize,
     ) -> Result<Items<Sealed>, AllocError>
-        ensures batch { IfOk result (λ batch. batch ≡ map (λ submission. submission.sealed) (take place_limit self.old.waiting)) }
+        ensures batch { IfOk result
+            (λ batch. batch ≡ map (λ submission. submission.sealed) (take place_limit self.old.waiting)) }
         ensures after { OnOk result (self.new ≡ with_batch self.old entry resolvers logs) }
     {
         let verdicts_received = unset(alloc, resolvers)?;

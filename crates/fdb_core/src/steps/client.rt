@@ -61,7 +61,8 @@ impl Cluster {
         snapshot: bool,
     ) -> Result<Answered, Refusal>
         requires { Refines self.old }
-        ensures answer { Unless (ran_out result) (result ≡ answer_of (gets (machine_of self.old) session key.now snapshot)) }
+        ensures answer { Unless (ran_out result)
+            (result ≡ answer_of (gets (machine_of self.old) session key.now snapshot)) }
         ensures after { Unless (ran_out result)
             (machine_of self.new ≡ after (machine_of self.old) (gets (machine_of self.old) session key.now snapshot)) }
         ensures refines { Unless (ran_out result) (Refines self.new) }
@@ -80,7 +81,8 @@ impl Cluster {
     #[tactic(auto, unfolding(crate::specs::machine::ClientSteps::writes))]
     pub(crate) fn write(&mut self, session: u32, mutation: &Mutation) -> Result<Answered, Refusal>
         requires { Refines self.old }
-        ensures answer { Unless (ran_out result) (result ≡ answer_of (writes (machine_of self.old) session mutation.now)) }
+        ensures answer { Unless (ran_out result)
+            (result ≡ answer_of (writes (machine_of self.old) session mutation.now)) }
         ensures after { Unless (ran_out result)
             (machine_of self.new ≡ after (machine_of self.old) (writes (machine_of self.old) session mutation.now)) }
         ensures refines { Unless (ran_out result) (Refines self.new) }

@@ -86,7 +86,8 @@ impl Cluster {
     #[tactic(auto, unfolding(crate::specs::machine::CommitProxySteps::receives))]
     pub(crate) fn receive(&mut self, entry: u32, sender: Sender) -> Result<Answered, Refusal>
         requires { Refines self.old }
-        ensures answer { Unless (ran_out result) (result ≡ answer_of (receives (machine_of self.old) entry (sender_of sender))) }
+        ensures answer { Unless (ran_out result)
+            (result ≡ answer_of (receives (machine_of self.old) entry (sender_of sender))) }
         ensures after { Unless (ran_out result)
             (machine_of self.new ≡ after (machine_of self.old)
             (receives (machine_of self.old) entry (sender_of sender))) }
@@ -118,7 +119,8 @@ impl Cluster {
     pub(crate) fn decide(&mut self, proxy: u32) -> Result<Answered, Refusal>
         requires { Refines self.old }
         ensures answer { Unless (ran_out result) (result ≡ answer_of (decides (machine_of self.old) proxy)) }
-        ensures after { Unless (ran_out result) (machine_of self.new ≡ after (machine_of self.old) (decides (machine_of self.old) proxy)) }
+        ensures after { Unless (ran_out result)
+            (machine_of self.new ≡ after (machine_of self.old) (decides (machine_of self.old) proxy)) }
         ensures refines { Unless (ran_out result) (Refines self.new) }
     {
         let at = proxy as usize;
@@ -169,7 +171,8 @@ impl Cluster {
     pub(crate) fn report(&mut self, proxy: u32) -> Result<Answered, Refusal>
         requires { Refines self.old }
         ensures answer { Unless (ran_out result) (result ≡ answer_of (reports (machine_of self.old) proxy)) }
-        ensures after { Unless (ran_out result) (machine_of self.new ≡ after (machine_of self.old) (reports (machine_of self.old) proxy)) }
+        ensures after { Unless (ran_out result)
+            (machine_of self.new ≡ after (machine_of self.old) (reports (machine_of self.old) proxy)) }
         ensures refines { Unless (ran_out result) (Refines self.new) }
     {
         let at = proxy as usize;
@@ -197,7 +200,8 @@ impl Cluster {
     pub(crate) fn answer(&mut self, proxy: u32) -> Result<Answered, Refusal>
         requires { Refines self.old }
         ensures answer { Unless (ran_out result) (result ≡ answer_of (answers (machine_of self.old) proxy)) }
-        ensures after { Unless (ran_out result) (machine_of self.new ≡ after (machine_of self.old) (answers (machine_of self.old) proxy)) }
+        ensures after { Unless (ran_out result)
+            (machine_of self.new ≡ after (machine_of self.old) (answers (machine_of self.old) proxy)) }
         ensures refines { Unless (ran_out result) (Refines self.new) }
     {
         let at = proxy as usize;

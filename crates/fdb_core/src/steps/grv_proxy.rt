@@ -37,7 +37,8 @@ impl Cluster {
     pub(crate) fn grant(&mut self, proxy: u32) -> Result<Answered, Refusal>
         requires { Refines self.old }
         ensures answer { Unless (ran_out result) (result ≡ answer_of (grants (machine_of self.old) proxy)) }
-        ensures after { Unless (ran_out result) (machine_of self.new ≡ after (machine_of self.old) (grants (machine_of self.old) proxy)) }
+        ensures after { Unless (ran_out result)
+            (machine_of self.new ≡ after (machine_of self.old) (grants (machine_of self.old) proxy)) }
         ensures refines { Unless (ran_out result) (Refines self.new) }
     {
         let at = proxy as usize;

@@ -15,7 +15,8 @@ impl Cluster {
     pub(crate) fn push(&mut self, entry: u32, log: u32) -> Result<Answered, Refusal>
         requires { Refines self.old }
         ensures answer { Unless (ran_out result) (result ≡ answer_of (pushes (machine_of self.old) entry log)) }
-        ensures after { Unless (ran_out result) (machine_of self.new ≡ after (machine_of self.old) (pushes (machine_of self.old) entry log)) }
+        ensures after { Unless (ran_out result)
+            (machine_of self.new ≡ after (machine_of self.old) (pushes (machine_of self.old) entry log)) }
         ensures refines { Unless (ran_out result) (Refines self.new) }
     {
         let i = entry as usize;

@@ -47,7 +47,8 @@ fn cut(alloc: Global, waiting: &mut Vec<Submission>) -> Result<Vec<Submission>, 
 
 /// Takes at most as many as a batch may have, in order.
 pub(crate) fn take_batch(alloc: Global, waiting: Items<Submission>) -> Result<Taken, AllocError>
-    ensures batch { IfOk result (λ taken. taken.batch ≡ map (λ submission. submission.sealed) (take place_limit waiting)) }
+    ensures batch { IfOk result
+        (λ taken. taken.batch ≡ map (λ submission. submission.sealed) (take place_limit waiting)) }
     ensures transcripts { IfOk result
         (λ taken. taken.transcripts ≡ map (λ submission. submission.transcript) (take place_limit waiting)) }
     ensures rest { IfOk result (λ taken. taken.rest ≡ drop place_limit waiting) }

@@ -59,10 +59,11 @@ returns-in_err-value-clause-after c =
     c.index.ensures in
     let left = err_from_is_err_and c.from_residual.result c.from_residual.ensures.1 in
     rw (left.1, left.2)
-    (unless-fault (read_fault m (program transcript.ops) transcript.read_version c.args.key.now) c.in_err-value.field-0.0
+    (unless-fault (read_fault m (program transcript.ops) transcript.read_version c.args.key.now)
+    c.in_err-value.field-0.0
     _ _ c.in_err-value.ensures
-    (λ fault. ap (after m) (sym ((gets-refused m c.args.session c.args.key.now c.args.snapshot c.in-Some.place transcript
-    c.in_err-value.field-0.0 at there).1 fault))))
+    (λ fault. ap (after m) (sym ((gets-refused m c.args.session c.args.key.now c.args.snapshot c.in-Some.place
+    transcript c.in_err-value.field-0.0 at there).1 fault))))
 
 -- the open transactions as the machine has them then
 noted_as : (c : In_ok-add_operation)

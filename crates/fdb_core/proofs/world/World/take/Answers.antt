@@ -16,7 +16,8 @@ roles-shown true k refines = tt
 roles-shown false k refines = roles_keep k refines
 
 -- unless memory ran out, the machine that the parts stand for is sound
-sound : (c : After-ran_out-self-inside) → Unless c.ran_out-self-inside.result (Invariant (machine_of c.step-answer.new.self))
+sound : (c : After-ran_out-self-inside)
+    → Unless c.ran_out-self-inside.result (Invariant (machine_of c.step-answer.new.self))
 sound c = rw c.ran_out-self-inside.ensures
     (unless-map (ran_out c.step-answer.result) _ (Invariant (machine_of c.step-answer.new.self))
     (λ after. subst Invariant (sym after) (sound-after _ c.args.step.now (c.self.invariant c.if-self.false).1))
