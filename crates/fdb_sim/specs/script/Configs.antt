@@ -4,7 +4,7 @@ use Rattle.std.specs.List.{list_any, slice_split, AllZip}
 use Rattle.std.specs.Option.{option_or}
 use Rattle.fdb_core.specs.declared.config.Config.{Config}
 use Rattle.fdb_keys.specs.Texts.{begins_with_ff, key_fault}
-use Rattle.fdb_keys.specs.declared.key.TheConstants.{KEY_LIMIT}
+use Rattle.fdb_keys.specs.Limits.{key_limit}
 use Rattle.fdb_keys.specs.declared.refusal.Refusal.{Refusal}
 use Rattle.fdb_keys.specs.declared.refusal.Refusal.TheVariants.{KeyTooLarge, KeyOutsideLegalRange}
 use Rattle.fdb_sim.specs.script.Grammar.{WritesSmall, WritesText}
@@ -44,7 +44,7 @@ first_fault (text ∷ texts) = option_or (key_fault text) (first_fault texts)
 
 -- the text has more bytes than a key may have
 abbrev pub is_too_long : List ℕ → Bool
-is_too_long text = nat_lt KEY_LIMIT (length text)
+is_too_long text = nat_lt key_limit (length text)
 
 -- why texts of which some are no keys are refused: a text that is too long goes before one that begins with FF
 abbrev pub splits_fault : List (List ℕ) → Option Refusal
