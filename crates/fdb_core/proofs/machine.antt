@@ -1,4 +1,4 @@
 pub mod AcceptedTransitions
-pub mod LastNumbers
+pub mod SessionLemmas
 pub mod Steps
 pub mod Transitions

@@ -6,4 +6,5 @@ pub mod Promises
 pub mod Readings
 pub mod RealTime
 pub mod Serving
+pub mod Sessions
 pub mod Traces

@@ -6,6 +6,7 @@ pub mod Limits
 pub mod Machine
 pub mod RoleSteps
 pub mod Roles
+pub mod Sessions
 pub mod Steps
 pub mod Verdicts
 pub mod Worlds

@@ -5,8 +5,8 @@ ghost use Rattle.fdb_core.specs.machine.Worlds.{start};
 ghost use Rattle.fdb_core.specs.refinement.Cluster.{machine_of, Refines};
 
 use crate::config::Config;
-use crate::roles::client::program::Transcript;
-use crate::roles::client::{LastTransaction, Placed};
+use crate::roles::client::Placed;
+use crate::roles::client::sessions::Sessions;
 use crate::roles::commit_proxy::CommitProxy;
 use crate::roles::log::Message;
 use crate::roles::resolver::ResolverRole;
@@ -32,8 +32,8 @@ pub(crate) struct Cluster {
     pub(crate) logs: Vec<u32>,
     pub(crate) shards: Vec<ShardProgress>,
     pub(crate) grv_proxies: Vec<Items<u32>>,
-    pub(crate) opened: Vec<Transcript>,
-    pub(crate) last_transactions: Vec<LastTransaction>,
+    // What each session is at.
+    pub(crate) sessions: Sessions,
     pub(crate) acknowledged: Vec<Placed>,
     // It gives the versions, and keeps the greatest one that was reported.
     pub(crate) sequencer: SequencerCore,
@@ -72,8 +72,7 @@ impl Cluster {
             logs,
             shards,
             grv_proxies,
-            opened: Vec::new(alloc),
-            last_transactions: Vec::new(alloc),
+            sessions: Sessions::new(alloc),
             sequencer: first_sequencer(alloc),
             acknowledged: Vec::new(alloc),
             outcomes: Items::new(alloc),

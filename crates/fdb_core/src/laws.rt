@@ -6,6 +6,7 @@ ghost use Rattle.fdb_core.specs.programs.ProgramLaws.{CommitRequestsAreWhole, Pr
 ghost use Rattle.fdb_core.specs.headline.Examples.{OnlyTheFirstIsSerialized, ReadOnlyAtItsVersion, AfterAVersion, AnEmptyShardDoesNotServe, OnlyOrdinaryReadsCount, BegunByServing, ForgetfulRolesDoNotKeep, ReadOffTheTrace, Traced};
 ghost use Rattle.fdb_core.specs.headline.Headline.{AcknowledgedAreSerialized};
 ghost use Rattle.fdb_core.specs.headline.Traces.{TracesDetermineTheMachine, WorldsShowWhatIsTold};
+ghost use Rattle.fdb_core.specs.headline.Sessions.{SessionsAreWhereTheirStatesSay, AsksAreRefused};
 ghost use Rattle.fdb_core.specs.headline.Books.{TracesTellBooks, EntriesAreAnsweredOnce};
 
 /// A refused step changes nothing.
@@ -99,4 +100,13 @@ pub fn worked_examples()
 pub fn entries_of_traces_are_books()
     ensures books { TracesTellBooks }
     ensures answered { EntriesAreAnsweredOnce }
+{}
+
+/// Over every trace each session is where its state says: it asks exactly where it is among those who ask at a
+/// read-version proxy, and waits exactly where one of its transactions waits at a commit proxy or is in a batch in
+/// flight; and it is there once at most. So a session that asks is refused as `WrongState` exactly where it asks, or
+/// waits for an answer, at one of the proxies.
+pub fn sessions_are_where_their_states_say()
+    ensures places { SessionsAreWhereTheirStatesSay }
+    ensures refused { AsksAreRefused }
 {}

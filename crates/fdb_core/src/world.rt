@@ -36,7 +36,12 @@ impl Model for World {
     ghost use Rattle.fdb_core.specs.headline.Serving.{System};
     ghost use Rattle.fdb_core.specs.invariant.Invariant.{Invariant};
 
+    ghost use Rattle.std.specs.Coded.{codes};
+    ghost use Rattle.fdb_core.specs.contracts.roles.client.sessions.Sessions as sessions;
+
     ghost Value = { System };
+
+    ghost coded = { Prim.hlevel (codes, sessions.the_row.coded) };
 
     ghost view = { λ world. system_of world.failed world.cluster };
 

@@ -1,11 +1,9 @@
 -- Sums and counts over lists that change.
-use Rattle.std.proofs.Common.{◌≡◌, ◌∙◌, ◌≤◌, refl, sym, ap, subst, arith, ⊎_elim, ℕ, zero, suc, ◌+◌, Bool, false, cond, List, [], ◌∷◌, map, length, get_or, Some, None, position, sum_by}
-use Rattle.std.specs.Prelude.{nat_lt}
-use Rattle.std.specs.List.{slice_get, slice_set, remove, list_any, count_by, position_or_len}
-use Rattle.std.proofs.lemmas.List.Sums.{sum_by-cons, sum_by-remove}
-use Rattle.std.proofs.lemmas.List.Quantifiers.{position-Some}
-use Rattle.std.proofs.lemmas.Bool.{or_parts, cases_Bool, ltb-false}
-use Rattle.std.proofs.lemmas.Option.{none-some}
+use Rattle.std.proofs.Common.{◌≡◌, ◌<◌, ◌≤◌, refl, ap, arith, ⊎_elim, ℕ, zero, suc, ◌+◌, Bool, true, false, cond, List, [], ◌∷◌, map, Some, sum_by}
+use Rattle.std.specs.Prelude.{◌||◌}
+use Rattle.std.specs.List.{slice_get, slice_set, remove, list_any}
+use Rattle.std.proofs.lemmas.List.Sums.{sum_by-cons}
+use Rattle.std.proofs.lemmas.Bool.{or_parts, or_cases, cases_Bool}
 
 module _ {X : Type 0} (f : X → ℕ) where
   -- one item in the place of another
@@ -46,54 +44,36 @@ sum-made f g [] = refl
 sum-made {X} f g (x ∷ xs) = omega
     (arith, sum_by-cons f (g x) (map g xs), sum_by-cons (λ (x : X). f (g x)) x xs, sum-made f g xs)
 
--- a sum of what is 0 for each item that doesn't pass is 0 where none passes
-pub sum-none : {X : Type 0} (f : X → ℕ) (p : X → Bool) → ((x : X) → p x ≡ false → f x ≡ 0) → (xs : List X)
-    → list_any p xs ≡ false → sum_by f xs ≡ 0
-sum-none f p zero_for [] none = refl
-sum-none f p zero_for (x ∷ xs) none =
-    let parts = or_parts (p x) (list_any p xs) none in
-    omega (arith, sum_by-cons f x xs, zero_for x parts.0, sum-none f p zero_for xs parts.1)
+-- What counts 0 exactly where the test fails.
+abbrev pub Counts : {X : Type 0} → (X → ℕ) → (X → Bool) → Type 0
+Counts {X} f p = (x : X) → (p x ≡ true → 0 < f x) × (p x ≡ false → f x ≡ 0)
 
-module _ {X : Type 0} (p : X → Bool) where
-  -- where none passes, none is counted
-  pub count-none : (xs : List X) → list_any p xs ≡ false → count_by p xs ≡ 0
-  count-none xs none = sum-none (λ (x : X). cond (p x) 1 0) p (λ x fails. rw fails refl) xs none
+-- 1 where a test passes, else 0, does
+pub counts-test : {X : Type 0} (p : X → Bool) → Counts (λ (x : X). cond (p x) 1 0) p
+counts-test p x = (λ passes. rw passes (omega arith), λ fails. rw fails refl)
 
-  -- nor where the first one that passes is past the list
-  count-past : (xs : List X) → length xs ≤ position_or_len p xs → count_by p xs ≡ 0
-  count-past [] past = refl
-  count-past (x ∷ xs) past = ⊎_elim
-      (λ passes. let first : position_or_len p (x ∷ xs) ≡ 0 = rw passes refl in absurd (omega (arith, past, first)))
-      (λ fails. let later : position_or_len p (x ∷ xs) ≡ 1 + position_or_len p xs = rw fails refl in
-      let here : cond {A = ℕ} (p x) 1 0 ≡ 0 = rw fails refl in
-      omega (
-        arith,
-        sum_by-cons (λ (x : X). cond (p x) 1 0) x xs,
-        here,
-        count-past xs (omega (arith, past, later)),
-      ))
-      (cases_Bool (p x))
+-- so does a sum where any item passes
+pub counts-any : {X : Type 0} (f : X → ℕ) (p : X → Bool) → Counts f p → Counts (sum_by f) (list_any p)
+counts-any f p counts [] = (λ some. cc, λ none. refl)
+counts-any f p counts (x ∷ xs) =
+    let rest = counts-any f p counts xs in
+    let sum = sum_by-cons f x xs in (
+      λ some. ⊎_elim (λ passes. omega (arith, sum, (counts x).0 passes)) (λ later. omega (arith, sum, rest.0 later))
+          (or_cases (p x) (list_any p xs) some),
+      λ none. let parts = or_parts (p x) (list_any p xs) none in
+          omega (arith, sum, (counts x).1 parts.0, rest.1 parts.1),
+    )
 
-  -- nor where there is no first one that passes
-  pub count-no-first : (xs : List X) → position p xs ≡ None → count_by p xs ≡ 0
-  count-no-first xs at = ⊎_elim
-      (λ within. let first : position p xs ≡ Some (position_or_len p xs) = rw within refl in
-      absurd (none-some (position_or_len p xs) (sym at ∙ first)))
-      (λ past. count-past xs (ltb-false _ _ past))
-      (cases_Bool (nat_lt (position_or_len p xs) (length xs)))
+-- and a sum of two where one of two tests passes
+pub counts-or : {X : Type 0} (f g : X → ℕ) (p q : X → Bool) → Counts f p → Counts g q
+    → Counts (λ (x : X). f x + g x) (λ (x : X). p x || q x)
+counts-or f g p q first second x = (
+  λ some. ⊎_elim (λ passes. omega (arith, (first x).0 passes)) (λ passes. omega (arith, (second x).0 passes))
+      (or_cases (p x) (q x) some),
+  λ none. let parts = or_parts (p x) (q x) none in omega (arith, (first x).1 parts.0, (second x).1 parts.1),
+)
 
-  -- without the first one that passes there is one less
-  pub count-first : (xs : List X) (i : ℕ) → position p xs ≡ Some i → count_by p (remove xs i) + 1 ≡ count_by p xs
-  count-first [] i at = cc
-  count-first (x ∷ xs) i at =
-      let there = position-Some p (x ∷ xs) i x at in
-      let one : cond {A = ℕ} (p (get_or (x ∷ xs) i x)) 1 0 ≡ 1 = rw there.1 refl in
-      omega (arith, one, sum_by-remove (λ (x : X). cond (p x) 1 0) (x ∷ xs) i x there.0)
-
--- where none passes, what is found does not
-pub none-at : {X : Type 0} (p : X → Bool) (xs : List X) (i : ℕ) (x : X) → list_any p xs ≡ false
-    → slice_get xs i ≡ Some x → p x ≡ false
-none-at p [] i x none there = cc
-none-at p (y ∷ ys) zero x none there = let same : y ≡ x = cc in subst (λ z. p z ≡ false) same
-    (or_parts (p y) (list_any p ys) none).0
-none-at p (y ∷ ys) (suc i) x none there = none-at p ys i x (or_parts (p y) (list_any p ys) none).1 there
+-- what counts something passes
+pub passes-counted : {X : Type 0} (f : X → ℕ) (p : X → Bool) → Counts f p → (x : X) → 0 < f x → p x ≡ true
+passes-counted f p counts x some = ⊎_elim (λ passes. passes) (λ fails. absurd (omega (arith, some, (counts x).1 fails)))
+    (cases_Bool (p x))

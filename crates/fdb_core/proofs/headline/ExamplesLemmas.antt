@@ -1,9 +1,10 @@
 -- The examples compute.
-use Rattle.std.proofs.Common.{◌≡◌, ◌∙◌, sym, ap, refl, subst, arith, ⊎_elim, inl, ℕ, true, false, List, [], ◌∷◌, Some, None}
+use Rattle.std.proofs.Common.{◌≡◌, ◌∙◌, sym, ap, refl, subst, arith, ⊎_elim, inl, ℕ, true, false, List, [], ◌∷◌, Some, None, Result, Ok}
 use Rattle.std.specs.Prelude.{codes}
 use Rattle.std.specs.FinMap.{get, empty, get-empty}
 use Rattle.std.specs.Ordering.{nat_cmp}
 use Rattle.std.specs.Cmp.Lexicographic.{slice_cmp}
+use Rattle.fdb_keys.specs.declared.refusal.Refusal.{Refusal}
 use Rattle.fdb_keys.specs.Points.{point_lt}
 use Rattle.fdb_keys.specs.Insertion as insertion
 use Rattle.fdb_mutations.specs.Mutations.{effects}
@@ -15,8 +16,13 @@ use Rattle.fdb_txn.specs.rules.SerialMap.{serial_map}
 use Rattle.fdb_txn.proofs.rules.MessagesLemmas.{get-effects}
 use Rattle.fdb_txn.specs.rules.Admission.{committed}
 use Rattle.fdb_core.specs.declared.roles.client.program.Reply.TheVariants as reply
-use Rattle.fdb_core.specs.headline.Examples.{reads_and_sets, OnlyTheFirstIsSerialized, ReadOnlyAtItsVersion, AfterAVersion, AnEmptyShardDoesNotServe, OnlyOrdinaryReadsCount, BegunByServing, ForgetfulRolesDoNotKeep, ReadOffTheTrace, Traced}
+use Rattle.fdb_core.specs.headline.Examples.{reads_and_sets, OnlyTheFirstIsSerialized, ReadOnlyAtItsVersion, AfterAVersion, AnEmptyShardDoesNotServe, OnlyOrdinaryReadsCount, BegunByServing, ForgetfulRolesDoNotKeep, ReadOffTheTrace, plain, one_asks, Traced}
+use Rattle.fdb_core.specs.declared.step.Answered.TheVariants as answered
 use Rattle.fdb_core.specs.machine.GrvProxySteps.{asks, grants}
+use Rattle.fdb_core.specs.machine.Machine.{Transition}
+use Rattle.fdb_core.specs.machine.Sessions.{Session}
+use Rattle.fdb_core.specs.machine.Steps.{answer_of, after}
+use Rattle.fdb_core.specs.machine.Worlds.{start}
 use Rattle.fdb_core.specs.headline.Headline.{AnsweredOn}
 use Rattle.fdb_core.specs.programs.Programs.{commit_request_of}
 
@@ -110,11 +116,23 @@ an_empty_shard_does_not_serve serves =
     get-effects empty (commit_request_of (reads_and_sets 0 None)).mutations (codes "a") in
     let wrong : None ≡ Some (codes "1") = nothing ∙ something in cc
 
+-- a session that began nothing yet asks
+one-asks : asks (start plain) 5 0 ≡ Ok (record { answer = answered.Done; next = one_asks })
+unfolding asks
+one-asks = rw (get-empty {X = Session} nat_cmp 5) refl
+
 pub traced : Traced
-unfolding asks grants
+unfolding grants
 traced = (
   refl,
-  refl,
-  (_, inl (refl, refl), refl),
+  ap (after (start plain)) one-asks,
+  (
+    _,
+    inl (
+      sym (ap answer_of one-asks),
+      ap (λ (result : Result Transition Refusal). Some (after (start plain) result)) (sym one-asks),
+    ),
+    refl,
+  ),
   (λ world stands. ⊎_elim (λ went. let wrong = went.0 in cc) (λ failed. let wrong = failed.0 in cc) stands.1),
 )

@@ -1,5 +1,5 @@
 -- What follows from the answer of one step.
-use Rattle.std.proofs.Common.{◌≡◌, ◌∙◌, sym, ap, refl, ℕ, Bool, true, false, List, Option, Some, None, Err, position, map, if◌then◌else◌}
+use Rattle.std.proofs.Common.{◌≡◌, ◌∙◌, sym, ap, refl, ℕ, Bool, true, false, List, Option, Some, None, Err, map, if◌then◌else◌}
 use Rattle.std.specs.Prelude.{◌↔◌, nat_lt}
 use Rattle.std.specs.List.{slice_get, list_any}
 use Rattle.std.specs.FinMap.{get}
@@ -14,12 +14,13 @@ use Rattle.fdb_core.specs.declared.step.Answered.TheVariants as answered
 use Rattle.fdb_core.specs.machine.ClientSteps.{gets, read_fault}
 use Rattle.fdb_core.specs.machine.GrvProxySteps.{grants, has_no_number}
 use Rattle.fdb_core.specs.machine.RoleSteps.{shard_fault, version_of_shard}
-use Rattle.fdb_core.specs.machine.Machine.{Machine, Transition, is_of}
+use Rattle.fdb_core.specs.machine.Machine.{Machine, Transition}
+use Rattle.fdb_core.specs.machine.Sessions.{open_at}
 use Rattle.fdb_core.specs.programs.Programs.{program, copy, decided}
 use Rattle.fdb_core.specs.headline.Promises.{RefusalsChangeNothing, GrantsCommitted, GetsFromTheRun, GetsRefused}
 use Rattle.fdb_core.specs.machine.Steps.{after}
 use Rattle.fdb_core.proofs.machine.Transitions.{gets-refused, gets-faultless}
-use Rattle.fdb_core.proofs.machine.AcceptedTransitions.{of-accepted, past-found, past-test, past-fault, past-opened}
+use Rattle.fdb_core.proofs.machine.AcceptedTransitions.{of-accepted, past-found, past-test, past-fault, past-open}
 
 -- a refused step changes nothing
 pub refusals_change_nothing : RefusalsChangeNothing
@@ -31,7 +32,7 @@ unfolding grants
 grants_committed m proxy transition accepted =
     of-accepted Told (grants m proxy) transition accepted
     (past-found Told (slice_get m.grv_proxies proxy) _ (λ there at.
-    past-test Told (list_any (has_no_number m.last_transactions) there) Exhausted _ (λ _. (there, at, refl))))
+    past-test Told (list_any (has_no_number m.sessions) there) Exhausted _ (λ _. (there, at, refl))))
   where
     Told : Transition → Type 0
     Told given =
@@ -43,14 +44,13 @@ pub gets_from_the_run : GetsFromTheRun
 unfolding gets
 gets_from_the_run m session key snapshot transition accepted =
     of-accepted Read (gets m session key snapshot) transition accepted
-    (past-opened Read session m.opened _ (λ i transcript at there.
+    (past-open Read (open_at m.sessions session) _ (λ transcript opened.
     past-fault Read (read_fault m (program transcript.ops) transcript.read_version key) _
-    (λ _. (i, transcript, at, there, refl))))
+    (λ _. (transcript, opened, refl))))
   where
     Read : Transition → Type 0
     Read given =
-        (i : ℕ) × (transcript : Transcript) × (position (is_of session) m.opened ≡ Some i)
-        × (slice_get m.opened i ≡ Some transcript)
+        (transcript : Transcript) × (open_at m.sessions session ≡ Some transcript)
         × (given.answer ≡ answered.Value
         (get (copy (serial_map_at m.config.resolver_splits transcript.read_version (seen_of m.book).places)
         (program transcript.ops)) key))
@@ -99,7 +99,7 @@ shard-forgot m version (Some progress) = (
 -- A read of an open transaction is refused as in the future exactly where the key's shard lags, as too old exactly
 -- where it has forgotten, and not at all where the key is decided.
 pub gets_refused : GetsRefused
-gets_refused m session key snapshot i transcript at there = (
+gets_refused m session key snapshot transcript opened = (
   (
     (λ refused. (by_lagging own).0 ((answer FutureVersion).0 refused)),
     (λ lagging. (answer FutureVersion).1 ((by_lagging own).1 lagging)),
@@ -108,7 +108,7 @@ gets_refused m session key snapshot i transcript at there = (
     (λ refused. (by_forgotten own).0 ((answer TransactionTooOld).0 refused)),
     (λ forgotten. (answer TransactionTooOld).1 ((by_forgotten own).1 forgotten)),
   ),
-  λ is_decided. gets-faultless m session key snapshot i transcript at there (rw is_decided refl),
+  λ is_decided. gets-faultless m session key snapshot transcript opened (rw is_decided refl),
 )
   where
     own : Bool
@@ -116,7 +116,7 @@ gets_refused m session key snapshot i transcript at there = (
 
     answer : (why : Refusal) → (gets m session key snapshot ≡ Err why) ↔
         (read_fault m (program transcript.ops) transcript.read_version key ≡ Some why)
-    answer why = gets-refused m session key snapshot i transcript why at there
+    answer why = gets-refused m session key snapshot transcript why opened
 
     Lags : Type 0
     Lags =

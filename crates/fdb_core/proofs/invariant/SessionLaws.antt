@@ -1,255 +1,469 @@
--- Each session is in at most one place, once: it asks for a read version, has an open transaction, or waits for what
--- becomes of one.
-use Rattle.std.proofs.Common.{◌≡◌, ◌≢◌, ◌<◌, ◌≤◌, refl, sym, ap, subst, arith, ⊎_elim, ℕ, ◌+◌, Bool, true, false, cond, List, [], ◌∷◌, ◌++◌, take, fold, Option, Some, None, position, Result, sum_by}
-use Rattle.std.specs.Prelude.{◌==◌}
-use Rattle.std.specs.List.{slice_get, slice_set, list_any, count_by}
-use Rattle.std.proofs.lemmas.List.Sums.{sum_by-cons, sum_by_push, sum_by-take-drop}
+-- Each session is where its state says, and is there once.
+use Rattle.std.proofs.Common.{◌≡◌, ◌≢◌, ◌∙◌, ◌<◌, ◌≤◌, refl, sym, ap, subst, arith, ⊎_elim, ℕ, ◌+◌, Bool, true, false, cond, List, [], ◌∷◌, ◌++◌, take, fold, Option, Some, None, Result, Ok, Err, sum_by}
+use Rattle.std.specs.Prelude.{◌↔◌, ◌==◌, IfSome}
+use Rattle.std.specs.List.{AllByRecursion, slice_get, slice_set, list_any, count_by}
+use Rattle.std.proofs.lemmas.List.Sums.{sum_by_push, sum_by-take-drop}
 use Rattle.std.proofs.lemmas.List.Folds.{sum_by-replicate}
-use Rattle.std.proofs.lemmas.Bool.{or_parts}
+use Rattle.std.proofs.lemmas.Bool.{eq-eqb, ne_eqb, cases_Bool, or_left, or_right, or_cases}
 use Rattle.std.proofs.lemmas.Bool.Decides.{eqb_tells}
 use Rattle.fdb_keys.specs.declared.refusal.Refusal.{Refusal}
+use Rattle.fdb_keys.specs.declared.refusal.Refusal.TheVariants.{WrongState}
 use Rattle.fdb_txn.specs.Limits.{place_limit}
-use Rattle.fdb_txn.specs.declared.txn_id.TxnId.{TxnId}
 use Rattle.fdb_core.specs.declared.config.Config.{Config}
 use Rattle.fdb_core.specs.declared.roles.client.program.Transcript.{Transcript}
 use Rattle.fdb_core.specs.declared.step.Answered.{Answered}
 use Rattle.fdb_core.specs.declared.step.Step.{Step}
+use Rattle.fdb_core.specs.headline.Sessions.{is_of, asks_at, waits_at, is_somewhere, times_asking_at, times_asking, times_waiting_at, times_waiting, IsWhereItsStateSays, SessionsAreWhereTheirStatesSay, AsksAreRefused}
 use Rattle.fdb_core.specs.headline.Traces.{machine_of_trace}
-use Rattle.fdb_core.specs.machine.Roles.{LastTransaction, Submission, CommitProxy}
-use Rattle.fdb_core.specs.machine.GrvProxySteps.{begin_next, first_of, serve, without, without_at}
-use Rattle.fdb_core.specs.machine.Machine.{Machine, is_of, is_busy, waits_at_grv_proxy, waits_at_commit_proxy}
+use Rattle.fdb_core.specs.machine.ClientSteps.{with_operation}
+use Rattle.fdb_core.specs.machine.CommitProxySteps.{is_idle}
+use Rattle.fdb_core.specs.machine.GrvProxySteps.{asks}
+use Rattle.fdb_core.specs.machine.Machine.{Machine, Transition, refused_where}
+use Rattle.fdb_core.specs.machine.Roles.{Submission, CommitProxy}
+use Rattle.fdb_core.specs.machine.Sessions.{Session, SessionState, Idle, Asking, Open, Waiting, Sessions, session_of, with_state, is_asking, is_waiting, is_busy, open_of, open_at, serve, tell_all}
 use Rattle.fdb_core.specs.machine.Worlds.{start, idle_proxy}
 use Rattle.fdb_core.specs.programs.Programs.{commit_request_of}
-use Rattle.fdb_core.proofs.common.SumLemmas.{sum-set, sum-remove, sum-remove-le, sum-at, sum-made, sum-none, count-none, count-first, count-no-first}
+use Rattle.fdb_core.proofs.common.AllLemmas.{all-at, all-set, all-replicate}
+use Rattle.fdb_core.proofs.common.SumLemmas.{sum-set, sum-at, sum-made, Counts, counts-test, counts-any, counts-or, passes-counted}
+use Rattle.fdb_core.proofs.headline.TraceLaws.{traces_tell}
+use Rattle.fdb_core.proofs.machine.SessionLemmas.{session-new, state-put, none_or_some, served-none, served-once, told-none, told-some}
 use Rattle.fdb_core.proofs.machine.Steps.{KeptBySteps, kept-by_trace}
 use Rattle.fdb_core.proofs.refinement.SealLemmas.{sealed_proxy, sealed_machine}
 
+-- how often a session at the state asks, and how many of its transactions wait
+abbrev pub asks_as : SessionState → ℕ
+asks_as state = cond (is_asking state) 1 0
+
+abbrev pub waits_as : SessionState → ℕ
+waits_as state = cond (is_waiting state) 1 0
+
+-- it is in one place at most
+one-place : (state : SessionState) → asks_as state + waits_as state ≤ 1
+one-place Idle = omega arith
+one-place Asking = omega arith
+one-place (Open transcript) = omega arith
+one-place Waiting = omega arith
+
+-- and in none where it isn't busy
+free-nowhere : (state : SessionState) → is_busy state ≡ false → asks_as state + waits_as state ≡ 0
+free-nowhere Idle free = refl
+free-nowhere Asking free = cc
+free-nowhere (Open transcript) free = refl
+free-nowhere Waiting free = cc
+
+-- as where its transaction is open
+open-nowhere : (state : SessionState) (transcript : Transcript) → open_of state ≡ Some transcript
+    → asks_as state + waits_as state ≡ 0
+open-nowhere Idle transcript opened = cc
+open-nowhere Asking transcript opened = cc
+open-nowhere (Open other) transcript opened = refl
+open-nowhere Waiting transcript opened = cc
+
+-- The session, with its state, asks and waits as often as the state says, and an open transaction is its own.
+pub record StandsAs (session : ℕ) (state : SessionState) (grv_proxies : List (List ℕ)) (commit_proxies : List CommitProxy) :
+    Type 0 where
+  pub named : IfSome (open_of state) (λ (transcript : Transcript). transcript.id.session ≡ session)
+  pub asks : times_asking session grv_proxies ≡ asks_as state
+  pub waits : times_waiting session commit_proxies ≡ waits_as state
+
+abbrev pub Stands : ℕ → Machine → Type 0
+Stands session m = StandsAs session (session_of m.sessions session).state m.grv_proxies m.commit_proxies
+
+-- a commit proxy without a batch has none in flight
+abbrev pub HasNoneIdle : CommitProxy → Type 0
+HasNoneIdle commit_proxy = is_idle commit_proxy.stage ≡ true → commit_proxy.in_flight ≡ []
+
+-- so stand all sessions
+abbrev pub AllStand : Machine → Type 0
+AllStand m = ((session : ℕ) → Stands session m) × AllByRecursion HasNoneIdle m.commit_proxies
+
+-- an open transaction is its session's
+pub open-own : (m : Machine) (session : ℕ) (transcript : Transcript) → Stands session m
+    → open_at m.sessions session ≡ Some transcript → transcript.id.session ≡ session
+open-own m session transcript stands opened = subst
+    (λ (there : Option Transcript). IfSome there (λ (t : Transcript). t.id.session ≡ session)) opened stands.named
+
+-- one more that is the session's, or not
+asks-more : (session asker : ℕ) (there : List ℕ)
+    → (asker ≡ session → times_asking_at session (there ++ asker ∷ []) ≡ times_asking_at session there + 1)
+    × (asker ≢ session → times_asking_at session (there ++ asker ∷ []) ≡ times_asking_at session there)
+asks-more session asker there =
+    let more = sum_by_push (λ (other : ℕ). cond {A = ℕ} (other == session) 1 0) there asker in (
+      λ same. let one : cond {A = ℕ} (asker == session) 1 0 ≡ 1 = rw (eq-eqb asker session same) refl in
+          omega (arith, more, one),
+      λ differs. let none : cond {A = ℕ} (asker == session) 1 0 ≡ 0 = rw (ne_eqb asker session differs) refl in
+          omega (arith, more, none),
+    )
+
+waits-more : (session : ℕ) (commit_proxy : CommitProxy) (submission : Submission) →
+    let new = record commit_proxy { waiting = commit_proxy.waiting ++ submission ∷ [] } in
+    (submission.transcript.id.session ≡ session
+    → times_waiting_at session new ≡ times_waiting_at session commit_proxy + 1)
+    × (submission.transcript.id.session ≢ session
+    → times_waiting_at session new ≡ times_waiting_at session commit_proxy)
+waits-more session commit_proxy submission =
+    let own = submission.transcript.id.session in
+    let more = sum_by_push (λ (s : Submission). cond {A = ℕ} (is_of session s.transcript) 1 0) commit_proxy.waiting
+    submission in (
+      λ same. let one : cond {A = ℕ} (own == session) 1 0 ≡ 1 = rw (eq-eqb own session same) refl in
+          omega (arith, more, one),
+      λ differs. let none : cond {A = ℕ} (own == session) 1 0 ≡ 0 = rw (ne_eqb own session differs) refl in
+          omega (arith, more, none),
+    )
+
 module _ (session : ℕ) where
-  -- 1 for an asker that is the session and for a transcript of it, else 0
-  abbrev once_asking : ℕ → ℕ
-  once_asking asker = cond (asker == session) 1 0
+  -- one who wasn't busy asks
+  asked-stands : (m : Machine) (asker proxy : ℕ) (there : List ℕ) → slice_get m.grv_proxies proxy ≡ Some there
+      → is_busy (session_of m.sessions asker).state ≡ false → Stands session m
+      → StandsAs session (session_of (with_state m.sessions asker Asking) session).state
+      (slice_set m.grv_proxies proxy (there ++ asker ∷ [])) m.commit_proxies
+  asked-stands m asker proxy there at free stands =
+      let set = sum-set (times_asking_at session) m.grv_proxies proxy there (there ++ asker ∷ []) at in
+      let more = asks-more session asker there in
+      state-put (λ (state : SessionState). StandsAs session state
+      (slice_set m.grv_proxies proxy (there ++ asker ∷ [])) m.commit_proxies) m.sessions asker Asking session
+      (λ same.
+      let nowhere = free-nowhere (session_of m.sessions session).state
+      (subst (λ (s : ℕ). is_busy (session_of m.sessions s).state ≡ false) same free) in
+      record {
+        named = tt;
+        asks = omega (arith, set, more.0 same, stands.asks, nowhere);
+        waits = omega (arith, stands.waits, nowhere);
+      })
+      (λ differs. record {
+        named = stands.named;
+        asks = omega (arith, set, more.1 differs, stands.asks);
+        waits = stands.waits;
+      })
 
-  abbrev once_of : Transcript → ℕ
-  once_of transcript = cond (is_of session transcript) 1 0
-
-  -- how often the session asks at a read-version proxy, and at all of them
-  abbrev pub times_asking_at : List ℕ → ℕ
-  times_asking_at there = count_by (λ (asker : ℕ). asker == session) there
-
-  abbrev pub times_asking : List (List ℕ) → ℕ
-  times_asking grv_proxies = sum_by times_asking_at grv_proxies
-
-  -- how many open transactions are of the session
-  abbrev pub times_opened : List Transcript → ℕ
-  times_opened opened = count_by (is_of session) opened
-
-  -- how many of its transactions wait at a commit proxy for a batch, and at all of them
-  abbrev pub times_waiting_at : CommitProxy → ℕ
-  times_waiting_at commit_proxy =
-      count_by (λ (submission : Submission). is_of session submission.transcript) commit_proxy.waiting
-
-  abbrev pub times_waiting : List CommitProxy → ℕ
-  times_waiting commit_proxies = sum_by times_waiting_at commit_proxies
-
-  -- how many of them are in the batch in flight at a commit proxy, and at all of them
-  abbrev pub times_in_flight_at : CommitProxy → ℕ
-  times_in_flight_at commit_proxy = count_by (is_of session) commit_proxy.in_flight
-
-  abbrev pub times_in_flight : List CommitProxy → ℕ
-  times_in_flight commit_proxies = sum_by times_in_flight_at commit_proxies
-
-  -- how often the session is in any of these places
-  abbrev pub times_there : List (List ℕ) → List Transcript → List CommitProxy → ℕ
-  times_there grv_proxies opened commit_proxies =
-      times_asking grv_proxies + times_opened opened + times_waiting commit_proxies + times_in_flight commit_proxies
-
--- the session is in one of them at most, and once
-abbrev pub IsOnceAtMost : ℕ → Machine → Type 0
-IsOnceAtMost session m = times_there session m.grv_proxies m.opened m.commit_proxies ≤ 1
-
--- without a session's open transaction there are no more
-pub without-le : (f : Transcript → ℕ) (session : ℕ) (opened : List Transcript)
-    → sum_by f (without session opened) ≤ sum_by f opened
-without-le f session opened =
-    elim (position (is_of session) opened)
-    as (λ there. sum_by f (without_at opened there) ≤ sum_by f opened)
-    [ None ↦ omega arith | Some i ↦ sum-remove-le f opened i ]
-
-module _ (session : ℕ) where
-  -- one open transaction of the session at most is none once it is dropped
-  without-none : (opened : List Transcript) → times_opened session opened ≤ 1
-      → times_opened session (without session opened) ≡ 0
-  without-none opened few = by_place (position (is_of session) opened) refl
-    where
-      by_place : (place : Option ℕ) → position (is_of session) opened ≡ place
-          → times_opened session (without_at opened place) ≡ 0
-      by_place None at = count-no-first (is_of session) opened at
-      by_place (Some i) at = omega (arith, few, count-first (is_of session) opened i at)
-
-  -- a session that isn't busy asks nowhere and waits nowhere
-  free-nowhere : (m : Machine) → is_busy session m.grv_proxies m.commit_proxies ≡ false
-      → times_there session m.grv_proxies [] m.commit_proxies ≡ 0
-  free-nowhere m free =
-      let waits : Submission → Bool = λ submission. is_of session submission.transcript in
-      let free_at = or_parts (list_any (waits_at_grv_proxy session) m.grv_proxies)
-      (list_any (waits_at_commit_proxy session) m.commit_proxies) free in
-      let free_of : (commit_proxy : CommitProxy) → waits_at_commit_proxy session commit_proxy ≡ false
-      → (list_any waits commit_proxy.waiting ≡ false) × (list_any (is_of session) commit_proxy.in_flight ≡ false)
-      = λ commit_proxy. or_parts _ _ in
-      omega (
-        arith,
-        sum-none (times_asking_at session) (waits_at_grv_proxy session)
-            (count-none (λ (asker : ℕ). asker == session)) m.grv_proxies free_at.0,
-        sum-none (times_waiting_at session) (waits_at_commit_proxy session)
-            (λ commit_proxy none. count-none waits commit_proxy.waiting (free_of commit_proxy none).0) m.commit_proxies
-            free_at.1,
-        sum-none (times_in_flight_at session) (waits_at_commit_proxy session)
-            (λ commit_proxy none. count-none (is_of session) commit_proxy.in_flight (free_of commit_proxy none).1)
-            m.commit_proxies free_at.1,
-      )
-
-  -- one who wasn't busy asks, and has no open transaction any more
-  asked-once : (m : Machine) (asker proxy : ℕ) (there : List ℕ) → slice_get m.grv_proxies proxy ≡ Some there
-      → is_busy asker m.grv_proxies m.commit_proxies ≡ false → IsOnceAtMost session m
-      → times_there session (slice_set m.grv_proxies proxy (there ++ asker ∷ [])) (without asker m.opened)
-      m.commit_proxies ≤ 1
-  asked-once m asker proxy there at free once =
-      let more = sum_by_push (once_asking session) there asker in
-      let asks = sum-set (times_asking_at session) m.grv_proxies proxy there (there ++ asker ∷ []) at in
+  -- those who ask are served
+  granted-stands : (m : Machine) (proxy : ℕ) (there : List ℕ) → slice_get m.grv_proxies proxy ≡ Some there
+      → Stands session m
+      → StandsAs session (session_of (fold (serve m.committed) m.sessions there) session).state
+      (slice_set m.grv_proxies proxy []) m.commit_proxies
+  granted-stands m proxy there at stands =
+      let set = sum-set (times_asking_at session) m.grv_proxies proxy there [] at in
       ⊎_elim
-      (λ (is : (asker == session ≡ true) × (asker ≡ session)).
-      let one : once_asking session asker ≡ 1 = rw is.0 refl in
-      let itself = subst (λ (s : ℕ). is_busy s m.grv_proxies m.commit_proxies ≡ false) is.1 free in
-      let none : times_opened session (without asker m.opened) ≡ 0
-      = subst (λ (s : ℕ). times_opened session (without s m.opened) ≡ 0) (sym is.1)
-      (without-none m.opened (omega (arith, once))) in
-      omega (arith, more, asks, one, none, free-nowhere m itself))
-      (λ (is : (asker == session ≡ false) × (asker ≢ session)).
-      let zero : once_asking session asker ≡ 0 = rw is.0 refl in
-      omega (arith, more, asks, zero, once, without-le (once_of session) asker m.opened))
-      (eqb_tells asker session)
+      (λ (none : times_asking_at session there ≡ 0).
+      subst (λ (found : Session). StandsAs session found.state (slice_set m.grv_proxies proxy []) m.commit_proxies)
+      (sym (served-none session m.committed there m.sessions none))
+      (record { named = stands.named; asks = omega (arith, set, none, stands.asks); waits = stands.waits }))
+      (λ (some : 0 < times_asking_at session there).
+      let all = sum-at (times_asking_at session) m.grv_proxies proxy there at in
+      let place = one-place (session_of m.sessions session).state in
+      let once : times_asking_at session there ≡ 1 = omega (arith, some, all, place, stands.asks) in
+      subst (λ (found : Session). StandsAs session found.state (slice_set m.grv_proxies proxy []) m.commit_proxies)
+      (sym (served-once session m.committed there m.sessions once))
+      (record {
+        named = refl;
+        asks = omega (arith, set, once, all, place, stands.asks);
+        waits = omega (arith, some, all, place, stands.asks, stands.waits);
+      }))
+      (none_or_some (times_asking_at session there))
 
-  -- where those who ask are served, the session has an open transaction more for each time it asked
-  served-opened : (version : ℕ) (askers : List ℕ) (last_transactions : List LastTransaction) (opened : List Transcript)
-      → times_opened session (fold (serve version) (last_transactions, opened) askers).1
-      ≡ times_opened session opened + times_asking_at session askers
-  served-opened version [] last_transactions opened = omega arith
-  served-opened version (asker ∷ askers) last_transactions opened =
-      let first = first_of last_transactions version asker in
-      omega (
-        arith,
-        served-opened version askers (begin_next last_transactions asker) (opened ++ first ∷ []),
-        sum_by_push (once_of session) opened first,
-        sum_by-cons (once_asking session) asker askers,
-      )
+  -- one whose transaction is open goes on to another state in which it is nowhere
+  opened-stands : (m : Machine) (client : ℕ) (transcript : Transcript) (state : SessionState)
+      → open_at m.sessions client ≡ Some transcript → Stands session m
+      → (client ≡ session → IfSome (open_of state) (λ (t : Transcript). t.id.session ≡ session))
+      → asks_as state + waits_as state ≡ 0
+      → StandsAs session (session_of (with_state m.sessions client state) session).state m.grv_proxies m.commit_proxies
+  opened-stands m client transcript state opened stands named nowhere =
+      state-put (λ (s : SessionState). StandsAs session s m.grv_proxies m.commit_proxies) m.sessions client state
+      session
+      (λ same.
+      let before = open-nowhere (session_of m.sessions session).state transcript
+      (subst (λ (s : ℕ). open_at m.sessions s ≡ Some transcript) same opened) in
+      record {
+        named = named same;
+        asks = omega (arith, stands.asks, before, nowhere);
+        waits = omega (arith, stands.waits, before, nowhere);
+      })
+      (λ differs. stands)
 
-  -- an open transaction goes on under its name
-  with-transcript : (m : Machine) (i : ℕ) (transcript new : Transcript) → IsOnceAtMost session m
-      → slice_get m.opened i ≡ Some transcript → new.id ≡ transcript.id
-      → times_there session m.grv_proxies (slice_set m.opened i new) m.commit_proxies ≤ 1
-  with-transcript m i transcript new once there same =
-      omega (
-        arith,
-        once,
-        sum-set (once_of session) m.opened i transcript new there,
-        ap (λ (id : TxnId). cond {A = ℕ} (id.session == session) 1 0) same,
-      )
+  -- or waits
+  submitted-stands : (m : Machine) (client proxy : ℕ) (commit_proxy : CommitProxy) (transcript : Transcript)
+      (submission : Submission)
+      → slice_get m.commit_proxies proxy ≡ Some commit_proxy → open_at m.sessions client ≡ Some transcript
+      → submission.transcript.id.session ≡ client → Stands session m
+      → StandsAs session (session_of (with_state m.sessions client Waiting) session).state m.grv_proxies
+      (slice_set m.commit_proxies proxy
+      (record commit_proxy { waiting = commit_proxy.waiting ++ submission ∷ [] }))
+  submitted-stands m client proxy commit_proxy transcript submission at opened own stands =
+      let new = record commit_proxy { waiting = commit_proxy.waiting ++ submission ∷ [] } in
+      let set = sum-set (times_waiting_at session) m.commit_proxies proxy commit_proxy new at in
+      let more = waits-more session commit_proxy submission in
+      state-put (λ (state : SessionState). StandsAs session state m.grv_proxies
+      (slice_set m.commit_proxies proxy new)) m.sessions client Waiting session
+      (λ same.
+      let before = open-nowhere (session_of m.sessions session).state transcript
+      (subst (λ (s : ℕ). open_at m.sessions s ≡ Some transcript) same opened) in
+      record {
+        named = tt;
+        asks = omega (arith, stands.asks, before);
+        waits = omega (arith, set, more.0 (own ∙ same), stands.waits, before);
+      })
+      (λ differs. record {
+        named = stands.named;
+        asks = stands.asks;
+        waits = omega (arith, set, more.1 (λ same. differs (sym own ∙ same)), stands.waits);
+      })
 
-  -- a commit proxy goes on with no more of the session's transactions than it had
-  with-commit_proxy : (m : Machine) (proxy : ℕ) (commit_proxy new : CommitProxy) → IsOnceAtMost session m
+  -- a commit proxy goes on with as many of the session's transactions as it had
+  with-commit_proxy : (m : Machine) (proxy : ℕ) (commit_proxy new : CommitProxy)
       → slice_get m.commit_proxies proxy ≡ Some commit_proxy
-      → times_waiting_at session new + times_in_flight_at session new
-      ≤ times_waiting_at session commit_proxy + times_in_flight_at session commit_proxy
-      → times_there session m.grv_proxies m.opened (slice_set m.commit_proxies proxy new) ≤ 1
-  with-commit_proxy m proxy commit_proxy new once at fewer =
-      omega (
-        arith,
-        once,
-        fewer,
-        sum-set (times_waiting_at session) m.commit_proxies proxy commit_proxy new at,
-        sum-set (times_in_flight_at session) m.commit_proxies proxy commit_proxy new at,
-      )
-
-  -- those of the new batch waited before
-  sealed-once : (m : Machine) (proxy advance : ℕ) (commit_proxy : CommitProxy) → IsOnceAtMost session m
-      → slice_get m.commit_proxies proxy ≡ Some commit_proxy
-      → IsOnceAtMost session (sealed_machine m proxy advance commit_proxy)
-  sealed-once m proxy advance commit_proxy once at =
-      let weight : Submission → ℕ = λ submission. once_of session submission.transcript in
-      let sealing = take place_limit commit_proxy.waiting in
-      let flying : times_in_flight_at session (sealed_proxy m commit_proxy) ≡ sum_by weight sealing
-      = sum-made (once_of session) (λ (submission : Submission). submission.transcript) sealing in
-      with-commit_proxy m proxy commit_proxy (sealed_proxy m commit_proxy) once at
-      (omega (arith, flying, sum_by-take-drop weight commit_proxy.waiting place_limit))
-
-  -- every step keeps it
-  pub session_steps : KeptBySteps (IsOnceAtMost session)
-  session_steps = record {
-    roles = λ m taken answer resolvers logs shards quiet once. once;
-    asked = asked-once;
-    granted = λ m proxy there at left once.
-        omega (
-          arith,
-          once,
-          served-opened m.committed there m.last_transactions m.opened,
-          sum-set (times_asking_at session) m.grv_proxies proxy there [] at,
-        );
-    operated = λ m taken client i transcript operation does is there once.
-        with-transcript m i transcript _ once there refl;
-    read_only = λ m client proxy i transcript is there empty once.
-        omega (arith, once, sum-remove (once_of session) m.opened i transcript there);
-    submitted = λ m client proxy commit_proxy i transcript at is there writes once.
-        let waits : Submission = record { sealed = commit_request_of transcript; transcript = transcript } in
-        let new = record commit_proxy { waiting = commit_proxy.waiting ++ waits ∷ [] } in
-        omega (
-          arith,
-          once,
-          sum-remove (once_of session) m.opened i transcript there,
-          sum_by_push (λ (s : Submission). once_of session s.transcript) commit_proxy.waiting waits,
-          sum-set (times_waiting_at session) m.commit_proxies proxy commit_proxy new at,
-          sum-set (times_in_flight_at session) m.commit_proxies proxy commit_proxy new at,
-        );
-    sealed = λ m proxy advance commit_proxy at idle few room once. sealed-once m proxy advance commit_proxy once at;
-    went_on = λ m taken answer proxy commit_proxy stage decided verdicts acknowledgements quiet at busy goes_on
-        unreported once.
-        with-commit_proxy m proxy commit_proxy _ once at (omega arith);
-    reported_version = λ m proxy commit_proxy entry at logging there once.
-        with-commit_proxy m proxy commit_proxy _ once at (omega arith);
-    told = λ m proxy commit_proxy entry at reported there once.
-        with-commit_proxy m proxy commit_proxy _ once at (omega arith);
+      → times_waiting_at session new ≡ times_waiting_at session commit_proxy → Stands session m
+      → StandsAs session (session_of m.sessions session).state m.grv_proxies (slice_set m.commit_proxies proxy new)
+  with-commit_proxy m proxy commit_proxy new at same stands = record {
+    named = stands.named;
+    asks = stands.asks;
+    waits = omega
+        (arith, stands.waits, same, sum-set (times_waiting_at session) m.commit_proxies proxy commit_proxy new at);
   }
 
+  -- those of the new batch waited before
+  sealed-stands : (m : Machine) (proxy advance : ℕ) (commit_proxy : CommitProxy)
+      → slice_get m.commit_proxies proxy ≡ Some commit_proxy → commit_proxy.in_flight ≡ [] → Stands session m
+      → Stands session (sealed_machine m proxy advance commit_proxy)
+  sealed-stands m proxy advance commit_proxy at none =
+      let weight : Submission → ℕ = λ submission. cond (is_of session submission.transcript) 1 0 in
+      let sealing = take place_limit commit_proxy.waiting in
+      let flying : count_by (is_of session) (sealed_proxy m commit_proxy).in_flight ≡ sum_by weight sealing
+      = sum-made (λ (t : Transcript). cond (is_of session t) 1 0) (λ (submission : Submission). submission.transcript)
+      sealing in
+      let before : count_by (is_of session) commit_proxy.in_flight ≡ 0
+      = ap (λ (ts : List Transcript). count_by (is_of session) ts) none in
+      with-commit_proxy m proxy commit_proxy (sealed_proxy m commit_proxy) at
+      (omega (arith, flying, before, sum_by-take-drop weight commit_proxy.waiting place_limit))
+
+  -- those of the batch are told
+  told-stands : (m : Machine) (proxy : ℕ) (commit_proxy new : CommitProxy)
+      → slice_get m.commit_proxies proxy ≡ Some commit_proxy
+      → times_waiting_at session new + count_by (is_of session) commit_proxy.in_flight
+      ≡ times_waiting_at session commit_proxy
+      → Stands session m
+      → StandsAs session (session_of (tell_all commit_proxy.in_flight m.sessions) session).state m.grv_proxies
+      (slice_set m.commit_proxies proxy new)
+  told-stands m proxy commit_proxy new at fewer stands =
+      let set = sum-set (times_waiting_at session) m.commit_proxies proxy commit_proxy new at in
+      ⊎_elim
+      (λ (none : count_by (is_of session) commit_proxy.in_flight ≡ 0).
+      subst (λ (found : Session). StandsAs session found.state m.grv_proxies (slice_set m.commit_proxies proxy new))
+      (sym (told-none session commit_proxy.in_flight m.sessions none))
+      (record { named = stands.named; asks = stands.asks; waits = omega (arith, set, fewer, none, stands.waits) }))
+      (λ (some : 0 < count_by (is_of session) commit_proxy.in_flight).
+      let all = sum-at (times_waiting_at session) m.commit_proxies proxy commit_proxy at in
+      let place = one-place (session_of m.sessions session).state in
+      subst (λ (found : Session). StandsAs session found.state m.grv_proxies (slice_set m.commit_proxies proxy new))
+      (sym (told-some session commit_proxy.in_flight m.sessions some))
+      (record {
+        named = tt;
+        asks = omega (arith, some, all, fewer, place, stands.asks, stands.waits);
+        waits = omega (arith, set, some, all, fewer, place, stands.waits);
+      }))
+      (none_or_some (count_by (is_of session) commit_proxy.in_flight))
+
   -- before the first step it is nowhere
-  pub session-start : (config : Config) → IsOnceAtMost session (start config)
-  session-start config =
-      omega (
-        arith,
-        sum_by-replicate (times_asking_at session) config.proxies [],
-        sum_by-replicate (times_waiting_at session) config.proxies idle_proxy,
-        sum_by-replicate (times_in_flight_at session) config.proxies idle_proxy,
-      )
+  stands-start : (config : Config) → Stands session (start config)
+  stands-start config =
+      subst (λ (found : Session). StandsAs session found.state (start config).grv_proxies
+      (start config).commit_proxies) (sym (session-new session))
+      (record {
+        named = tt;
+        asks = omega (arith, sum_by-replicate (times_asking_at session) config.proxies []);
+        waits = omega (arith, sum_by-replicate (times_waiting_at session) config.proxies idle_proxy);
+      })
 
--- and so it is after every trace
-pub sessions_once : (config : Config) (steps : List Step) (answers : List (Result Answered Refusal)) (session : ℕ)
-    → IsOnceAtMost session (machine_of_trace config steps answers)
-sessions_once config steps answers session =
-    kept-by_trace (IsOnceAtMost session) (session_steps session) (start config) steps answers
-    (session-start session config)
+-- a commit proxy that has a batch, or has none in flight, in the place of another
+with-none_idle : (m : Machine) (proxy : ℕ) (new : CommitProxy) → HasNoneIdle new → AllStand m
+    → AllByRecursion HasNoneIdle (slice_set m.commit_proxies proxy new)
+with-none_idle m proxy new none all = all-set HasNoneIdle m.commit_proxies proxy new all.1 none
 
-module _ (m : Machine) (session : ℕ) (once : IsOnceAtMost session m) where
+-- every step keeps it
+pub session_steps : KeptBySteps AllStand
+session_steps = record {
+  roles = λ m taken answer resolvers logs shards quiet all. all;
+  asked = λ m asker proxy there at free all.
+      (λ session. asked-stands session m asker proxy there at free (all.0 session), all.1);
+  granted = λ m proxy there at left all. (λ session. granted-stands session m proxy there at (all.0 session), all.1);
+  operated = λ m taken client transcript operation does opened all. (
+    λ session. opened-stands session m client transcript (Open (with_operation transcript operation _)) opened
+        (all.0 session)
+        (λ same. open-own m client transcript (all.0 client) opened ∙ same) refl,
+    all.1,
+  );
+  read_only = λ m client proxy transcript opened empty all.
+      (λ session. opened-stands session m client transcript Idle opened (all.0 session) (λ same. tt) refl, all.1);
+  submitted = λ m client proxy commit_proxy transcript at opened writes all. (
+    λ session. submitted-stands session m client proxy commit_proxy transcript
+        (record { sealed = commit_request_of transcript; transcript = transcript }) at opened
+        (open-own m client transcript (all.0 client) opened) (all.0 session),
+    with-none_idle m proxy _ (all-at HasNoneIdle m.commit_proxies proxy commit_proxy all.1 at) all,
+  );
+  sealed = λ m proxy advance commit_proxy at idle few room all. (
+    λ session. sealed-stands session m proxy advance commit_proxy at
+        (all-at HasNoneIdle m.commit_proxies proxy commit_proxy all.1 at (ap is_idle idle)) (all.0 session),
+    with-none_idle m proxy (sealed_proxy m commit_proxy) (λ idle. cc) all,
+  );
+  went_on = λ m taken answer proxy commit_proxy stage decided verdicts acknowledgements quiet at busy goes_on
+      unreported all. (
+        λ session. with-commit_proxy session m proxy commit_proxy _ at refl (all.0 session),
+        with-none_idle m proxy _ (λ idle. cc) all,
+      );
+  reported_version = λ m proxy commit_proxy entry at logging there all. (
+    λ session. with-commit_proxy session m proxy commit_proxy _ at refl (all.0 session),
+    with-none_idle m proxy _ (λ idle. cc) all,
+  );
+  told = λ m proxy commit_proxy entry at reported there all. (
+    λ session. told-stands session m proxy commit_proxy _ at (omega arith) (all.0 session),
+    with-none_idle m proxy _ (λ idle. refl) all,
+  );
+}
+
+-- before the first step, and so after every trace
+pub session-start : (config : Config) → AllStand (start config)
+session-start config = (
+  λ session. stands-start session config,
+  all-replicate HasNoneIdle idle_proxy config.proxies (λ idle. refl),
+)
+
+pub sessions_stand : (config : Config) (steps : List Step) (answers : List (Result Answered Refusal))
+    → AllStand (machine_of_trace config steps answers)
+sessions_stand config steps answers =
+    kept-by_trace AllStand session_steps (start config) steps answers (session-start config)
+
+module _ (m : Machine) (session : ℕ) (stands : Stands session m) where
   -- at each read-version proxy the session asks once at most
   pub asks_once : (proxy : ℕ) (there : List ℕ) → slice_get m.grv_proxies proxy ≡ Some there
-      → count_by (λ (asker : ℕ). asker == session) there ≤ 1
-  asks_once proxy there at = omega (arith, once, sum-at (times_asking_at session) m.grv_proxies proxy there at)
+      → times_asking_at session there ≤ 1
+  asks_once proxy there at = omega (
+    arith,
+    stands.asks,
+    one-place (session_of m.sessions session).state,
+    sum-at (times_asking_at session) m.grv_proxies proxy there at,
+  )
 
-  -- one who asks has no open transaction
+  -- who asks or waits has no open transaction
+  not-open : 0 < asks_as (session_of m.sessions session).state + waits_as (session_of m.sessions session).state
+      → open_at m.sessions session ≡ None
+  not-open some = by_open (open_at m.sessions session) refl
+    where
+      by_open : (opened : Option Transcript) → open_at m.sessions session ≡ opened → open_at m.sessions session ≡ None
+      by_open None is = is
+      by_open (Some transcript) is =
+          absurd (omega (arith, some, open-nowhere (session_of m.sessions session).state transcript is))
+
   pub asker-not-open : (proxy : ℕ) (there : List ℕ) → slice_get m.grv_proxies proxy ≡ Some there
-      → 0 < count_by (λ (asker : ℕ). asker == session) there → count_by (is_of session) m.opened ≡ 0
-  asker-not-open proxy there at asks =
-      omega (arith, once, asks, sum-at (times_asking_at session) m.grv_proxies proxy there at)
+      → 0 < times_asking_at session there → open_at m.sessions session ≡ None
+  asker-not-open proxy there at some = not-open (omega (
+    arith,
+    some,
+    stands.asks,
+    sum-at (times_asking_at session) m.grv_proxies proxy there at,
+  ))
 
   -- of each batch in flight one transaction at most is the session's
   pub in_flight_once : (proxy : ℕ) (commit_proxy : CommitProxy) → slice_get m.commit_proxies proxy ≡ Some commit_proxy
       → count_by (is_of session) commit_proxy.in_flight ≤ 1
-  in_flight_once proxy commit_proxy at =
-      omega (arith, once, sum-at (times_in_flight_at session) m.commit_proxies proxy commit_proxy at)
+  in_flight_once proxy commit_proxy at = omega (
+    arith,
+    stands.waits,
+    one-place (session_of m.sessions session).state,
+    sum-at (times_waiting_at session) m.commit_proxies proxy commit_proxy at,
+  )
+
+  -- and one of these has no open transaction
+  pub flying-not-open : (proxy : ℕ) (commit_proxy : CommitProxy) → slice_get m.commit_proxies proxy ≡ Some commit_proxy
+      → 0 < count_by (is_of session) commit_proxy.in_flight → open_at m.sessions session ≡ None
+  flying-not-open proxy commit_proxy at some = not-open (omega (
+    arith,
+    some,
+    stands.waits,
+    sum-at (times_waiting_at session) m.commit_proxies proxy commit_proxy at,
+  ))
+
+-- a state by what is counted of it
+asks-is : (state : SessionState) → 0 < asks_as state → state ≡ Asking
+asks-is Idle some = absurd (omega (arith, some))
+asks-is Asking some = refl
+asks-is (Open transcript) some = absurd (omega (arith, some))
+asks-is Waiting some = absurd (omega (arith, some))
+
+waits-is : (state : SessionState) → 0 < waits_as state → state ≡ Waiting
+waits-is Idle some = absurd (omega (arith, some))
+waits-is Asking some = absurd (omega (arith, some))
+waits-is (Open transcript) some = absurd (omega (arith, some))
+waits-is Waiting some = refl
+
+module _ (session : ℕ) where
+  asks-counted : Counts (times_asking session) (λ (grv_proxies : List (List ℕ)). list_any (asks_at session) grv_proxies)
+  asks-counted = counts-any (times_asking_at session) (asks_at session)
+      (counts-any (λ (asker : ℕ). cond (asker == session) 1 0) (λ (asker : ℕ). asker == session)
+      (counts-test (λ (asker : ℕ). asker == session)))
+
+  waits-counted : Counts (times_waiting session)
+      (λ (commit_proxies : List CommitProxy). list_any (waits_at session) commit_proxies)
+  waits-counted = counts-any (times_waiting_at session) (waits_at session) (λ commit_proxy.
+      let waits : Submission → Bool = λ submission. is_of session submission.transcript in
+      counts-or {X = List Submission × List Transcript} (λ both. count_by waits both.0)
+      (λ both. count_by (is_of session) both.1) (λ both. list_any waits both.0)
+      (λ both. list_any (is_of session) both.1)
+      (λ both. counts-any (λ (submission : Submission). cond (waits submission) 1 0) waits (counts-test waits) both.0)
+      (λ both. counts-any (λ (t : Transcript). cond (is_of session t) 1 0) (is_of session)
+      (counts-test (is_of session)) both.1)
+      (commit_proxy.waiting, commit_proxy.in_flight))
+
+  -- a session that stands as its state says is where its state says
+  pub stands-there : (m : Machine) → Stands session m
+      → IsWhereItsStateSays session (session_of m.sessions session).state m.grv_proxies m.commit_proxies
+  stands-there m stands = record {
+    asks = (
+      λ is. passes-counted (times_asking session) (list_any (asks_at session)) asks-counted m.grv_proxies
+          (omega (arith, stands.asks, ap asks_as is)),
+      λ some. asks-is state (omega (arith, stands.asks, (asks-counted m.grv_proxies).0 some)),
+    );
+    waits = (
+      λ is. passes-counted (times_waiting session) (list_any (waits_at session)) waits-counted m.commit_proxies
+          (omega (arith, stands.waits, ap waits_as is)),
+      λ some. waits-is state (omega (arith, stands.waits, (waits-counted m.commit_proxies).0 some)),
+    );
+    once = omega (arith, stands.asks, stands.waits, one-place state);
+  }
+    where
+      state : SessionState
+      state = (session_of m.sessions session).state
+
+pub sessions_are_where_their_states_say : SessionsAreWhereTheirStatesSay
+sessions_are_where_their_states_say config steps given m trace session =
+    stands-there session m (subst (Stands session) (sym (traces_tell config steps given m trace))
+    ((sessions_stand config steps given).0 session))
+
+-- a session is busy exactly where its state says that it is somewhere
+busy-somewhere : (session : ℕ) (state : SessionState) (grv_proxies : List (List ℕ)) (commit_proxies : List CommitProxy)
+    → IsWhereItsStateSays session state grv_proxies commit_proxies
+    → (is_busy state ≡ true) ↔ (is_somewhere session grv_proxies commit_proxies ≡ true)
+busy-somewhere session state grv_proxies commit_proxies there = (forth state there, λ some. ⊎_elim
+    (λ asks. ap is_busy (there.asks.1 asks)) (λ waits. ap is_busy (there.waits.1 waits))
+    (or_cases (list_any (asks_at session) grv_proxies) (list_any (waits_at session) commit_proxies) some))
+  where
+    forth : (state : SessionState) → IsWhereItsStateSays session state grv_proxies commit_proxies
+        → is_busy state ≡ true → is_somewhere session grv_proxies commit_proxies ≡ true
+    forth Idle there busy = cc
+    forth Asking there busy = or_left (list_any (asks_at session) grv_proxies)
+        (list_any (waits_at session) commit_proxies) (there.asks.0 refl)
+    forth (Open transcript) there busy = cc
+    forth Waiting there busy = or_right (list_any (asks_at session) grv_proxies)
+        (list_any (waits_at session) commit_proxies) (there.waits.0 refl)
+
+pub asks_are_refused : AsksAreRefused
+unfolding asks
+asks_are_refused config steps given m trace session proxy there at =
+    let busy = busy-somewhere session (session_of m.sessions session).state m.grv_proxies m.commit_proxies
+    (sessions_are_where_their_states_say config steps given m trace session) in
+    rw at (by_test (is_busy (session_of m.sessions session).state) _ busy)
+  where
+    by_test : (test : Bool) (transition : Transition)
+        → (test ≡ true) ↔ (is_somewhere session m.grv_proxies m.commit_proxies ≡ true)
+        → (refused_where test WrongState (Ok transition) ≡ Err WrongState) ↔
+        (is_somewhere session m.grv_proxies m.commit_proxies ≡ true)
+    by_test true transition busy = (λ refused. busy.0 refl, λ some. refl)
+    by_test false transition busy = ((λ refused. cc), λ some. let wrong = busy.1 some in cc)

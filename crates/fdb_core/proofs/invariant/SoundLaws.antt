@@ -6,7 +6,7 @@ use Rattle.fdb_txn.specs.Limits.{place_limit}
 use Rattle.fdb_txn.specs.declared.entry.Entry.{Entry}
 use Rattle.fdb_txn.proofs.book.HistoryLemmas.{all-append, all-weaken, entries_go_on}
 use Rattle.fdb_core.specs.declared.config.Config.{Config}
-use Rattle.fdb_core.specs.machine.Roles.{LastTransaction, Submission, CommitProxy, Reported, ShardProgress}
+use Rattle.fdb_core.specs.machine.Roles.{Submission, CommitProxy, Reported, ShardProgress}
 use Rattle.fdb_core.specs.declared.roles.client.Placed.{Placed}
 use Rattle.fdb_core.specs.declared.roles.client.program.Transcript.{Transcript}
 use Rattle.fdb_core.specs.declared.step.Answered.{Answered}
@@ -14,13 +14,16 @@ use Rattle.fdb_core.specs.declared.step.Step.{Step}
 use Rattle.fdb_core.specs.headline.Traces.{machine_of_trace}
 use Rattle.fdb_core.specs.machine.CommitProxySteps.{is_idle, is_reported}
 use Rattle.fdb_txn.specs.book.Book.{last_version}
+use Rattle.fdb_core.specs.machine.ClientSteps.{with_operation}
 use Rattle.fdb_core.specs.machine.Machine.{Machine}
+use Rattle.fdb_core.specs.machine.Sessions.{Sessions, EachOpen, Idle, Asking, Open, Waiting, open_at}
 use Rattle.fdb_core.specs.machine.Worlds.{start, idle_proxy}
 use Rattle.fdb_core.specs.programs.Programs.{commit_request_of}
 use Rattle.fdb_core.specs.invariant.Invariant.{IsReplied, IsSerializedIn, IsReported, Waits, CommitProxyIsSound, Invariant}
 use Rattle.fdb_core.proofs.common.AllLemmas.{all-at, all-set, all-remove, all-push, all-drop, all-take, all-map, all-replicate}
 use Rattle.fdb_core.proofs.invariant.SerializedLemmas.{Stands, spot-stays, batch_serialized, read_only_serialized}
-use Rattle.fdb_core.proofs.invariant.SoundLemmas.{all-without, all-served, told-push, sealed-batch, sealed-in_flight, version-within, found-front, told-entry, commit_proxy-kept}
+use Rattle.fdb_core.proofs.invariant.SoundLemmas.{told-push, sealed-batch, sealed-in_flight, version-within, found-front, told-entry, commit_proxy-kept}
+use Rattle.fdb_core.proofs.machine.SessionLemmas.{open-has, open-put, open-served, open-told, open-new, open-weaken}
 use Rattle.fdb_core.proofs.machine.Steps.{KeptBySteps, kept-by_trace}
 use Rattle.fdb_core.proofs.refinement.RoleTies.{last-push}
 use Rattle.fdb_core.proofs.refinement.SealLemmas.{last-at, sealed_entry, sealed_proxy, sealed_machine}
@@ -28,10 +31,9 @@ use Rattle.fdb_core.proofs.refinement.SealLemmas.{last-at, sealed_entry, sealed_
 module _ (m : Machine) (sound : Invariant m) where
   -- where the book, what is pending and the committed version stay, a machine is sound by its transactions
   same_book : {decided : List Bool} {resolvers logs : List ℕ} {shards : List ShardProgress}
-      {grv_proxies : List (List ℕ)}
-      {last_transactions : List LastTransaction} {opened : List Transcript} {commit_proxies : List CommitProxy}
+      {grv_proxies : List (List ℕ)} {sessions : Sessions} {commit_proxies : List CommitProxy}
       {acknowledged : List Placed}
-      → AllByRecursion (IsReplied m) opened → AllByRecursion (CommitProxyIsSound m) commit_proxies
+      → EachOpen (IsReplied m) sessions → AllByRecursion (CommitProxyIsSound m) commit_proxies
       → AllByRecursion (IsSerializedIn m) acknowledged → AllByRecursion (IsReported m) acknowledged
       → Invariant (record m {
         decided = decided;
@@ -39,8 +41,7 @@ module _ (m : Machine) (sound : Invariant m) where
         logs = logs;
         shards = shards;
         grv_proxies = grv_proxies;
-        last_transactions = last_transactions;
-        opened = opened;
+        sessions = sessions;
         commit_proxies = commit_proxies;
         acknowledged = acknowledged;
       })
@@ -55,8 +56,9 @@ module _ (m : Machine) (sound : Invariant m) where
   }
 
   -- what is found in its lists is sound
-  opened-at : (i : ℕ) (transcript : Transcript) → slice_get m.opened i ≡ Some transcript → IsReplied m transcript
-  opened-at i transcript = all-at (IsReplied m) m.opened i transcript sound.opened
+  opened-at : (session : ℕ) (transcript : Transcript) → open_at m.sessions session ≡ Some transcript
+      → IsReplied m transcript
+  opened-at session transcript = open-has (IsReplied m) m.sessions session transcript sound.opened
 
   commit_proxy-at : (proxy : ℕ) (commit_proxy : CommitProxy) → slice_get m.commit_proxies proxy ≡ Some commit_proxy
       → CommitProxyIsSound m commit_proxy
@@ -97,7 +99,7 @@ sound-sealed m proxy advance commit_proxy sound at = record {
   );
   pending = tt;
   committed = let last = last-push m.book entry in omega (arith, above, sound.committed, last);
-  opened = all-weaken (IsReplied m) (IsReplied after) told m.opened sound.opened;
+  opened = open-weaken (IsReplied m) (IsReplied after) told m.sessions sound.opened;
   commit_proxies = all-set (CommitProxyIsSound after) m.commit_proxies proxy (sealed_proxy m commit_proxy)
       (all-weaken (CommitProxyIsSound m) (CommitProxyIsSound after) kept m.commit_proxies sound.commit_proxies) (
         all-drop (Waits after) place_limit commit_proxy.waiting now.0,
@@ -154,7 +156,7 @@ sound-reported m proxy commit_proxy entry sound at busy there = record {
     version-within (suc (length m.config.resolver_splits)) 0 m.book commit_proxy.entry entry
         sound.entries there,
   );
-  opened = all-weaken (IsReplied m) (IsReplied raised) told m.opened sound.opened;
+  opened = open-weaken (IsReplied m) (IsReplied raised) told m.sessions sound.opened;
   commit_proxies = all-set (CommitProxyIsSound raised) m.commit_proxies proxy (record commit_proxy { stage = Reported })
       (all-weaken (CommitProxyIsSound m) (CommitProxyIsSound raised) kept m.commit_proxies sound.commit_proxies)
       (now.0, now.1, λ _. (entry, there, (in_flight-at m commit_proxy entry was busy there).0, λ _. omega arith));
@@ -187,29 +189,28 @@ sound_steps = record {
   roles = λ m taken answer resolvers logs shards quiet sound.
       same_book m sound sound.opened sound.commit_proxies sound.acknowledged sound.reported;
   asked = λ m session proxy there at free sound.
-      same_book m sound (all-without (IsReplied m) session m.opened sound.opened) sound.commit_proxies
+      same_book m sound (open-put (IsReplied m) m.sessions session Asking sound.opened tt) sound.commit_proxies
       sound.acknowledged sound.reported;
   granted = λ m proxy there at left sound.
-      let first = all-served (λ last_transactions. IsReplied m) m.committed (λ last_transactions session t told. told)
-      (λ last_transactions session. (le_refl m.committed, refl)) in
-      same_book m sound (first there m.last_transactions m.opened sound.opened) sound.commit_proxies sound.acknowledged
-      sound.reported;
-  operated = λ m taken session i transcript operation does is there sound.
       same_book m sound
-      (all-set (IsReplied m) m.opened i _ sound.opened
-      (told-push m transcript operation _ refl (opened-at m sound i transcript there)))
+      (open-served (IsReplied m) m.committed (λ id. (le_refl m.committed, refl)) there m.sessions sound.opened)
       sound.commit_proxies sound.acknowledged sound.reported;
-  read_only = λ m session proxy i transcript is there empty sound.
-      let told = opened-at m sound i transcript there in
-      same_book m sound (all-remove (IsReplied m) m.opened i sound.opened) sound.commit_proxies
+  operated = λ m taken session transcript operation does opened sound.
+      same_book m sound
+      (open-put (IsReplied m) m.sessions session (Open (with_operation transcript operation _)) sound.opened
+      (told-push m transcript operation _ refl (opened-at m sound session transcript opened)))
+      sound.commit_proxies sound.acknowledged sound.reported;
+  read_only = λ m session proxy transcript opened empty sound.
+      let told = opened-at m sound session transcript opened in
+      same_book m sound (open-put (IsReplied m) m.sessions session Idle sound.opened tt) sound.commit_proxies
       (all-push (IsSerializedIn m) m.acknowledged _ sound.acknowledged
       (read_only_serialized m transcript sound.committed told empty))
       (all-push (IsReported m) m.acknowledged _ sound.reported (told.0, le_refl transcript.read_version));
-  submitted = λ m session proxy commit_proxy i transcript at is there writes sound.
+  submitted = λ m session proxy commit_proxy transcript at opened writes sound.
       let was = commit_proxy-at m sound proxy commit_proxy at in
       let waits : Submission = record { sealed = commit_request_of transcript; transcript = transcript } in
-      let waiting = all-push (Waits m) commit_proxy.waiting waits was.0 (refl, opened-at m sound i transcript there) in
-      same_book m sound (all-remove (IsReplied m) m.opened i sound.opened)
+      let waiting = all-push (Waits m) commit_proxy.waiting waits was.0 (refl, opened-at m sound session transcript opened) in
+      same_book m sound (open-put (IsReplied m) m.sessions session Waiting sound.opened tt)
       (with-commit_proxy m sound proxy _ (waiting, was.1, was.2))
       sound.acknowledged sound.reported;
   sealed = λ m proxy advance commit_proxy at idle few room sound. sound-sealed m proxy advance commit_proxy sound at;
@@ -227,7 +228,8 @@ sound_steps = record {
       let flies = in_flight-at m commit_proxy entry was (ap is_idle reported) there in
       let stand = batch_serialized m commit_proxy entry sound.entries was.1 there flies.0
       (flies.1 (ap is_reported reported)) in
-      same_book m sound sound.opened (with-commit_proxy m sound proxy _ (was.0, tt, λ busy. cc))
+      same_book m sound (open-told (IsReplied m) commit_proxy.in_flight m.sessions sound.opened)
+      (with-commit_proxy m sound proxy _ (was.0, tt, λ busy. cc))
       (all-append (IsSerializedIn m) m.acknowledged _ sound.acknowledged
       (all-weaken (Stands m) (IsSerializedIn m) (λ placed stands. stands.0) _ stand))
       (all-append (IsReported m) m.acknowledged _ sound.reported
@@ -240,7 +242,7 @@ sound-start config = record {
   entries = tt;
   pending = tt;
   committed = omega arith;
-  opened = tt;
+  opened = open-new (IsReplied (start config));
   commit_proxies = all-replicate (CommitProxyIsSound (start config)) idle_proxy config.proxies (tt, tt, λ never. cc);
   acknowledged = tt;
   reported = tt;

@@ -11,55 +11,18 @@ use Rattle.fdb_txn.specs.rules.SerialMap.{serial_map_at}
 use Rattle.fdb_txn.specs.laws.SerialMapLaws.{version_after}
 use Rattle.fdb_txn.specs.book.Transactions.{Transaction, NamesWrites}
 use Rattle.fdb_txn.proofs.book.HistoryLemmas.{earlier_maps_stay}
-use Rattle.fdb_core.specs.machine.Roles.{LastTransaction, CommitProxy, Submission}
+use Rattle.fdb_core.specs.machine.Roles.{CommitProxy, Submission}
 use Rattle.fdb_core.specs.declared.roles.client.program.Op.{Op}
 use Rattle.fdb_core.specs.declared.roles.client.program.Reply.{Reply}
 use Rattle.fdb_core.specs.declared.roles.client.program.Transcript.{Transcript}
-use Rattle.fdb_core.specs.machine.GrvProxySteps.{without, without_at, serve, begin_next, first_of}
 use Rattle.fdb_core.specs.headline.Headline.{replies_of}
-use Rattle.fdb_core.specs.machine.Machine.{Machine, is_of}
+use Rattle.fdb_core.specs.machine.Machine.{Machine}
 use Rattle.fdb_core.specs.programs.Programs.{program, copy, reply_on, exec, commit_request_of}
 use Rattle.fdb_core.specs.invariant.Invariant.{IsReplied, Waits, CommitProxyIsSound}
 use Rattle.fdb_core.proofs.common.AllLemmas.{all-push, all-remove, all-map}
 use Rattle.fdb_txn.proofs.book.HistoryLemmas.{all-weaken}
 use Rattle.fdb_core.proofs.programs.WriteSetLemmas.{commit_request_of-names}
 use Rattle.fdb_core.proofs.programs.ProgramLaws.{program-push}
-
--- what holds of the open transactions holds of those but the session's
-pub all-without : (P : Transcript → Type 0) (session : ℕ) (opened : List Transcript) → AllByRecursion P opened
-    → AllByRecursion P (without session opened)
-all-without P session opened all =
-    elim (position (is_of session) opened) as (λ there. AllByRecursion P (without_at opened there))
-    [ None ↦ all | Some i ↦ all-remove P opened i all ]
-
--- what holds of transactions at their begin, and stays so when sessions begin more, holds still when sessions are
--- served
-module _ (P : List LastTransaction → Transcript → Type 0) (version : ℕ)
-    (more : (last_transactions : List LastTransaction) (session : ℕ) (t : Transcript) → P last_transactions t
-    → P (begin_next last_transactions session) t) where
-  pub served-more : (sessions : List ℕ) (last_transactions : List LastTransaction) (opened : List Transcript)
-      (t : Transcript)
-      → P last_transactions t → P (fold (serve version) (last_transactions, opened) sessions).0 t
-  served-more [] last_transactions opened t holds = holds
-  served-more (session ∷ sessions) last_transactions opened t holds =
-      served-more sessions (begin_next last_transactions session)
-      (opened ++ first_of last_transactions version session ∷ []) t
-      (more last_transactions session t holds)
-
-  pub all-served : ((last_transactions : List LastTransaction) (session : ℕ)
-      → P (begin_next last_transactions session) (first_of last_transactions version session))
-      → (sessions : List ℕ) (last_transactions : List LastTransaction) (opened : List Transcript)
-      → AllByRecursion (P last_transactions) opened
-      → AllByRecursion (P (fold (serve version) (last_transactions, opened) sessions).0)
-      (fold (serve version) (last_transactions, opened) sessions).1
-  all-served first [] last_transactions opened all = all
-  all-served first (session ∷ sessions) last_transactions opened all =
-      all-served first sessions (begin_next last_transactions session)
-      (opened ++ first_of last_transactions version session ∷ [])
-      (all-push (P (begin_next last_transactions session)) opened (first_of last_transactions version session)
-      (all-weaken (P last_transactions) (P (begin_next last_transactions session)) (more last_transactions session)
-      opened all)
-      (first last_transactions session))
 
 -- the reply to one more operation is the newest
 pub replies_of-push : (ops : List (Op × Reply)) (done : Op × Reply)

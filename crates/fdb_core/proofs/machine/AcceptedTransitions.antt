@@ -1,12 +1,11 @@
 -- What holds of a step's transition wherever the step is accepted, by what the step looks at.
-use Rattle.std.proofs.Common.{◌≡◌, refl, subst, ℕ, Bool, true, false, List, Option, Some, None, Result, Ok, Err, position, if◌then◌else◌}
+use Rattle.std.proofs.Common.{◌≡◌, refl, subst, ℕ, Bool, true, false, Option, Some, None, Result, Ok, Err, if◌then◌else◌}
 use Rattle.std.specs.Prelude.{nat_lt, ⊤}
-use Rattle.std.specs.List.{slice_get}
 use Rattle.fdb_keys.specs.declared.refusal.Refusal.{Refusal}
 use Rattle.fdb_keys.specs.declared.refusal.Refusal.TheVariants.{Stale, NotYet}
 use Rattle.fdb_txn.specs.declared.entry.Entry.{Entry}
 use Rattle.fdb_core.specs.declared.roles.client.program.Transcript.{Transcript}
-use Rattle.fdb_core.specs.machine.Machine.{Transition, found, refused_where, refused_by, in_turn, waits_for, is_of, with_opened}
+use Rattle.fdb_core.specs.machine.Machine.{Transition, found, refused_where, refused_by, in_turn, waits_for, with_open}
 
 -- the property holds of the transition, if there is one
 abbrev pub IfAccepted : (Transition → Type 0) → Result Transition Refusal → Type 0
@@ -59,20 +58,9 @@ module _ (Q : Transition → Type 0) where
   past-choice true one other first second = first refl
   past-choice false one other first second = second refl
 
-  -- after a session's open transaction
-  pub past-opened : (session : ℕ) (opened : List Transcript) (next : ℕ → Transcript → Result Transition Refusal)
-      → ((i : ℕ) (transcript : Transcript) → position (is_of session) opened ≡ Some i
-      → slice_get opened i ≡ Some transcript → IfAccepted Q (next i transcript))
-      → IfAccepted Q (with_opened session opened next)
-  past-opened session opened next holds = at_place (position (is_of session) opened) refl
-    where
-      at_transcript : (i : ℕ) → position (is_of session) opened ≡ Some i → (there : Option Transcript)
-          → slice_get opened i ≡ there
-          → IfAccepted Q (with_opened session opened next)
-      at_transcript i at None there = rw (at, there) tt
-      at_transcript i at (Some transcript) there = rw (at, there) (holds i transcript at there)
-
-      at_place : (place : Option ℕ) → position (is_of session) opened ≡ place
-          → IfAccepted Q (with_opened session opened next)
-      at_place None at = rw at tt
-      at_place (Some i) at = at_transcript i at (slice_get opened i) refl
+  -- after a session's open transaction, if it does after each one
+  pub past-open : (opened : Option Transcript) (next : Transcript → Result Transition Refusal)
+      → ((transcript : Transcript) → opened ≡ Some transcript → IfAccepted Q (next transcript))
+      → IfAccepted Q (with_open opened next)
+  past-open None next holds = tt
+  past-open (Some transcript) next holds = holds transcript refl

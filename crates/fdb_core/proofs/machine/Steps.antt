@@ -1,7 +1,7 @@
 -- The walk over the steps of all kinds: what accepted steps change, and what they keep.
-use Rattle.std.proofs.Common.{◌≡◌, ◌<◌, ◌≤◌, refl, ap, ℕ, ◌+◌, ◌%◌, min, max, Bool, true, false, not, ◌&&◌, List, [], ◌∷◌, ◌++◌, take, map, length, fold, Option, Some, None, position, Result, Ok, Err}
+use Rattle.std.proofs.Common.{◌≡◌, ◌<◌, ◌≤◌, refl, ap, ℕ, ◌+◌, ◌%◌, min, max, Bool, true, false, not, ◌&&◌, List, [], ◌∷◌, ◌++◌, take, map, length, fold, Option, Some, None, Result, Ok, Err}
 use Rattle.std.specs.Prelude.{nat_lt, nat_le}
-use Rattle.std.specs.List.{slice_get, slice_set, list_any, remove}
+use Rattle.std.specs.List.{slice_get, slice_set, list_any}
 use Rattle.std.proofs.lemmas.Bool.{and_parts, not-false, ltb-false, leb-false}
 use Rattle.fdb_keys.specs.declared.refusal.Refusal.{Refusal}
 use Rattle.fdb_mutations.specs.Mutations.{mutation_fault}
@@ -22,15 +22,16 @@ use Rattle.fdb_core.specs.declared.step.Step.{Step}
 use Rattle.fdb_core.specs.declared.step.Step.TheVariants as step
 use Rattle.fdb_core.specs.headline.Traces.{after_steps}
 use Rattle.fdb_core.specs.machine.ClientSteps.{gets, writes, submits, answered_by, add_operation, read_fault, is_nil}
-use Rattle.fdb_core.specs.machine.GrvProxySteps.{asks, grants, without, serve, has_no_number}
+use Rattle.fdb_core.specs.machine.GrvProxySteps.{asks, grants, has_no_number}
 use Rattle.fdb_core.specs.machine.CommitProxySteps.{seals, taken_by_sender, awaits, with_received, receives, decides, reports, answers, is_idle, is_resolving, is_logging, is_reported, placed_from, replies_from}
-use Rattle.fdb_core.specs.machine.Machine.{Machine, Transition, is_of, is_busy, is_set, first_missing}
+use Rattle.fdb_core.specs.machine.Machine.{Machine, Transition, is_set, first_missing}
 use Rattle.fdb_core.specs.machine.RoleSteps.{resolves, pushes, pulls}
+use Rattle.fdb_core.specs.machine.Sessions.{Idle as Free, Asking, Waiting, session_of, open_at, with_state, is_busy, serve, tell_all}
 use Rattle.fdb_core.specs.machine.Steps.{next, after}
 use Rattle.fdb_core.specs.machine.Verdicts.{is_needed, outcomes_on}
 use Rattle.fdb_core.specs.programs.Programs.{program, copy, reply_on, commit_request_of}
 use Rattle.fdb_core.proofs.headline.TraceLaws.{kept-after_steps}
-use Rattle.fdb_core.proofs.machine.AcceptedTransitions.{IfAccepted, past-found, past-test, past-fault, past-wait, past-turn, past-choice, past-opened}
+use Rattle.fdb_core.proofs.machine.AcceptedTransitions.{IfAccepted, past-found, past-test, past-fault, past-wait, past-turn, past-choice, past-open}
 use Rattle.fdb_core.proofs.refinement.SealLemmas.{sealed_machine}
 
 -- the transaction writes nothing
@@ -60,40 +61,41 @@ pub record HoldsOfSteps (R : Machine → Step → Answered → Machine → Type 
   -- resolvers, logs and shards went on (Resolve, Push, Pull)
   pub roles : (m : Machine) (taken : Step) (answer : Answered) (resolvers logs : List ℕ) (shards : List ShardProgress)
       → is_quiet taken ≡ true → R m taken answer (record m { resolvers = resolvers; logs = logs; shards = shards })
-  -- a session that waited nowhere asks (Ask)
+  -- a session that neither asks nor waits asks (Ask)
   pub asked : (m : Machine) (session proxy : ℕ) (there : List ℕ) → slice_get m.grv_proxies proxy ≡ Some there
-      → is_busy session m.grv_proxies m.commit_proxies ≡ false
-      → R m (step.Ask session proxy) answered.Done (record m
-      { opened = without session m.opened; grv_proxies = slice_set m.grv_proxies proxy (there ++ session ∷ []) })
+      → is_busy (session_of m.sessions session).state ≡ false
+      → R m (step.Ask session proxy) answered.Done (record m {
+        sessions = with_state m.sessions session Asking;
+        grv_proxies = slice_set m.grv_proxies proxy (there ++ session ∷ []);
+      })
   -- those who ask are served, each of whom has a number left (Grant)
   pub granted : (m : Machine) (proxy : ℕ) (there : List ℕ) → slice_get m.grv_proxies proxy ≡ Some there
-      → list_any (has_no_number m.last_transactions) there ≡ false
-      → let served = fold (serve m.committed) (m.last_transactions, m.opened) there in
-      R m (step.Grant proxy) (answered.Granted (map (λ (session : ℕ). (session, m.committed)) there)) (record m
-      { last_transactions = served.0; opened = served.1; grv_proxies = slice_set m.grv_proxies proxy [] })
+      → list_any (has_no_number m.sessions) there ≡ false
+      → R m (step.Grant proxy) (answered.Granted (map (λ (session : ℕ). (session, m.committed)) there)) (record m {
+        sessions = fold (serve m.committed) m.sessions there;
+        grv_proxies = slice_set m.grv_proxies proxy [];
+      })
   -- an operation went to a session's open transaction, with its reply (Get, Write)
-  pub operated : (m : Machine) (taken : Step) (session i : ℕ) (transcript : Transcript) (operation : Op)
-      → operation_of taken ≡ Some (session, operation) → position (is_of session) m.opened ≡ Some i
-      → slice_get m.opened i ≡ Some transcript
+  pub operated : (m : Machine) (taken : Step) (session : ℕ) (transcript : Transcript) (operation : Op)
+      → operation_of taken ≡ Some (session, operation) → open_at m.sessions session ≡ Some transcript
       → let there = serial_map_at m.config.resolver_splits transcript.read_version (seen_of m.book).places in
       let reply = reply_on (copy there (program transcript.ops)) operation in
-      R m taken (answered_by reply) (add_operation m i transcript operation reply)
+      R m taken (answered_by reply) (add_operation m session transcript operation reply)
   -- a session's transaction that writes nothing is acknowledged (Submit)
-  pub read_only : (m : Machine) (session proxy i : ℕ) (transcript : Transcript)
-      → position (is_of session) m.opened ≡ Some i → slice_get m.opened i ≡ Some transcript
-      → writes_nothing transcript ≡ true
+  pub read_only : (m : Machine) (session proxy : ℕ) (transcript : Transcript)
+      → open_at m.sessions session ≡ Some transcript → writes_nothing transcript ≡ true
       → R m (step.Submit session proxy) (answered.ReadOnly transcript.read_version) (record m {
-        opened = remove m.opened i;
+        sessions = with_state m.sessions session Free;
         acknowledged = m.acknowledged ++ record
             { spot = spot.ReadOnly transcript.read_version; transcript = transcript } ∷ [];
       })
   -- any other waits at a commit proxy (Submit)
-  pub submitted : (m : Machine) (session proxy : ℕ) (commit_proxy : CommitProxy) (i : ℕ) (transcript : Transcript)
-      → slice_get m.commit_proxies proxy ≡ Some commit_proxy → position (is_of session) m.opened ≡ Some i
-      → slice_get m.opened i ≡ Some transcript → writes_nothing transcript ≡ false
+  pub submitted : (m : Machine) (session proxy : ℕ) (commit_proxy : CommitProxy) (transcript : Transcript)
+      → slice_get m.commit_proxies proxy ≡ Some commit_proxy → open_at m.sessions session ≡ Some transcript
+      → writes_nothing transcript ≡ false
       → let submission : Submission = record { sealed = commit_request_of transcript; transcript = transcript } in
       R m (step.Submit session proxy) answered.Done (record m {
-        opened = remove m.opened i;
+        sessions = with_state m.sessions session Waiting;
         commit_proxies = slice_set m.commit_proxies proxy
             (record commit_proxy { waiting = commit_proxy.waiting ++ submission ∷ [] });
       })
@@ -135,6 +137,7 @@ pub record HoldsOfSteps (R : Machine → Step → Answered → Machine → Type 
       → let outcomes = outcomes_on m.config.resolver_splits (seen_before m.book commit_proxy.entry) entry in
       R m (step.Answer proxy) (answered.Answers (replies_from commit_proxy.in_flight outcomes)) (record m {
         acknowledged = m.acknowledged ++ placed_from commit_proxy.entry commit_proxy.in_flight outcomes;
+        sessions = tell_all commit_proxy.in_flight m.sessions;
         commit_proxies = slice_set m.commit_proxies proxy (record commit_proxy { in_flight = []; stage = Idle });
       })
 
@@ -172,25 +175,25 @@ module _ (R : Machine → Step → Answered → Machine → Type 0) (holds : Hol
   unfolding asks grants gets writes submits seals resolves receives decides pushes reports answers pulls
   holds-next m (step.Ask session proxy) =
       past-found _ (slice_get m.grv_proxies proxy) _ (λ there at.
-      past-test _ (is_busy session m.grv_proxies m.commit_proxies) _ _
+      past-test _ (is_busy (session_of m.sessions session).state) _ _
       (λ free. holds.asked m session proxy there at free))
   holds-next m (step.Grant proxy) =
       past-found _ (slice_get m.grv_proxies proxy) _ (λ there at.
-      past-test _ (list_any (has_no_number m.last_transactions) there) _ _
+      past-test _ (list_any (has_no_number m.sessions) there) _ _
       (λ left. holds.granted m proxy there at left))
   holds-next m (step.Get session key snapshot) =
-      past-opened _ session m.opened _ (λ i transcript is there.
+      past-open _ (open_at m.sessions session) _ (λ transcript opened.
       past-fault _ (read_fault m (program transcript.ops) transcript.read_version key) _
-      (λ _. holds.operated m (step.Get session key snapshot) session i transcript (op.Get key snapshot) refl is there))
+      (λ _. holds.operated m (step.Get session key snapshot) session transcript (op.Get key snapshot) refl opened))
   holds-next m (step.Write session mutation) =
-      past-opened _ session m.opened _ (λ i transcript is there.
+      past-open _ (open_at m.sessions session) _ (λ transcript opened.
       past-fault _ (mutation_fault mutation) _ (λ _.
-      holds.operated m (step.Write session mutation) session i transcript (op.Write mutation) refl is there))
+      holds.operated m (step.Write session mutation) session transcript (op.Write mutation) refl opened))
   holds-next m (step.Submit session proxy) =
       past-found _ (slice_get m.commit_proxies proxy) _ (λ commit_proxy at.
-      past-opened _ session m.opened _ (λ i transcript is there.
-      past-choice _ (writes_nothing transcript) _ _ (holds.read_only m session proxy i transcript is there)
-      (holds.submitted m session proxy commit_proxy i transcript at is there)))
+      past-open _ (open_at m.sessions session) _ (λ transcript opened.
+      past-choice _ (writes_nothing transcript) _ _ (holds.read_only m session proxy transcript opened)
+      (holds.submitted m session proxy commit_proxy transcript at opened)))
   holds-next m (step.Seal proxy advance) =
       past-found _ (slice_get m.commit_proxies proxy) _ (λ commit_proxy at.
       past-test _ (not (is_idle commit_proxy.stage)) _ _ (λ idle.

@@ -1,6 +1,6 @@
 -- What the machine's longer steps come to, once what they look at is known.
 use Rattle.std.proofs.Common.{◌≡◌, ◌∙◌, refl, sym, ap, arith, ℕ, ◌+◌, Bool, true, false, List, fold, Option, Some, None, Ok, Err}
-use Rattle.std.specs.Prelude.{◌↔◌, position}
+use Rattle.std.specs.Prelude.{◌↔◌}
 use Rattle.std.specs.List.{slice_get, slice_set}
 use Rattle.std.proofs.lemmas.Bool.{le-ltb}
 use Rattle.std.specs.FinMap.{get}
@@ -19,15 +19,16 @@ use Rattle.fdb_core.specs.declared.roles.client.program.Transcript.{Transcript}
 use Rattle.fdb_core.specs.declared.step.Answered.TheVariants as answered
 use Rattle.fdb_core.specs.machine.ClientSteps.{gets, add_operation, read_fault}
 use Rattle.fdb_core.specs.machine.RoleSteps.{shard_fault, resolves, pushes}
-use Rattle.fdb_core.specs.machine.Machine.{Machine, Transition, refused_by, is_of, is_set}
+use Rattle.fdb_core.specs.machine.Machine.{Machine, Transition, refused_by, is_set}
+use Rattle.fdb_core.specs.machine.Sessions.{open_at}
 use Rattle.fdb_core.specs.machine.Verdicts.{verdicts_on}
 use Rattle.fdb_core.specs.programs.Programs.{program, copy, decided, value_after_op}
 use Rattle.fdb_core.proofs.programs.ProgramLaws.{get-copy, decided-value}
 
 -- a read that finds the session's transaction, without a fault
-pub gets-transition : (m : Machine) (session : ℕ) (key : List ℕ) (snapshot : Bool) (i : ℕ) (transcript : Transcript)
+pub gets-transition : (m : Machine) (session : ℕ) (key : List ℕ) (snapshot : Bool) (transcript : Transcript)
     (value : Option (List ℕ))
-    → position (is_of session) m.opened ≡ Some i → slice_get m.opened i ≡ Some transcript
+    → open_at m.sessions session ≡ Some transcript
     → read_fault m (program transcript.ops) transcript.read_version key ≡ None
     → value ≡ get
     (copy (serial_map_at m.config.resolver_splits transcript.read_version (seen_of m.book).places)
@@ -35,27 +36,27 @@ pub gets-transition : (m : Machine) (session : ℕ) (key : List ℕ) (snapshot :
     → gets m session key snapshot ≡ Ok
     (record {
       answer = answered.Value value;
-      next = add_operation m i transcript (op.Get key snapshot)
+      next = add_operation m session transcript (op.Get key snapshot)
           (reply.Value value);
     })
 unfolding gets
-gets-transition m session key snapshot i transcript value at there fault is =
-    rw (at, there, fault)
+gets-transition m session key snapshot transcript value opened fault is =
+    rw (opened, fault)
     (ap (λ (v : Option (List ℕ)). Ok
     (record {
       answer = answered.Value v;
-      next = add_operation m i transcript (op.Get key snapshot) (reply.Value v);
+      next = add_operation m session transcript (op.Get key snapshot) (reply.Value v);
     })) (sym is))
 
 -- why a read of an open transaction is refused
-pub gets-refused : (m : Machine) (session : ℕ) (key : List ℕ) (snapshot : Bool) (i : ℕ) (transcript : Transcript)
+pub gets-refused : (m : Machine) (session : ℕ) (key : List ℕ) (snapshot : Bool) (transcript : Transcript)
     (why : Refusal)
-    → position (is_of session) m.opened ≡ Some i → slice_get m.opened i ≡ Some transcript
+    → open_at m.sessions session ≡ Some transcript
     → (gets m session key snapshot ≡ Err why) ↔
     (read_fault m (program transcript.ops) transcript.read_version key ≡ Some why)
 unfolding gets
-gets-refused m session key snapshot i transcript why at there =
-    rw (at, there) (by_fault (read_fault m (program transcript.ops) transcript.read_version key) _)
+gets-refused m session key snapshot transcript why opened =
+    rw opened (by_fault (read_fault m (program transcript.ops) transcript.read_version key) _)
   where
     by_fault : (fault : Option Refusal) (transition : Transition)
         → (refused_by fault (Ok transition) ≡ Err why) ↔ (fault ≡ Some why)
@@ -63,19 +64,19 @@ gets-refused m session key snapshot i transcript why at there =
     by_fault (Some other) transition = ((λ refused. cc), (λ faulty. cc))
 
 -- and accepted where there is no fault
-pub gets-faultless : (m : Machine) (session : ℕ) (key : List ℕ) (snapshot : Bool) (i : ℕ) (transcript : Transcript)
-    → position (is_of session) m.opened ≡ Some i → slice_get m.opened i ≡ Some transcript
+pub gets-faultless : (m : Machine) (session : ℕ) (key : List ℕ) (snapshot : Bool) (transcript : Transcript)
+    → open_at m.sessions session ≡ Some transcript
     → read_fault m (program transcript.ops) transcript.read_version key ≡ None
     → (transition : Transition) × (gets m session key snapshot ≡ Ok transition)
-gets-faultless m session key snapshot i transcript at there faultless =
+gets-faultless m session key snapshot transcript opened faultless =
     let value = get
     (copy (serial_map_at m.config.resolver_splits transcript.read_version (seen_of m.book).places)
     (program transcript.ops)) key in (
       record {
         answer = answered.Value value;
-        next = add_operation m i transcript (op.Get key snapshot) (reply.Value value);
+        next = add_operation m session transcript (op.Get key snapshot) (reply.Value value);
       },
-      gets-transition m session key snapshot i transcript value at there faultless refl,
+      gets-transition m session key snapshot transcript value opened faultless refl,
     )
 
 -- a decided key stands as the transaction's own writes leave it, whatever stood there

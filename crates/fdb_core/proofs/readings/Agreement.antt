@@ -22,14 +22,15 @@ use Rattle.fdb_core.specs.invariant.Invariant.{Invariant}
 use Rattle.fdb_core.specs.machine.ClientSteps.{answered_by}
 use Rattle.fdb_core.specs.machine.CommitProxySteps.{is_idle}
 use Rattle.fdb_core.specs.machine.Machine.{Machine}
-use Rattle.fdb_core.specs.machine.Roles.{CommitProxy, LastTransaction, Submission}
+use Rattle.fdb_core.specs.machine.Roles.{CommitProxy, Submission}
+use Rattle.fdb_core.specs.machine.Sessions.{Sessions}
 use Rattle.fdb_core.specs.programs.Programs.{reply_on}
 use Rattle.fdb_core.proofs.common.SumLemmas.{sum-set}
 use Rattle.fdb_core.proofs.invariant.SoundLemmas.{found-front}
 use Rattle.fdb_core.proofs.machine.Steps.{is_quiet, operation_of}
-use Rattle.fdb_core.proofs.readings.AnswerReadings.{OneEach}
+use Rattle.fdb_core.proofs.invariant.SessionLaws.{AllStand}
 use Rattle.fdb_core.proofs.readings.GrantLemmas.{NumbersBegun}
-use Rattle.fdb_core.proofs.readings.SessionLists.{item-after-set}
+use Rattle.fdb_core.proofs.readings.SessionLists.{OpenTold, item-after-set}
 
 -- the transactions of submissions
 abbrev pub transcripts_of : List Submission → List Transcript
@@ -59,33 +60,24 @@ AnsweredOnce book answered commit_proxies =
     ≤ cond (nat_lt entry (length book)) 1 0
 
 -- the fields of the machine are what is told
-pub record Tells (r : Readings) (book : List Entry) (opened : List Transcript) (acknowledged : List Placed)
-    (committed : ℕ) (pending : List Move) (last_transactions : List LastTransaction)
-    (commit_proxies : List CommitProxy) : Type 0 where
+pub record Tells (r : Readings) (book : List Entry) (sessions : Sessions) (acknowledged : List Placed)
+    (committed : ℕ) (pending : List Move) (commit_proxies : List CommitProxy) : Type 0 where
   pub book_told : r.book ≡ book
-  pub opened_told : r.opened ≡ opened
+  pub opened_told : OpenTold r.opened sessions
   pub acknowledged_told : r.acknowledged ≡ acknowledged
   pub reported_told : r.reported ≡ committed
   pub no_moves : pending ≡ []
-  pub begun_told : NumbersBegun r.begun last_transactions
+  pub begun_told : NumbersBegun r.begun sessions
   pub proxies_told : AtProxies book r.waiting r.sealed commit_proxies
   pub once_told : AnsweredOnce book r.answered commit_proxies
 
 abbrev pub TellsMachine : Readings → Machine → Type 0
-TellsMachine r m = Tells r m.book m.opened m.acknowledged m.committed m.pending m.last_transactions m.commit_proxies
-
--- where a session asks at a read-version proxy it does once, and it has one transaction at most in a batch in flight
-abbrev pub AreOnce : Machine → Type 0
-AreOnce m =
-    ((proxy : ℕ) (there : List ℕ) → slice_get m.grv_proxies proxy ≡ Some there
-    → (session : ℕ) → count_by (λ (asker : ℕ). asker == session) there ≤ 1)
-    × ((proxy : ℕ) (commit_proxy : CommitProxy) → slice_get m.commit_proxies proxy ≡ Some commit_proxy
-    → OneEach commit_proxy.in_flight)
+TellsMachine r m = Tells r m.book m.sessions m.acknowledged m.committed m.pending m.commit_proxies
 
 -- what a step tells beside what was told before is what the machine goes on to
 abbrev pub TellsOn : Machine → Step → Answered → Machine → Type 0
 TellsOn m taken answer after =
-    (r : Readings) → Invariant m → AreOnce m → TellsMachine r m → TellsMachine (read r taken answer) after
+    (r : Readings) → Invariant m → AllStand m → TellsMachine r m → TellsMachine (read r taken answer) after
 
 -- a quiet step tells nothing
 pub quiet-tells : (r : Readings) (taken : Step) (answer : Answered) → is_quiet taken ≡ true → r ≡ read r taken answer

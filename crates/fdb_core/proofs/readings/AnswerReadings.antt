@@ -12,7 +12,7 @@ use Rattle.fdb_core.specs.declared.step.Outcome.TheVariants as outcome
 use Rattle.fdb_txn.specs.declared.spot.Spot.TheVariants as spot
 use Rattle.fdb_core.specs.headline.Readings.{of_session, all_acknowledged_by}
 use Rattle.fdb_core.specs.machine.CommitProxySteps.{placed_from, replies_from}
-use Rattle.fdb_core.specs.machine.Machine.{is_of}
+use Rattle.fdb_core.specs.headline.Sessions.{is_of}
 
 -- each session has one of the transactions at most
 abbrev pub OneEach : List Transcript → Type 0

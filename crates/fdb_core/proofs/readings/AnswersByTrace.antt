@@ -20,7 +20,7 @@ use Rattle.fdb_core.specs.declared.step.Answered.TheVariants as answered
 use Rattle.fdb_core.specs.declared.step.Step.{Step}
 use Rattle.fdb_core.specs.declared.step.Step.TheVariants as step
 use Rattle.fdb_core.specs.headline.Answers.{IsAnswered, HasOpened, AnsweredByTheTrace}
-use Rattle.fdb_core.specs.headline.Readings.{Readings, of_session, readings_of}
+use Rattle.fdb_core.specs.headline.Readings.{Readings, readings_of}
 use Rattle.fdb_core.specs.machine.ClientSteps.{answered_by}
 use Rattle.fdb_core.specs.machine.CommitProxySteps.{is_idle, replies_from}
 use Rattle.fdb_core.specs.machine.Machine.{Machine, Transition}
@@ -34,7 +34,7 @@ use Rattle.fdb_core.proofs.invariant.SerializedLemmas.{nil-is}
 use Rattle.fdb_core.proofs.machine.AcceptedTransitions.{IfAccepted}
 use Rattle.fdb_core.proofs.machine.Steps.{HoldsOfSteps, holds-next, is_quiet, operation_of}
 use Rattle.fdb_core.proofs.readings.Agreement.{TellsMachine}
-use Rattle.fdb_core.proofs.readings.SessionLists.{found-at}
+use Rattle.fdb_core.proofs.readings.SessionLists.{found-told}
 use Rattle.fdb_core.proofs.readings.StepReadings.{batch-at}
 use Rattle.fdb_core.proofs.readings.TraceReadings.{config-kept, trace-tells}
 
@@ -106,16 +106,16 @@ answered_steps = record {
   roles = λ m taken answer resolvers logs shards quiet r tells. quiet-answered _ r taken answer quiet;
   asked = λ m session proxy there at free r tells. refl;
   granted = λ m proxy there at left r tells. all-granted m.committed r.reported there (sym tells.reported_told);
-  operated = λ m taken session i transcript operation does is there r tells.
+  operated = λ m taken session transcript operation does opened r tells.
       operation-answered m.config.resolver_splits r m.book taken session operation transcript tells.book_told
-      (ap (of_session session) tells.opened_told ∙ found-at session m.opened i transcript is there) does;
-  read_only = λ m session proxy i transcript is there empty r tells. (
+      (found-told r.opened m.sessions tells.opened_told session transcript opened) does;
+  read_only = λ m session proxy transcript opened empty r tells. (
     transcript,
-    ap (of_session session) tells.opened_told ∙ found-at session m.opened i transcript is there,
+    found-told r.opened m.sessions tells.opened_told session transcript opened,
     refl,
     nil-is (mutations_of (program transcript.ops)) (and_parts _ _ empty).0,
   );
-  submitted = λ m session proxy commit_proxy i transcript at is there writes r tells. refl;
+  submitted = λ m session proxy commit_proxy transcript at opened writes r tells. refl;
   sealed = λ m proxy advance commit_proxy at idle few room r tells.
       let was = tells.proxies_told proxy commit_proxy at in (
         ap (λ (b : List Entry). length b) (sym tells.book_told),

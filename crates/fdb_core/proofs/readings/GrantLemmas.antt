@@ -1,17 +1,20 @@
 -- The transactions that a Grant begins: what the machine numbers by each session's last one, a trace numbers by how
 -- often the session began before.
-use Rattle.std.proofs.Common.{◌≡◌, ◌≢◌, ◌∙◌, ◌<◌, ◌≤◌, refl, sym, ap, subst, arith, ⊎_elim, ℕ, zero, suc, ◌+◌, min, true, false, cond, List, [], ◌∷◌, ◌++◌, fold, map, Option, Some, None}
+use Rattle.std.proofs.Common.{◌≡◌, ◌≢◌, ◌∙◌, ◌<◌, ◌≤◌, refl, sym, ap, arith, ⊎_elim, ℕ, zero, suc, ◌+◌, min, true, false, cond, List, [], ◌∷◌, ◌++◌, fold, map, Option, Some, None}
 use Rattle.std.specs.Prelude.{◌==◌}
-use Rattle.std.specs.List.{count_by}
-use Rattle.std.proofs.lemmas.List.{append_assoc, append-nil}
-use Rattle.std.proofs.lemmas.List.Sums.{sum_by-cons, sum_by_push}
+use Rattle.std.specs.List.{list_any}
+use Rattle.std.proofs.lemmas.List.{append-nil}
+use Rattle.std.proofs.lemmas.List.Elements.{filter-append}
+use Rattle.std.proofs.lemmas.List.Sums.{sum_by_push}
 use Rattle.std.proofs.lemmas.Bool.{eq-eqb, ne_eqb, eqb-false}
 use Rattle.std.proofs.lemmas.Bool.Decides.{eqb_tells}
 use Rattle.fdb_core.specs.declared.roles.client.program.Transcript.{Transcript}
-use Rattle.fdb_core.specs.headline.Readings.{Readings, begins, times_begun}
-use Rattle.fdb_core.specs.machine.GrvProxySteps.{last_number, begin_next, next_number, greatest_number, has_used_up, has_no_number, first_of, serve}
-use Rattle.fdb_core.specs.machine.Roles.{LastTransaction}
-use Rattle.fdb_core.proofs.machine.LastNumbers.{last-next, last-others}
+use Rattle.fdb_core.specs.headline.Readings.{Readings, begins, is_of_session, times_begun}
+use Rattle.fdb_core.specs.headline.Traces.{alone}
+use Rattle.fdb_core.specs.machine.GrvProxySteps.{has_no_number}
+use Rattle.fdb_core.specs.machine.Sessions.{Session, SessionState, Sessions, session_of, with_state, open_of, open_at, begins_next, next_number, greatest_number, has_used_up, serve, tell_all}
+use Rattle.fdb_core.proofs.machine.SessionLemmas.{put-cases, last-put, last-told, counted, times_among, session-elsewhere}
+use Rattle.fdb_core.proofs.readings.SessionLists.{own, OpenTold}
 
 -- the number of the last of so many transactions, which stops at the greatest one
 abbrev pub last_of : ℕ → Option ℕ
@@ -19,20 +22,33 @@ last_of zero = None
 last_of (suc n) = Some (min n greatest_number)
 
 -- each session's last number is that of the last of those that it began
-abbrev pub NumbersBegun : List ℕ → List LastTransaction → Type 0
-NumbersBegun begun last_transactions =
-    (session : ℕ) → last_number session last_transactions ≡ last_of (times_begun session begun)
+abbrev pub NumbersBegun : List ℕ → Sessions → Type 0
+NumbersBegun begun sessions =
+    (session : ℕ) → (session_of sessions session).last_number ≡ last_of (times_begun session begun)
 
--- the number after the last one
-next-of : (times : ℕ) → Some (next_number (last_of times)) ≡ last_of (suc times)
-next-of zero = ap (λ (n : ℕ). Some n) (least greatest_number)
+-- they stay so where a session has another state, and where some are told
+pub numbers-put : (begun : List ℕ) (sessions : Sessions) (client : ℕ) (state : SessionState)
+    → NumbersBegun begun sessions → NumbersBegun begun (with_state sessions client state)
+numbers-put begun sessions client state numbers session = last-put sessions client state session ∙ numbers session
+
+pub numbers-told : (begun : List ℕ) (sessions : Sessions) (transcripts : List Transcript)
+    → NumbersBegun begun sessions → NumbersBegun begun (tell_all transcripts sessions)
+numbers-told begun sessions transcripts numbers session = last-told transcripts sessions session ∙ numbers session
+
+-- the next number is how often the session began one, up to the greatest
+pub next-begun : (times : ℕ) → next_number (last_of times) ≡ min times greatest_number
+next-begun zero = least greatest_number
   where
     least : (greatest : ℕ) → 0 ≡ min 0 greatest
     least greatest = omega arith
-next-of (suc n) = ap (λ (number : ℕ). Some number) (stops n greatest_number)
+next-begun (suc n) = stops n greatest_number
   where
     stops : (n greatest : ℕ) → min (min n greatest + 1) greatest ≡ min (suc n) greatest
     stops n greatest = omega arith
+
+-- the number after the last one
+next-of : (times : ℕ) → Some (next_number (last_of times)) ≡ last_of (suc times)
+next-of times = ap (λ (n : ℕ). Some n) (next-begun times)
 
 -- is how many there are, where the greatest one isn't used up
 next-left : (times : ℕ) → has_used_up (last_of times) ≡ false → next_number (last_of times) ≡ times
@@ -42,108 +58,81 @@ next-left (suc n) left = stays n greatest_number (eqb-false (min n greatest_numb
     stays : (n greatest : ℕ) → (min n greatest ≡ greatest → ⊥) → min (min n greatest + 1) greatest ≡ suc n
     stays n greatest left = omega (arith, left)
 
--- how often the session is among some
-abbrev times_among : ℕ → List ℕ → ℕ
-times_among session sessions = count_by (λ (other : ℕ). other == session) sessions
+-- Those who ask ask once, have no open transaction, and have a number left.
+abbrev pub AreReady : Sessions → List ℕ → Type 0
+AreReady sessions askers =
+    (session : ℕ) → (times_among session askers ≤ 1)
+    × (0 < times_among session askers
+    → (open_at sessions session ≡ None) × (has_no_number sessions session ≡ false))
 
--- each of those who ask has a number left, and asks once
-abbrev pub HaveNumbers : List LastTransaction → List ℕ → Type 0
-HaveNumbers last_transactions sessions =
-    (session : ℕ) → (times_among session sessions ≤ 1)
-    × (0 < times_among session sessions → has_no_number last_transactions session ≡ false)
+-- those who ask after the first one are ready still when that one is served
+pub ready-others : (version : ℕ) (sessions : Sessions) (asker : ℕ) (askers : List ℕ)
+    → AreReady sessions (asker ∷ askers) → AreReady (serve version sessions asker) askers
+ready-others version sessions asker askers ready session =
+    let more = counted (λ (other : ℕ). other == session) asker askers in
+    ⊎_elim
+    (λ (is : (asker == session ≡ true) × (asker ≡ session)).
+    let none : times_among session askers ≡ 0 = omega (arith, (ready session).0, more.0 is.0) in
+    (omega (arith, none), λ some. absurd (omega (arith, some, none))))
+    (λ (is : (asker == session ≡ false) × (asker ≢ session)).
+    let stays : session_of (serve version sessions asker) session ≡ session_of sessions session =
+    session-elsewhere sessions asker _ session (λ same. is.1 (sym same)) in (
+      omega (arith, (ready session).0, more.1 is.0),
+      λ some. let was = (ready session).1 (omega (arith, some, more.1 is.0)) in (
+        ap (λ (found : Session). open_of found.state) stays ∙ was.0,
+        ap (λ (found : Session). has_used_up found.last_number) stays ∙ was.1,
+      ),
+    ))
+    (eqb_tells asker session)
 
--- one more that is the session's, or not
-times-here : (session : ℕ) (sessions : List ℕ)
-    → times_among session (session ∷ sessions) ≡ 1 + times_among session sessions
-times-here session sessions = sum_by-cons (λ (other : ℕ). cond (other == session) 1 0) session sessions
-    ∙ rw (eq-eqb session session refl) refl
+module _ (version : ℕ) (r : Readings) (sessions : Sessions) (asker : ℕ) (askers : List ℕ)
+    (numbers : NumbersBegun r.begun sessions) (ready : AreReady sessions (asker ∷ askers)) where
+  itself : (0 < times_among asker (asker ∷ askers))
+  itself = omega
+      (arith, (counted (λ (other : ℕ). other == asker) asker askers).0 (eq-eqb asker asker refl))
 
-times-elsewhere : (session first : ℕ) (sessions : List ℕ) → (first ≡ session → ⊥)
-    → times_among session (first ∷ sessions) ≡ times_among session sessions
-times-elsewhere session first sessions differs =
-    let none : cond {A = ℕ} (first == session) 1 0 ≡ 0 = rw (ne_eqb first session differs) refl in
-    omega (arith, none, sum_by-cons (λ (other : ℕ). cond (other == session) 1 0) first sessions)
-
-module _ (last_transactions : List LastTransaction) (begun : List ℕ) (session : ℕ)
-    (numbers : NumbersBegun begun last_transactions) where
-  -- the numbers are kept when a session begins one more
-  begun-more : NumbersBegun (begun ++ session ∷ []) (begin_next last_transactions session)
-  begun-more other = ⊎_elim
-      (λ (is : (other == session ≡ true) × (other ≡ session)).
-      let one_more : times_begun other (begun ++ session ∷ []) ≡ suc (times_begun session begun) =
-      subst (λ (s : ℕ). times_begun s (begun ++ session ∷ []) ≡ suc (times_begun session begun)) (sym is.1)
-      (omega (arith, sum_by_push (λ (o : ℕ). cond (o == session) 1 0) begun session, itself)) in
-      subst (λ (s : ℕ). last_number s (begin_next last_transactions session)
-      ≡ last_of (suc (times_begun session begun)))
-      (sym is.1)
-      (last-next last_transactions session ∙ ap (λ (last : Option ℕ). Some (next_number last)) (numbers session)
-      ∙ next-of (times_begun session begun))
-      ∙ ap last_of (sym one_more))
-      (λ (is : (other == session ≡ false) × (other ≢ session)).
-      let none : cond {A = ℕ} (session == other) 1 0 ≡ 0 = rw (ne_eqb session other (λ same. is.1 (sym same))) refl in
-      last-others last_transactions session other is.1 ∙ numbers other
-      ∙ ap last_of (omega (arith, sum_by_push (λ (o : ℕ). cond (o == other) 1 0) begun session, none)))
-      (eqb_tells other session)
-    where
-      itself : cond {A = ℕ} (session == session) 1 0 ≡ 1
-      itself = rw (eq-eqb session session refl) refl
-
-  -- and those who ask beside it have numbers left still
-  left-others : (sessions : List ℕ) → HaveNumbers last_transactions (session ∷ sessions)
-      → HaveNumbers (begin_next last_transactions session) sessions
-  left-others sessions have other = ⊎_elim
-      (λ (is : (other == session ≡ true) × (other ≡ session)).
-      let none : times_among other sessions ≡ 0 = subst (λ (s : ℕ). times_among s sessions ≡ 0) (sym is.1)
-      (omega (arith, (have session).0, times-here session sessions)) in
-      (omega (arith, none), λ some. absurd (omega (arith, some, none))))
-      (λ (is : (other == session ≡ false) × (other ≢ session)).
-      let same = times-elsewhere other session sessions (λ equal. is.1 (sym equal)) in (
-        omega (arith, (have other).0, same),
-        λ some. ap has_used_up (last-others last_transactions session other is.1)
-            ∙ (have other).1 (omega (arith, some, same)),
-      ))
-      (eqb_tells other session)
+  -- the numbers are kept when one who asks begins one more
+  pub numbers-begins : NumbersBegun (begins r (asker, version)).begun (serve version sessions asker)
+  numbers-begins session =
+      let push = sum_by_push (λ (other : ℕ). cond {A = ℕ} (other == session) 1 0) r.begun asker in
+      put-cases (λ (found : Session). found.last_number ≡ last_of (times_begun session (r.begun ++ asker ∷ [])))
+      sessions asker (begins_next version asker (session_of sessions asker)) session
+      (λ same.
+      let one : cond {A = ℕ} (asker == session) 1 0 ≡ 1 = rw (eq-eqb asker session same) refl in
+      let times : suc (times_begun asker r.begun) ≡ times_begun session (r.begun ++ asker ∷ []) =
+      omega (arith, push, one, ap (λ (n : ℕ). times_begun n r.begun) same) in
+      ap (λ (last : Option ℕ). Some (next_number last)) (numbers asker) ∙ next-of (times_begun asker r.begun)
+      ∙ ap last_of times)
+      (λ differs.
+      let none : cond {A = ℕ} (asker == session) 1 0 ≡ 0 = rw (ne_eqb asker session differs) refl in
+      numbers session ∙ ap last_of (omega (arith, push, none)))
 
   -- its number is how often it began before
-  numbered : (sessions : List ℕ) → HaveNumbers last_transactions (session ∷ sessions)
-      → next_number (last_number session last_transactions) ≡ times_begun session begun
-  numbered sessions have =
-      let left = (have session).1 (omega (arith, times-here session sessions)) in
-      ap next_number (numbers session)
-      ∙ next-left (times_begun session begun) (sym (ap has_used_up (numbers session)) ∙ left)
+  numbered : times_begun asker r.begun ≡ next_number (session_of sessions asker).last_number
+  numbered =
+      let left = ((ready asker).1 itself).1 in
+      sym (ap next_number (numbers asker)
+      ∙ next-left (times_begun asker r.begun) (sym (ap has_used_up (numbers asker)) ∙ left))
 
--- what a Grant's answer tells is what the machine begins
-pub grant-begins : (version : ℕ) (sessions : List ℕ) (r : Readings) (last_transactions : List LastTransaction)
-    (opened : List Transcript)
-    → r.opened ≡ opened → NumbersBegun r.begun last_transactions → HaveNumbers last_transactions sessions
-    → let served = fold (serve version) (last_transactions, opened) sessions in
-    (fold begins r (map (λ (session : ℕ). (session, version)) sessions) ≡ record r
-    { begun = r.begun ++ sessions; opened = served.1 })
-    × NumbersBegun (r.begun ++ sessions) served.0
-grant-begins version [] r last_transactions opened same numbers have = (
-  (λ i. record r { begun = none i; opened = same i }),
-  subst (λ (begun : List ℕ). NumbersBegun begun last_transactions) none numbers,
-)
-  where
-    none : r.begun ≡ r.begun ++ []
-    none = sym (append-nil r.begun)
-grant-begins version (session ∷ sessions) r last_transactions opened same numbers have =
-    let rest = grant-begins version sessions (begins r (session, version)) (begin_next last_transactions session)
-    (opened ++ first_of last_transactions version session ∷ []) first
-    (begun-more last_transactions r.begun session numbers)
-    (left-others last_transactions r.begun session numbers sessions have) in
-    let whole = append_assoc r.begun (session ∷ []) sessions in
-    let served = fold (serve version) (last_transactions, opened) (session ∷ sessions) in (
-      rest.0 ∙ (λ i. record r { begun = whole i; opened = served.1 }),
-      subst (λ (begun : List ℕ). NumbersBegun begun served.0) whole rest.1,
-    )
-  where
-    number : times_begun session r.begun ≡ next_number (last_number session last_transactions)
-    number = sym (numbered last_transactions r.begun session numbers sessions have)
-
-    first : (begins r (session, version)).opened ≡ opened ++ first_of last_transactions version session ∷ []
-    first = λ i. same i ++ record {
-      id = record { session = session; number = number i };
-      read_version = version;
-      ops = [];
-    } ∷ []
+  -- and the transaction that it begins is the one that is told of it
+  pub opened-begins : OpenTold r.opened sessions
+      → OpenTold (begins r (asker, version)).opened (serve version sessions asker)
+  opened-begins told session =
+      let first : Transcript = record {
+        id = record { session = asker; number = times_begun asker r.begun };
+        read_version = version;
+        ops = [];
+      } in
+      let push = filter-append (is_of_session session) r.opened (first ∷ []) in
+      put-cases (λ (found : Session). own session (r.opened ++ first ∷ []) ≡ alone (open_of found.state)) sessions asker
+      (begins_next version asker (session_of sessions asker)) session
+      (λ same.
+      let none : own session r.opened ≡ [] = told session ∙ ap alone
+      (ap (open_at sessions) (sym same) ∙ ((ready asker).1 itself).0) in
+      push ∙ ap (λ (before : List Transcript). before ++ own session (first ∷ [])) none
+      ∙ rw (eq-eqb asker session same) (λ i. record {
+        id = record { session = asker; number = numbered i };
+        read_version = version;
+        ops = [];
+      } ∷ []))
+      (λ differs. push ∙ rw (ne_eqb asker session differs) (append-nil (own session r.opened)) ∙ told session)

@@ -1,125 +1,119 @@
--- A session's transaction in a list: what the machine finds by its place, a trace tells by the session.
-use Rattle.std.proofs.Common.{◌≡◌, ◌≢◌, ◌∙◌, ◌<◌, ◌≤◌, refl, sym, ap, arith, ⊎_elim, inl, inr, ◌⊎◌, ℕ, zero, suc, Bool, true, false, List, [], ◌∷◌, ◌++◌, length, Option, Some, None, position}
-use Rattle.std.specs.Prelude.{nat_lt}
-use Rattle.std.specs.List.{slice_get, slice_set, remove, position_or_len}
-use Rattle.std.proofs.lemmas.Bool.{cases_Bool, ltb-false}
-use Rattle.std.proofs.lemmas.Option.{same_Some}
+-- A session's transactions in a list of open ones: what the machine has by session, a trace tells in one list.
+use Rattle.std.proofs.Common.{◌≡◌, ◌≢◌, ◌∙◌, refl, sym, ap, subst, arith, ⊎_elim, inl, inr, ◌⊎◌, ℕ, zero, suc, Bool, true, false, List, [], ◌∷◌, ◌++◌, take, Option, Some, None}
+use Rattle.std.specs.Prelude.{◌==◌}
+use Rattle.std.specs.List.{filter, slice_get, slice_set}
+use Rattle.std.proofs.lemmas.Bool.{cases_Bool, eqb-true, ne_eqb}
 use Rattle.fdb_core.specs.declared.roles.client.program.Op.{Op}
 use Rattle.fdb_core.specs.declared.roles.client.program.Reply.{Reply}
 use Rattle.fdb_core.specs.declared.roles.client.program.Transcript.{Transcript}
-use Rattle.fdb_core.specs.headline.Readings.{of_session, others_than, with_one_more}
-use Rattle.fdb_core.specs.machine.GrvProxySteps.{without, without_at}
-use Rattle.fdb_core.specs.machine.Machine.{is_of}
-use Rattle.fdb_core.proofs.machine.LastNumbers.{find-place}
-
--- where something passes, its place is that of the first one
-placed : {X : Type 0} (p : X → Bool) (xs : List X) (i : ℕ) → position p xs ≡ Some i
-    → (i ≡ position_or_len p xs) × (position_or_len p xs < length xs)
-placed p xs i at = ⊎_elim
-    (λ none. let wrong : None ≡ Some i = sym none.0 ∙ at in cc)
-    (λ there. (same_Some i (position_or_len p xs) (sym at ∙ there.0), there.1))
-    (find-place p xs)
-
--- where nothing passes, the place is past the end
-none-passes : {X : Type 0} (p : X → Bool) (xs : List X) → position p xs ≡ None → length xs ≤ position_or_len p xs
-none-passes p xs at = by_test (nat_lt (position_or_len p xs) (length xs)) refl
-  where
-    by_test : (test : Bool) → nat_lt (position_or_len p xs) (length xs) ≡ test → length xs ≤ position_or_len p xs
-    by_test true there = let some : Some (position_or_len p xs) ≡ None = sym (rw there refl) ∙ at in cc
-    by_test false there = ltb-false _ _ there
-
--- the place of the first one that passes is 0, or one more than among the others
-module _ {X : Type 0} (p : X → Bool) (x : X) (xs : List X) where
-  first-here : p x ≡ true → position_or_len p (x ∷ xs) ≡ 0
-  first-here is = rw is refl
-
-  first-later : p x ≡ false → position_or_len p (x ∷ xs) ≡ suc (position_or_len p xs)
-  first-later is = rw is (omega arith)
+use Rattle.fdb_core.specs.headline.Readings.{is_of_session, of_session, others_than, with_one_more}
+use Rattle.fdb_core.specs.headline.Traces.{alone}
+use Rattle.fdb_core.specs.machine.ClientSteps.{with_operation}
+use Rattle.fdb_core.specs.machine.Sessions.{SessionState, Open, Sessions, session_of, with_state, open_of, open_at}
+use Rattle.fdb_core.proofs.machine.SessionLemmas.{state-put}
 
 module _ (session : ℕ) where
-  abbrev place : List Transcript → ℕ
-  place opened = position_or_len (is_of session) opened
+  -- all of the session's transactions
+  abbrev pub own : List Transcript → List Transcript
+  own transcripts = filter (is_of_session session) transcripts
 
-  found-place : (opened : List Transcript) (transcript : Transcript) → slice_get opened (place opened) ≡ Some transcript
-      → of_session session opened ≡ transcript ∷ []
-  found-place [] transcript there = cc
-  found-place (first ∷ others) transcript there = ⊎_elim
-      (λ is. let at = ap (slice_get (first ∷ others)) (sym (first-here (is_of session) first others is)) ∙ there in
-      rw is (let same : first ≡ transcript = cc at in ap (λ (t : Transcript). t ∷ []) same))
-      (λ is. let at = ap (slice_get (first ∷ others)) (sym (first-later (is_of session) first others is)) ∙ there in
-      rw is (found-place others transcript at))
-      (cases_Bool (is_of session first))
+  -- the one that is found by the session is the first of them
+  first-own : (transcripts : List Transcript) → of_session session transcripts ≡ take 1 (own transcripts)
+  first-own [] = refl
+  first-own (first ∷ others) = ⊎_elim (λ is. rw is refl) (λ is. rw is (first-own others))
+      (cases_Bool (is_of_session session first))
 
-  others-place : (opened : List Transcript) → place opened < length opened
-      → remove opened (place opened) ≡ others_than session opened
-  others-place [] within = absurd (omega (arith, within))
-  others-place (first ∷ others) within = ⊎_elim
-      (λ is. ap (remove (first ∷ others)) (first-here (is_of session) first others is) ∙ rw is refl)
-      (λ is. let next = first-later (is_of session) first others is in
-      ap (remove (first ∷ others)) next
-      ∙ rw is (ap (λ (rest : List Transcript). first ∷ rest) (others-place others (omega (arith, within, next)))))
-      (cases_Bool (is_of session first))
-
-  others-all : (opened : List Transcript) → length opened ≤ place opened → opened ≡ others_than session opened
-  others-all [] none = refl
-  others-all (first ∷ others) none = ⊎_elim
-      (λ is. absurd (omega (arith, none, first-here (is_of session) first others is)))
-      (λ is. rw is (ap (λ (rest : List Transcript). first ∷ rest)
-      (others-all others (omega (arith, none, first-later (is_of session) first others is)))))
-      (cases_Bool (is_of session first))
-
-  one_more-place : (operation : Op) (reply : Reply) (opened : List Transcript) (transcript : Transcript)
-      → slice_get opened (place opened) ≡ Some transcript
-      → slice_set opened (place opened) (record transcript { ops = transcript.ops ++ (operation, reply) ∷ [] })
-      ≡ with_one_more session operation reply opened
-  one_more-place operation reply [] transcript there = cc
-  one_more-place operation reply (first ∷ others) transcript there = ⊎_elim
-      (λ is. let here = first-here (is_of session) first others is in
-      let at = ap (slice_get (first ∷ others)) (sym here) ∙ there in
-      let same : first ≡ transcript = cc at in
-      ap (λ (i : ℕ). slice_set (first ∷ others) i (changed transcript)) here
-      ∙ rw is (ap (λ (t : Transcript). changed t ∷ others) (sym same)))
-      (λ is. let next = first-later (is_of session) first others is in
-      let at = ap (slice_get (first ∷ others)) (sym next) ∙ there in
-      ap (λ (i : ℕ). slice_set (first ∷ others) i (changed transcript)) next
-      ∙ rw is (ap (λ (rest : List Transcript). first ∷ rest) (one_more-place operation reply others transcript at)))
-      (cases_Bool (is_of session first))
+  -- where there is one, none is left without it
+  own-gone : (transcripts : List Transcript) (opened : Option Transcript) → own transcripts ≡ alone opened
+      → own (others_than session transcripts) ≡ []
+  own-gone [] opened is = refl
+  own-gone (first ∷ others) opened is = ⊎_elim
+      (λ here. by_open opened (first ∷ own others) (sym (rw here refl) ∙ is) here)
+      (λ elsewhere. rw elsewhere (rw elsewhere (own-gone others opened (sym (rw elsewhere refl) ∙ is))))
+      (cases_Bool (is_of_session session first))
     where
-      changed : Transcript → Transcript
-      changed t = record t { ops = t.ops ++ (operation, reply) ∷ [] }
+      by_open : (opened : Option Transcript) (found : List Transcript) → first ∷ own others ≡ alone opened
+          → is_of_session session first ≡ true
+          → own (others_than session (first ∷ others)) ≡ []
+      by_open None found same here = cc
+      by_open (Some transcript) found same here = rw here (let rest : own others ≡ [] = cc same in rest)
 
-  -- the session's transaction is the one at its place
-  pub found-at : (opened : List Transcript) (i : ℕ) (transcript : Transcript)
-      → position (is_of session) opened ≡ Some i → slice_get opened i ≡ Some transcript
+  -- those of another session stay
+  own-others : (other : ℕ) (transcripts : List Transcript) → other ≢ session
+      → own (others_than other transcripts) ≡ own transcripts
+  own-others other [] differs = refl
+  own-others other (first ∷ others) differs = ⊎_elim
+      (λ here. let elsewhere : is_of_session session first ≡ false = ne_eqb first.id.session session
+      (λ same. differs (sym (eqb-true first.id.session other here) ∙ same)) in rw here (rw elsewhere refl))
+      (λ elsewhere. rw elsewhere (⊎_elim
+      (λ mine. rw mine (ap (λ (rest : List Transcript). first ∷ rest) (own-others other others differs)))
+      (λ theirs. rw theirs (own-others other others differs))
+      (cases_Bool (is_of_session session first))))
+      (cases_Bool (is_of_session other first))
+
+  module _ (operation : Op) (reply : Reply) where
+    -- the one that there is has one more operation
+    own-more : (transcripts : List Transcript) (transcript : Transcript) → own transcripts ≡ transcript ∷ []
+        → own (with_one_more session operation reply transcripts) ≡ with_operation transcript operation reply ∷ []
+    own-more [] transcript is = cc
+    own-more (first ∷ others) transcript is = ⊎_elim
+        (λ here. let found : first ∷ own others ≡ transcript ∷ [] = sym (rw here refl) ∙ is in
+        let same : first ≡ transcript = cc found in
+        let rest : own others ≡ [] = cc found in
+        rw here (rw here (λ i. with_operation (same i) operation reply ∷ rest i)))
+        (λ elsewhere. rw elsewhere
+        (rw elsewhere (own-more others transcript (sym (rw elsewhere refl) ∙ is))))
+        (cases_Bool (is_of_session session first))
+
+    -- those of another session stay
+    own-more-others : (other : ℕ) (transcripts : List Transcript) → other ≢ session
+        → own (with_one_more other operation reply transcripts) ≡ own transcripts
+    own-more-others other [] differs = refl
+    own-more-others other (first ∷ others) differs = ⊎_elim
+        (λ here. let elsewhere : is_of_session session first ≡ false = ne_eqb first.id.session session
+        (λ same. differs (sym (eqb-true first.id.session other here) ∙ same)) in
+        rw here (rw elsewhere refl))
+        (λ elsewhere. rw elsewhere (⊎_elim
+        (λ mine. rw mine (ap (λ (rest : List Transcript). first ∷ rest) (own-more-others other others differs)))
+        (λ theirs. rw theirs (own-more-others other others differs))
+        (cases_Bool (is_of_session session first))))
+        (cases_Bool (is_of_session other first))
+
+-- Of each session's open transactions exactly the machine's is told.
+abbrev pub OpenTold : List Transcript → Sessions → Type 0
+OpenTold opened sessions = (session : ℕ) → own session opened ≡ alone (open_at sessions session)
+
+module _ (opened : List Transcript) (sessions : Sessions) (told : OpenTold opened sessions) where
+  -- so it is the one that is found by the session
+  pub found-told : (session : ℕ) (transcript : Transcript) → open_at sessions session ≡ Some transcript
       → of_session session opened ≡ transcript ∷ []
-  found-at opened i transcript at there =
-      let is = placed (is_of session) opened i at in
-      found-place opened transcript (ap (slice_get opened) (sym is.0) ∙ there)
+  found-told session transcript is =
+      first-own session opened ∙ ap (take 1) (told session ∙ ap alone is)
 
-  -- the others are those that are left without it
-  pub others-removed : (opened : List Transcript) (i : ℕ) → position (is_of session) opened ≡ Some i
-      → remove opened i ≡ others_than session opened
-  others-removed opened i at =
-      let is = placed (is_of session) opened i at in ap (remove opened) is.0 ∙ others-place opened is.1
+  -- it stays so where a session has no open transaction any more
+  pub others-told : (client : ℕ) (state : SessionState) → open_of state ≡ None
+      → OpenTold (others_than client opened) (with_state sessions client state)
+  others-told client state none session =
+      state-put (λ (s : SessionState). own session (others_than client opened) ≡ alone (open_of s)) sessions client state
+      session
+      (λ same. subst (λ (n : ℕ). own session (others_than n opened) ≡ alone (open_of state)) (sym same)
+      (own-gone session opened (open_at sessions session) (told session) ∙ sym (ap alone none)))
+      (λ differs. own-others session client opened differs ∙ told session)
 
-  -- and all of them where it has none
-  pub others-without : (opened : List Transcript) → without session opened ≡ others_than session opened
-  others-without opened = by_place (position (is_of session) opened) refl
-    where
-      by_place : (there : Option ℕ) → position (is_of session) opened ≡ there
-          → without_at opened (position (is_of session) opened) ≡ others_than session opened
-      by_place None at = rw at (others-all opened (none-passes (is_of session) opened at))
-      by_place (Some i) at = rw at (others-removed opened i at)
-
-  -- one more operation changes the one at its place
-  pub one_more-set : (operation : Op) (reply : Reply) (opened : List Transcript) (i : ℕ) (transcript : Transcript)
-      → position (is_of session) opened ≡ Some i → slice_get opened i ≡ Some transcript
-      → slice_set opened i (record transcript { ops = transcript.ops ++ (operation, reply) ∷ [] })
-      ≡ with_one_more session operation reply opened
-  one_more-set operation reply opened i transcript at there =
-      let is = placed (is_of session) opened i at in
-      ap (λ (k : ℕ). slice_set opened k (record transcript { ops = transcript.ops ++ (operation, reply) ∷ [] })) is.0
-      ∙ one_more-place operation reply opened transcript (ap (slice_get opened) (sym is.0) ∙ there)
+  -- or one more operation in it
+  pub more-told : (client : ℕ) (transcript : Transcript) (operation : Op) (reply : Reply)
+      → open_at sessions client ≡ Some transcript
+      → OpenTold (with_one_more client operation reply opened)
+      (with_state sessions client (Open (with_operation transcript operation reply)))
+  more-told client transcript operation reply is session =
+      state-put (λ (s : SessionState). own session (with_one_more client operation reply opened) ≡ alone (open_of s))
+      sessions client (Open (with_operation transcript operation reply)) session
+      (λ same. subst (λ (n : ℕ). own session (with_one_more n operation reply opened)
+      ≡ with_operation transcript operation reply ∷ []) (sym same)
+      (own-more session operation reply opened transcript
+      (told session
+      ∙ ap alone (subst (λ (n : ℕ). open_at sessions n ≡ Some transcript) same is))))
+      (λ differs. own-more-others session operation reply client opened differs ∙ told session)
 
 -- what is found in a list after a change is the new item, or what stood there
 pub item-after-set : {A : Type 0} (xs : List A) (i : ℕ) (x : A) (j : ℕ) (y : A)

@@ -1,5 +1,5 @@
 -- Every accepted step tells, with its answer, what it does to the machine.
-use Rattle.std.proofs.Common.{◌≡◌, ◌≢◌, ◌∙◌, ◌≤◌, le_refl, refl, sym, ap, ap₂, subst, ℕ, max, false, List, [], ◌∷◌, ◌++◌, take, drop, map, length, fold, Some, position}
+use Rattle.std.proofs.Common.{◌≡◌, ◌≢◌, ◌∙◌, ◌≤◌, le_refl, refl, sym, ap, ap₂, subst, ⊎_elim, ℕ, max, false, List, [], ◌∷◌, ◌++◌, take, drop, map, length, fold, Some}
 use Rattle.std.specs.List.{AllByRecursion, slice_get, slice_set, remove}
 use Rattle.std.proofs.lemmas.Option.{same_Some}
 use Rattle.std.proofs.lemmas.List.{map-append, take-map, drop-map}
@@ -12,39 +12,43 @@ use Rattle.fdb_core.specs.declared.roles.client.Placed.{Placed}
 use Rattle.fdb_core.specs.declared.roles.client.program.Transcript.{Transcript}
 use Rattle.fdb_core.specs.headline.Readings.{Readings, SealedBatch, begins, waits_at, seals_entry, of_session, others_than, with_one_more, with_at, all_acknowledged_by}
 use Rattle.fdb_core.specs.invariant.Invariant.{Invariant, Waits, CommitProxyIsSound}
-use Rattle.fdb_core.specs.machine.ClientSteps.{add_operation}
+use Rattle.fdb_core.specs.machine.ClientSteps.{add_operation, with_operation}
 use Rattle.fdb_core.specs.machine.CommitProxySteps.{is_idle, replies_from}
-use Rattle.fdb_core.specs.machine.GrvProxySteps.{serve, without}
-use Rattle.fdb_core.specs.machine.Machine.{Machine, is_of}
+use Rattle.fdb_core.specs.headline.Traces.{alone}
+use Rattle.fdb_core.specs.machine.Machine.{Machine}
+use Rattle.fdb_core.specs.machine.Sessions.{Session, Sessions, Idle as Free, Asking, Open, Waiting, session_of, with_state, open_of, open_at, serve, tell_all}
 use Rattle.fdb_core.specs.machine.Roles.{CommitProxy, Submission, Reported, Idle}
 use Rattle.fdb_core.specs.machine.Verdicts.{outcomes_on}
 use Rattle.fdb_core.specs.programs.Programs.{program, copy, reply_on, commit_request_of}
 use Rattle.fdb_sequencer.specs.Sequencer.{next_version}
 use Rattle.fdb_core.proofs.common.AllLemmas.{all-at, all-take}
-use Rattle.fdb_core.proofs.invariant.OnceLaws.{able}
+use Rattle.fdb_core.proofs.invariant.SessionLaws.{AllStand, asks_once, asker-not-open, in_flight_once, flying-not-open}
 use Rattle.fdb_core.proofs.invariant.SoundLemmas.{sealed-in_flight}
+use Rattle.fdb_core.proofs.machine.SessionLemmas.{able, told-none, told-some, none_or_some, times_of}
 use Rattle.fdb_core.proofs.machine.Steps.{HoldsOfSteps}
 use Rattle.fdb_core.proofs.readings.Agreement.{AtProxy, TellsMachine, TellsOn, transcripts_of, quiet-tells, operation-tells, changed-there, changed-elsewhere, one-changes, book-grows, AnsweredOnce, flies, once-goes_on, once-answered, once-sealed}
 use Rattle.fdb_core.proofs.readings.AnswerReadings.{acknowledged-placed}
-use Rattle.fdb_core.proofs.readings.GrantLemmas.{HaveNumbers, grant-begins}
-use Rattle.fdb_core.proofs.readings.SessionLists.{found-at, others-removed, others-without, one_more-set}
+use Rattle.fdb_core.proofs.readings.GrantLemmas.{NumbersBegun, AreReady, ready-others, numbers-begins, opened-begins, numbers-put, numbers-told}
+use Rattle.fdb_core.proofs.readings.SessionLists.{OpenTold, found-told, others-told, more-told}
 use Rattle.fdb_core.proofs.refinement.SealLemmas.{last-at, sealed_entry, sealed_proxy, sealed_machine}
 
 -- where the proxies stay, and what is told of the sessions and of reports is what changes of the machine
-with-clients : (r : Readings) (m : Machine) (told_opened opened : List Transcript)
+with-clients : (r : Readings) (m : Machine) (told_opened : List Transcript) (sessions : Sessions)
     (told_acknowledged acknowledged : List Placed) (told_reported committed : ℕ) → TellsMachine r m
-    → told_opened ≡ opened → told_acknowledged ≡ acknowledged → told_reported ≡ committed
+    → OpenTold told_opened sessions → NumbersBegun r.begun sessions → told_acknowledged ≡ acknowledged
+    → told_reported ≡ committed
     → TellsMachine
     (record r { opened = told_opened; acknowledged = told_acknowledged; reported = told_reported })
-    (record m { opened = opened; acknowledged = acknowledged; committed = committed })
-with-clients r m told_opened opened told_acknowledged acknowledged told_reported committed tells same placed reported =
+    (record m { sessions = sessions; acknowledged = acknowledged; committed = committed })
+with-clients r m told_opened sessions told_acknowledged acknowledged told_reported committed tells opened numbers placed
+    reported =
     record {
       book_told = tells.book_told;
-      opened_told = same;
+      opened_told = opened;
       acknowledged_told = placed;
       reported_told = reported;
       no_moves = tells.no_moves;
-      begun_told = tells.begun_told;
+      begun_told = numbers;
       proxies_told = tells.proxies_told;
       once_told = tells.once_told;
     }
@@ -78,59 +82,71 @@ proxy-goes_on r m proxy old new at tells has less =
     with-proxy r m r.waiting r.answered proxy new tells (λ other differs. refl) has
     (once-goes_on m.book r.answered m.commit_proxies proxy old new at tells.once_told less)
 
--- those who begin are granted
-granted-told : (r : Readings) (m : Machine) (there : List ℕ) → TellsMachine r m → HaveNumbers m.last_transactions there
-    → let served = fold (serve m.committed) (m.last_transactions, m.opened) there in
-    TellsMachine (fold begins r (map (λ (session : ℕ). (session, m.committed)) there))
-    (record m { last_transactions = served.0; opened = served.1 })
-granted-told r m there tells have =
-    let served = fold (serve m.committed) (m.last_transactions, m.opened) there in
-    let begun = grant-begins m.committed there r m.last_transactions m.opened tells.opened_told tells.begun_told have in
-    subst (λ (told : Readings). TellsMachine told (record m { last_transactions = served.0; opened = served.1 }))
-    (sym begun.0)
+-- those who ask are granted, one after another
+granted-told : (version : ℕ) (askers : List ℕ) (r : Readings) (m : Machine) → TellsMachine r m
+    → AreReady m.sessions askers
+    → TellsMachine (fold begins r (map (λ (session : ℕ). (session, version)) askers))
+    (record m { sessions = fold (serve version) m.sessions askers })
+granted-told version [] r m tells ready = tells
+granted-told version (asker ∷ askers) r m tells ready =
+    granted-told version askers (begins r (asker, version)) (record m { sessions = serve version m.sessions asker })
     (record {
       book_told = tells.book_told;
-      opened_told = refl;
+      opened_told = opened-begins version r m.sessions asker askers tells.begun_told ready tells.opened_told;
       acknowledged_told = tells.acknowledged_told;
       reported_told = tells.reported_told;
       no_moves = tells.no_moves;
-      begun_told = begun.1;
+      begun_told = numbers-begins version r m.sessions asker askers tells.begun_told ready;
       proxies_told = tells.proxies_told;
       once_told = tells.once_told;
     })
+    (ready-others version m.sessions asker askers ready)
+
+-- those of a batch in flight have no open transaction, before they are told and after
+told-open : (m : Machine) (proxy : ℕ) (commit_proxy : CommitProxy) (opened : List Transcript)
+    → slice_get m.commit_proxies proxy ≡ Some commit_proxy → AllStand m → OpenTold opened m.sessions
+    → OpenTold opened (tell_all commit_proxy.in_flight m.sessions)
+told-open m proxy commit_proxy opened at all told session = ⊎_elim
+    (λ none. told session ∙ ap (λ (found : Session). alone (open_of found.state))
+    (sym (told-none session commit_proxy.in_flight m.sessions none)))
+    (λ some. told session
+    ∙ ap alone (flying-not-open m session (all.0 session) proxy commit_proxy at some)
+    ∙ ap (λ (found : Session). alone (open_of found.state))
+    (sym (told-some session commit_proxy.in_flight m.sessions some)))
+    (none_or_some (times_of session commit_proxy.in_flight))
 
 -- a transaction that waits at a proxy
-submitted-told : (r : Readings) (m : Machine) (session proxy : ℕ) (commit_proxy : CommitProxy) (i : ℕ)
+submitted-told : (r : Readings) (m : Machine) (session proxy : ℕ) (commit_proxy : CommitProxy)
     (transcript : Transcript) (submission : Submission)
     → TellsMachine r m → slice_get m.commit_proxies proxy ≡ Some commit_proxy
-    → position (is_of session) m.opened ≡ Some i → slice_get m.opened i ≡ Some transcript
-    → transcript ≡ submission.transcript
+    → open_at m.sessions session ≡ Some transcript → transcript ≡ submission.transcript
     → TellsMachine (waits_at r session proxy) (record m {
-      opened = remove m.opened i;
+      sessions = with_state m.sessions session Waiting;
       commit_proxies = slice_set m.commit_proxies proxy
           (record commit_proxy { waiting = commit_proxy.waiting ++ submission ∷ [] });
     })
-submitted-told r m session proxy commit_proxy i transcript submission tells at is there same =
+submitted-told r m session proxy commit_proxy transcript submission tells at opened same =
     let was = tells.proxies_told proxy commit_proxy at in
-    let alone = ap (of_session session) tells.opened_told ∙ found-at session m.opened i transcript is there in
+    let found = found-told r.opened m.sessions tells.opened_told session transcript opened in
     let waits = with_at proxy (r.waiting proxy ++ of_session session r.opened) r.waiting in
     let there_waits : waits proxy ≡ transcripts_of (commit_proxy.waiting ++ submission ∷ []) =
     changed-there proxy (r.waiting proxy ++ of_session session r.opened) r.waiting
     ∙ ap₂ (λ (first found : List Transcript). first ++ found) was.waiting_told
-    (alone ∙ ap (λ (t : Transcript). t ∷ []) same)
+    (found ∙ ap (λ (t : Transcript). t ∷ []) same)
     ∙ sym (map-append (λ (s : Submission). s.transcript) commit_proxy.waiting (submission ∷ [])) in
     with-clients (record r { waiting = waits }) (record m {
       commit_proxies = slice_set m.commit_proxies proxy
           (record commit_proxy { waiting = commit_proxy.waiting ++ submission ∷ [] });
     })
-    (others_than session r.opened) (remove m.opened i) _ _ _ _
+    (others_than session r.opened) (with_state m.sessions session Waiting) _ _ _ _
     (with-proxy r m waits r.answered proxy (record commit_proxy { waiting = commit_proxy.waiting ++ submission ∷ [] })
     tells
     (λ other differs. sym (changed-elsewhere proxy _ r.waiting other differs))
     (record { waiting_told = there_waits; batch_told = was.batch_told })
     (once-goes_on m.book r.answered m.commit_proxies proxy commit_proxy _ at tells.once_told
     (λ entry. le_refl (flies entry commit_proxy))))
-    (ap (others_than session) tells.opened_told ∙ sym (others-removed session m.opened i is))
+    (others-told r.opened m.sessions tells.opened_told session Waiting refl)
+    (numbers-put r.begun m.sessions session Waiting tells.begun_told)
     tells.acknowledged_told tells.reported_told
 
 -- a proxy that seals
@@ -219,39 +235,45 @@ batch-at r m proxy commit_proxy entry tells at busy there =
 
 pub tells_steps : HoldsOfSteps TellsOn
 tells_steps = record {
-  roles = λ m taken answer resolvers logs shards quiet r sound once tells.
+  roles = λ m taken answer resolvers logs shards quiet r sound all tells.
       subst (λ (told : Readings). TellsMachine told m) (quiet-tells r taken answer quiet) tells;
-  asked = λ m session proxy there at free r sound once tells.
-      with-clients r m (others_than session r.opened) (without session m.opened) _ _ _ _ tells
-      (ap (others_than session) tells.opened_told ∙ sym (others-without session m.opened))
+  asked = λ m session proxy there at free r sound all tells.
+      with-clients r m (others_than session r.opened) (with_state m.sessions session Asking) _ _ _ _ tells
+      (others-told r.opened m.sessions tells.opened_told session Asking refl)
+      (numbers-put r.begun m.sessions session Asking tells.begun_told)
       tells.acknowledged_told tells.reported_told;
-  granted = λ m proxy there at left r sound once tells.
-      granted-told r m there tells
+  granted = λ m proxy there at left r sound all tells.
+      granted-told m.committed there r m tells
       (λ session. (
-        once.0 proxy there at session,
-        able (record { session = session; number = 0 }) m.last_transactions there left,
+        asks_once m session (all.0 session) proxy there at,
+        λ some. (
+          asker-not-open m session (all.0 session) proxy there at some,
+          able session m.sessions there left some,
+        ),
       ));
-  operated = λ m taken session i transcript operation does is there r sound once tells.
+  operated = λ m taken session transcript operation does opened r sound all tells.
       let on = copy (serial_map_at m.config.resolver_splits transcript.read_version (seen_of m.book).places)
       (program transcript.ops) in
-      let after = add_operation m i transcript operation (reply_on on operation) in
+      let after = add_operation m session transcript operation (reply_on on operation) in
       subst (λ (told : Readings). TellsMachine told after) (operation-tells r taken session operation on does)
-      (with-clients r m (with_one_more session operation (reply_on on operation) r.opened) after.opened _ _ _ _ tells
-      (ap (with_one_more session operation (reply_on on operation)) tells.opened_told
-      ∙ sym (one_more-set session operation (reply_on on operation) m.opened i transcript is there))
+      (with-clients r m (with_one_more session operation (reply_on on operation) r.opened) after.sessions _ _ _ _ tells
+      (more-told r.opened m.sessions tells.opened_told session transcript operation (reply_on on operation) opened)
+      (numbers-put r.begun m.sessions session (Open (with_operation transcript operation (reply_on on operation)))
+      tells.begun_told)
       tells.acknowledged_told tells.reported_told);
-  read_only = λ m session proxy i transcript is there empty r sound once tells.
-      let alone = ap (of_session session) tells.opened_told ∙ found-at session m.opened i transcript is there in
-      with-clients r m (others_than session r.opened) (remove m.opened i) _ _ _ _ tells
-      (ap (others_than session) tells.opened_told ∙ sym (others-removed session m.opened i is))
-      (λ k. tells.acknowledged_told k ++ map (told_at transcript.read_version) (alone k)) tells.reported_told;
-  submitted = λ m session proxy commit_proxy i transcript at is there writes r sound once tells.
-      submitted-told r m session proxy commit_proxy i transcript
-      (record { sealed = commit_request_of transcript; transcript = transcript }) tells at is there refl;
-  sealed = λ m proxy advance commit_proxy at idle few room r sound once tells.
+  read_only = λ m session proxy transcript opened empty r sound all tells.
+      let found = found-told r.opened m.sessions tells.opened_told session transcript opened in
+      with-clients r m (others_than session r.opened) (with_state m.sessions session Free) _ _ _ _ tells
+      (others-told r.opened m.sessions tells.opened_told session Free refl)
+      (numbers-put r.begun m.sessions session Free tells.begun_told)
+      (λ k. tells.acknowledged_told k ++ map (told_at transcript.read_version) (found k)) tells.reported_told;
+  submitted = λ m session proxy commit_proxy transcript at opened writes r sound all tells.
+      submitted-told r m session proxy commit_proxy transcript
+      (record { sealed = commit_request_of transcript; transcript = transcript }) tells at opened refl;
+  sealed = λ m proxy advance commit_proxy at idle few room r sound all tells.
       sealed-told r m proxy advance commit_proxy tells sound at idle;
   went_on = λ m taken answer proxy commit_proxy stage decided verdicts acknowledgements quiet at busy goes_on unreported
-      r sound once tells.
+      r sound all tells.
       let was = tells.proxies_told proxy commit_proxy at in
       subst (λ (told : Readings). TellsMachine told (record m {
         commit_proxies = slice_set m.commit_proxies proxy (record commit_proxy {
@@ -263,7 +285,7 @@ tells_steps = record {
       (proxy-goes_on r m proxy commit_proxy _ at tells
       (record { waiting_told = was.waiting_told; batch_told = λ _. was.batch_told busy })
       (λ entry. rw (goes_on, busy) (le_refl _)));
-  reported_version = λ m proxy commit_proxy entry at logging there r sound once tells.
+  reported_version = λ m proxy commit_proxy entry at logging there r sound all tells.
       let was = tells.proxies_told proxy commit_proxy at in
       let batch = batch-at r m proxy commit_proxy entry tells at (ap is_idle logging) there in
       with-clients r
@@ -272,8 +294,8 @@ tells_steps = record {
       (proxy-goes_on r m proxy commit_proxy _ at tells
       (record { waiting_told = was.waiting_told; batch_told = λ _. was.batch_told (ap is_idle logging) })
       (λ one. rw (ap is_idle logging) (le_refl _)))
-      tells.opened_told tells.acknowledged_told (λ k. max (tells.reported_told k) (batch k).version);
-  told = λ m proxy commit_proxy entry at reported there r sound once tells.
+      tells.opened_told tells.begun_told tells.acknowledged_told (λ k. max (tells.reported_told k) (batch k).version);
+  told = λ m proxy commit_proxy entry at reported there r sound all tells.
       let was = tells.proxies_told proxy commit_proxy at in
       let batch = batch-at r m proxy commit_proxy entry tells at (ap is_idle reported) there in
       let outcomes = outcomes_on m.config.resolver_splits (seen_before m.book commit_proxy.entry) entry in
@@ -287,11 +309,12 @@ tells_steps = record {
       (slice_set m.commit_proxies proxy done)) (sym (ap (λ (b : SealedBatch). b.entry) batch))
       (once-answered m.book r.answered m.commit_proxies proxy commit_proxy done at tells.once_told
       (ap is_idle reported) refl)))
-      tells.opened_told
+      (told-open m proxy commit_proxy r.opened at all tells.opened_told)
+      (numbers-told r.begun m.sessions commit_proxy.in_flight tells.begun_told)
       (ap₂ (λ (first more : List Placed). first ++ more) tells.acknowledged_told
       (ap (λ (b : SealedBatch). all_acknowledged_by b (replies_from commit_proxy.in_flight outcomes)) batch
       ∙ acknowledged-placed commit_proxy.entry entry.version commit_proxy.in_flight outcomes
-      (once.1 proxy commit_proxy at)))
+      (λ session. in_flight_once m session (all.0 session) proxy commit_proxy at)))
       tells.reported_told;
 }
   where

@@ -18,9 +18,9 @@ use Rattle.fdb_core.specs.headline.Books.{TracesTellBooks, EntriesAreAnsweredOnc
 use Rattle.fdb_core.specs.headline.Promises.{CommittedIsGreatestReported}
 use Rattle.fdb_core.specs.headline.Readings.{Readings, nothing_read, read_step, read_steps, readings_of, times_begun}
 use Rattle.fdb_core.specs.headline.RealTime.{RealTime, HasBegun}
-use Rattle.fdb_core.specs.headline.Traces.{after_step, after_steps, machine_of_trace, IsTraceOf, WorldsShowWhatIsTold}
+use Rattle.fdb_core.specs.headline.Traces.{after_step, after_steps, machine_of_trace, alone, IsTraceOf, WorldsShowWhatIsTold}
 use Rattle.fdb_core.specs.invariant.Invariant.{Invariant}
-use Rattle.fdb_core.specs.machine.GrvProxySteps.{greatest_number}
+use Rattle.fdb_core.specs.machine.Sessions.{Session, open_of, next_number, greatest_number}
 use Rattle.fdb_core.specs.machine.Machine.{Machine, Transition}
 use Rattle.fdb_core.specs.machine.Roles.{CommitProxy}
 use Rattle.fdb_core.specs.machine.Steps.{next, answer_of, after}
@@ -29,29 +29,22 @@ use Rattle.fdb_core.proofs.common.AllLemmas.{all-at, all-replicate}
 use Rattle.fdb_core.proofs.headline.TraceLaws.{after_step-answered, traces_tell}
 use Rattle.fdb_core.proofs.invariant.OnceLaws.{machine-once}
 use Rattle.fdb_core.proofs.invariant.RealTimeLaws.{MachineHasBegun, after-first}
-use Rattle.fdb_core.proofs.invariant.SessionLaws.{IsOnceAtMost, session_steps, session-start, asks_once, in_flight_once}
+use Rattle.fdb_core.proofs.invariant.SessionLaws.{AllStand, session_steps, session-start}
 use Rattle.fdb_core.proofs.invariant.SoundLaws.{sound_steps, sound-start, sound-trace}
 use Rattle.fdb_core.proofs.machine.AcceptedTransitions.{IfAccepted}
+use Rattle.fdb_core.proofs.machine.SessionLemmas.{session-new}
 use Rattle.fdb_core.proofs.machine.Steps.{KeptBySteps, holds-next, kept-next, kept-by_trace}
-use Rattle.fdb_core.proofs.readings.Agreement.{AtProxy, flies, TellsMachine, TellsOn, AreOnce}
-use Rattle.fdb_core.proofs.readings.GrantLemmas.{last_of}
+use Rattle.fdb_core.proofs.readings.Agreement.{AtProxy, flies, TellsMachine, TellsOn}
+use Rattle.fdb_core.proofs.readings.GrantLemmas.{last_of, next-begun}
 use Rattle.fdb_core.proofs.readings.StepReadings.{tells_steps}
 
 -- what the machine keeps to be what is told
 abbrev IsGood : Machine → Type 0
-IsGood m = Invariant m × ((session : ℕ) → IsOnceAtMost session m)
+IsGood m = Invariant m × AllStand m
 
 good-next : (m : Machine) (taken : Step) → IsGood m → IsGood (after m (next m taken))
-good-next m taken good = (
-  kept-next Invariant sound_steps m taken good.0,
-  λ session. kept-next (IsOnceAtMost session) (session_steps session) m taken (good.1 session),
-)
-
-are-once : (m : Machine) → ((session : ℕ) → IsOnceAtMost session m) → AreOnce m
-are-once m once = (
-  λ proxy there at session. asks_once m session (once session) proxy there at,
-  λ proxy commit_proxy at session. in_flight_once m session (once session) proxy commit_proxy at,
-)
+good-next m taken good =
+    (kept-next Invariant sound_steps m taken good.0, kept-next AllStand session_steps m taken good.1)
 
 -- a step that is answered as the machine answers it tells what the machine goes on to
 step-tells : (m : Machine) (r : Readings) (taken : Step) → IsGood m → TellsMachine r m
@@ -61,7 +54,7 @@ step-tells m r taken good tells = by_result (next m taken) (holds-next TellsOn t
     by_result : (result : Result Transition Refusal)
         → IfAccepted (λ transition. TellsOn m taken transition.answer transition.next) result
         → TellsMachine (read_step r taken (answer_of result)) (after m result)
-    by_result (Ok transition) leads = leads r good.0 (are-once m good.1) tells
+    by_result (Ok transition) leads = leads r good.0 good.1 tells
     by_result (Err refusal) leads = tells
 
 -- once memory ran out nothing is told any more
@@ -105,11 +98,11 @@ run-tells m r (taken ∷ steps) (answer ∷ given) world good tells ran = ⊎_el
 start-tells : (config : Config) → TellsMachine nothing_read (start config)
 start-tells config = record {
   book_told = refl;
-  opened_told = refl;
+  opened_told = λ session. ap (λ (found : Session). alone (open_of found.state)) (sym (session-new session));
   acknowledged_told = refl;
   reported_told = refl;
   no_moves = refl;
-  begun_told = λ session. refl;
+  begun_told = λ session. ap (λ (found : Session). found.last_number) (session-new session);
   proxies_told = λ proxy commit_proxy there. all-at Idle (start config).commit_proxies proxy commit_proxy
       (all-replicate Idle idle_proxy config.proxies (record { waiting_told = refl; batch_told = λ busy. cc })) there;
   once_told = λ entry. omega (arith, sum_by-replicate (flies entry) config.proxies idle_proxy);
@@ -125,7 +118,7 @@ pub trace-tells : (config : Config) (steps : List Step) (given : List (Result An
     → TellsMachine (readings_of steps given) (machine_of_trace config steps given)
 trace-tells config steps given world stands =
     run-tells (start config) nothing_read steps given world
-    (sound-start config, λ session. session-start session config) (start-tells config) stands
+    (sound-start config, session-start config) (start-tells config) stands
 
 -- the configuration stays
 config_steps : (config : Config) → KeptBySteps (λ m. m.config ≡ config)
@@ -133,9 +126,9 @@ config_steps config = record {
   roles = λ m taken answer resolvers logs shards quiet same. same;
   asked = λ m session proxy there at free same. same;
   granted = λ m proxy there at left same. same;
-  operated = λ m taken session i transcript operation does is there same. same;
-  read_only = λ m session proxy i transcript is there empty same. same;
-  submitted = λ m session proxy commit_proxy i transcript at is there writes same. same;
+  operated = λ m taken session transcript operation does opened same. same;
+  read_only = λ m session proxy transcript opened empty same. same;
+  submitted = λ m session proxy commit_proxy transcript at opened writes same. same;
   sealed = λ m proxy advance commit_proxy at idle few room same. same;
   went_on = λ m taken answer proxy commit_proxy stage decided verdicts acknowledgements quiet at busy goes_on
       unreported same. same;
@@ -161,7 +154,9 @@ worlds_show_what_is_told config steps given m stands =
     (sym (traces_tell config steps given m stands)) (trace-tells config steps given (Some m) stands) in
     record {
       book = sym tells.book_told;
-      opened = sym tells.opened_told;
+      opened = tells.opened_told;
+      begun = λ session. ap next_number (tells.begun_told session) ∙ next-begun (times_begun session (readings_of steps
+          given).begun);
       waiting = λ proxy commit_proxy at. sym (tells.proxies_told proxy commit_proxy at).waiting_told;
       in_flight = λ proxy commit_proxy at busy.
           let batch = ((tells.proxies_told proxy commit_proxy at).batch_told busy).2 in

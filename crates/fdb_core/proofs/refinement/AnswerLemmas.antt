@@ -9,6 +9,7 @@ use Rattle.fdb_core.specs.declared.step.Outcome.{Outcome}
 use Rattle.fdb_core.specs.refinement.Cluster.{machine_of, CommitProxyRefines, Refines}
 use Rattle.fdb_txn.specs.book.Book.{seen_before}
 use Rattle.fdb_core.specs.machine.CommitProxySteps.{answers, is_idle, is_resolving, is_reported, placed_from, replies_from}
+use Rattle.fdb_core.specs.machine.Sessions.{tell_all}
 use Rattle.fdb_core.specs.machine.Verdicts.{outcomes_on}
 use Rattle.fdb_core.proofs.refinement.BatchLaws.{length-outcomes_on}
 use Rattle.fdb_core.proofs.refinement.CommitProxyTies.{commit_proxy-at}
@@ -52,6 +53,7 @@ module _ (k : Cluster) (proxy : ℕ) (commit_proxy : CommitProxy) (entry : Entry
     answer = answered.Answers (replies_from commit_proxy.in_flight k.outcomes);
     next = record (machine_of k) {
       acknowledged = k.acknowledged.items ++ placed_from commit_proxy.entry commit_proxy.in_flight k.outcomes;
+      sessions = tell_all commit_proxy.in_flight k.sessions;
       commit_proxies = slice_set k.commit_proxies.items proxy (record commit_proxy { in_flight = []; stage = Idle });
     };
   })

@@ -1,6 +1,6 @@
 -- What the headline says of small worlds: who stands where, what a shard has to answer, and which answers a trace has.
 use Rattle.std.specs.Prelude.{◌≡◌, ℕ, Bool, true, false, List, [], ◌∷◌, Option, Some, None, Result, Ok, Err, codes}
-use Rattle.std.specs.FinMap.{empty}
+use Rattle.std.specs.FinMap.{empty, insert}
 use Rattle.fdb_keys.specs.declared.refusal.Refusal.{Refusal}
 use Rattle.fdb_keys.specs.declared.refusal.Refusal.TheVariants.{Unknown}
 use Rattle.fdb_mutations.specs.declared.mutation.Mutation.TheVariants.{Set}
@@ -24,6 +24,7 @@ use Rattle.fdb_core.specs.programs.Programs.{commit_request_of}
 use Rattle.fdb_core.specs.headline.RealTime.{HasBegun, IsAfterVersion}
 use Rattle.fdb_core.specs.headline.Serving.{LogKeeps, ShardServes}
 use Rattle.fdb_core.specs.headline.Traces.{machine_of_trace, IsTraceOf}
+use Rattle.fdb_core.specs.machine.Sessions.{Asking}
 use Rattle.fdb_core.specs.machine.Worlds.{start}
 
 -- one of each role
@@ -150,12 +151,17 @@ ReadOffTheTrace =
     × ((readings_of asks_again served_twice).opened ≡ record
     { id = record { session = 5; number = 1 }; read_version = 100; ops = [] } ∷ [])
 
+-- the machine in which session 5 asks, which began nothing yet
+abbrev pub one_asks : Machine
+one_asks = record (start plain) {
+  sessions = insert empty 5 (record { last_number = None; state = Asking });
+  grv_proxies = (5 ∷ []) ∷ [];
+}
+
 -- A refused step leaves the machine, and no world stands for a trace with another answer than the machine's.
 abbrev pub Traced : Type 0
 Traced =
     (machine_of_trace plain (step.Grant 7 ∷ []) (Err Unknown ∷ []) ≡ start plain)
-    × (machine_of_trace plain (step.Ask 5 0 ∷ []) (Ok answered.Done ∷ []) ≡ record (start plain)
-    { grv_proxies = (5 ∷ []) ∷ [] })
-    × IsTraceOf plain (step.Ask 5 0 ∷ []) (Ok answered.Done ∷ [])
-    (Some (record (start plain) { grv_proxies = (5 ∷ []) ∷ [] }))
+    × (machine_of_trace plain (step.Ask 5 0 ∷ []) (Ok answered.Done ∷ []) ≡ one_asks)
+    × IsTraceOf plain (step.Ask 5 0 ∷ []) (Ok answered.Done ∷ []) (Some one_asks)
     × ((world : Option Machine) → IsTraceOf plain (step.Grant 0 ∷ []) (Ok answered.Done ∷ []) world → ⊥)

@@ -1,5 +1,5 @@
 -- What holds of the machine at every step and over every run.
-use Rattle.std.specs.Prelude.{◌≡◌, ◌↔◌, ℕ, Bool, true, false, nat_lt, List, map, Some, Result, Ok, Err, slice_get, position}
+use Rattle.std.specs.Prelude.{◌≡◌, ◌↔◌, ℕ, Bool, true, false, nat_lt, List, map, Some, Result, Ok, Err, slice_get}
 use Rattle.std.specs.FinMap.{get}
 use Rattle.fdb_keys.specs.declared.refusal.Refusal.{Refusal}
 use Rattle.fdb_keys.specs.declared.refusal.Refusal.TheVariants.{FutureVersion, TransactionTooOld}
@@ -16,7 +16,8 @@ use Rattle.fdb_core.specs.declared.step.Answered.{Answered}
 use Rattle.fdb_core.specs.headline.Readings.{readings_of}
 use Rattle.fdb_core.specs.headline.Traces.{IsTraceOf}
 use Rattle.fdb_core.specs.machine.RoleSteps.{version_of_shard}
-use Rattle.fdb_core.specs.machine.Machine.{Machine, Transition, is_of}
+use Rattle.fdb_core.specs.machine.Machine.{Machine, Transition}
+use Rattle.fdb_core.specs.machine.Sessions.{open_at}
 use Rattle.fdb_core.specs.programs.Programs.{program, copy, decided}
 use Rattle.fdb_core.specs.machine.Steps.{next, after}
 
@@ -43,8 +44,7 @@ abbrev pub GetsFromTheRun : Type 0
 GetsFromTheRun =
     (m : Machine) (session : ℕ) (key : List ℕ) (snapshot : Bool) (transition : Transition)
     → next m (step.Get session key snapshot) ≡ Ok transition
-    → (i : ℕ) × (transcript : Transcript) × (position (is_of session) m.opened ≡ Some i)
-    × (slice_get m.opened i ≡ Some transcript)
+    → (transcript : Transcript) × (open_at m.sessions session ≡ Some transcript)
     × (transition.answer ≡ answered.Value
     (get (copy (serial_map_at m.config.resolver_splits transcript.read_version (seen_of m.book).places)
     (program transcript.ops)) key))
@@ -69,8 +69,8 @@ HasForgotten m transcript key =
 -- forgotten the read version, and as either only there; a key that the transaction's own operations decide is answered.
 abbrev pub GetsRefused : Type 0
 GetsRefused =
-    (m : Machine) (session : ℕ) (key : List ℕ) (snapshot : Bool) (i : ℕ) (transcript : Transcript)
-    → position (is_of session) m.opened ≡ Some i → slice_get m.opened i ≡ Some transcript
+    (m : Machine) (session : ℕ) (key : List ℕ) (snapshot : Bool) (transcript : Transcript)
+    → open_at m.sessions session ≡ Some transcript
     → ((next m (step.Get session key snapshot) ≡ Err FutureVersion) ↔ IsLagging m transcript key)
     × ((next m (step.Get session key snapshot) ≡ Err TransactionTooOld) ↔ HasForgotten m transcript key)
     × (decided (program transcript.ops) key ≡ true

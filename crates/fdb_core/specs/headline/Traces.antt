@@ -1,13 +1,15 @@
 -- Traces: steps with their answers, and the machine that they determine.
-use Rattle.std.specs.Prelude.{◌≡◌, ℕ, false, map, slice_get, List, [], ◌∷◌, Option, Some, Result, Ok, Err}
+use Rattle.std.specs.Prelude.{◌≡◌, ℕ, min, false, map, filter, slice_get, List, [], ◌∷◌, Option, Some, None, Result, Ok, Err}
 use Rattle.fdb_keys.specs.declared.refusal.Refusal.{Refusal}
 use Rattle.fdb_core.specs.declared.config.Config.{Config}
+use Rattle.fdb_core.specs.declared.roles.client.program.Transcript.{Transcript}
 use Rattle.fdb_core.specs.declared.step.Answered.{Answered}
 use Rattle.fdb_core.specs.declared.step.Step.{Step}
-use Rattle.fdb_core.specs.headline.Readings.{Readings, readings_of}
+use Rattle.fdb_core.specs.headline.Readings.{Readings, readings_of, is_of_session, times_begun}
 use Rattle.fdb_core.specs.machine.CommitProxySteps.{is_idle}
 use Rattle.fdb_core.specs.machine.Machine.{Machine}
 use Rattle.fdb_core.specs.machine.Roles.{CommitProxy, Submission}
+use Rattle.fdb_core.specs.machine.Sessions.{session_of, open_at, next_number, greatest_number}
 use Rattle.fdb_core.specs.machine.Steps.{next, after}
 use Rattle.fdb_core.specs.machine.Worlds.{start, IsRun}
 
@@ -37,12 +39,20 @@ TracesDetermineTheMachine =
     (config : Config) (steps : List Step) (answers : List (Result Answered Refusal)) (m : Machine)
     → IsTraceOf config steps answers (Some m) → m ≡ machine_of_trace config steps answers
 
--- The machine has in its fields what is told: the entries, the open transactions with their operations and replies,
--- those who wait at each commit proxy, the batch that it has in flight, the acknowledged transactions with their spots,
--- and the greatest version that was reported.
+-- the transaction alone in a list, which is empty where there is none
+abbrev pub alone : Option Transcript → List Transcript
+alone None = []
+alone (Some transcript) = transcript ∷ []
+
+-- The machine has in its fields what is told: the entries; for each session the open transaction with its operations
+-- and replies, which is the only one that is told of it, and as its next number how often it began one; those who wait
+-- at each commit proxy, the batch that it has in flight, the acknowledged transactions with their spots, and the
+-- greatest version that was reported.
 pub record HasWhatIsTold (r : Readings) (m : Machine) : Type 0 where
   pub book : m.book ≡ r.book
-  pub opened : m.opened ≡ r.opened
+  pub opened : (session : ℕ) → filter (is_of_session session) r.opened ≡ alone (open_at m.sessions session)
+  pub begun : (session : ℕ)
+      → next_number (session_of m.sessions session).last_number ≡ min (times_begun session r.begun) greatest_number
   pub waiting : (proxy : ℕ) (commit_proxy : CommitProxy) → slice_get m.commit_proxies proxy ≡ Some commit_proxy
       → map (λ (submission : Submission). submission.transcript) commit_proxy.waiting ≡ r.waiting proxy
   pub in_flight : (proxy : ℕ) (commit_proxy : CommitProxy) → slice_get m.commit_proxies proxy ≡ Some commit_proxy

@@ -12,6 +12,7 @@ use Rattle.fdb_core.specs.declared.roles.client.program.Transcript.{Transcript}
 use Rattle.fdb_core.specs.headline.Headline.{replies_of, IsSerialized}
 use Rattle.fdb_core.specs.headline.RealTime.{spot_version, IsAfterVersion}
 use Rattle.fdb_core.specs.machine.Machine.{Machine}
+use Rattle.fdb_core.specs.machine.Sessions.{EachOpen}
 use Rattle.fdb_core.specs.programs.Programs.{program, exec, commit_request_of}
 use Rattle.fdb_core.specs.machine.CommitProxySteps.{is_idle, is_reported}
 
@@ -54,7 +55,7 @@ pub record Invariant (m : Machine) : Type 0 where
   pub entries : AreEntries (suc (length m.config.resolver_splits)) 0 m.book
   pub pending : AllByRecursion (λ (move : Move). move.to < suc (length m.config.resolver_splits)) m.pending
   pub committed : m.committed ≤ last_version m.book
-  pub opened : AllByRecursion (IsReplied m) m.opened
+  pub opened : EachOpen (IsReplied m) m.sessions
   pub commit_proxies : AllByRecursion (CommitProxyIsSound m) m.commit_proxies
   pub acknowledged : AllByRecursion (IsSerializedIn m) m.acknowledged
   pub reported : AllByRecursion (IsReported m) m.acknowledged

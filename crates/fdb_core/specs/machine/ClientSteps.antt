@@ -1,6 +1,5 @@
 -- The steps of clients.
 use Rattle.std.specs.Prelude.{ℕ, Bool, ◌&&◌, ◌==◌, List, [], ◌∷◌, ◌++◌, length, Option, None, Result, Ok, slice_get, slice_set, if◌then◌else◌}
-use Rattle.std.specs.List.{remove}
 use Rattle.fdb_keys.specs.declared.refusal.Refusal.{Refusal}
 use Rattle.fdb_mutations.specs.declared.mutation.Mutation.{Mutation}
 use Rattle.fdb_mutations.specs.Mutations.{mutation_fault}
@@ -15,7 +14,8 @@ use Rattle.fdb_core.specs.declared.roles.client.program.Reply.TheVariants as rep
 use Rattle.fdb_core.specs.declared.roles.client.program.Transcript.{Transcript}
 use Rattle.fdb_core.specs.declared.step.Answered.{Answered}
 use Rattle.fdb_core.specs.declared.step.Answered.TheVariants as answered
-use Rattle.fdb_core.specs.machine.Machine.{Machine, Transition, found, refused_by, with_opened}
+use Rattle.fdb_core.specs.machine.Machine.{Machine, Transition, found, refused_by, with_open}
+use Rattle.fdb_core.specs.machine.Sessions.{Idle, Open, Waiting, open_at, with_state}
 use Rattle.fdb_core.specs.programs.Programs.{program, copy, reply_on, decided, commit_request_of}
 use Rattle.fdb_core.specs.machine.RoleSteps.{shard_fault}
 
@@ -24,14 +24,15 @@ abbrev pub answered_by : Reply → Answered
 answered_by (reply.Value value) = answered.Value value
 answered_by reply.Done = answered.Done
 
--- the open transactions with one more operation and its reply at one of them
-abbrev pub with_operation : List Transcript → ℕ → Transcript → Op → Reply → List Transcript
-with_operation opened i transcript op reply = slice_set opened i
-    (record transcript { ops = transcript.ops ++ (op, reply) ∷ [] })
+-- the transaction with one more operation and its reply
+abbrev pub with_operation : Transcript → Op → Reply → Transcript
+with_operation transcript op reply = record transcript { ops = transcript.ops ++ (op, reply) ∷ [] }
 
--- the machine with one more operation and its reply at the transaction with the place in the list
+-- the machine with one more operation and its reply at the session's open transaction
 abbrev pub add_operation : Machine → ℕ → Transcript → Op → Reply → Machine
-add_operation m i transcript op reply = record m { opened = with_operation m.opened i transcript op reply }
+add_operation m session transcript op reply = record m {
+  sessions = with_state m.sessions session (Open (with_operation transcript op reply));
+}
 
 -- why a key is not read after the earlier operations; a decided key asks no shard
 abbrev pub read_fault : Machine → List Op → ℕ → List ℕ → Option Refusal
@@ -41,19 +42,19 @@ read_fault m earlier version key =
 
 -- Get: the reply of the program run on the map at its read version.
 unfoldable pub gets : Machine → ℕ → List ℕ → Bool → Result Transition Refusal
-gets m session key snapshot = with_opened session m.opened (λ i transcript.
+gets m session key snapshot = with_open (open_at m.sessions session) (λ transcript.
     let earlier = program transcript.ops in
     let there = serial_map_at m.config.resolver_splits transcript.read_version (seen_of m.book).places in
     let operation = op.Get key snapshot in
     let reply = reply_on (copy there earlier) operation in
     refused_by (read_fault m earlier transcript.read_version key)
-    (Ok (record { answer = answered_by reply; next = add_operation m i transcript operation reply })))
+    (Ok (record { answer = answered_by reply; next = add_operation m session transcript operation reply })))
 
 -- Write: the mutation is buffered.
 unfoldable pub writes : Machine → ℕ → Mutation → Result Transition Refusal
-writes m session mutation = with_opened session m.opened (λ i transcript.
+writes m session mutation = with_open (open_at m.sessions session) (λ transcript.
     refused_by (mutation_fault mutation)
-    (Ok (record { answer = answered.Done; next = add_operation m i transcript (op.Write mutation) reply.Done })))
+    (Ok (record { answer = answered.Done; next = add_operation m session transcript (op.Write mutation) reply.Done })))
 
 -- the list is empty
 abbrev pub is_nil : {A : Type 0} → List A → Bool
@@ -62,14 +63,13 @@ is_nil xs = length xs == 0
 -- Submit: a transaction that writes nothing is acknowledged at its read version, any other waits at the proxy.
 unfoldable pub submits : Machine → ℕ → ℕ → Result Transition Refusal
 submits m session proxy = found (slice_get m.commit_proxies proxy) (λ commit_proxy.
-    with_opened session m.opened (λ i transcript.
+    with_open (open_at m.sessions session) (λ transcript.
     let sealed = commit_request_of transcript in
-    let others = remove m.opened i in
     if is_nil sealed.mutations && is_nil sealed.writes
     then Ok (record {
       answer = answered.ReadOnly transcript.read_version;
       next = record m {
-        opened = others;
+        sessions = with_state m.sessions session Idle;
         acknowledged = m.acknowledged ++ record
             { spot = spot.ReadOnly transcript.read_version; transcript = transcript } ∷ [];
       };
@@ -77,7 +77,7 @@ submits m session proxy = found (slice_get m.commit_proxies proxy) (λ commit_pr
     else Ok (record {
       answer = answered.Done;
       next = record m {
-        opened = others;
+        sessions = with_state m.sessions session Waiting;
         commit_proxies = slice_set m.commit_proxies proxy
             (record commit_proxy
             { waiting = commit_proxy.waiting ++ record { sealed = sealed; transcript = transcript } ∷ [] });

@@ -14,6 +14,7 @@ use Rattle.fdb_core.specs.declared.step.Outcome.TheVariants as outcome
 use Rattle.fdb_core.specs.declared.step.Answered.TheVariants as answered
 use Rattle.fdb_txn.specs.book.Book.{last_version, seen_before}
 use Rattle.fdb_core.specs.machine.Machine.{Machine, Transition, found, refused_where, waits_for, is_set, first_missing}
+use Rattle.fdb_core.specs.machine.Sessions.{tell_all}
 use Rattle.fdb_core.specs.machine.Verdicts.{is_needed, outcomes_on}
 
 abbrev pub is_idle : Stage → Bool
@@ -173,6 +174,7 @@ answers m proxy = found (slice_get m.commit_proxies proxy) (λ commit_proxy.
       answer = answered.Answers (replies_from commit_proxy.in_flight outcomes);
       next = record m {
         acknowledged = m.acknowledged ++ placed_from commit_proxy.entry commit_proxy.in_flight outcomes;
+        sessions = tell_all commit_proxy.in_flight m.sessions;
         commit_proxies = slice_set m.commit_proxies proxy (record commit_proxy { in_flight = []; stage = Idle });
       };
     })))))

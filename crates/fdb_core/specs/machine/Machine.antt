@@ -1,12 +1,12 @@
 -- The abstract machine: its state is what can be read off the steps so far with their answers.
-use Rattle.std.specs.Prelude.{ℕ, suc, Bool, true, false, not, ◌&&◌, ◌||◌, ◌==◌, nat_lt, List, [], ◌∷◌, Option, Some, None, unwrap_or, Result, Err, slice_get, position, if◌then◌else◌}
-use Rattle.std.specs.List.{list_any}
+use Rattle.std.specs.Prelude.{ℕ, suc, Bool, true, false, not, ◌&&◌, nat_lt, List, [], ◌∷◌, Option, Some, None, unwrap_or, Result, Err, slice_get, if◌then◌else◌}
 use Rattle.fdb_keys.specs.declared.refusal.Refusal.{Refusal}
 use Rattle.fdb_keys.specs.declared.refusal.Refusal.TheVariants.{Unknown, Stale, NotYet, NoTransaction}
 use Rattle.fdb_txn.specs.declared.entry.Move.{Move}
 use Rattle.fdb_txn.specs.declared.entry.Entry.{Entry}
 use Rattle.fdb_core.specs.declared.config.Config.{Config}
-use Rattle.fdb_core.specs.machine.Roles.{Submission, CommitProxy, ShardProgress, LastTransaction}
+use Rattle.fdb_core.specs.machine.Roles.{CommitProxy, ShardProgress}
+use Rattle.fdb_core.specs.machine.Sessions.{Sessions}
 use Rattle.fdb_core.specs.declared.roles.client.Placed.{Placed}
 use Rattle.fdb_core.specs.declared.roles.client.program.Transcript.{Transcript}
 use Rattle.fdb_core.specs.declared.step.Answered.{Answered}
@@ -28,9 +28,8 @@ pub record Machine : Type 0 where
   pub shards : List ShardProgress
   -- for each read-version proxy the sessions that ask there
   pub grv_proxies : List (List ℕ)
-  -- the open transactions, and the last one that each session began
-  pub opened : List Transcript
-  pub last_transactions : List LastTransaction
+  -- what each session is at
+  pub sessions : Sessions
   -- the greatest version that was reported
   pub committed : ℕ
   -- the acknowledged transactions
@@ -75,33 +74,7 @@ abbrev pub first_missing : (ℕ → Bool) → ℕ → List Bool → Option ℕ
 first_missing needed n [] = None
 first_missing needed n (flag ∷ flags) = if needed n && not flag then Some n else first_missing needed (suc n) flags
 
--- the transcript is of the session
-abbrev pub is_of : ℕ → Transcript → Bool
-is_of session transcript = transcript.id.session == session
-
--- the session waits at the commit proxy for an answer
-abbrev pub waits_at_commit_proxy : ℕ → CommitProxy → Bool
-waits_at_commit_proxy session commit_proxy =
-    list_any (λ (submission : Submission). is_of session submission.transcript) commit_proxy.waiting || list_any
-    (is_of session) commit_proxy.in_flight
-
--- the session is among those who ask at a read-version proxy
-abbrev pub waits_at_grv_proxy : ℕ → List ℕ → Bool
-waits_at_grv_proxy session there = list_any (λ (asker : ℕ). asker == session) there
-
--- the session asks, or waits for an answer
-abbrev pub is_busy : ℕ → List (List ℕ) → List CommitProxy → Bool
-is_busy session grv_proxies commit_proxies = list_any (waits_at_grv_proxy session) grv_proxies || list_any
-    (waits_at_commit_proxy session) commit_proxies
-
--- a step goes on with the session's open transaction and its place in the list
-abbrev pub with_opened : ℕ → List Transcript → (ℕ → Transcript → Result Transition Refusal) → Result Transition Refusal
-with_opened session opened next = opened_at (position (is_of session) opened)
-  where
-    opened_there : ℕ → Option Transcript → Result Transition Refusal
-    opened_there i None = Err NoTransaction
-    opened_there i (Some transcript) = next i transcript
-
-    opened_at : Option ℕ → Result Transition Refusal
-    opened_at None = Err NoTransaction
-    opened_at (Some i) = opened_there i (slice_get opened i)
+-- a step goes on with the open transaction, and is refused where there is none
+abbrev pub with_open : Option Transcript → (Transcript → Result Transition Refusal) → Result Transition Refusal
+with_open None next = Err NoTransaction
+with_open (Some transcript) next = next transcript

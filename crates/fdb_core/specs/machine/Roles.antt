@@ -1,4 +1,4 @@
--- What the machine says of each role and of each session.
+-- What the machine says of each role.
 use Rattle.std.specs.Prelude.{ℕ, Bool, List}
 use Rattle.fdb_txn.specs.book.Transactions.{Transaction}
 use Rattle.fdb_core.specs.declared.roles.client.program.Transcript.{Transcript}
@@ -34,8 +34,3 @@ pub data Sender : Type 0 where
 pub record ShardProgress : Type 0 where
   pub applied : ℕ
   pub floor : ℕ
-
--- the number of the last transaction that a session began
-pub record LastTransaction : Type 0 where
-  pub session : ℕ
-  pub number : ℕ

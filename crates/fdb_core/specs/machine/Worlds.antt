@@ -1,5 +1,6 @@
 -- The world as the machine: what it starts as, what a step may do to it, and a run of steps.
 use Rattle.std.specs.Prelude.{◌≡◌, suc, Bool, ◌&&◌, ◌==◌, nat_le, List, [], ◌∷◌, length, replicate, Option, Some, None, Result, Err, ◌⊎◌, if◌then◌else◌}
+use Rattle.std.specs.FinMap.{empty}
 use Rattle.fdb_keys.specs.declared.refusal.Refusal.{Refusal}
 use Rattle.fdb_keys.specs.declared.refusal.Refusal.TheVariants.{NoMemory, Failed, BadConfig}
 use Rattle.fdb_core.specs.declared.config.Config.{Config}
@@ -40,8 +41,7 @@ start config =
       logs = replicate config.logs 0;
       shards = replicate (suc (length config.shard_splits)) (record { applied = 0; floor = 0 });
       grv_proxies = replicate config.proxies [];
-      opened = [];
-      last_transactions = [];
+      sessions = empty;
       committed = 0;
       acknowledged = [];
     }

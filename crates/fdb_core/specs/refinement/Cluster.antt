@@ -17,6 +17,7 @@ use Rattle.fdb_core.specs.declared.step.Outcome.{Outcome}
 use Rattle.fdb_core.specs.machine.Limits.{entry_limit}
 use Rattle.fdb_txn.specs.book.Book.{last_version, seen_before}
 use Rattle.fdb_core.specs.machine.Machine.{Machine, is_set}
+use Rattle.fdb_core.specs.machine.Sessions.{EachOpen}
 use Rattle.fdb_core.specs.refinement.Resolving.{NoMovesIn, ResolverAt, taken_by}
 use Rattle.fdb_core.specs.programs.Programs.{program, mutations_of}
 use Rattle.fdb_core.specs.machine.CommitProxySteps.{is_idle, is_resolving}
@@ -39,8 +40,7 @@ machine_of k =
       logs = k.logs.items;
       shards = k.shards.items;
       grv_proxies = k.grv_proxies.items;
-      opened = k.opened.items;
-      last_transactions = k.last_transactions.items;
+      sessions = k.sessions;
       committed = k.sequencer.committed;
       acknowledged = k.acknowledged.items;
     }
@@ -169,4 +169,4 @@ pub record Refines (k : Cluster) : Type 0 where
   pub log : LogRefines k.book.items k.logs.items k.shards.items k.log.items k.shard.items
   pub commit_proxies : CommitProxiesRefine k.book.items (taken_by k.resolvers.items) k.sequencer.committed
       k.commit_proxies.items k.outcomes
-  pub opened : AllByRecursion (OpenRefines k.sequencer.committed) k.opened.items
+  pub opened : EachOpen (OpenRefines k.sequencer.committed) k.sessions

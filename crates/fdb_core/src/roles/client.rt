@@ -1,6 +1,7 @@
 // What a session keeps of its transactions.
 pub(crate) mod commit_request;
 pub(crate) mod program;
+pub(crate) mod session;
 pub(crate) mod sessions;
 
 use crate::roles::client::program::Transcript;
@@ -55,46 +56,4 @@ pub struct Placed {
     pub spot: Spot,
     /// Its operations with their replies.
     pub transcript: Transcript,
-}
-
-/// The number of the last transaction that a session began, counted from 0.
-#[derive(Clone, Copy)]
-pub(crate) struct LastTransaction {
-    session: u32,
-    number: u64,
-}
-
-impl Model for LastTransaction {
-    ghost use Rattle.fdb_core.specs.machine.Roles.{LastTransaction};
-
-    ghost Value = { LastTransaction };
-
-    ghost view = { λ last. record { session = last.session; number = last.number } };
-
-    ghost inverse = { λ last. record { session = last.session; number = last.number } };
-}
-
-impl LastTransaction {
-    ghost use Rattle.std.specs.Prelude.{◌≡◌};
-
-    /// The session's last transaction has the number.
-    pub(crate) fn new(session: u32, number: u64) -> Self
-        ensures { result ≡ record { session = session; number = number } }
-    {
-        LastTransaction { session, number }
-    }
-
-    /// The session's number.
-    pub(crate) fn session(&self) -> u32
-        ensures { result ≡ self.now.session }
-    {
-        self.session
-    }
-
-    /// The number of its last transaction.
-    pub(crate) fn number(&self) -> u64
-        ensures { result ≡ self.now.number }
-    {
-        self.number
-    }
 }

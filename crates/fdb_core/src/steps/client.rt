@@ -13,7 +13,6 @@ use crate::book::last_version;
 use crate::cluster::Cluster;
 use crate::roles::client::commit_request::commit_request;
 use crate::roles::client::program::{Op, Reply, Transcript};
-use crate::roles::client::sessions::{add_operation, position_of};
 use crate::roles::client::{Placed, Submission};
 use crate::roles::values::{copied, is_decided, value_after_ops, value_in};
 use crate::step::Answered;
@@ -67,14 +66,15 @@ impl Cluster {
             (machine_of self.new ≡ after (machine_of self.old) (gets (machine_of self.old) session key.now snapshot)) }
         ensures refines { Unless (ran_out result) (Refines self.new) }
     {
-        let Some(place) = position_of(&self.opened, session) else {
+        let Some(transcript) = self.sessions.open(session) else {
             return Err(Refusal::NoTransaction);
         };
-        let value = self.value_of(&self.opened[place], key)?;
+        let value = self.value_of(transcript, key)?;
         let key = key.clone()?;
         let with_operation = value.clone()?;
         let reply = Reply::Value(with_operation);
-        add_operation(&mut self.opened, place, Op::Get { key, snapshot }, reply)?;
+        self.sessions
+            .add_operation(session, Op::Get { key, snapshot }, reply)?;
         Ok(Answered::Value(value))
     }
 
@@ -87,12 +87,13 @@ impl Cluster {
             (machine_of self.new ≡ after (machine_of self.old) (writes (machine_of self.old) session mutation.now)) }
         ensures refines { Unless (ran_out result) (Refines self.new) }
     {
-        let Some(place) = position_of(&self.opened, session) else {
+        if self.sessions.open(session).is_none() {
             return Err(Refusal::NoTransaction);
-        };
+        }
         mutation.check()?;
         let mutation = mutation.clone()?;
-        add_operation(&mut self.opened, place, Op::Write(mutation), Reply::Done)?;
+        self.sessions
+            .add_operation(session, Op::Write(mutation), Reply::Done)?;
         Ok(Answered::Done)
     }
 
@@ -108,17 +109,17 @@ impl Cluster {
         if at >= self.commit_proxies.len() {
             return Err(Refusal::Unknown);
         }
-        let Some(place) = position_of(&self.opened, session) else {
+        let Some(transcript) = self.sessions.take_open(session) else {
             return Err(Refusal::NoTransaction);
         };
-        let sealed = commit_request(self.alloc, &self.opened[place])?;
-        let transcript = self.opened.remove(place);
+        let sealed = commit_request(self.alloc, &transcript)?;
         if sealed.mutations().is_empty() && sealed.writes().is_empty() {
             let version = transcript.read_version;
             let spot = Spot::ReadOnly { version };
             self.acknowledged.push(Placed { spot, transcript })?;
             return Ok(Answered::ReadOnly(version));
         }
+        self.sessions.wait(session)?;
         let commit_proxy = &mut self.commit_proxies[at];
         commit_proxy.submit(Submission::new(sealed, transcript))?;
         Ok(Answered::Done)

@@ -10,7 +10,7 @@ use crate::cluster::Cluster;
 use crate::roles::commit_proxy::Sender;
 use crate::roles::commit_proxy::deciding::{committed_body, decide_batch};
 use crate::roles::commit_proxy::flags::{first_unset, is_set};
-use crate::roles::commit_proxy::replying::{place_all, reply_all};
+use crate::roles::commit_proxy::replying::{place_all, reply_all, tell_all};
 use crate::roles::log::Message;
 use crate::roles::resolver::{are_any_judged, sent_of};
 use crate::roles::sequencer::{issue, take_report};
@@ -228,6 +228,7 @@ impl Cluster {
             transcripts,
             outcomes,
         )?;
+        tell_all(&mut self.sessions, transcripts)?;
         let commit_proxy = &mut self.commit_proxies[at];
         commit_proxy.finish(self.alloc);
         Ok(Answered::Answers(told))

@@ -5,7 +5,6 @@ ghost use Rattle.fdb_core.specs.machine.Steps.{Unless, ran_out, answer_of, after
 ghost use Rattle.fdb_core.specs.refinement.Cluster.{machine_of, Refines};
 
 use crate::cluster::Cluster;
-use crate::roles::client::sessions::{drop_opened, is_busy};
 use crate::roles::grv_proxy::{are_used_up, serve_all};
 use crate::step::Answered;
 use fdb_keys::{Items, Refusal};
@@ -24,10 +23,10 @@ impl Cluster {
         if at >= self.grv_proxies.len() {
             return Err(Refusal::Unknown);
         }
-        if is_busy(&self.grv_proxies, &self.commit_proxies, session) {
+        if self.sessions.is_busy(session) {
             return Err(Refusal::WrongState);
         }
-        drop_opened(&mut self.opened, session);
+        self.sessions.ask(session)?;
         let there = &mut self.grv_proxies[at];
         there.push(session)?;
         Ok(Answered::Done)
@@ -45,14 +44,13 @@ impl Cluster {
         if at >= self.grv_proxies.len() {
             return Err(Refusal::Unknown);
         }
-        if are_used_up(&self.last_transactions, self.grv_proxies[at].as_slice()) {
+        if are_used_up(&self.sessions, self.grv_proxies[at].as_slice()) {
             return Err(Refusal::Exhausted);
         }
         let there = mem::replace(&mut self.grv_proxies[at], Items::new(self.alloc));
         let granted = serve_all(
             self.alloc,
-            &mut self.last_transactions,
-            &mut self.opened,
+            &mut self.sessions,
             self.sequencer.committed(),
             there.as_slice(),
         )?;

@@ -1,107 +1,175 @@
-// Looking for sessions in the world's lists.
-ghost use Rattle.std.specs.Prelude.{◌≡◌, ◌<◌, position, slice_get, length, Some, IfSome, OnOk};
-ghost use Rattle.std.specs.List.{list_any};
-ghost use Rattle.fdb_core.specs.machine.ClientSteps.{with_operation};
-ghost use Rattle.fdb_core.specs.machine.GrvProxySteps.{without};
-ghost use Rattle.fdb_core.specs.machine.Machine.{is_of, waits_at_grv_proxy, waits_at_commit_proxy, is_busy};
-
-use crate::roles::client::Submission;
 use crate::roles::client::program::{Op, Reply, Transcript};
-use crate::roles::commit_proxy::CommitProxy;
+use crate::roles::client::session::{Session, SessionState};
 use fdb_keys::Items;
-use std::alloc::AllocError;
+use fdb_txn::TxnId;
+use std::alloc::{AllocError, Global};
+use std::collections::BTreeMap;
+use std::marker::Model;
 
-fn is_of(transcript: &Transcript, session: u32) -> bool
-    ensures { result ≡ is_of session transcript.now }
-{
-    transcript.id.session == session
+/// What each session is at, by its number. One that did nothing yet has no entry.
+#[derive(Drop)]
+pub(crate) struct Sessions {
+    by_number: BTreeMap<u32, Session>,
 }
 
-/// The place of the session's open transaction.
-pub(crate) fn position_of(opened: &[Transcript], session: u32) -> Option<usize>
-    ensures value { result ≡ position (is_of session) opened.now }
-    ensures within { IfSome result (λ place. place < length opened.now) }
-{
-    opened
-        .iter()
-        .position(|transcript| transcript.id.session == session)
+impl Model for Sessions {
+    ghost use Rattle.std.specs.Coded.{coded_ℕ, codes};
+    ghost use Rattle.std.specs.FinMap.{code, from_entries};
+    ghost use Rattle.fdb_core.specs.machine.Sessions.{Sessions};
+
+    ghost Value = { Sessions };
+
+    ghost coded = { code coded_ℕ (Prim.hlevel codes) };
+
+    ghost view = { λ sessions. from_entries sessions.by_number.entries };
 }
 
-/// Drops the session's open transaction.
-pub(crate) fn drop_opened(opened: &mut Vec<Transcript>, session: u32)
-    ensures { opened.new.items ≡ without session opened.old.items }
-{
-    if let Some(place) = position_of(opened, session) {
-        let _dropped = opened.remove(place);
+impl Sessions {
+    ghost use Rattle.std.specs.Prelude.{◌≡◌, Some, IfSome, IfNone, OnOk};
+    ghost use Rattle.std.specs.List.{list_any};
+    ghost use Rattle.std.specs.FinMap.{empty, get};
+    ghost use Rattle.std.specs.Option.{option_copied};
+    ghost use Rattle.fdb_core.specs.declared.roles.client.program.Transcript.{Transcript};
+    ghost use Rattle.fdb_core.specs.machine.ClientSteps.{with_operation};
+    ghost use Rattle.fdb_core.specs.machine.GrvProxySteps.{has_no_number};
+    ghost use Rattle.fdb_core.specs.machine.Sessions.{Idle, Asking, Open, Waiting, session_of, open_at, with_state, is_busy, next_number, serve, tell};
+    ghost use Rattle.fdb_core.specs.refinement.Views.{state_of};
+
+    /// No session did anything yet. It takes no memory.
+    pub(crate) fn new(alloc: Global) -> Self
+        ensures { result ≡ empty }
+    {
+        Sessions {
+            by_number: BTreeMap::new(alloc),
+        }
     }
-}
 
-fn waits_at_grv_proxy(there: &[u32], session: u32) -> bool
-    ensures { result ≡ waits_at_grv_proxy session there.now }
-{
-    there.iter().any(|asker| *asker == session)
-}
+    // The session, if it did something.
+    fn known(&self, session: u32) -> Option<&Session>
+        ensures { option_copied result ≡ get self.now session }
+    {
+        self.by_number.get(&session)
+    }
 
-fn is_waiting(waiting: &[Submission], session: u32) -> bool
-    ensures { result ≡ list_any (λ submission. is_of session submission.transcript) waiting.now }
-{
-    waiting
-        .iter()
-        .any(|submission| is_of(submission.transcript(), session))
-}
+    /// Whether the session asks, or waits for what becomes of its transaction.
+    pub(crate) fn is_busy(&self, session: u32) -> bool
+        ensures { result ≡ is_busy (session_of self.now session).state }
+    {
+        match self.known(session) {
+            Some(known) => known.is_busy(),
+            None => false,
+        }
+    }
 
-fn is_in_flight(in_flight: &[Transcript], session: u32) -> bool
-    ensures { result ≡ list_any (is_of session) in_flight.now }
-{
-    in_flight
-        .iter()
-        .any(|transcript| is_of(transcript, session))
-}
+    /// The session's open transaction, if it has one.
+    pub(crate) fn open(&self, session: u32) -> Option<&Transcript>
+        ensures { option_copied result ≡ open_at self.now session }
+    {
+        match self.known(session) {
+            Some(known) => known.open(),
+            None => None,
+        }
+    }
 
-fn waits_at_commit_proxy(commit_proxy: &CommitProxy, session: u32) -> bool
-    ensures { result ≡ waits_at_commit_proxy session commit_proxy.now }
-{
-    is_waiting(commit_proxy.waiting(), session) || is_in_flight(commit_proxy.in_flight(), session)
-}
+    // The number of the last transaction that the session began.
+    fn last_number(&self, session: u32) -> Option<u64>
+        ensures { result ≡ (session_of self.now session).last_number }
+    {
+        match self.known(session) {
+            Some(known) => known.last_number(),
+            None => None,
+        }
+    }
 
-fn waits_at_some_grv_proxy(grv_proxies: &[Items<u32>], session: u32) -> bool
-    ensures { result ≡ list_any (waits_at_grv_proxy session) grv_proxies.now }
-{
-    grv_proxies
-        .iter()
-        .any(|there| waits_at_grv_proxy(there.as_slice(), session))
-}
+    /// Whether the session has used up all numbers of transactions.
+    pub(crate) fn is_used_up(&self, session: u32) -> bool
+        ensures { result ≡ has_no_number self.now session }
+    {
+        match self.last_number(session) {
+            None => false,
+            Some(last) => last == u64::MAX,
+        }
+    }
 
-fn waits_at_some_commit_proxy(commit_proxies: &[CommitProxy], session: u32) -> bool
-    ensures { result ≡ list_any (waits_at_commit_proxy session) commit_proxies.now }
-{
-    commit_proxies.iter().any(|commit_proxy| waits_at_commit_proxy(commit_proxy, session))
-}
+    // The number of the session's next transaction.
+    fn next_number(&self, session: u32) -> u64
+        ensures { result ≡ next_number (session_of self.now session).last_number }
+    {
+        match self.last_number(session) {
+            None => 0,
+            Some(last) => last.saturating_add(1),
+        }
+    }
 
-/// Whether the session asks, or waits for an answer.
-pub(crate) fn is_busy(
-    grv_proxies: &[Items<u32>],
-    commit_proxies: &[CommitProxy],
-    session: u32,
-) -> bool
-    ensures { result ≡ is_busy session grv_proxies.now commit_proxies.now }
-{
-    waits_at_some_grv_proxy(grv_proxies, session)
-        || waits_at_some_commit_proxy(commit_proxies, session)
-}
+    // The session is at another state.
+    fn set_state(&mut self, session: u32, state: SessionState) -> Result<(), AllocError>
+        ensures { OnOk result (self.new ≡ with_state self.old session (state_of state)) }
+    {
+        let last_number = self.last_number(session);
+        self.by_number.insert(session, Session::new(last_number, state))?;
+        Ok(())
+    }
 
-/// Notes an operation with its reply at the open transaction with the place.
-pub(crate) fn add_operation(
-    opened: &mut Vec<Transcript>,
-    place: usize,
-    op: Op,
-    reply: Reply,
-) -> Result<(), AllocError>
-    requires { place < length opened.old.items }
-    ensures { OnOk result ((transcript : Transcript) → slice_get opened.old.items place ≡ Some transcript
-        → opened.new.items ≡ with_operation opened.old.items place transcript op reply) }
-{
-    let transcript = &mut opened[place];
-    transcript.ops.push((op, reply))?;
-    Ok(())
+    /// The session asks for a read version. A transaction that it has open is dropped.
+    pub(crate) fn ask(&mut self, session: u32) -> Result<(), AllocError>
+        ensures { OnOk result (self.new ≡ with_state self.old session Asking) }
+    {
+        self.set_state(session, SessionState::Asking)
+    }
+
+    /// The session waits for what becomes of its transaction.
+    pub(crate) fn wait(&mut self, session: u32) -> Result<(), AllocError>
+        ensures { OnOk result (self.new ≡ with_state self.old session Waiting) }
+    {
+        self.set_state(session, SessionState::Waiting)
+    }
+
+    /// The session begins a transaction at the read version.
+    pub(crate) fn begin(
+        &mut self,
+        alloc: Global,
+        read_version: u64,
+        session: u32,
+    ) -> Result<(), AllocError>
+        ensures { OnOk result (self.new ≡ serve read_version self.old session) }
+    {
+        let number = self.next_number(session);
+        let transcript = Transcript {
+            id: TxnId { session, number },
+            read_version,
+            ops: Items::new(alloc),
+        };
+        let next = Session::new(Some(number), SessionState::Open(transcript));
+        self.by_number.insert(session, next)?;
+        Ok(())
+    }
+
+    /// Notes an operation with its reply at the session's open transaction.
+    pub(crate) fn add_operation(&mut self, session: u32, op: Op, reply: Reply) -> Result<(), AllocError>
+        ensures { OnOk result ((transcript : Transcript) → open_at self.old session ≡ Some transcript
+            → self.new ≡ with_state self.old session (Open (with_operation transcript op reply))) }
+    {
+        let Some(known) = self.by_number.get_mut(&session) else {
+            return Ok(());
+        };
+        known.add_operation(op, reply)?;
+        Ok(())
+    }
+
+    /// The session's open transaction, if it has one, which it has no more.
+    pub(crate) fn take_open(&mut self, session: u32) -> Option<Transcript>
+        ensures taken { result ≡ open_at self.old session }
+        ensures ended { IfSome result (λ _. self.new ≡ with_state self.old session Idle) }
+        ensures kept { IfNone result (self.new ≡ self.old) }
+    {
+        let known = self.by_number.get_mut(&session)?;
+        known.take_open()
+    }
+
+    /// The transaction's session is told what became of it, and has none any more.
+    pub(crate) fn tell(&mut self, transcript: &Transcript) -> Result<(), AllocError>
+        ensures { OnOk result (self.new ≡ tell self.old transcript.now) }
+    {
+        self.set_state(transcript.id.session, SessionState::Idle)
+    }
 }

@@ -1,9 +1,11 @@
 // What the clients of a batch are told.
 ghost use Rattle.std.specs.Prelude.{◌≡◌, [], ◌∷◌, ◌++◌, length, IfOk, OnOk};
 ghost use Rattle.fdb_core.specs.machine.CommitProxySteps.{placed_from, replies_from};
+ghost use Rattle.fdb_core.specs.machine.Sessions.{tell_all};
 
 use crate::roles::client::Placed;
 use crate::roles::client::program::Transcript;
+use crate::roles::client::sessions::Sessions;
 use crate::step::Outcome;
 use fdb_keys::Items;
 use fdb_txn::Spot;
@@ -58,6 +60,16 @@ pub(crate) fn place_all(
 {
     for (transcript, outcome) in transcripts.iter().zip(outcomes) {
         place(placed, index, transcript, outcome)?;
+    }
+    Ok(())
+}
+
+/// The sessions of the batch have no transaction any more.
+pub(crate) fn tell_all(sessions: &mut Sessions, transcripts: &[Transcript]) -> Result<(), AllocError>
+    ensures { OnOk result (sessions.new ≡ tell_all transcripts.now sessions.old) }
+{
+    for transcript in transcripts {
+        sessions.tell(transcript)?;
     }
     Ok(())
 }

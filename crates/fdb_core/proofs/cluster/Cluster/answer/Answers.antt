@@ -7,9 +7,11 @@ use Rattle.fdb_core.specs.machine.Roles.{CommitProxy, Idle}
 use Rattle.fdb_core.specs.declared.roles.client.program.Transcript.{Transcript}
 use Rattle.fdb_core.specs.declared.step.Answered.TheVariants as answered
 use Rattle.fdb_core.specs.declared.step.Outcome.{Outcome}
-use Rattle.fdb_core.specs.refinement.Cluster.{machine_of}
+use Rattle.fdb_core.specs.refinement.Cluster.{machine_of, OpenRefines}
 use Rattle.fdb_core.specs.machine.CommitProxySteps.{is_reported, placed_from, replies_from}
+use Rattle.fdb_core.specs.machine.Sessions.{tell_all}
 use Rattle.fdb_core.specs.machine.Steps.{answer_of, after}
+use Rattle.fdb_core.proofs.machine.SessionLemmas.{open-told}
 use Rattle.fdb_core.proofs.refinement.DecideLemmas.{one-item, proxy-and-entry}
 use Rattle.fdb_core.proofs.refinement.AnswerLemmas.{Answering, outcome-each, answers-transition}
 use Rattle.fdb_core.proofs.cluster.Cluster.answer.Goals as goal
@@ -75,8 +77,28 @@ returns-clause-after c =
     c.in_ok-place_all.ensures
     ∙ (λ i. k.acknowledged.items ++ placed_from (c.entry.ensures i) (c.in_flight-transcripts.ensures i)
     (c.as_slice-outcomes.ensures i)) in
+    let told : c.tell_all.new.sessions ≡ tell_all commit_proxy.in_flight k.sessions =
+    c.in_ok-tell_all.ensures
+    ∙ ap (λ (transcripts : List Transcript). tell_all transcripts k.sessions) c.in_flight-transcripts.ensures in
     sym (ap (after (machine_of k)) (answers-transition k c.args.proxy commit_proxy found.0 c.requires found.1)
-    ∙ ap₂ (λ (acknowledged : List Placed) (p : CommitProxy). record (machine_of k) {
-      acknowledged = acknowledged;
-      commit_proxies = slice_set k.commit_proxies.items c.args.proxy p;
-    }) (sym placed) (sym new))
+    ∙ (λ i. record (machine_of k) {
+      acknowledged = sym placed i;
+      sessions = sym told i;
+      commit_proxies = slice_set k.commit_proxies.items c.args.proxy (sym new i);
+    }))
+
+pub returns-clause-refines : goal.returns-clause-refines
+returns-clause-refines c =
+    let k = c.args.self.now in
+    let before = c.requires in
+    record {
+      plain = before.plain;
+      room = before.room;
+      sequencer = before.sequencer;
+      book = before.book;
+      resolvers = before.resolvers;
+      log = before.log;
+      commit_proxies = search rules;
+      opened = rw c.in_ok-tell_all.ensures
+          (open-told (OpenRefines k.sequencer.committed) c.in_flight-transcripts.result.now k.sessions before.opened);
+    }

@@ -1,17 +1,17 @@
-use Rattle.std.proofs.Common.{sym, subst, ℕ, fold}
-use Rattle.std.specs.List.{AllByRecursion}
-use Rattle.fdb_core.specs.machine.GrvProxySteps.{serve}
+use Rattle.std.proofs.Common.{sym, subst, ℕ, fold, arith}
+use Rattle.fdb_core.specs.machine.Sessions.{EachOpen, serve}
 use Rattle.fdb_core.specs.refinement.Cluster.{OpenRefines}
-use Rattle.fdb_core.proofs.refinement.Ties.{opened-served, refines-sessions}
+use Rattle.fdb_core.proofs.machine.SessionLemmas.{open-served}
+use Rattle.fdb_core.proofs.refinement.Ties.{refines-sessions}
 use Rattle.fdb_core.proofs.cluster.Cluster.grant.Goals as goal
 
 pub returns-clause-refines : goal.returns-clause-refines
 returns-clause-refines c =
     let before = c.requires in
-    refines-sessions c.args.self.now _ _ _ _ before
-    (rw c.in_ok-granted.ensures.opened
-    (subst (λ (committed : ℕ). AllByRecursion (OpenRefines c.args.self.now.sequencer.committed)
-    (fold (serve committed) (c.args.self.now.last_transactions.items, c.args.self.now.opened.items)
-    c.as_slice-2.result.now).1) (sym c.committed.ensures.value)
-    (opened-served c.args.self.now.sequencer.committed c.as_slice-2.result.now
-    c.args.self.now.last_transactions.items c.args.self.now.opened.items before.opened)))
+    let k = c.args.self.now in
+    refines-sessions k _ _ _ before
+    (rw c.in_ok-granted.ensures.sessions
+    (subst (λ (committed : ℕ). EachOpen (OpenRefines k.sequencer.committed)
+    (fold (serve committed) k.sessions c.as_slice-2.result.now)) (sym c.committed.ensures.value)
+    (open-served (OpenRefines k.sequencer.committed) k.sequencer.committed
+    (λ id. record { below = omega arith; legal = tt }) c.as_slice-2.result.now k.sessions before.opened)))

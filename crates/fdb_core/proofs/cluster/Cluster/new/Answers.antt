@@ -1,6 +1,7 @@
 use Rattle.std.proofs.Common.{◌≡◌, refl, arith, rules, [], ◌∷◌}
-use Rattle.fdb_core.specs.refinement.Cluster.{BookRefines, CommitProxiesRefine, LogRefines, ResolverRefines, SequencerRefines}
+use Rattle.fdb_core.specs.refinement.Cluster.{BookRefines, CommitProxiesRefine, LogRefines, OpenRefines, ResolverRefines, SequencerRefines}
 use Rattle.fdb_core.specs.refinement.Resolving.{taken_by}
+use Rattle.fdb_core.proofs.machine.SessionLemmas.{open-new}
 use Rattle.fdb_core.proofs.cluster.Cluster.new.Goals as goal
 
 -- the one resolver took none of the entries, of which there are none
@@ -26,14 +27,14 @@ returns-clause-refines c =
       };
       room = rw c.new-5.ensures.items (omega arith);
       sequencer = rw c.new-5.ensures.items sequencer;
-      book = rw (c.new-5.ensures.items, c.new-6.ensures.items, c.new-7.ensures.items, c.new-12.ensures.items) book;
+      book = rw (c.new-5.ensures.items, c.new-6.ensures.items, c.new-7.ensures.items, c.new-11.ensures.items) book;
       resolvers = rw c.new-5.ensures.items (record { role = role; one = c.in_ok-resolvers.ensures; ok = resolver });
       log = rw (
         c.new-5.ensures.items,
         c.in_ok-logs.ensures,
         c.in_ok-shards.ensures,
+        c.new-12.ensures.items,
         c.new-13.ensures.items,
-        c.new-14.ensures.items,
       ) log;
       commit_proxies =
           rw (
@@ -41,7 +42,7 @@ returns-clause-refines c =
             numbers,
             c.first_sequencer.ensures,
             c.in_ok-commit_proxies.ensures,
-            c.new-11.ensures,
+            c.new-10.ensures,
           ) commit_proxies;
-      opened = rw c.new-8.ensures.items tt;
+      opened = rw c.new-8.ensures (open-new (OpenRefines _));
     }

@@ -6,7 +6,7 @@ use Rattle.fdb_core.specs.refinement.Cluster.{machine_of, OpenRefines}
 use Rattle.fdb_txn.specs.book.Book.{last_version}
 use Rattle.fdb_core.specs.machine.Machine.{first_missing}
 use Rattle.fdb_core.specs.machine.CommitProxySteps.{is_logging, reports}
-use Rattle.fdb_txn.proofs.book.HistoryLemmas.{all-weaken}
+use Rattle.fdb_core.proofs.machine.SessionLemmas.{open-weaken}
 use Rattle.fdb_core.proofs.refinement.CommitProxyTies.{commit_proxies-set, commit_proxy-reported}
 use Rattle.fdb_core.proofs.refinement.RoleTies.{below-last}
 use Rattle.fdb_core.proofs.refinement.TicketTies.{logging-is, reports-transition}
@@ -120,7 +120,7 @@ returns-clause-refines c =
           before.commit_proxies (there c)
           (commit_proxy-reported k.book.items (taken_by k.resolvers.items) k.sequencer.committed committed
           k.outcomes commit_proxy above (logging c)));
-      opened = all-weaken (OpenRefines k.sequencer.committed) (OpenRefines committed)
-          (λ transcript ok. record { below = omega (arith, ok.below, above); legal = ok.legal }) k.opened.items
+      opened = open-weaken (OpenRefines k.sequencer.committed) (OpenRefines committed)
+          (λ transcript ok. record { below = omega (arith, ok.below, above); legal = ok.legal }) k.sessions
           before.opened;
     })

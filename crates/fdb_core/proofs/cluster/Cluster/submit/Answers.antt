@@ -1,26 +1,47 @@
-use Rattle.std.proofs.Common.{◌≡◌, refl, sym, ap, subst, ◌<◌, length, Some, slice_get, arith, rules}
+use Rattle.std.proofs.Common.{◌≡◌, ◌∙◌, refl, sym, ap, subst, ◌<◌, length, Some, slice_get, arith, rules}
 use Rattle.std.proofs.lemmas.Option.{slice_get_read}
 use Rattle.fdb_txn.specs.book.Transactions.{Transaction, NamesWrites}
+use Rattle.fdb_core.specs.machine.ClientSteps.{submits}
 use Rattle.fdb_core.specs.machine.Roles.{Submission}
+use Rattle.fdb_core.specs.machine.Sessions.{Sessions, Idle, Waiting, open_at, with_state}
 use Rattle.fdb_core.specs.refinement.Cluster.{OpenRefines, WaitsRefines}
-use Rattle.fdb_core.proofs.common.AllLemmas.{all-at, all-remove}
+use Rattle.fdb_core.proofs.machine.SessionLemmas.{open-has, open-put, state-again}
 use Rattle.fdb_core.proofs.refinement.CommitProxyTies.{commit_proxies-set, commit_proxy-submit}
+use Rattle.fdb_core.proofs.refinement.Ties.{refines-sessions}
 use Rattle.fdb_core.proofs.programs.WriteSetLemmas.{commit_request_of-names}
 use Rattle.fdb_core.proofs.cluster.Cluster.submit.Goals as goal
+use Rattle.fdb_core.proofs.cluster.Cluster.submit.Goals.{In_ok-submit}
 use Rattle.fdb_core.specs.refinement.Resolving.{taken_by}
+
+pub returns-then-is_empty-2-clause-refines : goal.returns-then-is_empty-2-clause-refines
+returns-then-is_empty-2-clause-refines c =
+    let k = c.args.self.now in
+    refines-sessions k _ _ _ c.requires
+    (rw c.in-Some.ensures.ended
+    (open-put (OpenRefines k.sequencer.committed) k.sessions c.args.session Idle c.requires.opened tt))
+
+-- the session goes from its open transaction to waiting
+waits_as : (c : In_ok-submit) → c.wait.new.self ≡ with_state c.args.self.now.sessions c.args.session Waiting
+waits_as c =
+    c.in_ok-wait.ensures
+    ∙ ap (λ (sessions : Sessions). with_state sessions c.args.session Waiting) c.in-Some.ensures.ended
+    ∙ state-again c.args.self.now.sessions c.args.session Idle Waiting
+
+pub returns-clause-after : goal.returns-clause-after
+unfolding submits
+returns-clause-after c =
+    let waits : c.wait.new.self ≡ with_state c.args.self.now.sessions c.args.session Waiting = waits_as c in
+    search rules
 
 pub returns-clause-refines : goal.returns-clause-refines
 returns-clause-refines c =
     let before = c.requires in
     let k = c.args.self.now in
-    let place = c.in-Some.place in
-    let transcript = c.index.result.now in
+    let transcript = c.in-Some.transcript in
     let commit_proxy = c.index_mut-commit_proxy.result.now in
-    let submission : Submission = record { sealed = c.in_ok-sealed.sealed; transcript = c.remove-transcript.result } in
-    let within : place < length k.opened.items = search rules in
-    let there : slice_get k.opened.items place ≡ Some transcript = slice_get_read k.opened.items (length k.opened.items)
-    place transcript refl within c.index.ensures in
-    let ok = all-at (OpenRefines k.sequencer.committed) k.opened.items place transcript before.opened there in
+    let submission : Submission = record { sealed = c.in_ok-sealed.sealed; transcript = transcript } in
+    let opened : open_at k.sessions c.args.session ≡ Some transcript = sym c.in-Some.ensures.taken in
+    let ok = open-has (OpenRefines k.sequencer.committed) k.sessions c.args.session transcript before.opened opened in
     let read : c.in_ok-sealed.sealed.read ≡ transcript.read_version = ap (λ (t : Transaction). t.read)
     c.in_ok-sealed.ensures in
     let waits : WaitsRefines k.sequencer.committed submission = (
@@ -46,6 +67,6 @@ returns-clause-refines c =
           before.commit_proxies proxy_there
           (commit_proxy-submit k.book.items (taken_by k.resolvers.items) k.sequencer.committed k.outcomes
           commit_proxy c.new.result (subst (WaitsRefines k.sequencer.committed) (sym c.new.ensures) waits)));
-      opened = rw c.remove-transcript.ensures.items
-          (all-remove (OpenRefines k.sequencer.committed) k.opened.items place before.opened);
+      opened = rw (waits_as c)
+          (open-put (OpenRefines k.sequencer.committed) k.sessions c.args.session Waiting before.opened tt);
     }

@@ -1,5 +1,14 @@
 use Rattle.fdb_core.proofs.headline.ServingLaws.{roles_keep}
+use Rattle.std.proofs.Common.{sym, subst}
+use Rattle.fdb_core.specs.invariant.Invariant.{Invariant}
+use Rattle.fdb_core.proofs.invariant.SoundLaws.{sound-start}
 use Rattle.fdb_core.proofs.world.World.new.Goals as goal
 
 pub returns-clause-roles : goal.returns-clause-roles
 returns-clause-roles c = roles_keep _ c.in_ok-cluster.ensures.refines
+
+-- the first machine is sound
+pub invariant_of-result : goal.invariant_of-result
+invariant_of-result c same =
+    (c.in_ok-cluster.ensures.refines,
+    subst Invariant (sym c.in_ok-cluster.ensures.machine) (sound-start c.args.config))
