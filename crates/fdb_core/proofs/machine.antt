@@ -1,4 +1,5 @@
 pub mod AcceptedTransitions
 pub mod SessionLemmas
+pub mod SessionMaps
 pub mod Steps
 pub mod Transitions

@@ -35,7 +35,6 @@ impl Model for World {
     ghost use Rattle.fdb_core.specs.refinement.Cluster.{machine_of, system_of, Refines};
     ghost use Rattle.fdb_core.specs.headline.Serving.{System};
     ghost use Rattle.fdb_core.specs.invariant.Invariant.{Invariant};
-
     ghost use Rattle.std.specs.Coded.{codes};
     ghost use Rattle.fdb_core.specs.contracts.roles.client.sessions.Sessions as sessions;
 

@@ -1,17 +1,11 @@
 -- What holds of each item of a list, when the list changes.
 use Rattle.std.proofs.Common.{◌≡◌, ◌<◌, refl, arith, ℕ, zero, suc, List, [], ◌∷◌, ◌++◌, take, drop, map, replicate, length, Some, subst}
-use Rattle.std.specs.List.{AllByRecursion, slice_get, slice_set, remove}
+use Rattle.std.specs.List.{AllByRecursion, slice_get, slice_set}
 
 module _ {A : Type 0} (P : A → Type 0) where
   pub all-push : (xs : List A) (x : A) → AllByRecursion P xs → P x → AllByRecursion P (xs ++ x ∷ [])
   all-push [] x all here = (here, tt)
   all-push (y ∷ ys) x all here = (all.0, all-push ys x all.1 here)
-
-  pub all-remove : (xs : List A) (i : ℕ) → AllByRecursion P xs → AllByRecursion P (remove xs i)
-  all-remove [] zero all = tt
-  all-remove [] (suc i) all = tt
-  all-remove (y ∷ ys) zero all = all.1
-  all-remove (y ∷ ys) (suc i) all = (all.0, all-remove ys i all.1)
 
   pub all-set : (xs : List A) (i : ℕ) (x : A) → AllByRecursion P xs → P x → AllByRecursion P (slice_set xs i x)
   all-set [] zero x all here = tt

@@ -1,7 +1,7 @@
 -- Sums and counts over lists that change.
-use Rattle.std.proofs.Common.{◌≡◌, ◌<◌, ◌≤◌, refl, ap, arith, ⊎_elim, ℕ, zero, suc, ◌+◌, Bool, true, false, cond, List, [], ◌∷◌, map, Some, sum_by}
+use Rattle.std.proofs.Common.{◌≡◌, ◌<◌, ◌≤◌, refl, ap, arith, ⊎_elim, inl, inr, ◌⊎◌, ℕ, zero, suc, ◌+◌, Bool, true, false, cond, List, [], ◌∷◌, map, Some, sum_by}
 use Rattle.std.specs.Prelude.{◌||◌}
-use Rattle.std.specs.List.{slice_get, slice_set, remove, list_any}
+use Rattle.std.specs.List.{slice_get, slice_set, list_any, count_by}
 use Rattle.std.proofs.lemmas.List.Sums.{sum_by-cons}
 use Rattle.std.proofs.lemmas.Bool.{or_parts, or_cases, cases_Bool}
 
@@ -16,26 +16,13 @@ module _ {X : Type 0} (f : X → ℕ) where
   sum-set (z ∷ zs) (suc i) x y there =
       omega (arith, sum_by-cons f z (slice_set zs i y), sum_by-cons f z zs, sum-set zs i x y there)
 
-  -- one item less
-  pub sum-remove : (xs : List X) (i : ℕ) (x : X) → slice_get xs i ≡ Some x → sum_by f (remove xs i) + f x ≡ sum_by f xs
-  sum-remove [] i x there = cc
-  sum-remove (z ∷ zs) zero x there =
-      let same : z ≡ x = cc in
-      omega (arith, sum_by-cons f z zs, ap f same)
-  sum-remove (z ∷ zs) (suc i) x there =
-      omega (arith, sum_by-cons f z (remove zs i), sum_by-cons f z zs, sum-remove zs i x there)
-
-  -- without an item a list is no more
-  pub sum-remove-le : (xs : List X) (i : ℕ) → sum_by f (remove xs i) ≤ sum_by f xs
-  sum-remove-le [] zero = omega arith
-  sum-remove-le [] (suc i) = omega arith
-  sum-remove-le (z ∷ zs) zero = omega (arith, sum_by-cons f z zs)
-  sum-remove-le (z ∷ zs) (suc i) =
-      omega (arith, sum_by-cons f z (remove zs i), sum_by-cons f z zs, sum-remove-le zs i)
-
   -- a sum is no less than what one item gives
   pub sum-at : (xs : List X) (i : ℕ) (x : X) → slice_get xs i ≡ Some x → f x ≤ sum_by f xs
-  sum-at xs i x there = omega (arith, sum-remove xs i x there)
+  sum-at [] i x there = cc
+  sum-at (z ∷ zs) zero x there =
+      let same : z ≡ x = cc in
+      omega (arith, sum_by-cons f z zs, ap f same)
+  sum-at (z ∷ zs) (suc i) x there = omega (arith, sum_by-cons f z zs, sum-at zs i x there)
 
 -- a sum over what items are made to
 pub sum-made : {X Y : Type 0} (f : Y → ℕ) (g : X → Y) (xs : List X)
@@ -77,3 +64,17 @@ counts-or f g p q first second x = (
 pub passes-counted : {X : Type 0} (f : X → ℕ) (p : X → Bool) → Counts f p → (x : X) → 0 < f x → p x ≡ true
 passes-counted f p counts x some = ⊎_elim (λ passes. passes) (λ fails. absurd (omega (arith, some, (counts x).1 fails)))
     (cases_Bool (p x))
+
+-- one more is counted or not
+pub counted : {A : Type 0} (test : A → Bool) (x : A) (xs : List A)
+    → (test x ≡ true → count_by test (x ∷ xs) ≡ 1 + count_by test xs)
+    × (test x ≡ false → count_by test (x ∷ xs) ≡ count_by test xs)
+counted {A} test x xs =
+    let more = sum_by-cons (λ (y : A). cond (test y) 1 0) x xs in (
+      λ is. let one : cond {A = ℕ} (test x) 1 0 ≡ 1 = rw is refl in omega (arith, more, one),
+      λ is. let none : cond {A = ℕ} (test x) 1 0 ≡ 0 = rw is refl in omega (arith, more, none),
+    )
+
+pub none_or_some : (n : ℕ) → (n ≡ 0) ⊎ (0 < n)
+none_or_some zero = inl refl
+none_or_some (suc n) = inr (omega arith)

@@ -1,11 +1,10 @@
 -- Each transaction is in the book at most once: how often there is one of a name, kept by every step.
-use Rattle.std.proofs.Common.{◌≡◌, ◌≢◌, ◌∙◌, ◌<◌, ◌≤◌, refl, sym, ap, subst, arith, ⊎_elim, ℕ, ◌+◌, min, true, false, cond, List, [], ◌∷◌, ◌++◌, take, fold, replicate, Option, Some, None, Result, sum_by}
+use Rattle.std.proofs.Common.{◌≡◌, ◌≢◌, ◌∙◌, ◌<◌, ◌≤◌, refl, sym, ap, subst, arith, ⊎_elim, ℕ, ◌+◌, min, false, cond, List, [], ◌∷◌, ◌++◌, take, fold, replicate, Option, Some, None, Result, sum_by}
 use Rattle.std.specs.Prelude.{◌==◌, nat_le, unwrap_or}
-use Rattle.std.specs.List.{AllByRecursion, slice_get, slice_set, list_any, count_by}
-use Rattle.std.proofs.lemmas.List.Sums.{sum_by-cons, sum_by_push, sum_by-take-drop}
+use Rattle.std.specs.List.{slice_get, slice_set, list_any}
+use Rattle.std.proofs.lemmas.List.Sums.{sum_by_push, sum_by-take-drop}
 use Rattle.std.proofs.lemmas.List.Folds.{sum_by-replicate}
-use Rattle.std.proofs.lemmas.Bool.{or_parts, cond_both, eq-eqb, eqb-true, eqb-false, ne_eqb, leb-true, le-leb}
-use Rattle.std.proofs.lemmas.Bool.Decides.{eqb_tells}
+use Rattle.std.proofs.lemmas.Bool.{cond_both, eq-eqb, eqb-true, eqb-false, ne_eqb, leb-true, le-leb}
 use Rattle.fdb_keys.specs.declared.refusal.Refusal.{Refusal}
 use Rattle.fdb_txn.specs.Limits.{place_limit}
 use Rattle.fdb_txn.specs.declared.entry.Entry.{Entry}
@@ -24,9 +23,10 @@ use Rattle.fdb_core.specs.machine.Machine.{Machine}
 use Rattle.fdb_core.specs.machine.Sessions.{Session, SessionState, Idle, Asking, Open, Waiting, Sessions, session_of, with_state, open_of, open_at, next_number, greatest_number, has_used_up, serve, tell_all}
 use Rattle.fdb_core.specs.machine.Worlds.{start, idle_proxy}
 use Rattle.fdb_core.specs.programs.Programs.{commit_request_of}
-use Rattle.fdb_core.proofs.common.SumLemmas.{sum-set, sum-made}
+use Rattle.fdb_core.proofs.common.SumLemmas.{sum-set, sum-made, none_or_some}
 use Rattle.fdb_core.proofs.invariant.SessionLaws.{AllStand, session_steps, session-start, open-own, asks_once}
-use Rattle.fdb_core.proofs.machine.SessionLemmas.{session-new, put-cases, served-none, served-once, told-none, told-some, none_or_some, times_among, times_of, able, next-within}
+use Rattle.fdb_core.proofs.machine.SessionLemmas.{put-cases, served-none, served-once, told-none, told-some, times_among, times_of, able, next-within}
+use Rattle.fdb_core.proofs.machine.SessionMaps.{session-new}
 use Rattle.fdb_core.proofs.machine.Steps.{KeptBySteps, kept-by_trace}
 use Rattle.fdb_core.proofs.refinement.SealLemmas.{sealed_entry, sealed_proxy, sealed_machine}
 

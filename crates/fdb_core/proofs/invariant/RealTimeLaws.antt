@@ -1,10 +1,8 @@
 -- Real time: who begins after another transaction was acknowledged reads at that one's version or a greater one.
-use Rattle.std.proofs.Common.{◌≡◌, ◌≢◌, ◌∙◌, ◌≤◌, le_refl, le_trans, sym, subst, arith, ⊎_elim, inl, inr, ◌⊎◌, ℕ, ◌+◌, min, true, false, List, [], ◌∷◌, take, drop, fold, Some, Result}
-use Rattle.std.specs.Prelude.{◌==◌}
+use Rattle.std.proofs.Common.{◌≡◌, ◌∙◌, ◌≤◌, le_refl, le_trans, sym, subst, arith, ⊎_elim, inl, inr, ◌⊎◌, ℕ, ◌+◌, min, List, [], ◌∷◌, take, drop, fold, Some, Result}
 use Rattle.std.specs.Prelude.{IfSome}
 use Rattle.std.specs.FinMap.{empty}
 use Rattle.std.specs.List.{AllByRecursion, slice_get, slice_set}
-use Rattle.std.proofs.lemmas.Bool.Decides.{eqb_tells}
 use Rattle.fdb_keys.specs.declared.refusal.Refusal.{Refusal}
 use Rattle.fdb_txn.specs.Limits.{place_limit}
 use Rattle.fdb_txn.specs.declared.spot.Spot.{Spot}
@@ -29,7 +27,8 @@ use Rattle.fdb_core.specs.machine.Worlds.{start, idle_proxy}
 use Rattle.fdb_core.specs.invariant.Invariant.{Invariant, IsReported}
 use Rattle.fdb_core.proofs.common.AllLemmas.{all-push, all-set, all-at, all-drop, all-take, all-map, all-replicate}
 use Rattle.fdb_core.proofs.headline.TraceLaws.{after_steps-parts}
-use Rattle.fdb_core.proofs.machine.SessionLemmas.{session-there, put-cases, each-put, last-put, last-told, open-has, open-put, open-told, open-new, open-weaken, next-within}
+use Rattle.fdb_core.proofs.machine.SessionLemmas.{put-cases, each-put, last-put, last-told, open-has, open-put, open-told, open-new, open-weaken, next-within}
+use Rattle.fdb_core.proofs.machine.SessionMaps.{session-there}
 use Rattle.fdb_core.proofs.invariant.SoundLaws.{sound_steps, sound-trace}
 use Rattle.fdb_core.proofs.machine.Steps.{KeptBySteps, kept-by_trace}
 

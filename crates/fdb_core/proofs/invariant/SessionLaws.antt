@@ -4,8 +4,7 @@ use Rattle.std.specs.Prelude.{◌↔◌, ◌==◌, IfSome}
 use Rattle.std.specs.List.{AllByRecursion, slice_get, slice_set, list_any, count_by}
 use Rattle.std.proofs.lemmas.List.Sums.{sum_by_push, sum_by-take-drop}
 use Rattle.std.proofs.lemmas.List.Folds.{sum_by-replicate}
-use Rattle.std.proofs.lemmas.Bool.{eq-eqb, ne_eqb, cases_Bool, or_left, or_right, or_cases}
-use Rattle.std.proofs.lemmas.Bool.Decides.{eqb_tells}
+use Rattle.std.proofs.lemmas.Bool.{eq-eqb, ne_eqb, or_left, or_right, or_cases}
 use Rattle.fdb_keys.specs.declared.refusal.Refusal.{Refusal}
 use Rattle.fdb_keys.specs.declared.refusal.Refusal.TheVariants.{WrongState}
 use Rattle.fdb_txn.specs.Limits.{place_limit}
@@ -20,13 +19,14 @@ use Rattle.fdb_core.specs.machine.CommitProxySteps.{is_idle}
 use Rattle.fdb_core.specs.machine.GrvProxySteps.{asks}
 use Rattle.fdb_core.specs.machine.Machine.{Machine, Transition, refused_where}
 use Rattle.fdb_core.specs.machine.Roles.{Submission, CommitProxy}
-use Rattle.fdb_core.specs.machine.Sessions.{Session, SessionState, Idle, Asking, Open, Waiting, Sessions, session_of, with_state, is_asking, is_waiting, is_busy, open_of, open_at, serve, tell_all}
+use Rattle.fdb_core.specs.machine.Sessions.{Session, SessionState, Idle, Asking, Open, Waiting, session_of, with_state, is_asking, is_waiting, is_busy, open_of, open_at, serve, tell_all}
 use Rattle.fdb_core.specs.machine.Worlds.{start, idle_proxy}
 use Rattle.fdb_core.specs.programs.Programs.{commit_request_of}
 use Rattle.fdb_core.proofs.common.AllLemmas.{all-at, all-set, all-replicate}
-use Rattle.fdb_core.proofs.common.SumLemmas.{sum-set, sum-at, sum-made, Counts, counts-test, counts-any, counts-or, passes-counted}
+use Rattle.fdb_core.proofs.common.SumLemmas.{sum-set, sum-at, sum-made, Counts, counts-test, counts-any, counts-or, passes-counted, none_or_some}
 use Rattle.fdb_core.proofs.headline.TraceLaws.{traces_tell}
-use Rattle.fdb_core.proofs.machine.SessionLemmas.{session-new, state-put, none_or_some, served-none, served-once, told-none, told-some}
+use Rattle.fdb_core.proofs.machine.SessionLemmas.{state-put, served-none, served-once, told-none, told-some}
+use Rattle.fdb_core.proofs.machine.SessionMaps.{session-new}
 use Rattle.fdb_core.proofs.machine.Steps.{KeptBySteps, kept-by_trace}
 use Rattle.fdb_core.proofs.refinement.SealLemmas.{sealed_proxy, sealed_machine}
 
@@ -441,9 +441,12 @@ sessions_are_where_their_states_say config steps given m trace session =
 busy-somewhere : (session : ℕ) (state : SessionState) (grv_proxies : List (List ℕ)) (commit_proxies : List CommitProxy)
     → IsWhereItsStateSays session state grv_proxies commit_proxies
     → (is_busy state ≡ true) ↔ (is_somewhere session grv_proxies commit_proxies ≡ true)
-busy-somewhere session state grv_proxies commit_proxies there = (forth state there, λ some. ⊎_elim
-    (λ asks. ap is_busy (there.asks.1 asks)) (λ waits. ap is_busy (there.waits.1 waits))
-    (or_cases (list_any (asks_at session) grv_proxies) (list_any (waits_at session) commit_proxies) some))
+busy-somewhere session state grv_proxies commit_proxies there = (
+  forth state there,
+  λ some. ⊎_elim
+      (λ asks. ap is_busy (there.asks.1 asks)) (λ waits. ap is_busy (there.waits.1 waits))
+      (or_cases (list_any (asks_at session) grv_proxies) (list_any (waits_at session) commit_proxies) some),
+)
   where
     forth : (state : SessionState) → IsWhereItsStateSays session state grv_proxies commit_proxies
         → is_busy state ≡ true → is_somewhere session grv_proxies commit_proxies ≡ true

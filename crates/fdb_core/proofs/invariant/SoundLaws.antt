@@ -20,7 +20,7 @@ use Rattle.fdb_core.specs.machine.Sessions.{Sessions, EachOpen, Idle, Asking, Op
 use Rattle.fdb_core.specs.machine.Worlds.{start, idle_proxy}
 use Rattle.fdb_core.specs.programs.Programs.{commit_request_of}
 use Rattle.fdb_core.specs.invariant.Invariant.{IsReplied, IsSerializedIn, IsReported, Waits, CommitProxyIsSound, Invariant}
-use Rattle.fdb_core.proofs.common.AllLemmas.{all-at, all-set, all-remove, all-push, all-drop, all-take, all-map, all-replicate}
+use Rattle.fdb_core.proofs.common.AllLemmas.{all-at, all-set, all-push, all-drop, all-take, all-map, all-replicate}
 use Rattle.fdb_core.proofs.invariant.SerializedLemmas.{Stands, spot-stays, batch_serialized, read_only_serialized}
 use Rattle.fdb_core.proofs.invariant.SoundLemmas.{told-push, sealed-batch, sealed-in_flight, version-within, found-front, told-entry, commit_proxy-kept}
 use Rattle.fdb_core.proofs.machine.SessionLemmas.{open-has, open-put, open-served, open-told, open-new, open-weaken}

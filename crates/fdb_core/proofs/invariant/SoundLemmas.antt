@@ -1,6 +1,6 @@
 -- What it takes to keep the machine sound: tests that accepted steps passed, transcripts, the book, and parts that
 -- change.
-use Rattle.std.proofs.Common.{◌≡◌, ◌∙◌, refl, sym, ap, ap₂, subst, arith, ◌<◌, ◌≤◌, le_refl, le_trans, ℕ, zero, suc, List, [], ◌∷◌, ◌++◌, fold, map, Some, None, position}
+use Rattle.std.proofs.Common.{◌≡◌, ◌∙◌, refl, sym, ap, ap₂, subst, arith, ◌<◌, ◌≤◌, le_refl, le_trans, ℕ, zero, suc, List, [], ◌∷◌, ◌++◌, map, Some}
 use Rattle.std.specs.List.{AllByRecursion, slice_get}
 use Rattle.std.proofs.lemmas.List.Sums.{fold-append}
 use Rattle.fdb_mutations.specs.Maps.{Map}
@@ -19,7 +19,7 @@ use Rattle.fdb_core.specs.headline.Headline.{replies_of}
 use Rattle.fdb_core.specs.machine.Machine.{Machine}
 use Rattle.fdb_core.specs.programs.Programs.{program, copy, reply_on, exec, commit_request_of}
 use Rattle.fdb_core.specs.invariant.Invariant.{IsReplied, Waits, CommitProxyIsSound}
-use Rattle.fdb_core.proofs.common.AllLemmas.{all-push, all-remove, all-map}
+use Rattle.fdb_core.proofs.common.AllLemmas.{all-map}
 use Rattle.fdb_txn.proofs.book.HistoryLemmas.{all-weaken}
 use Rattle.fdb_core.proofs.programs.WriteSetLemmas.{commit_request_of-names}
 use Rattle.fdb_core.proofs.programs.ProgramLaws.{program-push}

@@ -1,118 +1,16 @@
--- What is looked up in the sessions after a change of one of them.
-use Rattle.std.proofs.Common.{◌≡◌, ◌≢◌, ◌∙◌, sym, ap, refl, subst, ⊎_elim, inl, inr, ◌⊎◌, ◌<◌, ◌≤◌, arith, ℕ, zero, suc, ◌+◌, Bool, true, false, cond, List, [], ◌∷◌, fold, Option, Some, None}
-use Rattle.std.specs.Prelude.{◌==◌, unwrap_or, IfSome}
+-- What holds of the sessions where one of them is put, where some begin a transaction, and where some are told.
+use Rattle.std.proofs.Common.{◌≡◌, ◌≢◌, ◌∙◌, sym, ap, refl, subst, ⊎_elim, ◌<◌, ◌≤◌, arith, ℕ, true, false, List, [], ◌∷◌, fold, Option, Some, None}
+use Rattle.std.specs.Prelude.{◌==◌, IfSome}
 use Rattle.std.specs.List.{count_by, list_any}
-use Rattle.std.specs.Ordering.{nat_cmp, eq_by_cmp}
-use Rattle.std.specs.Cmp.{eq_by_cmp_equiv, Equal-is}
-use Rattle.std.specs.FinMap.{FinMap, get, insert, empty, from_entries, find, same_map, get-empty, get-insert, get-from_entries, nat_cmp-IsAntisymmetric}
-use Rattle.std.specs.BTreeMap.{is_at}
-use Rattle.std.specs.Map.{lookup}
-use Rattle.std.proofs.lemmas.Cmp.{nat_cmp_total}
-use Rattle.std.proofs.lemmas.List.Sums.{sum_by-cons}
-use Rattle.std.proofs.lemmas.Bool.{eq-eqb, ne_eqb, false_from_ne_true, or_parts}
+use Rattle.std.specs.FinMap.{insert, empty}
+use Rattle.std.proofs.lemmas.Bool.{or_parts}
 use Rattle.std.proofs.lemmas.Bool.Decides.{eqb_tells}
-use Rattle.fdb_core.specs.machine.Sessions.{Session, SessionState, Sessions, EachOpen, Idle, open_of, open_at, new_session, session_of, with_state, begins_next, serve, tell, tell_all, next_number, greatest_number}
-use Rattle.fdb_core.specs.machine.GrvProxySteps.{has_no_number}
 use Rattle.fdb_txn.specs.declared.txn_id.TxnId.{TxnId}
 use Rattle.fdb_core.specs.declared.roles.client.program.Transcript.{Transcript}
-
--- what the list of pairs has at a number
-abbrev pub at_number : List (ℕ × Session) → ℕ → Option Session
-at_number pairs number = lookup (is_at (nat_cmp number)) pairs
-
-found-at_number : (pairs : List (ℕ × Session)) (number : ℕ) → find nat_cmp number pairs ≡ at_number pairs number
-found-at_number [] number = refl
-found-at_number (pair ∷ pairs) number =
-    ap (cond (is_at (nat_cmp number) pair.0) (Some pair.1)) (found-at_number pairs number)
-
--- what the map that the pairs make has there
-pub get-pairs : (pairs : List (ℕ × Session)) (number : ℕ)
-    → get (from_entries {R = nat_cmp} pairs) number ≡ at_number pairs number
-get-pairs pairs number = get-from_entries nat_cmp_total pairs number ∙ found-at_number pairs number
-
--- maps with equal sessions at every number are one
-pub same_sessions : (m n : Sessions) → ((number : ℕ) → get m number ≡ get n number) → m ≡ n
-same_sessions = same_map nat_cmp_total nat_cmp-IsAntisymmetric
-
--- pairs that differ at one number make maps that differ there
-pub one_put : (pairs after : List (ℕ × Session)) (number : ℕ) (session : Session)
-    → ((other : ℕ) → at_number after other ≡ cond (is_at (nat_cmp number) other) (Some session) (at_number pairs other))
-    → from_entries {R = nat_cmp} after ≡ insert (from_entries pairs) number session
-one_put pairs after number session there = same_sessions _ _ (λ other.
-    get-pairs after other ∙ there other
-    ∙ ap (λ b. cond b (Some session) (at_number pairs other)) ((eq_by_cmp_equiv nat_cmp_total).symm number other)
-    ∙ sym (get-insert nat_cmp_total (from_entries pairs) number session other
-    ∙ ap (cond (is_at (nat_cmp other) number) (Some session)) (get-pairs pairs other)))
-
--- only equal numbers tie
-tie : (one other : ℕ) → eq_by_cmp nat_cmp one other ≡ (one == other)
-tie one other = ⊎_elim
-    (λ (is : (one == other ≡ true) × (one ≡ other)).
-    subst (λ (n : ℕ). eq_by_cmp nat_cmp one n ≡ true) is.1 ((eq_by_cmp_equiv nat_cmp_total).refl one) ∙ sym is.0)
-    (λ (is : (one == other ≡ false) × (one ≢ other)).
-    false_from_ne_true (eq_by_cmp nat_cmp one other)
-    (λ tied. is.1 (nat_cmp-IsAntisymmetric one other ((Equal-is (nat_cmp one other)).0 tied))) ∙ sym is.0)
-    (eqb_tells one other)
-
--- what is looked up after a session was put at a number
-pub session-put : (sessions : Sessions) (number : ℕ) (session : Session) (other : ℕ)
-    → session_of (insert sessions number session) other ≡ cond (other == number) session (session_of sessions other)
-session-put sessions number session other =
-    ap (λ (there : Option Session). unwrap_or there new_session)
-    (get-insert nat_cmp_total sessions number session other
-    ∙ ap (λ (test : Bool). cond test (Some session) (get sessions other)) (tie other number))
-    ∙ chosen (other == number)
-  where
-    chosen : (test : Bool)
-        → unwrap_or (cond test (Some session) (get sessions other)) new_session
-        ≡ cond test session (session_of sessions other)
-    chosen true = refl
-    chosen false = refl
-
-module _ (sessions : Sessions) (number : ℕ) (session : Session) where
-  -- there it is the new one
-  pub session-there : session_of (insert sessions number session) number ≡ session
-  session-there = session-put sessions number session number ∙ rw (eq-eqb number number refl) refl
-
-  -- and elsewhere the one that was there
-  pub session-elsewhere : (other : ℕ) → other ≢ number
-      → session_of (insert sessions number session) other ≡ session_of sessions other
-  session-elsewhere other differs = session-put sessions number session other ∙ rw (ne_eqb other number differs) refl
-
--- before any session did something
-pub session-new : (number : ℕ) → session_of empty number ≡ new_session
-session-new number = ap (λ (there : Option Session). unwrap_or there new_session) (get-empty nat_cmp number)
-
--- a session that is put twice is the one that was put last
-pub put-again : (sessions : Sessions) (number : ℕ) (first last : Session)
-    → insert (insert sessions number first) number last ≡ insert sessions number last
-put-again sessions number first last = same_sessions _ _ (λ other.
-    get-insert nat_cmp_total (insert sessions number first) number last other
-    ∙ ap (cond (eq_by_cmp nat_cmp other number) (Some last))
-    (get-insert nat_cmp_total sessions number first other)
-    ∙ twice (eq_by_cmp nat_cmp other number) (get sessions other)
-    ∙ sym (get-insert nat_cmp_total sessions number last other))
-  where
-    twice : (test : Bool) (there : Option Session)
-        → cond test (Some last) (cond test (Some first) there) ≡ cond test (Some last) there
-    twice true there = refl
-    twice false there = refl
-
--- and so with its last state alone
-pub state-again : (sessions : Sessions) (number : ℕ) (first last : SessionState)
-    → with_state (with_state sessions number first) number last ≡ with_state sessions number last
-state-again sessions number first last =
-    put-again sessions number _ _
-    ∙ ap (λ (found : Session). insert sessions number (record { last_number = found.last_number; state = last }))
-    (session-there sessions number _)
-
--- the session at a number where the pairs that the map is made of have one there, or none
-pub session-at : (pairs : List (ℕ × Session)) (sessions : Sessions) (number : ℕ) (there : Option Session)
-    → from_entries pairs ≡ sessions → there ≡ at_number pairs number
-    → session_of sessions number ≡ unwrap_or there new_session
-session-at pairs sessions number there is has =
-    ap (λ (found : Option Session). unwrap_or found new_session)
-    (sym (ap (λ (map : Sessions). get map number) is) ∙ get-pairs pairs number ∙ sym has)
+use Rattle.fdb_core.specs.machine.GrvProxySteps.{has_no_number}
+use Rattle.fdb_core.specs.machine.Sessions.{Session, SessionState, Sessions, EachOpen, Idle, session_of, with_state, open_of, open_at, begins_next, next_number, greatest_number, serve, tell, tell_all}
+use Rattle.fdb_core.proofs.common.SumLemmas.{counted, none_or_some}
+use Rattle.fdb_core.proofs.machine.SessionMaps.{session-there, session-elsewhere, session-new}
 
 -- where one session is put, what holds of a session does if it does of the new one where it is that session, and of the
 -- one that was there for any other
@@ -216,20 +114,6 @@ last-told [] sessions session = refl
 last-told (transcript ∷ transcripts) sessions session =
     last-told transcripts (tell sessions transcript) session
     ∙ last-put sessions transcript.id.session Idle session
-
--- one more is counted or not
-pub counted : {A : Type 0} (test : A → Bool) (x : A) (xs : List A)
-    → (test x ≡ true → count_by test (x ∷ xs) ≡ 1 + count_by test xs)
-    × (test x ≡ false → count_by test (x ∷ xs) ≡ count_by test xs)
-counted {A} test x xs =
-    let more = sum_by-cons (λ (y : A). cond (test y) 1 0) x xs in (
-      λ is. let one : cond {A = ℕ} (test x) 1 0 ≡ 1 = rw is refl in omega (arith, more, one),
-      λ is. let none : cond {A = ℕ} (test x) 1 0 ≡ 0 = rw is refl in omega (arith, more, none),
-    )
-
-pub none_or_some : (n : ℕ) → (n ≡ 0) ⊎ (0 < n)
-none_or_some zero = inl refl
-none_or_some (suc n) = inr (omega arith)
 
 -- how often the session is among some
 abbrev pub times_among : ℕ → List ℕ → ℕ

@@ -1,6 +1,5 @@
 -- A session's transactions in a list of open ones: what the machine has by session, a trace tells in one list.
-use Rattle.std.proofs.Common.{◌≡◌, ◌≢◌, ◌∙◌, refl, sym, ap, subst, arith, ⊎_elim, inl, inr, ◌⊎◌, ℕ, zero, suc, Bool, true, false, List, [], ◌∷◌, ◌++◌, take, Option, Some, None}
-use Rattle.std.specs.Prelude.{◌==◌}
+use Rattle.std.proofs.Common.{◌≡◌, ◌≢◌, ◌∙◌, refl, sym, ap, subst, arith, ⊎_elim, inl, inr, ◌⊎◌, ℕ, zero, suc, true, false, List, [], ◌∷◌, take, Option, Some, None}
 use Rattle.std.specs.List.{filter, slice_get, slice_set}
 use Rattle.std.proofs.lemmas.Bool.{cases_Bool, eqb-true, ne_eqb}
 use Rattle.fdb_core.specs.declared.roles.client.program.Op.{Op}
@@ -9,7 +8,7 @@ use Rattle.fdb_core.specs.declared.roles.client.program.Transcript.{Transcript}
 use Rattle.fdb_core.specs.headline.Readings.{is_of_session, of_session, others_than, with_one_more}
 use Rattle.fdb_core.specs.headline.Traces.{alone}
 use Rattle.fdb_core.specs.machine.ClientSteps.{with_operation}
-use Rattle.fdb_core.specs.machine.Sessions.{SessionState, Open, Sessions, session_of, with_state, open_of, open_at}
+use Rattle.fdb_core.specs.machine.Sessions.{SessionState, Open, Sessions, with_state, open_of, open_at}
 use Rattle.fdb_core.proofs.machine.SessionLemmas.{state-put}
 
 module _ (session : ℕ) where

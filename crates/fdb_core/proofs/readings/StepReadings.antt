@@ -1,6 +1,6 @@
 -- Every accepted step tells, with its answer, what it does to the machine.
 use Rattle.std.proofs.Common.{◌≡◌, ◌≢◌, ◌∙◌, ◌≤◌, le_refl, refl, sym, ap, ap₂, subst, ⊎_elim, ℕ, max, false, List, [], ◌∷◌, ◌++◌, take, drop, map, length, fold, Some}
-use Rattle.std.specs.List.{AllByRecursion, slice_get, slice_set, remove}
+use Rattle.std.specs.List.{AllByRecursion, slice_get, slice_set}
 use Rattle.std.proofs.lemmas.Option.{same_Some}
 use Rattle.std.proofs.lemmas.List.{map-append, take-map, drop-map}
 use Rattle.fdb_txn.specs.Limits.{place_limit}
@@ -16,7 +16,7 @@ use Rattle.fdb_core.specs.machine.ClientSteps.{add_operation, with_operation}
 use Rattle.fdb_core.specs.machine.CommitProxySteps.{is_idle, replies_from}
 use Rattle.fdb_core.specs.headline.Traces.{alone}
 use Rattle.fdb_core.specs.machine.Machine.{Machine}
-use Rattle.fdb_core.specs.machine.Sessions.{Session, Sessions, Idle as Free, Asking, Open, Waiting, session_of, with_state, open_of, open_at, serve, tell_all}
+use Rattle.fdb_core.specs.machine.Sessions.{Session, Sessions, Idle as Free, Asking, Open, Waiting, with_state, open_of, open_at, serve, tell_all}
 use Rattle.fdb_core.specs.machine.Roles.{CommitProxy, Submission, Reported, Idle}
 use Rattle.fdb_core.specs.machine.Verdicts.{outcomes_on}
 use Rattle.fdb_core.specs.programs.Programs.{program, copy, reply_on, commit_request_of}
@@ -24,7 +24,8 @@ use Rattle.fdb_sequencer.specs.Sequencer.{next_version}
 use Rattle.fdb_core.proofs.common.AllLemmas.{all-at, all-take}
 use Rattle.fdb_core.proofs.invariant.SessionLaws.{AllStand, asks_once, asker-not-open, in_flight_once, flying-not-open}
 use Rattle.fdb_core.proofs.invariant.SoundLemmas.{sealed-in_flight}
-use Rattle.fdb_core.proofs.machine.SessionLemmas.{able, told-none, told-some, none_or_some, times_of}
+use Rattle.fdb_core.proofs.common.SumLemmas.{none_or_some}
+use Rattle.fdb_core.proofs.machine.SessionLemmas.{able, told-none, told-some, times_of}
 use Rattle.fdb_core.proofs.machine.Steps.{HoldsOfSteps}
 use Rattle.fdb_core.proofs.readings.Agreement.{AtProxy, TellsMachine, TellsOn, transcripts_of, quiet-tells, operation-tells, changed-there, changed-elsewhere, one-changes, book-grows, AnsweredOnce, flies, once-goes_on, once-answered, once-sealed}
 use Rattle.fdb_core.proofs.readings.AnswerReadings.{acknowledged-placed}

@@ -32,7 +32,7 @@ use Rattle.fdb_core.proofs.invariant.RealTimeLaws.{MachineHasBegun, after-first}
 use Rattle.fdb_core.proofs.invariant.SessionLaws.{AllStand, session_steps, session-start}
 use Rattle.fdb_core.proofs.invariant.SoundLaws.{sound_steps, sound-start, sound-trace}
 use Rattle.fdb_core.proofs.machine.AcceptedTransitions.{IfAccepted}
-use Rattle.fdb_core.proofs.machine.SessionLemmas.{session-new}
+use Rattle.fdb_core.proofs.machine.SessionMaps.{session-new}
 use Rattle.fdb_core.proofs.machine.Steps.{KeptBySteps, holds-next, kept-next, kept-by_trace}
 use Rattle.fdb_core.proofs.readings.Agreement.{AtProxy, flies, TellsMachine, TellsOn}
 use Rattle.fdb_core.proofs.readings.GrantLemmas.{last_of, next-begun}

@@ -1,5 +1,5 @@
 -- The ties between the machine and the roles' own lists, kept through the steps of sessions.
-use Rattle.std.proofs.Common.{◌≡◌, ℕ, Bool, List, Some, None, arith, Vec, Global}
+use Rattle.std.proofs.Common.{◌≡◌, ℕ, Bool, List, Some, None, Vec, Global}
 use Rattle.fdb_mutations.specs.declared.mutation.Mutation.{Mutation}
 use Rattle.fdb_mutations.specs.Mutations.{mutation_fault}
 use Rattle.fdb_core.specs.declared.roles.client.program.Op.TheVariants as op

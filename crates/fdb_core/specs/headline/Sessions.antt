@@ -1,6 +1,6 @@
 -- What a session is at is where it is: it asks exactly where it is among those who ask at a read-version proxy, and
 -- waits exactly where one of its transactions waits at a commit proxy or is in a batch in flight.
-use Rattle.std.specs.Prelude.{◌≡◌, ◌↔◌, ◌≤◌, ℕ, ◌+◌, Bool, true, ◌||◌, ◌==◌, List, Option, Some, Result, Err, slice_get, sum_by}
+use Rattle.std.specs.Prelude.{◌≡◌, ◌↔◌, ◌≤◌, ℕ, ◌+◌, Bool, true, ◌||◌, ◌==◌, List, Some, Result, Err, slice_get, sum_by}
 use Rattle.std.specs.List.{list_any, count_by}
 use Rattle.fdb_keys.specs.declared.refusal.Refusal.{Refusal}
 use Rattle.fdb_keys.specs.declared.refusal.Refusal.TheVariants.{WrongState}

@@ -33,13 +33,6 @@ impl Submission {
         Submission { sealed, transcript }
     }
 
-    /// Its operations with their replies.
-    pub(crate) fn transcript(&self) -> &Transcript
-        ensures { result.now ≡ self.now.transcript }
-    {
-        &self.transcript
-    }
-
     /// What is judged of it, and its operations with their replies.
     pub(crate) fn into_parts(self) -> (Sealed, Transcript)
         ensures { result ≡ (self.sealed, self.transcript) }

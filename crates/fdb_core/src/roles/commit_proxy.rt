@@ -128,13 +128,6 @@ impl CommitProxy {
         self.entry
     }
 
-    /// Those who wait for a batch, in order.
-    pub(crate) fn waiting(&self) -> &[Submission]
-        ensures { result.now ≡ self.now.waiting }
-    {
-        self.waiting.as_slice()
-    }
-
     /// The transcripts of the batch in flight, by place.
     pub(crate) fn in_flight(&self) -> &[Transcript]
         ensures { result.now ≡ self.now.in_flight }

@@ -282,6 +282,61 @@ fn window(rt: HostRuntime) -> Result<(), Fail> {
     check_script(&rt, rt.alloc(), WINDOW, 0, WINDOW_OUTPUT)
 }
 
+const SESSIONS: &[u8] = b"config proxies 1 logs 1 resolvers - shards - book 100\n\
+    get 0 a\n\
+    ask 0 0\n\
+    ask 0 0\n\
+    get 0 a\n\
+    grant 0\n\
+    write 0 set a x\n\
+    ask 0 0\n\
+    submit 0 0\n\
+    grant 0\n\
+    get 0 a\n\
+    write 0 set a y\n\
+    submit 0 0\n\
+    ask 0 0\n\
+    submit 0 0\n\
+    seal 0 100\n\
+    ask 0 0\n\
+    drive 0\n\
+    ask 0 0\n\
+    grant 0\n\
+    submit 0 0\n\
+    write 0 set a z\n\
+    ask 0 0\n";
+
+// A session asks once, has a transaction open until it asks again or submits, and waits until it is answered.
+const SESSIONS_OUTPUT: &[u8] = b"ok\n\
+    refused 9015 NoTransaction\n\
+    ok\n\
+    refused 9014 WrongState\n\
+    refused 9015 NoTransaction\n\
+    grant 0=0\n\
+    ok\n\
+    ok\n\
+    refused 9015 NoTransaction\n\
+    grant 0=0\n\
+    none\n\
+    ok\n\
+    ok\n\
+    refused 9014 WrongState\n\
+    refused 9015 NoTransaction\n\
+    entry 0 version 100 prev 0 places 1\n\
+    refused 9014 WrongState\n\
+    answer 0=100/0\n\
+    ok\n\
+    grant 0=100\n\
+    readonly 100\n\
+    refused 9015 NoTransaction\n\
+    ok\n\
+    checked 2\n";
+
+#[test]
+fn sessions(rt: HostRuntime) -> Result<(), Fail> {
+    check_script(&rt, rt.alloc(), SESSIONS, 0, SESSIONS_OUTPUT)
+}
+
 const DRIVES_REFUSED: &[u8] = b"config proxies 1 logs 1 resolvers - shards - book 100\n\
     drive 0\n\
     drive 7\n\

@@ -106,7 +106,8 @@ impl Sessions {
         ensures { OnOk result (self.new ≡ with_state self.old session (state_of state)) }
     {
         let last_number = self.last_number(session);
-        self.by_number.insert(session, Session::new(last_number, state))?;
+        self.by_number
+            .insert(session, Session::new(last_number, state))?;
         Ok(())
     }
 
@@ -145,7 +146,12 @@ impl Sessions {
     }
 
     /// Notes an operation with its reply at the session's open transaction.
-    pub(crate) fn add_operation(&mut self, session: u32, op: Op, reply: Reply) -> Result<(), AllocError>
+    pub(crate) fn add_operation(
+        &mut self,
+        session: u32,
+        op: Op,
+        reply: Reply,
+    ) -> Result<(), AllocError>
         ensures { OnOk result ((transcript : Transcript) → open_at self.old session ≡ Some transcript
             → self.new ≡ with_state self.old session (Open (with_operation transcript op reply))) }
     {

@@ -65,7 +65,10 @@ pub(crate) fn place_all(
 }
 
 /// The sessions of the batch have no transaction any more.
-pub(crate) fn tell_all(sessions: &mut Sessions, transcripts: &[Transcript]) -> Result<(), AllocError>
+pub(crate) fn tell_all(
+    sessions: &mut Sessions,
+    transcripts: &[Transcript],
+) -> Result<(), AllocError>
     ensures { OnOk result (sessions.new ≡ tell_all transcripts.now sessions.old) }
 {
     for transcript in transcripts {

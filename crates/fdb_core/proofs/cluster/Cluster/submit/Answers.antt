@@ -5,7 +5,8 @@ use Rattle.fdb_core.specs.machine.ClientSteps.{submits}
 use Rattle.fdb_core.specs.machine.Roles.{Submission}
 use Rattle.fdb_core.specs.machine.Sessions.{Sessions, Idle, Waiting, open_at, with_state}
 use Rattle.fdb_core.specs.refinement.Cluster.{OpenRefines, WaitsRefines}
-use Rattle.fdb_core.proofs.machine.SessionLemmas.{open-has, open-put, state-again}
+use Rattle.fdb_core.proofs.machine.SessionLemmas.{open-has, open-put}
+use Rattle.fdb_core.proofs.machine.SessionMaps.{state-again}
 use Rattle.fdb_core.proofs.refinement.CommitProxyTies.{commit_proxies-set, commit_proxy-submit}
 use Rattle.fdb_core.proofs.refinement.Ties.{refines-sessions}
 use Rattle.fdb_core.proofs.programs.WriteSetLemmas.{commit_request_of-names}

@@ -9,6 +9,7 @@ returns-clause-roles c = roles_keep _ c.in_ok-cluster.ensures.refines
 
 -- the first machine is sound
 pub invariant_of-result : goal.invariant_of-result
-invariant_of-result c same =
-    (c.in_ok-cluster.ensures.refines,
-    subst Invariant (sym c.in_ok-cluster.ensures.machine) (sound-start c.args.config))
+invariant_of-result c same = (
+  c.in_ok-cluster.ensures.refines,
+  subst Invariant (sym c.in_ok-cluster.ensures.machine) (sound-start c.args.config),
+)

@@ -2,7 +2,7 @@ use Rattle.std.proofs.Common.{◌≡◌, ◌∙◌, sym, ap, ap₂, Some, None, 
 use Rattle.std.specs.FinMap.{insert}
 use Rattle.fdb_core.specs.machine.ClientSteps.{with_operation}
 use Rattle.fdb_core.specs.machine.Sessions.{Session, Sessions, Open, open_of, session_of}
-use Rattle.fdb_core.proofs.machine.SessionLemmas.{one_put, session-at}
+use Rattle.fdb_core.proofs.machine.SessionMaps.{one_put, session-at}
 use Rattle.fdb_core.proofs.roles.client.sessions.Sessions.add_operation.Goals as goal
 
 -- one that did nothing yet has no open transaction

@@ -1,7 +1,7 @@
 use Rattle.std.proofs.Common.{◌∙◌, ap₂, Some}
 use Rattle.std.specs.FinMap.{insert}
 use Rattle.fdb_core.specs.machine.Sessions.{Session, Sessions, Open}
-use Rattle.fdb_core.proofs.machine.SessionLemmas.{one_put}
+use Rattle.fdb_core.proofs.machine.SessionMaps.{one_put}
 use Rattle.fdb_core.proofs.roles.client.sessions.Sessions.begin.Goals as goal
 
 pub returns : goal.returns
