@@ -24,7 +24,7 @@ use Rattle.fdb_core.specs.machine.Sessions.{Session, SessionState, Idle, Asking,
 use Rattle.fdb_core.specs.machine.Worlds.{start, idle_proxy}
 use Rattle.fdb_core.specs.programs.Programs.{commit_request_of}
 use Rattle.fdb_core.proofs.common.SumLemmas.{sum-set, sum-made, none_or_some}
-use Rattle.fdb_core.proofs.invariant.SessionLaws.{AllStand, session_steps, session-start, open-own, asks_once}
+use Rattle.fdb_core.proofs.invariant.SessionPlaces.{AllStand, session_steps, session-start, open-own, asks_once}
 use Rattle.fdb_core.proofs.machine.SessionLemmas.{put-cases, served-none, served-once, told-none, told-some, times_among, times_of, able, next-within}
 use Rattle.fdb_core.proofs.machine.SessionMaps.{session-new}
 use Rattle.fdb_core.proofs.machine.Steps.{KeptBySteps, kept-by_trace}

@@ -60,7 +60,9 @@ begins-more version sessions session id begins =
     (λ same.
     let was = subst (λ (n : ℕ). HasBegunBy id (session_of sessions n)) (sym same) begins in
     let last = (session_of sessions session).last_number in
-    (was.0, (next_number last, λ i. Some (next_number last), rw was.1.1 (next-above id.number was.1.0 greatest_number was.0 was.1.2))))
+    let below : id.number ≤ next_number last =
+    rw was.1.1 (next-above id.number was.1.0 greatest_number was.0 was.1.2) in
+    (was.0, (next_number last, λ i. Some (next_number last), below)))
     (λ differs. begins)
   where
     next-above : (number last greatest : ℕ) → number ≤ greatest → number ≤ last → number ≤ min (last + 1) greatest

@@ -209,7 +209,8 @@ sound_steps = record {
   submitted = λ m session proxy commit_proxy transcript at opened writes sound.
       let was = commit_proxy-at m sound proxy commit_proxy at in
       let waits : Submission = record { sealed = commit_request_of transcript; transcript = transcript } in
-      let waiting = all-push (Waits m) commit_proxy.waiting waits was.0 (refl, opened-at m sound session transcript opened) in
+      let waiting = all-push (Waits m) commit_proxy.waiting waits was.0
+      (refl, opened-at m sound session transcript opened) in
       same_book m sound (open-put (IsReplied m) m.sessions session Waiting sound.opened tt)
       (with-commit_proxy m sound proxy _ (waiting, was.1, was.2))
       sound.acknowledged sound.reported;

@@ -28,7 +28,7 @@ use Rattle.fdb_core.specs.programs.Programs.{reply_on}
 use Rattle.fdb_core.proofs.common.SumLemmas.{sum-set}
 use Rattle.fdb_core.proofs.invariant.SoundLemmas.{found-front}
 use Rattle.fdb_core.proofs.machine.Steps.{is_quiet, operation_of}
-use Rattle.fdb_core.proofs.invariant.SessionLaws.{AllStand}
+use Rattle.fdb_core.proofs.invariant.SessionPlaces.{AllStand}
 use Rattle.fdb_core.proofs.readings.GrantLemmas.{NumbersBegun}
 use Rattle.fdb_core.proofs.readings.SessionLists.{OpenTold, item-after-set}
 

@@ -93,8 +93,8 @@ module _ (opened : List Transcript) (sessions : Sessions) (told : OpenTold opene
   pub others-told : (client : ℕ) (state : SessionState) → open_of state ≡ None
       → OpenTold (others_than client opened) (with_state sessions client state)
   others-told client state none session =
-      state-put (λ (s : SessionState). own session (others_than client opened) ≡ alone (open_of s)) sessions client state
-      session
+      state-put (λ (s : SessionState). own session (others_than client opened) ≡ alone (open_of s)) sessions client
+      state session
       (λ same. subst (λ (n : ℕ). own session (others_than n opened) ≡ alone (open_of state)) (sym same)
       (own-gone session opened (open_at sessions session) (told session) ∙ sym (ap alone none)))
       (λ differs. own-others session client opened differs ∙ told session)

@@ -22,7 +22,7 @@ use Rattle.fdb_core.specs.machine.Verdicts.{outcomes_on}
 use Rattle.fdb_core.specs.programs.Programs.{program, copy, reply_on, commit_request_of}
 use Rattle.fdb_sequencer.specs.Sequencer.{next_version}
 use Rattle.fdb_core.proofs.common.AllLemmas.{all-at, all-take}
-use Rattle.fdb_core.proofs.invariant.SessionLaws.{AllStand, asks_once, asker-not-open, in_flight_once, flying-not-open}
+use Rattle.fdb_core.proofs.invariant.SessionPlaces.{AllStand, asks_once, asker-not-open, in_flight_once, flying-not-open}
 use Rattle.fdb_core.proofs.invariant.SoundLemmas.{sealed-in_flight}
 use Rattle.fdb_core.proofs.common.SumLemmas.{none_or_some}
 use Rattle.fdb_core.proofs.machine.SessionLemmas.{able, told-none, told-some, times_of}

@@ -29,7 +29,7 @@ use Rattle.fdb_core.proofs.common.AllLemmas.{all-at, all-replicate}
 use Rattle.fdb_core.proofs.headline.TraceLaws.{after_step-answered, traces_tell}
 use Rattle.fdb_core.proofs.invariant.OnceLaws.{machine-once}
 use Rattle.fdb_core.proofs.invariant.RealTimeLaws.{MachineHasBegun, after-first}
-use Rattle.fdb_core.proofs.invariant.SessionLaws.{AllStand, session_steps, session-start}
+use Rattle.fdb_core.proofs.invariant.SessionPlaces.{AllStand, session_steps, session-start}
 use Rattle.fdb_core.proofs.invariant.SoundLaws.{sound_steps, sound-start, sound-trace}
 use Rattle.fdb_core.proofs.machine.AcceptedTransitions.{IfAccepted}
 use Rattle.fdb_core.proofs.machine.SessionMaps.{session-new}

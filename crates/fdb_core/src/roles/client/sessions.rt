@@ -26,7 +26,6 @@ impl Model for Sessions {
 
 impl Sessions {
     ghost use Rattle.std.specs.Prelude.{◌≡◌, Some, IfSome, IfNone, OnOk};
-    ghost use Rattle.std.specs.List.{list_any};
     ghost use Rattle.std.specs.FinMap.{empty, get};
     ghost use Rattle.std.specs.Option.{option_copied};
     ghost use Rattle.fdb_core.specs.declared.roles.client.program.Transcript.{Transcript};

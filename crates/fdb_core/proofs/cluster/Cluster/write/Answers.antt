@@ -10,7 +10,8 @@ use Rattle.fdb_core.proofs.refinement.Ties.{opened-write, refines-sessions}
 use Rattle.fdb_core.proofs.cluster.Cluster.write.Goals as goal
 
 -- what is there
-some-there : (opened : Option Transcript) → is_some opened ≡ true → (transcript : Transcript) × (opened ≡ Some transcript)
+some-there : (opened : Option Transcript) → is_some opened ≡ true
+    → (transcript : Transcript) × (opened ≡ Some transcript)
 some-there None is = cc
 some-there (Some transcript) is = (transcript, λ i. Some transcript)
 
