@@ -41,7 +41,7 @@ greater-right x y =
     (cases_Bool (point_lt x y))
 
 -- what is below both points is below the lesser
-below_lesser : (z x y : Point) → point_lt z x ≡ true → point_lt z y ≡ true → point_lt z (lesser_point x y) ≡ true
+pub below_lesser : (z x y : Point) → point_lt z x ≡ true → point_lt z y ≡ true → point_lt z (lesser_point x y) ≡ true
 below_lesser z x y below_x below_y =
     ⊎_elim
     (λ before. ap (point_lt z) (cond-true _ _ _ before) ∙ below_y)
@@ -57,7 +57,7 @@ below_greater z x y below =
     (cases_Bool (point_lt x y))
 
 -- the greater of two points is below what both are below
-greater_below : (x y z : Point) → point_lt x z ≡ true → point_lt y z ≡ true → point_lt (greater_point x y) z ≡ true
+pub greater_below : (x y z : Point) → point_lt x z ≡ true → point_lt y z ≡ true → point_lt (greater_point x y) z ≡ true
 greater_below x y z x_below y_below =
     ⊎_elim
     (λ before. ap (λ (w : Point). point_lt w z) (cond-true _ _ _ before) ∙ y_below)
@@ -182,7 +182,7 @@ begins_after-sooner x y [] sooner after = refl
 begins_after-sooner x y (range ∷ ranges) sooner after = lt_chain x y range.begin sooner after
 
 -- a range that has a point, joined with another one, has one
-some_joined : (a b : Range) → point_lt a.begin a.end ≡ true
+pub some_joined : (a b : Range) → point_lt a.begin a.end ≡ true
     → point_lt (lesser_point a.begin b.begin) (greater_point a.end b.end) ≡ true
 some_joined a b some =
     lt_le_chain (lesser_point a.begin b.begin) a.end (greater_point a.end b.end)
@@ -244,17 +244,17 @@ in_range-empty range x empty =
     both_ways _ (not-true _ empty) (le_lt_chain range.begin x range.end parts.0 parts.1))
 
 -- the begin and the end are bounds in their order
-abbrev HasLegalBounds : Range → Type 0
+abbrev pub HasLegalBounds : Range → Type 0
 HasLegalBounds range = (is_bound range.begin && is_bound range.end && not (point_lt range.end range.begin)) ≡ true
 
-is_bound-lesser : (x y : Point) → is_bound x ≡ true → is_bound y ≡ true → is_bound (lesser_point x y) ≡ true
+pub is_bound-lesser : (x y : Point) → is_bound x ≡ true → is_bound y ≡ true → is_bound (lesser_point x y) ≡ true
 is_bound-lesser x y of_x of_y =
     ⊎_elim
     (λ before. ap is_bound (cond-true (point_lt y x) y x before) ∙ of_y)
     (λ after. ap is_bound (cond-false (point_lt y x) y x after) ∙ of_x)
     (cases_Bool (point_lt y x))
 
-is_bound-greater : (x y : Point) → is_bound x ≡ true → is_bound y ≡ true → is_bound (greater_point x y) ≡ true
+pub is_bound-greater : (x y : Point) → is_bound x ≡ true → is_bound y ≡ true → is_bound (greater_point x y) ≡ true
 is_bound-greater x y of_x of_y =
     ⊎_elim
     (λ before. ap is_bound (cond-true (point_lt x y) y x before) ∙ of_y)

@@ -1,6 +1,12 @@
+pub mod ApartLemmas
+pub mod ClippingLemmas
 pub mod InsertionLemmas
+pub mod LastLemmas
 pub mod PlaceLemmas
 pub mod PointOrder
+pub mod RangeMapLemmas
 pub mod RangesLemmas
 pub mod SingleLemmas
+pub mod SwallowedLemmas
 pub mod TextsLemmas
+pub mod TouchedLemmas

@@ -92,7 +92,7 @@ is_apart-drop (suc n) [] apart = refl
 is_apart-drop (suc n) (range ∷ ranges) apart = is_apart-drop n ranges (apart_parts range ranges apart).2
 
 -- what comes right before the sorted ranges after it is inserted at their front
-inserted-apart : (range : Range) (ranges : List Range) → is_apart (range ∷ ranges) ≡ true
+pub inserted-apart : (range : Range) (ranges : List Range) → is_apart (range ∷ ranges) ≡ true
     → inserted range ranges ≡ range ∷ ranges
 unfolding inserted
 inserted-apart range [] apart = refl

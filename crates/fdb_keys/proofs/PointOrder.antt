@@ -1,6 +1,10 @@
 -- Points are in a strict total order.
-use Rattle.std.proofs.Common.{◌≡◌, true, false, ⊎_elim}
+use Rattle.std.proofs.Common.{◌≡◌, ◌∙◌, ap, refl, true, false, Less, Equal, Greater, ⊎_elim}
 use Rattle.std.specs.Cmp.{IsStrictWeakOrder}
+use Rattle.std.specs.Cmp.Lexicographic.{slice_cmp}
+use Rattle.std.specs.FinMap.{nat_cmp-IsAntisymmetric, slice_cmp-IsAntisymmetric}
+use Rattle.std.specs.Ordering.{nat_cmp, is_lt, ordering_reverse}
+use Rattle.std.specs.declared.cmp.Ordering.{Ordering}
 use Rattle.std.proofs.lemmas.Cmp.{nat_list_cmp_total}
 use Rattle.std.proofs.lemmas.List.MinMax.{ranks_by}
 use Rattle.std.proofs.lemmas.Bool.{cases_Bool, both_ways, true_from_ne_false}
@@ -35,3 +39,29 @@ le_lt_chain x y z after before =
 -- x < y and y < z give x < z
 pub lt_chain : (x y z : Point) → point_lt x y ≡ true → point_lt y z ≡ true → point_lt x z ≡ true
 lt_chain x y z first second = lt_le_chain x y z first (lt_one_way y z second)
+
+-- how `cmp` orders two points, by which comes before the other
+less_from_test : (r : Ordering) → is_lt r ≡ true → r ≡ Less
+less_from_test Less less = refl
+less_from_test Equal less = cc
+less_from_test Greater less = cc
+
+equal_from_tests : (r s : Ordering) → s ≡ ordering_reverse r → is_lt r ≡ false → is_lt s ≡ false → r ≡ Equal
+equal_from_tests Less s back not_less not_greater = cc
+equal_from_tests Equal s back not_less not_greater = refl
+equal_from_tests Greater s back not_less not_greater = absurd (both_ways _ not_greater (ap is_lt back))
+
+pub cmp_less : (x y : Point) → point_lt x y ≡ true → slice_cmp nat_cmp x y ≡ Less
+unfolding point_lt
+cmp_less x y before = less_from_test (slice_cmp nat_cmp x y) before
+
+pub cmp_greater : (x y : Point) → point_lt y x ≡ true → slice_cmp nat_cmp x y ≡ Greater
+cmp_greater x y after = nat_list_cmp_total.antisymm x y ∙ ap ordering_reverse (cmp_less y x after)
+
+-- two points of which neither comes before the other are the same
+pub same_point : (x y : Point) → point_lt x y ≡ false → point_lt y x ≡ false → x ≡ y
+unfolding point_lt
+same_point x y not_before not_after =
+    slice_cmp-IsAntisymmetric nat_cmp-IsAntisymmetric x y
+    (equal_from_tests (slice_cmp nat_cmp x y) (slice_cmp nat_cmp y x) (nat_list_cmp_total.antisymm y x) not_before
+    not_after)

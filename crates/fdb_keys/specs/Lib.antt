@@ -1,9 +1,12 @@
 pub mod Answers
+pub mod Clipping
 pub mod Equality
 pub mod Insertion
 pub mod KeyOrder
 pub mod Limits
 pub mod Points
+pub mod RangeMaps
 pub mod Ranges
 pub mod Refusals
 pub mod Texts
+pub mod Touching

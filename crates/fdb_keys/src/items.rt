@@ -97,6 +97,15 @@ impl<T> Items<T> {
     {
         self.list.push(item)
     }
+
+    /// Leaves only the first `count` items, all of them where there are no more. It takes no memory.
+    pub fn truncate(&mut self, count: usize)
+    where
+        T: Drop,
+        ensures { self.new ≡ take count self.old }
+    {
+        self.list.truncate(count);
+    }
 }
 
 impl<T: PartialEq> PartialEq for Items<T> {

@@ -46,6 +46,22 @@ impl Key {
         Ok(Key { text })
     }
 
+    /// The key of a text that is known to be a legal one. It takes no memory.
+    pub fn from_text(text: Bytes) -> Self
+        requires { IsTrue (is_key text) }
+        ensures { result ≡ text }
+    {
+        Key { text }
+    }
+
+    /// The text of the key, of which a clone copies no byte.
+    pub fn text(&self) -> &Bytes
+        ensures value { result.now ≡ self.now }
+        ensures legal { IsTrue (is_key self.now) }
+    {
+        &self.text
+    }
+
     /// The bytes of the key.
     pub fn bytes(&self) -> &[u8]
         ensures value { result.now ≡ self.now }

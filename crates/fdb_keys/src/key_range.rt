@@ -32,10 +32,11 @@ impl Model for KeyRange {
 }
 
 impl KeyRange {
-    ghost use Rattle.std.specs.Prelude.{◌≡◌, Some, None, IfOk, IsTrue, ◌↔◌, Bool, true, IfOk};
+    ghost use Rattle.std.specs.Prelude.{◌≡◌, Some, None, IfOk, IsTrue, ◌↔◌, ◌&&◌, Bool, true, false, IfOk};
     ghost use Rattle.fdb_keys.specs.Answers.{Answers};
+    ghost use Rattle.fdb_keys.specs.Clipping.{clipped_range, in_clipped};
     ghost use Rattle.fdb_keys.specs.Insertion.{joined_range};
-    ghost use Rattle.fdb_keys.specs.Points.{Point, point_eq};
+    ghost use Rattle.fdb_keys.specs.Points.{Point, point_eq, point_lt};
     ghost use Rattle.fdb_keys.specs.Ranges.{in_range, single_range, is_empty_range, ranges_meet};
     ghost use Rattle.fdb_keys.specs.Texts.{is_bound, range_fault};
 
@@ -87,11 +88,33 @@ impl KeyRange {
         self.end.as_slice()
     }
 
+    /// The text of the range's begin, of which a clone copies no byte.
+    pub fn begin_text(&self) -> &Bytes
+        ensures { result.now ≡ self.now.begin }
+    {
+        &self.begin
+    }
+
+    /// The text of the range's end, of which a clone copies no byte. It doesn't come before the begin.
+    pub fn end_text(&self) -> &Bytes
+        ensures value { result.now ≡ self.now.end }
+        ensures order { point_lt self.now.end self.now.begin ≡ false }
+    {
+        &self.end
+    }
+
     /// Whether the key lies in the range.
     pub fn contains(&self, key: &Key) -> bool
         ensures { result ≡ in_range self.now key.now }
     {
-        !is_before(key.bytes(), self.begin()) && is_before(key.bytes(), self.end())
+        self.contains_text(key.bytes())
+    }
+
+    /// Whether the text lies in the range, be it a key, a bound or neither.
+    pub fn contains_text(&self, text: &[u8]) -> bool
+        ensures { result ≡ in_range self.now text.now }
+    {
+        !is_before(text, self.begin()) && is_before(text, self.end())
     }
 
     /// Whether some key or bound lies in both ranges. Where any point does, a legal bound does.
@@ -110,6 +133,22 @@ impl KeyRange {
     {
         !is_before(self.begin(), self.end())
     }
+
+    /// The points that lie in both ranges, from the greater begin up to but not including the lesser end: `None`
+    /// exactly where no point does. Refused only as `NoMemory`.
+    pub fn clip(&self, other: &KeyRange) -> Result<Option<KeyRange>, Refusal>
+        ensures answers { Answers result None (λ clipped. clipped ≡ clipped_range self.now other.now) }
+        ensures points { IfOk result (λ clipped. (x : Point)
+            → in_clipped clipped x ≡ (in_range self.now x && in_range other.now x)) }
+    {
+        if !self.meets(other) {
+            return Ok(None);
+        }
+        let begin = greater_bound(&self.begin, &other.begin)?;
+        let end = lesser_bound(&self.end, &other.end)?;
+        Ok(Some(KeyRange { begin, end }))
+    }
+
     // The shortest range that holds both.
     pub(crate) fn joined(&self, other: &KeyRange) -> Result<KeyRange, AllocError>
         ensures { IfOk result (λ range. range ≡ joined_range self.now other.now) }

@@ -1,12 +1,14 @@
-//! What `==` and `<` say, and where ranges meet, for the proofs of the crates that use these types.
-ghost use Rattle.std.specs.Prelude.{◌≡◌, List, true};
+//! What `==` and `<` say, where ranges meet, and which list of ranges stands for a set of points, for the proofs of
+//! the crates that use these types.
+ghost use Rattle.std.specs.Prelude.{◌≡◌, ◌||◌, List, true};
 ghost use Rattle.std.specs.Ordering.{nat_cmp};
 ghost use Rattle.std.specs.Bool.{Decides};
 ghost use Rattle.std.specs.Cmp.Lexicographic.{pointwise, slice_cmp};
 ghost use Rattle.fdb_keys.specs.Equality.{key_eq, range_eq, range_set_eq, refusal_eq};
+ghost use Rattle.fdb_keys.specs.Insertion.{with_range};
 ghost use Rattle.fdb_keys.specs.KeyOrder.{key_lt, key_cmp};
 ghost use Rattle.fdb_keys.specs.Points.{Point, point_lt};
-ghost use Rattle.fdb_keys.specs.Ranges.{Range, in_range, ranges_meet};
+ghost use Rattle.fdb_keys.specs.Ranges.{Range, in_range, in_set, is_apart, ranges_meet};
 ghost use Rattle.fdb_keys.specs.Texts.{is_bound};
 
 use crate::key::Key;
@@ -50,4 +52,24 @@ pub fn keys_are_ordered_as_points()
 pub fn ranges_meet_at_legal_bounds()
     ensures { (a b : Range) → is_bound a.begin ≡ true → is_bound b.begin ≡ true → ranges_meet a b ≡ true
         → (x : Point) × (is_bound x ≡ true) × (in_range a x ≡ true) × (in_range b x ≡ true) }
+{}
+
+/// Of all lists that hold just the same points, one is sorted, apart and without an empty range.
+pub fn apart_ranges_with_the_same_points_are_the_same()
+    ensures { (a b : List Range) → is_apart a ≡ true → is_apart b ≡ true
+        → ((x : Point) → in_set a x ≡ in_set b x) → a ≡ b }
+{}
+
+/// A set with one more range is that list of the points of both.
+pub fn set_with_a_range_has_the_points_of_both()
+    ensures points { (range : Range) (ranges : List Range) (x : Point)
+        → in_set (with_range range ranges) x ≡ (in_range range x || in_set ranges x) }
+    ensures apart { (range : Range) (ranges : List Range) → is_apart ranges ≡ true
+        → is_apart (with_range range ranges) ≡ true }
+{}
+
+/// A range whose points are all in a set adds nothing to it.
+pub fn range_in_a_set_adds_nothing()
+    ensures { (range : Range) (ranges : List Range) → is_apart ranges ≡ true
+        → ((x : Point) → in_range range x ≡ true → in_set ranges x ≡ true) → with_range range ranges ≡ ranges }
 {}

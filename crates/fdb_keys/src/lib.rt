@@ -7,13 +7,16 @@ mod key;
 mod key_range;
 pub mod laws;
 mod order;
+mod range_map;
 mod range_set;
 mod refusal;
 #[cfg(test)]
 mod tests;
+mod tree_range_set;
 
 pub use items::Items;
 pub use key::{KEY_LIMIT, Key};
 pub use key_range::{BOUND_LIMIT, KeyRange};
 pub use range_set::RangeSet;
 pub use refusal::{Refusal, Refused};
+pub use tree_range_set::TreeRangeSet;

@@ -42,6 +42,16 @@ impl RangeSet {
         }
     }
 
+    // The set of the ranges, which are sorted, apart and none empty.
+    pub(crate) fn from_ranges(ranges: Vec<KeyRange>) -> Self
+        requires { IsTrue (is_apart ranges.items) }
+        ensures { result ≡ ranges.items }
+    {
+        RangeSet {
+            ranges: Items::from_vec(ranges),
+        }
+    }
+
     /// Whether the set has no range.
     pub fn is_empty(&self) -> bool
         ensures { result ≡ (length self.now == 0) }

@@ -4,6 +4,7 @@ use crate::key::Key;
 use crate::key_range::KeyRange;
 use crate::range_set::RangeSet;
 use crate::refusal::Refusal;
+use crate::tree_range_set::TreeRangeSet;
 use std::alloc::Global;
 use std::test::Fail;
 
@@ -46,6 +47,28 @@ fn is_one_range(set: &RangeSet, begin: &[u8], end: &[u8]) -> bool {
     match set.iter().as_slice() {
         [range] => has_bounds(range, begin, end),
         _ => false,
+    }
+}
+
+// The set of the ranges, which are added one after another.
+fn tree_of(alloc: Global, bounds: &[(&[u8], &[u8])]) -> Result<TreeRangeSet, Refusal> {
+    let mut tree = TreeRangeSet::new(alloc);
+    for (begin, end) in bounds {
+        let range = KeyRange::new(alloc, begin, end)?;
+        tree.add(&range)?;
+    }
+    Ok(tree)
+}
+
+// Whether the set is the one range, and so is the list that it gives.
+fn tree_is_one_range(alloc: Global, tree: &TreeRangeSet, begin: &[u8], end: &[u8]) -> bool {
+    let one = match tree.iter().next() {
+        Some(range) => has_bounds(range, begin, end) && tree.iter().count() == 1,
+        None => false,
+    };
+    match tree.to_set(alloc) {
+        Ok(set) => one && is_one_range(&set, begin, end),
+        Err(_why) => false,
     }
 }
 
@@ -107,6 +130,55 @@ fn touching_ranges_are_joined(rt: HostRuntime) -> Result<(), Fail> {
     let set = keys_to_d(rt.alloc())?;
     assert!(rt; is_one_range(&set, b"a", b"d"));
     assert!(rt; !set.is_empty());
+    Ok(())
+}
+
+#[test]
+fn range_is_added_to_both_trees(rt: HostRuntime) -> Result<(), Fail> {
+    let mut first = tree_of(rt.alloc(), &[(b"a", b"b")])?;
+    let mut second = TreeRangeSet::new(rt.alloc());
+    let range = KeyRange::new(rt.alloc(), b"b", b"c")?;
+    TreeRangeSet::add_to_both(&mut first, &mut second, &range)?;
+    assert!(rt; tree_is_one_range(rt.alloc(), &first, b"a", b"c"));
+    assert!(rt; tree_is_one_range(rt.alloc(), &second, b"b", b"c"));
+    Ok(())
+}
+
+#[test]
+fn tree_joins_touching_ranges(rt: HostRuntime) -> Result<(), Fail> {
+    let tree = tree_of(rt.alloc(), &[(b"a", b"c"), (b"c", b"d"), (b"e", b"e")])?;
+    assert!(rt; tree_is_one_range(rt.alloc(), &tree, b"a", b"d"));
+    assert!(rt; !tree.is_empty());
+    Ok(())
+}
+
+#[test]
+fn tree_swallows_the_ranges_that_one_touches(rt: HostRuntime) -> Result<(), Fail> {
+    let bounds = [
+        (b"a".as_slice(), b"b".as_slice()),
+        (b"e", b"g"),
+        (b"c", b"d"),
+        (b"b", b"f"),
+    ];
+    let tree = tree_of(rt.alloc(), &bounds)?;
+    assert!(rt; tree_is_one_range(rt.alloc(), &tree, b"a", b"g"));
+    Ok(())
+}
+
+#[test]
+fn range_in_a_tree_adds_nothing(rt: HostRuntime) -> Result<(), Fail> {
+    let tree = tree_of(rt.alloc(), &[(b"a", b"d"), (b"b", b"c")])?;
+    assert!(rt; tree_is_one_range(rt.alloc(), &tree, b"a", b"d"));
+    Ok(())
+}
+
+#[test]
+fn tree_has_the_begin_of_a_range_and_not_its_end(rt: HostRuntime) -> Result<(), Fail> {
+    let tree = tree_of(rt.alloc(), &[(b"a", b"c")])?;
+    let first = Key::new(rt.alloc(), b"a")?;
+    let next = Key::new(rt.alloc(), b"c")?;
+    assert!(rt; tree.contains(&first));
+    assert!(rt; !tree.contains(&next));
     Ok(())
 }
 
