@@ -56,8 +56,8 @@ pub fn programs_agree_on_maps_that_agree_where_they_read()
 {}
 
 /// A trace determines the machine: a world that stands for a list of steps with their answers shows the machine
-/// that the list takes the first one to, an accepted step after another. And what the machine has of the entries, of the
-/// transaction that each session has open and the number of its next one, of transactions that wait, are in flight or
+/// that the list takes the first one to, an accepted step after another. And what the machine has of the entries, of
+/// the transaction that each session has open and the number of its next one, of transactions that wait, are in flight or
 /// are acknowledged, and of versions that were reported, is what is read off the steps and their answers.
 pub fn traces_determine_the_machine()
     ensures determined { TracesDetermineTheMachine }

@@ -1,8 +1,15 @@
 pub mod Equality
+pub mod Examples
+pub mod Lent
 pub mod Limits
 pub mod Maps
 pub mod Mutations
+pub mod Naming
+pub mod Numbers
+pub mod Operands
+pub mod Pairs
 pub use Rattle.fdb_keys.specs.Answers
+pub use Rattle.fdb_keys.specs.Clipping
 pub use Rattle.fdb_keys.specs.Insertion
 pub use Rattle.fdb_keys.specs.Points
 pub use Rattle.fdb_keys.specs.Ranges

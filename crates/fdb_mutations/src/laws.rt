@@ -2,7 +2,8 @@
 ghost use Rattle.std.specs.Prelude.{◌≡◌};
 ghost use Rattle.std.specs.Bool.{Decides};
 ghost use Rattle.fdb_mutations.specs.Equality.{mutation_eq};
-ghost use Rattle.fdb_mutations.specs.Mutations.{EffectAtEveryPoint};
+ghost use Rattle.fdb_mutations.specs.Examples.{WorkedExamples};
+ghost use Rattle.fdb_mutations.specs.Mutations.{EffectAtEveryPoint, BlindIsBlind, RangesAreCleared};
 
 use crate::mutation::Mutation;
 
@@ -10,6 +11,21 @@ use crate::mutation::Mutation;
 /// stood there.
 pub fn effect_at_every_point()
     ensures { EffectAtEveryPoint }
+{}
+
+/// A blind mutation makes the same of any two values.
+pub fn blind_is_blind()
+    ensures { BlindIsBlind }
+{}
+
+/// A mutation that names a range clears it.
+pub fn ranges_are_cleared()
+    ensures { RangesAreCleared }
+{}
+
+/// What mutations leave of some values.
+pub fn worked_examples()
+    ensures { WorkedExamples }
 {}
 
 /// Two mutations are equal exactly where they are the same.

@@ -3,9 +3,12 @@
 
 pub mod laws;
 mod mutation;
+mod numbers;
+mod operands;
+mod pairs;
 mod plain_map;
 #[cfg(test)]
 mod tests;
 
-pub use mutation::{Mutation, VALUE_LIMIT};
+pub use mutation::{Mutation, Named, VALUE_LIMIT};
 pub use plain_map::PlainMap;

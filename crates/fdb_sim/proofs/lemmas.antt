@@ -10,3 +10,4 @@ pub mod ReadBack
 pub mod Script
 pub mod Texts
 pub mod Words
+pub mod WriteLines

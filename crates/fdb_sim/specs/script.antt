@@ -1,4 +1,5 @@
 pub mod Lines
+pub mod Operations
 pub mod Faults
 pub mod Texts
 pub mod Words

@@ -3,6 +3,8 @@ pub mod fault;
 pub mod line;
 pub mod lines;
 pub mod numbers;
+pub mod operation;
 pub mod step_line;
 pub mod texts;
 pub mod words;
+pub mod write_line;

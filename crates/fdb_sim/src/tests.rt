@@ -7,3 +7,4 @@ mod rows;
 mod scripts;
 mod words;
 mod worlds;
+mod writes;

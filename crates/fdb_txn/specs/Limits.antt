@@ -1,6 +1,10 @@
--- The limit of a batch.
+-- The limits of a batch and of a transaction.
 use Rattle.std.specs.Prelude.{ℕ}
 
 -- the most places that an entry has
 abbrev pub place_limit : ℕ
 place_limit = 4096
+
+-- the most bytes that a transaction has
+abbrev pub size_limit : ℕ
+size_limit = 10000000

@@ -6,6 +6,7 @@ mod batch;
 mod entry;
 pub mod laws;
 mod sealed;
+mod size;
 mod spot;
 #[cfg(test)]
 mod tests;
@@ -15,5 +16,6 @@ mod writes;
 pub use batch::{Batch, PLACE_LIMIT};
 pub use entry::{Entry, Move};
 pub use sealed::{Sealed, Unsealed};
+pub use size::SIZE_LIMIT;
 pub use spot::Spot;
 pub use txn_id::TxnId;

@@ -1,6 +1,7 @@
+use crate::size::{SIZE_LIMIT, size_of};
 use crate::txn_id::TxnId;
 use crate::writes::joined;
-use fdb_keys::{Items, RangeSet, Refused};
+use fdb_keys::{Items, RangeSet, Refusal, Refused};
 use fdb_mutations::Mutation;
 use std::alloc::Global;
 use std::marker::Model;
@@ -27,28 +28,33 @@ pub struct Unsealed {
 }
 
 impl Model for Sealed {
-    ghost use Rattle.fdb_txn.specs.book.Transactions.{Transaction, NamesWrites};
+    ghost use Rattle.fdb_txn.specs.book.Size.{MaySeal};
+    ghost use Rattle.fdb_txn.specs.book.Transactions.{Transaction};
 
     ghost Value = { Transaction };
 
     ghost view = { λ sealed. record { id = sealed.id; read = sealed.read_version; reads = sealed.reads; writes = sealed.writes; mutations = sealed.mutations } };
 
-    ghost invariant = { λ sealed. NamesWrites (record { id = sealed.id; read = sealed.read_version; reads = sealed.reads; writes = sealed.writes; mutations = sealed.mutations }) };
+    ghost invariant = { λ sealed. MaySeal (record { id = sealed.id; read = sealed.read_version; reads = sealed.reads; writes = sealed.writes; mutations = sealed.mutations }) };
 
     ghost inverse = { λ t. record { id = t.id; read_version = t.read; reads = t.reads; writes = t.writes; mutations = t.mutations } };
 }
 
 impl Sealed {
-    ghost use Rattle.std.specs.Prelude.{◌≡◌, ◌||◌, All, None, IfOk};
-    ghost use Rattle.fdb_keys.specs.Answers.{AnswersOrHandsBack};
+    ghost use Rattle.std.specs.Prelude.{◌≡◌, ◌≤◌, ◌||◌, All, None, IfOk};
+    ghost use Rattle.fdb_keys.specs.Answers.{AnswersOrHandsBack, AnswersExactlyOrHandsBack, unless_memory};
     ghost use Rattle.fdb_keys.specs.Points.{Point};
     ghost use Rattle.fdb_keys.specs.Ranges.{in_set};
     ghost use Rattle.fdb_mutations.specs.Mutations.{mutation_fault};
+    ghost use Rattle.fdb_txn.specs.Limits.{size_limit};
+    ghost use Rattle.fdb_txn.specs.book.Size.{size_of, size_fault};
     ghost use Rattle.fdb_txn.specs.book.Transactions.{with_named, some_names, NamesWrites};
 
     /// Seals a transaction with its read version, its read set, its write set and its mutations, each of
-    /// which passes `check`. What the mutations name joins the write set. Refused only as `NoMemory`; a
-    /// refusal hands the sets and the mutations back.
+    /// which passes `check`. What the mutations name joins the write set. Refused as `TransactionTooLarge` where the
+    /// transaction has more than 10,000,000 bytes: those of both bounds of each range of the joined sets, and of the
+    /// mutations; as `NoMemory` where memory runs out before that is known. A refusal hands the sets and the mutations
+    /// back.
     pub fn new(
         alloc: Global,
         id: TxnId,
@@ -58,35 +64,94 @@ impl Sealed {
         mutations: Items<Mutation>,
     ) -> Result<Self, Refused<Unsealed>>
         requires { All (λ mutation. mutation_fault mutation ≡ None) mutations }
-        ensures answers { AnswersOrHandsBack result (record { reads = reads; writes = writes; mutations = mutations }) None
+        ensures answers { AnswersOrHandsBack result (record { reads = reads; writes = writes; mutations = mutations })
+            (unless_memory result (size_fault (record {
+              id = id;
+              read = read_version;
+              reads = reads;
+              writes = with_named writes mutations;
+              mutations = mutations;
+            })))
             (λ sealed. sealed ≡ record {
               id = id;
               read = read_version;
               reads = reads;
               writes = with_named writes mutations;
-              mutations =
-                  mutations;
+              mutations = mutations;
             }) }
         ensures points { IfOk result
             (λ sealed. (x : Point) → in_set sealed.writes x ≡ (some_names mutations x || in_set writes x)) }
     {
-        match joined(alloc, &writes, mutations.as_slice()) {
-            Ok(writes) => Ok(Sealed {
-                id,
-                read_version,
-                reads,
-                writes,
-                mutations,
+        let joined = match joined(alloc, &writes, mutations.as_slice()) {
+            Ok(joined) => joined,
+            Err(why) => {
+                return Err(Refused {
+                    why,
+                    back: Unsealed {
+                        reads,
+                        writes,
+                        mutations,
+                    },
+                });
+            }
+        };
+        match Sealed::from_joined(id, read_version, reads, joined, mutations) {
+            Ok(sealed) => Ok(sealed),
+            Err(refused) => Err(Refused {
+                why: refused.why,
+                back: Unsealed {
+                    reads: refused.back.reads,
+                    writes,
+                    mutations: refused.back.mutations,
+                },
             }),
-            Err(why) => Err(Refused {
-                why,
+        }
+    }
+
+    /// The same of a write set that has all that the mutations name. It takes no memory, and is refused only as
+    /// `TransactionTooLarge`.
+    pub fn from_joined(
+        id: TxnId,
+        read_version: u64,
+        reads: RangeSet,
+        writes: RangeSet,
+        mutations: Items<Mutation>,
+    ) -> Result<Self, Refused<Unsealed>>
+        requires legal { All (λ mutation. mutation_fault mutation ≡ None) mutations }
+        requires named { NamesWrites (record
+            { id = id; read = read_version; reads = reads; writes = writes; mutations = mutations }) }
+        ensures { AnswersExactlyOrHandsBack result (record { reads = reads; writes = writes; mutations = mutations })
+            (size_fault (record
+            { id = id; read = read_version; reads = reads; writes = writes; mutations = mutations }))
+            (λ sealed. sealed ≡ record
+            { id = id; read = read_version; reads = reads; writes = writes; mutations = mutations }) }
+    {
+        if size_of(&reads, &writes, mutations.as_slice()) > SIZE_LIMIT {
+            return Err(Refused {
+                why: Refusal::TransactionTooLarge,
                 back: Unsealed {
                     reads,
                     writes,
                     mutations,
                 },
-            }),
+            });
         }
+        Ok(Sealed {
+            id,
+            read_version,
+            reads,
+            writes,
+            mutations,
+        })
+    }
+
+    /// How many bytes the transaction has: those of both bounds of each range of its read set and of its write set,
+    /// and of its mutations. There are at most 10,000,000.
+    pub fn size(&self) -> u64
+        ensures value { result ≡ size_of self.now }
+        ensures within { size_of self.now ≤ size_limit }
+    {
+        size_of(&self.reads, &self.writes, self.mutations.as_slice())
     }
 
     /// The name of the transaction.

@@ -33,6 +33,45 @@ fn one_set(alloc: Global, key: &[u8], value: &[u8]) -> Result<Items<Mutation>, R
     Ok(mutations)
 }
 
+// The set of the key to as many bytes.
+fn long_set(alloc: Global, key: u8, count: usize) -> Result<Mutation, Refusal>
+    ensures { IfOk result (λ mutation. mutation_fault mutation ≡ None) }
+{
+    let key = Key::new(alloc, &[key])?;
+    let text = vec![in alloc; b'v'; count]?;
+    let value = Bytes::copy_from_slice(alloc, text.as_slice())?;
+    let mutation = Mutation::Set { key, value };
+    mutation.check()?;
+    Ok(mutation)
+}
+
+// Sets of the keys `00` to `63` to 99,996 bytes each, but of the last one to as many.
+fn hundred_sets(alloc: Global, last: usize) -> Result<Items<Mutation>, Refusal>
+    ensures { IfOk result (λ mutations. All (λ mutation. mutation_fault mutation ≡ None) mutations) }
+{
+    let mut mutations = Items::new(alloc);
+    for key in 0..99u8 {
+        mutations.push(long_set(alloc, key, 99_996)?)?;
+    }
+    mutations.push(long_set(alloc, 99, last)?)?;
+    Ok(mutations)
+}
+
+// The size of the transaction with these mutations alone, or why it is refused; then all its mutations are back.
+fn size_of(alloc: Global, mutations: Items<Mutation>) -> Result<u64, (u32, usize)>
+    requires { All (λ mutation. mutation_fault mutation ≡ None) mutations }
+{
+    let id = TxnId {
+        session: 0,
+        number: 0,
+    };
+    let (reads, writes) = (RangeSet::new(alloc), RangeSet::new(alloc));
+    match Sealed::new(alloc, id, 0, reads, writes, mutations) {
+        Ok(sealed) => Ok(sealed.size()),
+        Err(refused) => Err((refused.why.code(), refused.back.mutations.len())),
+    }
+}
+
 // A transaction that read the keys from b to c, and writes the key a and the keys from x to y.
 fn sealed(alloc: Global, id: TxnId, read_version: u64) -> Result<Sealed, Refusal> {
     let reads = set_of(alloc, b"b", b"c")?;
@@ -178,4 +217,13 @@ fn spots_of_one_version_differ(rt: HostRuntime) {
     assert!(rt; first == first);
     assert!(rt; first != second);
     assert!(rt; first != read_only);
+}
+
+#[test]
+fn transactions_have_at_most_10_000_000_bytes(rt: HostRuntime) -> Result<(), Fail> {
+    let largest = hundred_sets(rt.alloc(), 99_996)?;
+    let too_large = hundred_sets(rt.alloc(), 99_997)?;
+    assert_eq!(rt; size_of(rt.alloc(), largest), Ok(10_000_000));
+    assert_eq!(rt; size_of(rt.alloc(), too_large), Err((2101, 100)));
+    Ok(())
 }

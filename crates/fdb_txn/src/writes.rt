@@ -2,30 +2,20 @@
 ghost use Rattle.std.specs.Prelude.{◌≡◌, ◌||◌, None, IfOk, OnOk};
 ghost use Rattle.fdb_keys.specs.Answers.{Answers};
 ghost use Rattle.fdb_keys.specs.Insertion.{with_range};
-ghost use Rattle.fdb_keys.specs.Points.{Point, point_eq};
-ghost use Rattle.fdb_keys.specs.Ranges.{in_set, single_range};
+ghost use Rattle.fdb_keys.specs.Points.{Point};
+ghost use Rattle.fdb_keys.specs.Ranges.{in_set};
 ghost use Rattle.fdb_mutations.specs.Mutations.{names, named_range};
 ghost use Rattle.fdb_txn.specs.book.Transactions.{with_named, some_names};
 
-use fdb_keys::{Key, KeyRange, RangeSet, Refusal};
+use fdb_keys::{RangeSet, Refusal};
 use fdb_mutations::Mutation;
 use std::alloc::Global;
-
-fn key_of(mutation: &Mutation) -> &Key
-    ensures range { single_range result.now ≡ named_range mutation.now }
-    ensures named { (x : Point) → names mutation.now x ≡ point_eq x result.now }
-{
-    match mutation {
-        Mutation::Set { key, .. } => key,
-        Mutation::Clear { key } => key,
-    }
-}
 
 fn join(alloc: Global, set: &mut RangeSet, mutation: &Mutation) -> Result<(), Refusal>
     ensures answers { Answers result None (λ _. set.new ≡ with_range (named_range mutation.now) set.old) }
     ensures points { OnOk result ((x : Point) → in_set set.new x ≡ (names mutation.now x || in_set set.old x)) }
 {
-    let range = KeyRange::single(alloc, key_of(mutation))?;
+    let range = mutation.range(alloc)?;
     set.add(&range)
 }
 

@@ -227,13 +227,13 @@ module _ (book : List Entry) (plain : IsPlainBook book) (n : ℕ) where
   pub stops-between : (acknowledged : List Placed) (old : Replay) (from : ℕ) (until : Option ℕ) (fault : CheckFault)
       → HasCome book acknowledged n old
       → from ≡ last_version (take n book) → IsUntil book n until
-      → Differs (AnsweredAt (Between from until) old.map) acknowledged fault → StopsBy (Agrees book) acknowledged fault
-  stops-between acknowledged old from until fault come is_last next differs =
+      → StopsBy (AnsweredAt (Between from until) old.map) acknowledged fault → StopsBy (Agrees book) acknowledged fault
+  stops-between acknowledged old from until fault come is_last next stops =
       stops-weaken (AnsweredAt (Between from until) old.map) (Agrees book)
       (λ placed agrees. subst (λ (m : Map). AnsweredAt (Between from until) m placed) (sym come.map)
       (subst (λ (v : ℕ). AnsweredAt (Between v until) after placed) (sym is_last)
       (agrees-between until next placed.transcript placed.spot agrees)))
-      acknowledged fault (inr differs)
+      acknowledged fault stops
 
   -- who agrees where he stands before the end of the book, and at its last version or above, agrees
   agrees-last : length book ≤ n → (transcript : Transcript) (at : Spot)
@@ -268,7 +268,7 @@ module _ (book : List Entry) (plain : IsPlainBook book) (n : ℕ) where
 
   pub stops-last : length book ≤ n → (acknowledged : List Placed) (old : Replay) (from : ℕ) (fault : CheckFault)
       → HasCome book acknowledged n old
-      → from ≡ last_version (take n book) → Differs (AnsweredAt (Between from None) old.map) acknowledged fault
+      → from ≡ last_version (take n book) → StopsBy (AnsweredAt (Between from None) old.map) acknowledged fault
       → StopsBy (Agrees book) acknowledged fault
   stops-last all acknowledged old from fault come is_last =
       stops-between acknowledged old from None fault come is_last

@@ -18,6 +18,7 @@ use Rattle.fdb_core.specs.declared.roles.client.program.Op.TheVariants as op
 use Rattle.fdb_core.specs.declared.roles.client.program.Transcript.{Transcript}
 use Rattle.fdb_core.specs.declared.step.Answered.{Answered}
 use Rattle.fdb_core.specs.declared.step.Answered.TheVariants as answered
+use Rattle.fdb_txn.specs.book.Size.{size_fault}
 use Rattle.fdb_core.specs.declared.step.Step.{Step}
 use Rattle.fdb_core.specs.declared.step.Step.TheVariants as step
 use Rattle.fdb_core.specs.headline.Traces.{after_steps}
@@ -193,7 +194,8 @@ module _ (R : Machine → Step → Answered → Machine → Type 0) (holds : Hol
       past-found _ (slice_get m.commit_proxies proxy) _ (λ commit_proxy at.
       past-open _ (open_at m.sessions session) _ (λ transcript opened.
       past-choice _ (writes_nothing transcript) _ _ (holds.read_only m session proxy transcript opened)
-      (holds.submitted m session proxy commit_proxy transcript at opened)))
+      (λ writes. past-fault _ (size_fault (commit_request_of transcript)) _
+      (λ _. holds.submitted m session proxy commit_proxy transcript at opened writes))))
   holds-next m (step.Seal proxy advance) =
       past-found _ (slice_get m.commit_proxies proxy) _ (λ commit_proxy at.
       past-test _ (not (is_idle commit_proxy.stage)) _ _ (λ idle.

@@ -6,7 +6,9 @@ use Rattle.std.proofs.lemmas.Bool.{le-ltb}
 use Rattle.std.specs.FinMap.{get}
 use Rattle.fdb_keys.specs.Answers.{AnswersExactly}
 use Rattle.fdb_keys.specs.declared.refusal.Refusal.{Refusal}
+use Rattle.fdb_mutations.specs.declared.mutation.Mutation.{Mutation}
 use Rattle.fdb_mutations.specs.Maps.{Map}
+use Rattle.fdb_mutations.specs.Mutations.{mutation_fault}
 use Rattle.fdb_txn.specs.declared.entry.Entry.{Entry}
 use Rattle.fdb_txn.specs.book.Book.{seen_of, seen_before}
 use Rattle.fdb_txn.specs.rules.Owners.{first_owner}
@@ -17,7 +19,7 @@ use Rattle.fdb_core.specs.declared.roles.client.program.Op.TheVariants as op
 use Rattle.fdb_core.specs.declared.roles.client.program.Reply.TheVariants as reply
 use Rattle.fdb_core.specs.declared.roles.client.program.Transcript.{Transcript}
 use Rattle.fdb_core.specs.declared.step.Answered.TheVariants as answered
-use Rattle.fdb_core.specs.machine.ClientSteps.{gets, add_operation, read_fault}
+use Rattle.fdb_core.specs.machine.ClientSteps.{gets, writes, add_operation, read_fault}
 use Rattle.fdb_core.specs.machine.RoleSteps.{shard_fault, resolves, pushes}
 use Rattle.fdb_core.specs.machine.Machine.{Machine, Transition, refused_by, is_set}
 use Rattle.fdb_core.specs.machine.Sessions.{open_at}
@@ -78,6 +80,23 @@ gets-faultless m session key snapshot transcript opened faultless =
       },
       gets-transition m session key snapshot transcript value opened faultless refl,
     )
+
+-- the transition of a legal write of an open transaction
+pub writes-transition : (m : Machine) (session : ℕ) (mutation : Mutation) (transcript : Transcript)
+    → open_at m.sessions session ≡ Some transcript → mutation_fault mutation ≡ None
+    → writes m session mutation ≡ Ok (record {
+      answer = answered.Done;
+      next = add_operation m session transcript (op.Write mutation) reply.Done;
+    })
+unfolding writes
+writes-transition m session mutation transcript opened faultless = rw (opened, faultless) refl
+
+-- and the refusal of another one
+pub writes-refused : (m : Machine) (session : ℕ) (mutation : Mutation) (transcript : Transcript) (why : Refusal)
+    → open_at m.sessions session ≡ Some transcript → mutation_fault mutation ≡ Some why
+    → writes m session mutation ≡ Err why
+unfolding writes
+writes-refused m session mutation transcript why opened fault = rw (opened, fault) refl
 
 -- a decided key stands as the transaction's own writes leave it, whatever stood there
 pub answers-decided : (m : Machine) (map : Map) (ops : List (Op × Reply)) (version : ℕ) (key : List ℕ)

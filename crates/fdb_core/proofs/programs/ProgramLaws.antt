@@ -1,15 +1,14 @@
 -- A transcript's operations: the values that they leave, and one operation more.
-use Rattle.std.proofs.Common.{◌≡◌, ◌∙◌, sym, ap, refl, ℕ, Bool, true, false, ◌||◌, if◌then◌else◌, subst, List, [], ◌∷◌, ◌++◌, fold, Option, Some, None}
+use Rattle.std.proofs.Common.{◌≡◌, ◌∙◌, sym, ap, refl, ℕ, Bool, true, ◌&&◌, ◌||◌, ⊎_elim, subst, List, [], ◌∷◌, ◌++◌, fold, Option, None}
 use Rattle.std.specs.List.{AllByRecursion}
 use Rattle.std.specs.FinMap.{get}
-use Rattle.std.proofs.lemmas.Bool.{both_ways}
+use Rattle.std.proofs.lemmas.Bool.{both_ways, and_parts, or_cases, cond-true}
 use Rattle.std.proofs.lemmas.List.Sums.{fold-append}
-use Rattle.fdb_keys.specs.Points.{Point, point_eq}
+use Rattle.fdb_keys.specs.Points.{Point}
 use Rattle.fdb_mutations.specs.declared.mutation.Mutation.{Mutation}
-use Rattle.fdb_mutations.specs.declared.mutation.Mutation.TheVariants.{Set, Clear}
 use Rattle.fdb_mutations.specs.Maps.{Map}
-use Rattle.fdb_mutations.specs.Mutations.{mutation_fault}
-use Rattle.fdb_mutations.proofs.Effects.{at_every_point}
+use Rattle.fdb_mutations.specs.Mutations.{mutation_fault, names, new_value, is_blind}
+use Rattle.fdb_mutations.proofs.Effects.{at_every_point, blind_is_blind}
 use Rattle.fdb_core.specs.declared.roles.client.program.Op.{Op}
 use Rattle.fdb_core.specs.declared.roles.client.program.Op.TheVariants as op
 use Rattle.fdb_core.specs.declared.roles.client.program.Reply.{Reply}
@@ -38,20 +37,18 @@ pub get-copy : (map : Map) (ops : List (Op × Reply)) (x : Point)
     → get (copy map (program ops)) x ≡ fold (value_after_op x) (get map x) ops
 get-copy map ops x = get-after map [] ops x
 
--- a value put there, or two values that are the same
-same-where : (here earlier : Bool) (put v w : Option (List ℕ)) → (earlier ≡ true → v ≡ w)
-    → here || earlier ≡ true → (if here then put else v) ≡ (if here then put else w)
-same-where true earlier put v w same is_so = refl
-same-where false earlier put v w same is_so = same is_so
-
 -- one more operation keeps two values the same, or decides the point and makes them so
 same-after : (done : Op × Reply) (x : Point) (earlier : Bool) (v w : Option (List ℕ)) → (earlier ≡ true → v ≡ w)
     → decides done.0 x || earlier ≡ true → value_after_op x v done ≡ value_after_op x w done
 same-after (op.Get key snapshot, reply) x earlier v w same is_decided = same is_decided
-same-after (op.Write (Set key value), reply) x earlier v w same is_decided = same-where (point_eq x key) earlier
-    (Some value) v w same is_decided
-same-after (op.Write (Clear key), reply) x earlier v w same is_decided = same-where (point_eq x key) earlier None v w
-    same is_decided
+same-after (op.Write mutation, reply) x earlier v w same is_decided = ⊎_elim
+    (λ here.
+    let parts = and_parts (is_blind mutation) (names mutation x) here in
+    cond-true (names mutation x) (new_value mutation v) v parts.1
+    ∙ blind_is_blind mutation parts.0 v w
+    ∙ sym (cond-true (names mutation x) (new_value mutation w) w parts.1))
+    (λ before. ap (λ (value : Option (List ℕ)). value_after_op x value (op.Write mutation, reply)) (same before))
+    (or_cases (is_blind mutation && names mutation x) earlier is_decided)
 
 -- the same as `decided-value`, after earlier operations: where these decide the point, both values are the same
 same-over : (earlier : List Op) (ops : List (Op × Reply)) (x : Point) (v w : Option (List ℕ))

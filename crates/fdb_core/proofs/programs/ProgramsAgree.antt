@@ -5,21 +5,14 @@ use Rattle.std.specs.Cmp.Lexicographic.{bytes_decides}
 use Rattle.std.proofs.lemmas.Bool.{cases_Bool, both_ways, or_cases, or_left, or_right, and_parts, and_from, not_from_false, cond-true}
 use Rattle.fdb_keys.specs.Points.{Point, point_eq}
 use Rattle.fdb_mutations.specs.declared.mutation.Mutation.{Mutation}
-use Rattle.fdb_mutations.specs.declared.mutation.Mutation.TheVariants.{Set, Clear}
 use Rattle.fdb_mutations.specs.Maps.{Map}
 use Rattle.fdb_mutations.specs.Mutations.{names, new_value, is_blind}
-use Rattle.fdb_mutations.proofs.Effects.{at_every_point}
+use Rattle.fdb_mutations.proofs.Effects.{at_every_point, blind_is_blind}
 use Rattle.fdb_core.specs.declared.roles.client.program.Op.{Op}
 use Rattle.fdb_core.specs.declared.roles.client.program.Op.TheVariants.{Get, Write}
 use Rattle.fdb_core.specs.declared.roles.client.program.Reply.TheVariants.{Value}
 use Rattle.fdb_core.specs.programs.Programs.{copy, decided, exec, read_set, reads_on, reply_on}
 use Rattle.fdb_core.specs.programs.ProgramLaws.{AgreeOnReads, AgreeWhereOrdinary, ProgramsAgree, is_ordinary}
-
--- a blind mutation makes the same of any two values
-blind-new_value : (mutation : Mutation) → is_blind mutation ≡ true → (v w : Option (List ℕ))
-    → new_value mutation v ≡ new_value mutation w
-blind-new_value (Set key value) blind v w = refl
-blind-new_value (Clear key) blind v w = refl
 
 -- what stands at a point after a mutation, by what stood there
 abbrev value_after_message : Mutation → Point → Option (List ℕ) → Option (List ℕ)
@@ -32,7 +25,7 @@ decided-value_after_message : (mutation : Mutation) (x : Point) → (is_blind mu
 decided-value_after_message mutation x decides v w =
     let parts = and_parts (is_blind mutation) (names mutation x) decides in
     cond-true (names mutation x) (new_value mutation v) v parts.1
-    ∙ blind-new_value mutation parts.0 v w
+    ∙ blind_is_blind mutation parts.0 v w
     ∙ sym (cond-true (names mutation x) (new_value mutation w) w parts.1)
 
 -- one mutation more leaves the same at a point where the maps agree

@@ -3,12 +3,11 @@ use Rattle.std.proofs.Common.{◌≡◌, ◌∙◌, refl, ap, Bool, true, false,
 use Rattle.std.proofs.lemmas.List.Folds.{list_any-append}
 use Rattle.fdb_keys.specs.Insertion.{with_range}
 use Rattle.fdb_keys.specs.Points.{Point}
-use Rattle.fdb_keys.specs.Ranges.{Range, in_range, in_set}
-use Rattle.fdb_keys.proofs.SingleLemmas.{in_range-single}
+use Rattle.fdb_keys.specs.Ranges.{Range, in_set}
 use Rattle.fdb_mutations.specs.Maps.{Map}
 use Rattle.fdb_mutations.specs.declared.mutation.Mutation.{Mutation}
-use Rattle.fdb_mutations.specs.declared.mutation.Mutation.TheVariants.{Set, Clear}
 use Rattle.fdb_mutations.specs.Mutations.{names, named_range, effect, effects}
+use Rattle.fdb_mutations.proofs.Effects.{in_named_range}
 use Rattle.fdb_txn.specs.book.Transactions.{NamesWrites, with_named, some_names}
 use Rattle.fdb_core.specs.declared.roles.client.program.Op.{Op}
 use Rattle.fdb_core.specs.declared.roles.client.program.Op.TheVariants.{Get, Write}
@@ -16,11 +15,6 @@ use Rattle.fdb_core.specs.declared.roles.client.program.Transcript.{Transcript}
 use Rattle.fdb_core.specs.programs.ProgramLaws.{CommitRequestsAreWhole}
 use Rattle.fdb_core.specs.programs.Programs.{program, copy, mutations_of, write_set, commit_request_of}
 use Rattle.fdb_core.proofs.programs.ReadSetLemmas.{in_with_range, in_read_ranges}
-
--- the range of a mutation has the points that it names
-in_named_range : (mutation : Mutation) (x : Point) → in_range (named_range mutation) x ≡ names mutation x
-in_named_range (Set key value) x = in_range-single key x
-in_named_range (Clear key) x = in_range-single key x
 
 -- a set with all that mutations name has their points and its own
 pub in_with_named : (mutations : List Mutation) (writes : List Range) (x : Point)

@@ -39,16 +39,11 @@ AnsweredAt moment map placed = is_at moment placed.spot ≡ true → AnsweredOn 
 abbrev pub Differs : (Placed → Type 0) → List Placed → CheckFault → Type 0
 Differs Claim acknowledged fault = Any (λ placed. (fault ≡ Txn placed.transcript.id) × ¬ Claim placed) acknowledged
 
--- a fault is found just where the claim isn't true of each acknowledged transaction
-abbrev pub Compares : {T : Type 0} → Result T CheckFault → (Placed → Type 0) → List Placed → Type 0
-Compares result Claim acknowledged = MatchResult result (λ _. AllByRecursion Claim acknowledged)
-    (Differs Claim acknowledged)
-
 -- memory ran out, or the fault names an acknowledged transaction of which the claim isn't true
 abbrev pub StopsBy : (Placed → Type 0) → List Placed → CheckFault → Type 0
 StopsBy Claim acknowledged fault = (fault ≡ NoMemory) ⊎ Differs Claim acknowledged fault
 
--- the same where memory may run out, too
+-- a fault is found just where the claim isn't true of each acknowledged transaction, if memory doesn't run out
 abbrev pub Checks : {T : Type 0} → Result T CheckFault → (Placed → Type 0) → List Placed → Type 0
 Checks result Claim acknowledged = MatchResult result (λ _. AllByRecursion Claim acknowledged)
     (StopsBy Claim acknowledged)

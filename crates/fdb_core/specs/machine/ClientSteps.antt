@@ -5,6 +5,7 @@ use Rattle.fdb_mutations.specs.declared.mutation.Mutation.{Mutation}
 use Rattle.fdb_mutations.specs.Mutations.{mutation_fault}
 use Rattle.fdb_txn.specs.declared.spot.Spot.TheVariants as spot
 use Rattle.fdb_txn.specs.book.Book.{seen_of}
+use Rattle.fdb_txn.specs.book.Size.{size_fault}
 use Rattle.fdb_txn.specs.rules.Owners.{first_owner}
 use Rattle.fdb_txn.specs.rules.SerialMap.{serial_map_at}
 use Rattle.fdb_core.specs.declared.roles.client.program.Op.{Op}
@@ -60,7 +61,8 @@ writes m session mutation = with_open (open_at m.sessions session) (λ transcrip
 abbrev pub is_nil : {A : Type 0} → List A → Bool
 is_nil xs = length xs == 0
 
--- Submit: a transaction that writes nothing is acknowledged at its read version, any other waits at the proxy.
+-- Submit: a transaction that writes nothing is acknowledged at its read version, any other waits at the proxy. One that
+-- is too large is refused, and stays open.
 unfoldable pub submits : Machine → ℕ → ℕ → Result Transition Refusal
 submits m session proxy = found (slice_get m.commit_proxies proxy) (λ commit_proxy.
     with_open (open_at m.sessions session) (λ transcript.
@@ -74,7 +76,7 @@ submits m session proxy = found (slice_get m.commit_proxies proxy) (λ commit_pr
             { spot = spot.ReadOnly transcript.read_version; transcript = transcript } ∷ [];
       };
     })
-    else Ok (record {
+    else refused_by (size_fault sealed) (Ok (record {
       answer = answered.Done;
       next = record m {
         sessions = with_state m.sessions session Waiting;
@@ -82,4 +84,4 @@ submits m session proxy = found (slice_get m.commit_proxies proxy) (λ commit_pr
             (record commit_proxy
             { waiting = commit_proxy.waiting ++ record { sealed = sealed; transcript = transcript } ∷ [] });
       };
-    })))
+    }))))

@@ -1,16 +1,21 @@
 // What acknowledged transactions were answered, beside a map of the run.
-ghost use Rattle.std.specs.Prelude.{◌≡◌, ◌↔◌, IsTrue};
+ghost use Rattle.std.specs.Prelude.{◌≡◌, ◌↔◌, ◌⊎◌, fold, IsTrue, None, MatchResult};
+ghost use Rattle.std.specs.FinMap.{get};
 ghost use Rattle.std.specs.Option.{option_copied};
-ghost use Rattle.fdb_core.specs.check.Comparing.{is_below, is_at, IsAnswered, AnsweredAt, Compares};
+ghost use Rattle.fdb_keys.specs.Answers.{Answers};
+ghost use Rattle.fdb_core.specs.programs.Programs.{value_after_op};
+ghost use Rattle.fdb_core.specs.check.Comparing.{is_below, is_at, IsAnswered, AnsweredAt, Checks};
 ghost use Rattle.fdb_core.specs.headline.Headline.{AnsweredOn};
 
 use crate::roles::client::Placed;
 use crate::roles::client::program::{Op, Reply, Transcript};
-use crate::roles::values::value_after_ops;
+use crate::roles::values::{copied, value_after_ops};
 use crate::world::CheckFault;
 use bytes::Bytes;
+use fdb_keys::{Key, Refusal};
 use fdb_mutations::PlainMap;
 use fdb_txn::Spot;
+use std::alloc::Global;
 
 /// A moment of the run, at which one map stands.
 #[derive(Clone, Copy)]
@@ -58,44 +63,96 @@ fn is_value(reply: &Reply, value: Option<&Bytes>) -> bool
     }
 }
 
+// Whether the read was answered as on the map, after the earlier operations.
+fn is_read_answered(
+    alloc: Global,
+    map: &PlainMap,
+    earlier: &[(Op, Reply)],
+    key: &Key,
+    reply: &Reply,
+) -> Result<bool, Refusal>
+    ensures { Answers result None (λ answered. IsTrue answered
+        ↔ (reply.now ≡ Reply.Value (fold (value_after_op key.now) (get map.now key.now) earlier.now))) }
+{
+    let there = copied(map.get(key))?;
+    let value = value_after_ops(alloc, key, there, earlier)?;
+    Ok(is_value(reply, value.as_ref()))
+}
+
 // Whether the operation, if it is an ordinary one, was answered as on the map, after the earlier ones.
-fn is_answered(map: &PlainMap, earlier: &[(Op, Reply)], op: &Op, reply: &Reply) -> bool
-    ensures { IsTrue result ↔ (IsAnswered map.now earlier.now (op.now, reply.now)) }
+fn is_answered(
+    alloc: Global,
+    map: &PlainMap,
+    earlier: &[(Op, Reply)],
+    op: &Op,
+    reply: &Reply,
+) -> Result<bool, Refusal>
+    ensures { Answers result None (λ answered. IsTrue answered ↔ (IsAnswered map.now earlier.now (op.now, reply.now))) }
 {
     match op {
-        Op::Get { key, snapshot } => {
-            *snapshot || is_value(reply, value_after_ops(key, map.get(key), earlier))
+        Op::Get {
+            key,
+            snapshot: false,
+        } => {
+            let answered = is_read_answered(alloc, map, earlier, key, reply)?;
+            Ok(answered)
         }
-        Op::Write(_) => matches!(reply, Reply::Done),
+        Op::Get { .. } => Ok(true),
+        Op::Write(_) => Ok(matches!(reply, Reply::Done)),
     }
 }
 
 /// Whether each ordinary operation of the transcript was answered as its program, run from its first operation
-/// on a copy of the map, answers it there. What snapshot reads were answered doesn't matter. It takes no memory.
-pub fn is_answered_on(map: &PlainMap, transcript: &Transcript) -> bool
-    ensures { IsTrue result ↔ (AnsweredOn map.now transcript.now) }
+/// on a copy of the map, answers it there. What snapshot reads were answered doesn't matter. Refused only as
+/// `NoMemory`.
+pub fn is_answered_on(
+    alloc: Global,
+    map: &PlainMap,
+    transcript: &Transcript,
+) -> Result<bool, Refusal>
+    ensures { Answers result None (λ answered. IsTrue answered ↔ (AnsweredOn map.now transcript.now)) }
 {
     let ops = transcript.ops.as_slice();
     for (place, (op, reply)) in ops.iter().enumerate() {
-        if !is_answered(map, &ops[..place], op, reply) {
-            return false;
+        if !is_answered(alloc, map, &ops[..place], op, reply)? {
+            return Ok(false);
         }
     }
-    true
+    Ok(true)
+}
+
+// Compares what one was answered, if it stands at the moment, with what the map has.
+fn compare_one(
+    alloc: Global,
+    map: &PlainMap,
+    placed: &Placed,
+    moment: Moment,
+) -> Result<(), CheckFault>
+    ensures { MatchResult result (λ _. AnsweredAt moment map.now placed.now)
+        (λ fault. (fault ≡ CheckFault.NoMemory)
+        ⊎ ((fault ≡ CheckFault.Txn placed.now.transcript.id) × ¬ (AnsweredAt moment map.now placed.now))) }
+{
+    if !is_at(moment, placed.spot) {
+        return Ok(());
+    }
+    match is_answered_on(alloc, map, &placed.transcript) {
+        Ok(true) => Ok(()),
+        Ok(false) => Err(CheckFault::Txn(placed.transcript.id)),
+        Err(_) => Err(CheckFault::NoMemory),
+    }
 }
 
 /// Compares what those who stand at the moment were answered with what the map has.
 pub(crate) fn compare(
+    alloc: Global,
     map: &PlainMap,
     acknowledged: &[Placed],
     moment: Moment,
 ) -> Result<(), CheckFault>
-    ensures { Compares result (AnsweredAt moment map.now) acknowledged.now }
+    ensures { Checks result (AnsweredAt moment map.now) acknowledged.now }
 {
     for placed in acknowledged {
-        if is_at(moment, placed.spot) && !is_answered_on(map, &placed.transcript) {
-            return Err(CheckFault::Txn(placed.transcript.id));
-        }
+        compare_one(alloc, map, placed, moment)?;
     }
     Ok(())
 }

@@ -1,18 +1,20 @@
 // The comparison of what was answered with the run of one transaction at a time.
 ghost use Rattle.std.specs.Prelude.{◌≡◌, ◌↔◌, ◌≤◌, ◌<◌, ◌+◌, ◌++◌, List, [], ◌∷◌, length, take, IsTrue, IfOk, IfErr, OnOk, if◌then◌else◌};
+ghost use Rattle.std.specs.FinMap.{get};
+ghost use Rattle.fdb_keys.specs.Points.{Point};
 ghost use Rattle.fdb_mutations.specs.Mutations.{effects};
 ghost use Rattle.fdb_txn.specs.declared.entry.Entry.{Entry};
 ghost use Rattle.fdb_txn.specs.book.Book.{seen_of, last_version};
+ghost use Rattle.fdb_txn.specs.rules.Messages.{value_in};
 ghost use Rattle.fdb_core.specs.check.Checking.{AnsweredIn, map_after, IsPlainBook, HasCome, ComesTo, Finds};
 ghost use Rattle.fdb_core.specs.check.Comparing.{AnsweredAt, Checks};
-ghost use Rattle.fdb_core.specs.check.Holding.{AreAlike, messages_name, entries_name};
 ghost use Rattle.fdb_core.specs.refinement.Resolving.{ResolverAt, IsNext};
 ghost use Rattle.fdb_core.specs.refinement.Roles.{is_commit};
 ghost use Rattle.fdb_core.specs.machine.Verdicts.{outcomes_on};
 
 use crate::book::last_version;
 use crate::check::compare::{Moment, compare};
-use crate::check::shards::{are_alike_in_entries, are_alike_in_messages};
+use crate::check::maps::{apply, is_left};
 use crate::cluster::Cluster;
 use crate::roles::client::Placed;
 use crate::roles::commit_proxy::deciding::decide_batch;
@@ -21,7 +23,7 @@ use crate::roles::resolver::{first_resolver, judge_entry};
 use crate::step::Outcome;
 use crate::world::CheckFault;
 use fdb_keys::Items;
-use fdb_mutations::{Mutation, PlainMap};
+use fdb_mutations::PlainMap;
 use fdb_resolver::ResolverCore;
 use fdb_txn::{Entry, Sealed};
 use std::alloc::Global;
@@ -31,18 +33,6 @@ use std::alloc::Global;
 struct Replay {
     resolver: ResolverCore,
     map: PlainMap,
-}
-
-fn apply(map: &mut PlainMap, mutations: &[Mutation]) -> Result<(), CheckFault>
-    ensures ok { OnOk result (map.new ≡ effects map.old mutations.now) }
-    ensures err { IfErr result (λ fault. fault ≡ CheckFault.NoMemory) }
-{
-    for mutation in mutations {
-        let Ok(()) = map.apply(mutation) else {
-            return Err(CheckFault::NoMemory);
-        };
-    }
-    Ok(())
 }
 
 // What becomes of the places of an entry, by the one resolver's rule.
@@ -73,6 +63,7 @@ fn outcomes_of(
 
 // Compares those who stand at the moment, and runs the transaction there.
 fn run_place(
+    alloc: Global,
     map: &mut PlainMap,
     acknowledged: &[Placed],
     moment: Moment,
@@ -82,7 +73,7 @@ fn run_place(
     ensures map { OnOk result (map.new ≡ effects map.old (if is_commit outcome.now then txn.now.mutations else [])) }
     ensures compared { Checks result (AnsweredAt moment map.old) acknowledged.now }
 {
-    compare(map, acknowledged, moment)?;
+    compare(alloc, map, acknowledged, moment)?;
     if let Outcome::Commit { .. } = outcome {
         apply(map, txn.mutations())?;
     }
@@ -91,6 +82,7 @@ fn run_place(
 
 // Compares those who stand at the places of an entry, and runs its transactions.
 fn run_batch(
+    alloc: Global,
     map: &mut PlainMap,
     acknowledged: &[Placed],
     entry: usize,
@@ -104,7 +96,7 @@ fn run_batch(
 {
     for (place, txn) in batch.iter().enumerate() {
         let before = Moment::Before { entry, place };
-        run_place(map, acknowledged, before, txn, &outcomes[place])?;
+        run_place(alloc, map, acknowledged, before, txn, &outcomes[place])?;
     }
     Ok(())
 }
@@ -126,9 +118,10 @@ fn run_entry(
         from: last_version(book, index),
         until: Some(entry.version),
     };
-    compare(&replay.map, acknowledged, before)?;
+    compare(alloc, &replay.map, acknowledged, before)?;
     let outcomes = outcomes_of(alloc, &mut replay.resolver, index, entry)?;
     run_batch(
+        alloc,
         &mut replay.map,
         acknowledged,
         index,
@@ -158,15 +151,20 @@ fn run_entries(
 }
 
 // Whether the shard has the map at the version of the last of the entries that it applied.
-fn is_held(map: &PlainMap, shard: &[Message], book: &[Entry], applied: usize) -> bool
+fn is_held(
+    alloc: Global,
+    map: &PlainMap,
+    shard: &[Message],
+    book: &[Entry],
+    applied: usize,
+) -> Result<bool, CheckFault>
     requires { applied ≤ length book.now }
-    ensures { let version = last_version (take applied book.now) in
-        IsTrue result ↔ (AreAlike map.now shard.now version (messages_name shard.now)
-        × AreAlike map.now shard.now version (entries_name (take applied book.now))) }
+    ensures ok { IfOk result (λ held. IsTrue held
+        ↔ ((x : Point) → value_in (last_version (take applied book.now)) x shard.now ≡ get map.now x)) }
+    ensures err { IfErr result (λ fault. fault ≡ CheckFault.NoMemory) }
 {
-    let version = last_version(book, applied);
-    are_alike_in_messages(map, shard, version)
-        && are_alike_in_entries(map, shard, version, &book[..applied])
+    let held = is_left(alloc, shard, last_version(book, applied), map)?;
+    Ok(held)
 }
 
 // Runs the book anew from its beginning, and compares on the way.
@@ -186,7 +184,7 @@ fn check_book(
     };
     let applied = shard.len().min(book.len());
     run_entries(alloc, &mut replay, acknowledged, book, 0, applied)?;
-    if with_shard && !is_held(&replay.map, shard, book, applied) {
+    if with_shard && !is_held(alloc, &replay.map, shard, book, applied)? {
         return Err(CheckFault::Shard(0));
     }
     run_entries(alloc, &mut replay, acknowledged, book, applied, book.len())?;
@@ -194,7 +192,7 @@ fn check_book(
         from: last_version(book, book.len()),
         until: None,
     };
-    compare(&replay.map, acknowledged, last)?;
+    compare(alloc, &replay.map, acknowledged, last)?;
     Ok(acknowledged.len() as u64)
 }
 

@@ -1,54 +1,64 @@
 // What a shard answers from the messages that it applied, and a transaction's own writes over it.
-ghost use Rattle.std.specs.Prelude.{◌≡◌, fold, IfOk};
+ghost use Rattle.std.specs.Prelude.{◌≡◌, ◌&&◌, fold, None};
 ghost use Rattle.std.specs.Option.{option_copied};
-ghost use Rattle.fdb_mutations.specs.Mutations.{names};
+ghost use Rattle.fdb_keys.specs.Answers.{Answers};
+ghost use Rattle.fdb_mutations.specs.Mutations.{is_blind, names};
 ghost use Rattle.fdb_core.specs.programs.Programs.{program, decided, value_after_op};
 ghost use Rattle.fdb_txn.specs.rules.Messages.{value_in, value_after};
 
 use crate::roles::client::program::{Op, Reply};
 use crate::roles::log::Message;
 use bytes::Bytes;
-use fdb_keys::Key;
+use fdb_keys::{Key, Refusal};
 use fdb_mutations::Mutation;
-use std::alloc::AllocError;
+use std::alloc::Global;
 
-fn value_after<'a>(key: &Key, value: Option<&'a Bytes>, mutation: &'a Mutation) -> Option<&'a Bytes>
-    ensures { option_copied result ≡ value_after key.now (option_copied value.entry) mutation.now }
+fn value_after(
+    alloc: Global,
+    key: &Key,
+    value: Option<Bytes>,
+    mutation: &Mutation,
+) -> Result<Option<Bytes>, Refusal>
+    ensures { Answers result None (λ new. new ≡ value_after key.now value mutation.now) }
 {
-    match mutation {
-        Mutation::Set {
-            key: named,
-            value: set,
-        } => { if key == named { Some(set) } else { value } }
-        Mutation::Clear { key: named } => { if key == named { None } else { value } }
+    if !mutation.names(key) {
+        return Ok(value);
     }
+    let new = mutation.apply_value(alloc, value.as_ref())?;
+    Ok(new)
 }
 
-fn value_after_message<'a>(
+fn value_after_message(
+    alloc: Global,
     key: &Key,
-    value: Option<&'a Bytes>,
-    body: &'a [Mutation],
-) -> Option<&'a Bytes>
-    ensures { option_copied result ≡ fold (value_after key.now) (option_copied value.entry) body.now }
+    value: Option<Bytes>,
+    body: &[Mutation],
+) -> Result<Option<Bytes>, Refusal>
+    ensures { Answers result None (λ new. new ≡ fold (value_after key.now) value body.now) }
 {
     let mut value = value;
     for mutation in body {
-        value = value_after(key, value, mutation);
+        value = value_after(alloc, key, value, mutation)?;
     }
-    value
+    Ok(value)
 }
 
-/// What stands at the key after the messages of version at most `version`.
-pub(crate) fn value_in<'a>(messages: &'a [Message], version: u64, key: &Key) -> Option<&'a Bytes>
-    ensures { option_copied result ≡ value_in version key.now messages.now }
+/// What stands at the key after the messages of version at most `version`. Refused only as `NoMemory`.
+pub(crate) fn value_in(
+    alloc: Global,
+    messages: &[Message],
+    version: u64,
+    key: &Key,
+) -> Result<Option<Bytes>, Refusal>
+    ensures { Answers result None (λ value. value ≡ value_in version key.now messages.now) }
 {
     let mut value = None;
     for message in messages {
         if message.version() <= version {
-            value = value_after_message(key, value, message.body());
+            value = value_after_message(alloc, key, value, message.body())?;
         }
     }
-    value
+    Ok(value)
 }
 
 /// Whether an operation decides the key, so that no shard need be asked.
@@ -58,41 +68,39 @@ pub(crate) fn is_decided(ops: &[(Op, Reply)], key: &Key) -> bool
     let mut is_decided = false;
     for (op, _) in ops {
         if let Op::Write(mutation) = op {
-            is_decided = is_decided || names(mutation, key);
+            is_decided = is_decided || decides(mutation, key);
         }
     }
     is_decided
 }
 
-fn names(mutation: &Mutation, key: &Key) -> bool
-    ensures { result ≡ names mutation.now key.now }
+fn decides(mutation: &Mutation, key: &Key) -> bool
+    ensures { result ≡ (is_blind mutation.now && names mutation.now key.now) }
 {
-    match mutation {
-        Mutation::Set { key: named, .. } => key == named,
-        Mutation::Clear { key: named } => key == named,
-    }
+    mutation.is_blind() && mutation.names(key)
 }
 
-/// What stands at the key after the operations, by what a shard has there.
-pub(crate) fn value_after_ops<'a>(
+/// What stands at the key after the operations, by what a shard has there. Refused only as `NoMemory`.
+pub(crate) fn value_after_ops(
+    alloc: Global,
     key: &Key,
-    value: Option<&'a Bytes>,
-    ops: &'a [(Op, Reply)],
-) -> Option<&'a Bytes>
-    ensures { option_copied result ≡ fold (value_after_op key.now) (option_copied value.entry) ops.now }
+    value: Option<Bytes>,
+    ops: &[(Op, Reply)],
+) -> Result<Option<Bytes>, Refusal>
+    ensures { Answers result None (λ new. new ≡ fold (value_after_op key.now) value ops.now) }
 {
     let mut value = value;
     for (op, _) in ops {
         if let Op::Write(mutation) = op {
-            value = value_after(key, value, mutation);
+            value = value_after(alloc, key, value, mutation)?;
         }
     }
-    value
+    Ok(value)
 }
 
-/// A copy of the value, if there is one.
-pub(crate) fn copied(value: Option<&Bytes>) -> Result<Option<Bytes>, AllocError>
-    ensures { IfOk result (λ copy. copy ≡ option_copied value.entry) }
+/// A copy of the value, if there is one. Refused only as `NoMemory`.
+pub(crate) fn copied(value: Option<&Bytes>) -> Result<Option<Bytes>, Refusal>
+    ensures { Answers result None (λ copy. copy ≡ option_copied value.entry) }
 {
     match value {
         None => Ok(None),

@@ -3,8 +3,6 @@ use Rattle.std.proofs.Common.{◌≡◌, ◌≢◌, ◌+◌, ◌*◌, ◌==◌, 
 use Rattle.fdb_core.specs.declared.step.Step.{Step}
 use Rattle.fdb_core.specs.declared.step.Step.TheVariants as made
 use Rattle.fdb_keys.specs.Texts.{key_fault}
-use Rattle.fdb_mutations.specs.declared.mutation.Mutation.{Mutation}
-use Rattle.fdb_mutations.specs.declared.mutation.Mutation.TheVariants.{Set, Clear}
 use Rattle.fdb_sim.specs.script.Faults.{MatchFault, Reads}
 use Rattle.fdb_sim.specs.script.Grammar.{WritesSmall, WritesText, WritesOne, WritesMutation, WritesRest, WritesStep, WritesLine, mutation_fault, step_fault, read_fault}
 use Rattle.fdb_sim.specs.script.Kinds.{name_of}
@@ -16,14 +14,7 @@ use Rattle.fdb_sim.specs.declared.script.step_line.Kind.{Kind}
 use Rattle.fdb_sim.specs.declared.script.step_line.Kind.TheVariants.{Ask, Grant, Get, Write, Submit, Seal, Resolve, Verdict, Decide, Push, Logged, Report, Answer, Pull}
 use Rattle.fdb_sim.proofs.lemmas.Faults.{Reads-refused, Reads-whole}
 
--- a set whose second word is no byte text
-pub no_set : (words : List (List ℕ))
-    → ((word : List ℕ) (rest : List (List ℕ)) (bytes : List ℕ) → words ≡ word ∷ rest → ¬ WritesText word bytes)
-    → (mutation : Mutation) → ¬ WritesMutation (codes "set" ∷ words) mutation
-no_set words none (Set key value) set = none set.0 (set.1 ∷ []) key (cc) set.3
-no_set words none (Clear key) clear = cc
-
--- a get, a set and a clear whose key is refused
+-- a get whose key is refused
 pub get_refused : (words after : List (List ℕ)) (session : ℕ) (text key : List ℕ) (fault : Fault)
     → ((x : List ℕ) × (words ≡ x ∷ after) × WritesSmall x session)
     → ((y : List ℕ) × (after ≡ y ∷ []) × WritesText y text) → key ≡ text
@@ -31,21 +22,6 @@ pub get_refused : (words after : List (List ℕ)) (session : ℕ) (text key : Li
 get_refused words after session text key fault first second same refused =
     Reads-refused fault (key_fault key) _ _ refused (made.Get session text false)
     (session, text, (first.0, second.0, (cc), first.2, second.2), refl) (ap key_fault (sym same))
-
-pub set_refused : (words after : List (List ℕ)) (text key value : List ℕ) (fault : Fault)
-    → ((x : List ℕ) × (words ≡ x ∷ after) × WritesText x text) → ((y : List ℕ) × (after ≡ y ∷ []) × WritesText y value)
-    → key ≡ text → MatchFault fault ⊥ (λ why. key_fault key ≡ Some why)
-    → Reads (Err fault) (WritesMutation (codes "set" ∷ words)) mutation_fault
-set_refused words after text key value fault first second same refused =
-    Reads-refused fault (key_fault key) _ _ refused (Set text value) (first.0, second.0, (cc), first.2, second.2)
-    (ap key_fault (sym same))
-
-pub clear_refused : (words : List (List ℕ)) (text key : List ℕ) (fault : Fault)
-    → ((x : List ℕ) × (words ≡ x ∷ []) × WritesText x text) → key ≡ text
-    → MatchFault fault ⊥ (λ why. key_fault key ≡ Some why)
-    → Reads (Err fault) (WritesMutation (codes "clear" ∷ words)) mutation_fault
-clear_refused words text key fault first same refused =
-    Reads-refused fault (key_fault key) _ _ refused (Clear text) (first.0, (cc), first.2) (ap key_fault (sym same))
 
 -- a write without a mutation, and one whose key is refused
 pub write_fault : (words after : List (List ℕ)) (session : ℕ) (fault : Fault)

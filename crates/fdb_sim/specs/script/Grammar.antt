@@ -1,12 +1,14 @@
 -- The lines after the configuration, each as the words that write it.
 use Rattle.std.specs.Prelude.{◌≡◌, ℕ, ◌^◌, ◌<◌, false, List, [], ◌∷◌, Option, Some, None, codes}
 use Rattle.std.specs.Str.Parse.{IsNumeral, digits_value}
-use Rattle.fdb_keys.specs.Texts.{key_fault}
+use Rattle.fdb_keys.specs.Texts.{key_fault, range_fault}
 use Rattle.fdb_keys.specs.declared.refusal.Refusal.{Refusal}
 use Rattle.fdb_core.specs.declared.step.Step.{Step}
 use Rattle.fdb_core.specs.declared.step.Step.TheVariants as made
 use Rattle.fdb_mutations.specs.declared.mutation.Mutation.{Mutation}
-use Rattle.fdb_mutations.specs.declared.mutation.Mutation.TheVariants.{Set, Clear}
+use Rattle.fdb_mutations.specs.declared.mutation.Mutation.TheVariants.{Set, Clear, ClearRange, Add, And, Or, Xor, Max, Min, ByteMin, ByteMax, CompareAndClear}
+use Rattle.fdb_mutations.specs.Mutations.{named}
+use Rattle.fdb_mutations.specs.Naming.{NamedKeys, OneKey, KeysIn}
 use Rattle.fdb_sim.specs.declared.script.line.Line.{Line}
 use Rattle.fdb_sim.specs.declared.script.line.Line.TheVariants as given
 use Rattle.fdb_sim.specs.declared.script.step_line.Kind.{Kind}
@@ -44,11 +46,25 @@ abbrev pub WritesNumberAndText : List (List ℕ) → ℕ → List ℕ → Type 0
 WritesNumberAndText words a bytes = (x : List ℕ) × (y : List ℕ) × (words ≡ x ∷ y ∷ []) × WritesSmall x a
     × WritesText y bytes
 
+-- the words are this one and two byte texts
+abbrev pub WritesTwoTexts : List (List ℕ) → List ℕ → List ℕ → List ℕ → Type 0
+WritesTwoTexts words word first second =
+    (x : List ℕ) × (y : List ℕ) × (words ≡ word ∷ x ∷ y ∷ []) × WritesText x first × WritesText y second
+
 -- the words after a session's number write the mutation
 abbrev pub WritesMutation : List (List ℕ) → Mutation → Type 0
-WritesMutation words (Set key value) =
-    (x : List ℕ) × (y : List ℕ) × (words ≡ codes "set" ∷ x ∷ y ∷ []) × WritesText x key × WritesText y value
+WritesMutation words (Set key value) = WritesTwoTexts words (codes "set") key value
 WritesMutation words (Clear key) = (x : List ℕ) × (words ≡ codes "clear" ∷ x ∷ []) × WritesText x key
+WritesMutation words (ClearRange range) = WritesTwoTexts words (codes "clearrange") range.begin range.end
+WritesMutation words (Add key operand) = WritesTwoTexts words (codes "add") key operand
+WritesMutation words (And key operand) = WritesTwoTexts words (codes "and") key operand
+WritesMutation words (Or key operand) = WritesTwoTexts words (codes "or") key operand
+WritesMutation words (Xor key operand) = WritesTwoTexts words (codes "xor") key operand
+WritesMutation words (Max key operand) = WritesTwoTexts words (codes "max") key operand
+WritesMutation words (Min key operand) = WritesTwoTexts words (codes "min") key operand
+WritesMutation words (ByteMin key operand) = WritesTwoTexts words (codes "bytemin") key operand
+WritesMutation words (ByteMax key operand) = WritesTwoTexts words (codes "bytemax") key operand
+WritesMutation words (CompareAndClear key operand) = WritesTwoTexts words (codes "cac") key operand
 
 -- the words are a number below 2^32 and a mutation
 abbrev pub WritesNumberAndMutation : List (List ℕ) → ℕ → Mutation → Type 0
@@ -93,12 +109,15 @@ abbrev pub WritesLine : List ℕ → Line → Type 0
 WritesLine line (given.Step kind step) = WritesStep (words_of line) kind step
 WritesLine line (given.Drive proxy) = WritesDrive (words_of line) proxy
 
--- why the mutation's key is no key
-abbrev pub mutation_fault : Mutation → Option Refusal
-mutation_fault (Set key value) = key_fault key
-mutation_fault (Clear key) = key_fault key
+-- why what the mutation names is no key, or no range
+abbrev pub named_fault : NamedKeys → Option Refusal
+named_fault (OneKey key) = key_fault key
+named_fault (KeysIn range) = range_fault range.begin range.end
 
--- why the step's key, if it has one, is no key
+abbrev pub mutation_fault : Mutation → Option Refusal
+mutation_fault mutation = named_fault (named mutation)
+
+-- why the step's key or range, if it has one, is none
 abbrev pub step_fault : Step → Option Refusal
 step_fault (made.Ask session proxy) = None
 step_fault (made.Grant proxy) = None
@@ -115,7 +134,7 @@ step_fault (made.Report proxy) = None
 step_fault (made.Answer proxy) = None
 step_fault (made.Pull shard limit) = None
 
--- why the key of the line's step, if it has one, is no key
+-- why the key or range of the line's step, if it has one, is none
 abbrev pub read_fault : Line → Option Refusal
 read_fault (given.Step kind step) = step_fault step
 read_fault (given.Drive proxy) = None

@@ -10,7 +10,7 @@ use std::alloc::{AllocError, AllocFailed};
 pub enum Fault {
     /// The line is none of the grammar.
     Bad,
-    /// A key of the line is refused.
+    /// A key or a range of the line is refused.
     Refused(Refusal),
     /// There is no memory for what the line says.
     NoMemory,

@@ -18,7 +18,7 @@ pub enum Line {
 }
 
 /// What the line gives. A line of another form is bad, also where its key would be refused. Refused as
-/// `make_key` refuses the key of its step.
+/// `make_key` and `make_range` refuse the key or the range of its step.
 pub fn read_line(alloc: Global, line: &[u8]) -> Result<Line, Fault>
     ensures { Reads result (WritesLine line.now) read_fault }
 {

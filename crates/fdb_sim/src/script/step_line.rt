@@ -1,14 +1,13 @@
-ghost use Rattle.std.specs.Prelude.{◌≡◌, ◌≢◌, ◌∷◌, MatchResult, codes};
+ghost use Rattle.std.specs.Prelude.{◌≡◌, ◌≢◌, ◌∷◌, MatchResult};
 ghost use Rattle.fdb_sim.specs.script.Faults.{Reads};
-ghost use Rattle.fdb_sim.specs.script.Grammar.{WritesMutation, WritesRest, WritesStep, mutation_fault, step_fault};
+ghost use Rattle.fdb_sim.specs.script.Grammar.{WritesRest, WritesStep, step_fault};
 ghost use Rattle.fdb_sim.specs.script.Kinds.{name_of};
 
 use crate::script::fault::Fault;
 use crate::script::texts::make_key;
 use crate::script::words::Words;
-use bytes::Bytes;
+use crate::script::write_line::read_mutation;
 use fdb_core::Step;
-use fdb_mutations::Mutation;
 use std::alloc::Global;
 
 /// The kinds of lines that give a step, each named as its first word is.
@@ -73,7 +72,8 @@ impl Kind {
 }
 
 /// The step that a line of this first word and the words after it gives, with the kind of the line. A line of
-/// another form is bad, also where its key would be refused. Refused as `make_key` refuses its key.
+/// another form is bad, also where its key would be refused. Refused as `make_key` and `make_range` refuse its key
+/// or its range.
 pub fn read_step(alloc: Global, first: &[u8], words: &mut Words<'_>) -> Result<(Kind, Step), Fault>
     ensures { Reads result (λ read. WritesStep (first.now ∷ words.old) read.0 read.1) (λ read. step_fault read.1) }
 {
@@ -149,34 +149,6 @@ fn read_write(alloc: Global, words: &mut Words<'_>) -> Result<Step, Fault>
     let session = words.small_number()?;
     let mutation = read_mutation(alloc, words)?;
     Ok(Step::Write { session, mutation })
-}
-
-fn read_mutation(alloc: Global, words: &mut Words<'_>) -> Result<Mutation, Fault>
-    ensures { Reads result (WritesMutation words.old) mutation_fault }
-{
-    match words.word()? {
-        b"set" => read_set(alloc, words),
-        b"clear" => read_clear(alloc, words),
-        _ => Err(Fault::Bad),
-    }
-}
-
-fn read_set(alloc: Global, words: &mut Words<'_>) -> Result<Mutation, Fault>
-    ensures { Reads result (WritesMutation (codes "set" ∷ words.old)) mutation_fault }
-{
-    let text = words.text(alloc)?;
-    let value = words.last_text(alloc)?;
-    let key = make_key(alloc, text.as_slice())?;
-    let value = Bytes::from_vec(value)?;
-    Ok(Mutation::Set { key, value })
-}
-
-fn read_clear(alloc: Global, words: &mut Words<'_>) -> Result<Mutation, Fault>
-    ensures { Reads result (WritesMutation (codes "clear" ∷ words.old)) mutation_fault }
-{
-    let text = words.last_text(alloc)?;
-    let key = make_key(alloc, text.as_slice())?;
-    Ok(Mutation::Clear { key })
 }
 
 fn read_submit(words: &mut Words<'_>) -> Result<Step, Fault>

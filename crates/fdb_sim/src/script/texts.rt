@@ -3,12 +3,12 @@
 ghost use Rattle.std.specs.Prelude.{◌≡◌, ◌<◌, length, Some, None, IfOk, IfErr, IfSome, MatchOption};
 ghost use Rattle.std.specs.Char.{digit_value};
 ghost use Rattle.std.specs.Option.{SomeIff, option_map};
-ghost use Rattle.fdb_keys.specs.Texts.{key_fault};
+ghost use Rattle.fdb_keys.specs.Texts.{key_fault, range_fault};
 ghost use Rattle.fdb_sim.specs.script.Faults.{MatchFault};
 ghost use Rattle.fdb_sim.specs.script.Texts.{is_plain, put_before, bytes_of, value_of};
 
 use crate::script::fault::Fault;
-use fdb_keys::Key;
+use fdb_keys::{Key, KeyRange};
 use std::alloc::{AllocError, Global};
 
 /// The bytes that the word writes, if it is a byte text.
@@ -80,4 +80,14 @@ pub fn make_key(alloc: Global, text: &[u8]) -> Result<Key, Fault>
 {
     let key = Key::new(alloc, text)?;
     Ok(key)
+}
+
+/// The range of these bounds. Refused as `KeyRange::new` refuses it.
+pub fn make_range(alloc: Global, begin: &[u8], end: &[u8]) -> Result<KeyRange, Fault>
+    ensures ok { IfOk result (λ range. (range ≡ record { begin = begin.now; end = end.now })
+        × (range_fault begin.now end.now ≡ None)) }
+    ensures refused { IfErr result (λ fault. MatchFault fault ⊥ (λ why. range_fault begin.now end.now ≡ Some why)) }
+{
+    let range = KeyRange::new(alloc, begin, end)?;
+    Ok(range)
 }

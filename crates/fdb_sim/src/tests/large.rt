@@ -1,4 +1,4 @@
-// Scripts with more requests than a batch has places.
+// Scripts with more requests than a batch has places, and with more bytes than a transaction has.
 use crate::play::script::run_script;
 use std::alloc::{AllocError, Global};
 use std::test::Fail;
@@ -53,10 +53,38 @@ fn push_output(text: &mut String) -> Result<(), AllocError> {
     text.push_str("\nentry 1 version 200 prev 100 places 1\nanswer 4096=200/0\nchecked 4097\n")
 }
 
-fn output_of(alloc: Global) -> Result<Vec<u8>, Fail> {
+// A hundred sets of keys to 100,000 bytes each, which is more than a transaction may have, with the keys.
+fn push_large(alloc: Global, text: &mut String) -> Result<(), AllocError> {
+    let mut value = String::new(alloc);
+    for _ in 0..10_000 {
+        value.push_str("xxxxxxxxxx")?;
+    }
+    for number in 0..100 {
+        write!(text, "write 0 set k{number} {value}\n")?;
+    }
+    Ok(())
+}
+
+fn push_large_script(alloc: Global, text: &mut String) -> Result<(), AllocError> {
+    text.push_str("config proxies 1 logs 1 resolvers - shards - book 100\nask 0 0\ngrant 0\n")?;
+    push_large(alloc, text)?;
+    text.push_str("submit 0 0\nsubmit 0 0\n")
+}
+
+fn large_output_of(alloc: Global) -> Result<Vec<u8>, Fail> {
+    let mut script = String::new(alloc);
+    push_large_script(alloc, &mut script)?;
+    output_of(alloc, script.as_bytes())
+}
+
+fn batch_output_of(alloc: Global) -> Result<Vec<u8>, Fail> {
     let mut script = String::new(alloc);
     push_script(&mut script)?;
-    let mut reader = script.as_bytes();
+    output_of(alloc, script.as_bytes())
+}
+
+fn output_of(alloc: Global, script: &[u8]) -> Result<Vec<u8>, Fail> {
+    let mut reader = script;
     let mut out: Vec<u8> = Vec::new(alloc);
     run_script(alloc, &mut reader, &mut out)?;
     Ok(out)
@@ -66,7 +94,18 @@ fn output_of(alloc: Global) -> Result<Vec<u8>, Fail> {
 fn more_requests_than_a_batch_has_places(rt: HostRuntime) -> Result<(), Fail> {
     let mut expected = String::new(rt.alloc());
     push_output(&mut expected)?;
-    let out = output_of(rt.alloc())?;
+    let out = batch_output_of(rt.alloc())?;
+    assert!(rt; out.as_slice() == expected.as_bytes());
+    Ok(())
+}
+
+#[test]
+fn too_large_transaction_stays_open(rt: HostRuntime) -> Result<(), Fail> {
+    let mut expected = String::new(rt.alloc());
+    expected.push_str("ok\nok\ngrant 0=0\n")?;
+    push_oks(&mut expected, 100)?;
+    expected.push_str("refused 2101 TransactionTooLarge\nrefused 2101 TransactionTooLarge\nchecked 0\n")?;
+    let out = large_output_of(rt.alloc())?;
     assert!(rt; out.as_slice() == expected.as_bytes());
     Ok(())
 }

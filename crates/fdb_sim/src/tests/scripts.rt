@@ -30,6 +30,8 @@ const TOO_MANY: &[u8] = b"ask 0 0 0\n\
     get 0 a b\n\
     write 0 set a b c\n\
     write 0 clear a b\n\
+    write 0 clearrange a b c\n\
+    write 0 cac a b c\n\
     submit 0 0 0\n\
     seal 0 1 1\n\
     resolve 0 0 0\n\
@@ -49,6 +51,8 @@ const TOO_FEW: &[u8] = b"ask 0\n\
     get\n\
     write 0 set a\n\
     write 0 clear\n\
+    write 0 clearrange a\n\
+    write 0 add a\n\
     write 0\n\
     write\n\
     submit 0\n\
@@ -72,8 +76,8 @@ const NO_WORDS: &[u8] = b"wri\n\
     sget 0 a\n\
     range 0 a b 1\n\
     srange 0 a b 1\n\
-    write 0 clearrange a b\n\
-    write 0 add a b\n\
+    write 0 clearranges a b\n\
+    write 0 append a b\n\
     addread 0 a b\n\
     addwrite 0 a b\n\
     move a b 0\n\
@@ -114,6 +118,8 @@ const NO_TEXTS: &[u8] = b"get 0 a%\n\
     write 0 set a %f\n\
     write 0 set %f a\n\
     write 0 clear %f\n\
+    write 0 clearrange c %f\n\
+    write 0 xor %f a\n\
     write 0 set %ff b%";
 
 // Each line is bad after a configuration.
@@ -145,6 +151,8 @@ fn legal_forms(rt: HostRuntime) -> Result<(), Fail> {
         "write 0 set %ff %",
         "write 0 set %ff a%00Z._/9",
         "write 0 clear %ff",
+        "write 0 bytemax %ff %",
+        "write 0 clearrange b %ff%00",
         "get 0 %ff\r",
     ];
     for line in lines {

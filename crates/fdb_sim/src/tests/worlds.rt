@@ -173,14 +173,17 @@ fn reader_of(alloc: Global, told: Option<Bytes>, snapshot: bool) -> Result<Trans
     })
 }
 
+// Whether such a transaction was answered as on the empty map.
+fn is_answered(alloc: Global, told: Option<Bytes>, snapshot: bool) -> Result<bool, Refusal> {
+    let map = PlainMap::new(alloc);
+    let transcript = reader_of(alloc, told, snapshot)?;
+    is_answered_on(alloc, &map, &transcript)
+}
+
 #[test]
 fn ordinary_reads_are_compared_with_a_map(rt: HostRuntime) -> Result<(), Fail> {
-    let map = PlainMap::new(rt.alloc());
-    let nothing = reader_of(rt.alloc(), None, false)?;
-    let something = reader_of(rt.alloc(), Some(Bytes::from_static(b"x")), false)?;
-    let snapshot = reader_of(rt.alloc(), Some(Bytes::from_static(b"x")), true)?;
-    assert!(rt; is_answered_on(&map, &nothing));
-    assert!(rt; !is_answered_on(&map, &something));
-    assert!(rt; is_answered_on(&map, &snapshot));
+    assert!(rt; is_answered(rt.alloc(), None, false)?);
+    assert!(rt; !is_answered(rt.alloc(), Some(Bytes::from_static(b"x")), false)?);
+    assert!(rt; is_answered(rt.alloc(), Some(Bytes::from_static(b"x")), true)?);
     Ok(())
 }

@@ -9,12 +9,10 @@ use Rattle.std.proofs.lemmas.List.Sums.{fold-append}
 use Rattle.fdb_keys.specs.Points.{Point}
 use Rattle.fdb_keys.specs.Ranges.{Range, in_range}
 use Rattle.fdb_keys.proofs.RangesLemmas.{HaveCommonPoint, common_from_meet, meet_from_common}
-use Rattle.fdb_keys.proofs.SingleLemmas.{in_range-single}
 use Rattle.fdb_mutations.specs.declared.mutation.Mutation.{Mutation}
-use Rattle.fdb_mutations.specs.declared.mutation.Mutation.TheVariants.{Set, Clear}
 use Rattle.fdb_mutations.specs.Maps.{Map}
 use Rattle.fdb_mutations.specs.Mutations.{names, named_range, new_value, effect, effects}
-use Rattle.fdb_mutations.proofs.Effects.{at_every_point}
+use Rattle.fdb_mutations.proofs.Effects.{at_every_point, in_named_range}
 use Rattle.fdb_txn.specs.declared.entry.Entry.{Entry}
 use Rattle.fdb_txn.specs.book.Transactions.{Transaction}
 use Rattle.fdb_txn.specs.book.Book.{Stamped, Place, Seen, nothing, add_moves, placed, add_places, add_entry}
@@ -24,18 +22,13 @@ use Rattle.fdb_txn.specs.rules.Messages.{meets_range, committed_from, message_fo
 use Rattle.fdb_txn.specs.rules.SerialMap.{serial_map, up_to, serial_map_at}
 use Rattle.fdb_txn.proofs.book.HistoryLemmas.{AtMost, all-append, all-weaken, add_places-newer, up_to-all, up_to-above}
 
--- a mutation names the points of its range
-in_range-named : (mutation : Mutation) (x : Point) → in_range (named_range mutation) x ≡ names mutation x
-in_range-named (Set key value) x = in_range-single key x
-in_range-named (Clear key) x = in_range-single key x
-
 -- a mutation meets a range exactly where it names some point of it
 pub meets_at_some_point : MeetsAtSomePoint
 meets_at_some_point range mutation = (
   λ meets.
       let shared : HaveCommonPoint range (named_range mutation) = common_from_meet range (named_range mutation) meets in
-      (shared.0, shared.1, sym (in_range-named mutation shared.0) ∙ shared.2),
-  λ named. meet_from_common range (named_range mutation) named.0 named.1 (in_range-named mutation named.0 ∙ named.2),
+      (shared.0, shared.1, sym (in_named_range mutation shared.0) ∙ shared.2),
+  λ named. meet_from_common range (named_range mutation) named.0 named.1 (in_named_range mutation named.0 ∙ named.2),
 )
 
 -- what passes a filter by a test has what follows of the test

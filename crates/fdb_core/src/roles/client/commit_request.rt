@@ -1,9 +1,10 @@
 // What is submitted of a transaction's operations.
-ghost use Rattle.std.specs.Prelude.{◌≡◌, not, None, IfOk};
+ghost use Rattle.std.specs.Prelude.{◌≡◌, ◌⊎◌, None, Some, IfOk, IfErr};
 ghost use Rattle.std.specs.List.{AllByRecursion};
 ghost use Rattle.fdb_keys.specs.Answers.{Answers};
+ghost use Rattle.fdb_keys.specs.declared.refusal.Refusal.TheVariants.{NoMemory};
 ghost use Rattle.fdb_mutations.specs.Mutations.{mutation_fault};
-ghost use Rattle.fdb_core.specs.machine.ClientSteps.{is_nil};
+ghost use Rattle.fdb_txn.specs.book.Size.{size_fault};
 ghost use Rattle.fdb_core.specs.programs.Programs.{program, mutations_of, add_mutation, read_ranges, add_reads, commit_request_of};
 
 use crate::roles::client::program::{Op, Reply, Transcript};
@@ -11,7 +12,7 @@ use crate::roles::values::is_decided;
 use fdb_keys::{Items, KeyRange, RangeSet, Refusal};
 use fdb_mutations::Mutation;
 use fdb_txn::Sealed;
-use std::alloc::{AllocError, Global};
+use std::alloc::Global;
 
 fn add_read(
     alloc: Global,
@@ -64,23 +65,21 @@ pub(crate) fn mutations_of(alloc: Global, ops: &[(Op, Reply)]) -> Result<Items<M
     Ok(mutations)
 }
 
-fn parts_of(alloc: Global, ops: &[(Op, Reply)]) -> Result<(RangeSet, Items<Mutation>), Refusal>
-    ensures { Answers result None
-        (λ parts. (parts.0 ≡ read_ranges (program ops.now)) × (parts.1 ≡ mutations_of (program ops.now))) }
+/// What is submitted of a transcript with its mutations. Refused as `TransactionTooLarge` where it has more than
+/// 10,000,000 bytes, and as `NoMemory`.
+pub(crate) fn commit_request(
+    alloc: Global,
+    transcript: &Transcript,
+    mutations: Items<Mutation>,
+) -> Result<Sealed, Refusal>
+    requires legal { AllByRecursion (λ mutation. mutation_fault mutation ≡ None) mutations }
+    requires mutations { mutations ≡ mutations_of (program transcript.now.ops) }
+    ensures ok { IfOk result (λ sealed. sealed ≡ commit_request_of transcript.now) }
+    ensures fits { IfOk result (λ _. size_fault (commit_request_of transcript.now) ≡ None) }
+    ensures err { IfErr result
+        (λ why. (why ≡ NoMemory) ⊎ (size_fault (commit_request_of transcript.now) ≡ Some why)) }
 {
-    let reads = reads_of(alloc, ops)?;
-    let mutations = mutations_of(alloc, ops)?;
-    Ok((reads, mutations))
-}
-
-/// What is submitted of a transcript.
-pub(crate) fn commit_request(alloc: Global, transcript: &Transcript) -> Result<Sealed, AllocError>
-    requires { AllByRecursion (λ mutation. mutation_fault mutation ≡ None) (mutations_of (program transcript.now.ops)) }
-    ensures { IfOk result (λ sealed. sealed ≡ commit_request_of transcript.now) }
-{
-    let Ok((reads, mutations)) = parts_of(alloc, transcript.ops.as_slice()) else {
-        return Err(AllocError);
-    };
+    let reads = reads_of(alloc, transcript.ops.as_slice())?;
     let writes = RangeSet::new(alloc);
     match Sealed::new(
         alloc,
@@ -91,6 +90,6 @@ pub(crate) fn commit_request(alloc: Global, transcript: &Transcript) -> Result<S
         mutations,
     ) {
         Ok(sealed) => Ok(sealed),
-        Err(_) => Err(AllocError),
+        Err(refused) => Err(refused.why),
     }
 }

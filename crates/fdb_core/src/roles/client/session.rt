@@ -76,8 +76,9 @@ impl Session {
               state = Open (with_operation transcript op reply);
             }) }
     {
-        if let SessionState::Open(transcript) = &mut self.state {
-            transcript.ops.push((op, reply))?;
+        match &mut self.state {
+            SessionState::Open(transcript) => transcript.ops.push((op, reply))?,
+            _ => leave_out(op, reply),
         }
         Ok(())
     }
@@ -98,3 +99,6 @@ impl Session {
         }
     }
 }
+
+// There is no transaction to note the operation at.
+fn leave_out(_op: Op, _reply: Reply) {}

@@ -4,8 +4,8 @@ use Rattle.std.proofs.lemmas.Option.{slice_get_read}
 use Rattle.fdb_core.proofs.checking.ComparingLemmas.{AnsweredSoFar, answered-next, answered-at}
 use Rattle.fdb_core.proofs.check.compare.is_answered_on.Goals as goal
 
-pub returns-then-not-is_answered : goal.returns-then-not-is_answered
-returns-then-not-is_answered c =
+pub returns-then-not-branch : goal.returns-then-not-branch
+returns-then-not-branch c =
     let ops = c.as_slice-ops.result.now in
     let done = c.index-ops-place.result in
     let within : c.loop-place.place < length ops = search rules in
@@ -14,8 +14,8 @@ returns-then-not-is_answered c =
       λ never. absurd (both_ways _ refl never),
       λ answered.
           let all = subst (AnsweredSoFar c.args.map.now) (sym c.as_slice-ops.ensures) answered in
-          absurd (both_ways _ c.if-not-is_answered.true
-          (c.is_answered.ensures.1 (answered-at c.args.map.now ops c.loop-place.place done there all))),
+          absurd (both_ways _ c.if-not-branch.true
+          (c.in_ok-is_answered.ensures.1 (answered-at c.args.map.now ops c.loop-place.place done there all))),
     )
 
 pub loop-place-preserved : goal.loop-place-preserved
@@ -25,5 +25,5 @@ loop-place-preserved c =
     let within : c.loop-place.place < length ops = search rules in
     let there : slice_get ops c.loop-place.place ≡ Some done = slice_get_read ops (length ops) c.loop-place.place done
     refl within c.index-ops-place.is in
-    answered-next c.args.map.now ops c.loop-place.place done there (c.is_answered.ensures.0 c.if-not-is_answered.false)
+    answered-next c.args.map.now ops c.loop-place.place done there (c.in_ok-is_answered.ensures.0 c.if-not-branch.false)
     c.loop-place.invariant

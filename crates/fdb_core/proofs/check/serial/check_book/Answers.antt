@@ -4,9 +4,9 @@ use Rattle.std.proofs.lemmas.Result.{err_from_is_err_and}
 use Rattle.fdb_core.specs.check.Checking.{HasCome, IsPlainBook}
 use Rattle.fdb_core.specs.check.Holding.{HoldsTheRun}
 use Rattle.fdb_core.proofs.checking.AgreeLemmas.{begins, comes-last, stops-last}
-use Rattle.fdb_core.proofs.checking.HoldingLemmas.{held-where-named}
+use Rattle.fdb_core.proofs.checking.HoldingLemmas.{held-where-left}
 use Rattle.fdb_core.proofs.check.serial.check_book.Goals as goal
-use Rattle.fdb_core.proofs.check.serial.check_book.Goals.{else-with_shard-via-then-with_shard+else-not-is_held, else-with_shard-via-else-with_shard}
+use Rattle.fdb_core.proofs.check.serial.check_book.Goals.{else-with_shard-via-then-with_shard+in_ok-is_held+else-not-branch, else-with_shard-via-else-with_shard}
 
 pub returns-in_err-run_entries-clause-finds : goal.returns-in_err-run_entries-clause-finds
 returns-in_err-run_entries-clause-finds c = λ plain.
@@ -15,14 +15,19 @@ returns-in_err-run_entries-clause-finds c = λ plain.
     let left = err_from_is_err_and c.from_residual.result c.from_residual.ensures.1 in
     rw (left.1, left.2) (inl (c.in_err-run_entries.ensures plain start))
 
-pub returns-then-not-is_held-clause-finds : goal.returns-then-not-is_held-clause-finds
-returns-then-not-is_held-clause-finds c = λ plain.
+pub returns-then-not-branch-clause-finds : goal.returns-then-not-branch-clause-finds
+returns-then-not-branch-clause-finds c = λ plain.
     let start = begins c.args.book.now c.args.acknowledged.now
     (record { resolver = c.first_resolver.result; map = c.new.result }) c.first_resolver.ensures c.new.ensures in
     let come = c.in_ok-run_entries.ensures plain start in
-    let held = held-where-named c.args.book.now plain c.args.shard.now c.run_entries.new.replay.map c.min-applied.result
+    let held = held-where-left c.args.book.now plain c.args.shard.now c.run_entries.new.replay.map c.min-applied.result
     c.min-applied.ensures come.map in
-    inr (refl, c.if-with_shard.true, λ holds. both_ways _ c.if-not-is_held.true (c.is_held.ensures.1 (held.1 holds)))
+    inr (
+      refl,
+      c.if-with_shard.true,
+      λ holds. both_ways _ c.if-not-branch.true (c.in_ok-is_held.ensures.ok.1
+          (held.1 holds)),
+    )
 
 pub returns-in_err-run_entries-2-clause-finds : goal.returns-in_err-run_entries-2-clause-finds
 returns-in_err-run_entries-2-clause-finds c = λ plain.
@@ -49,11 +54,11 @@ held : (c : goal.After-drop-replay-3)
     → HasCome c.args.book.now c.args.acknowledged.now c.min-applied.result c.run_entries.new.replay
     → IsPlainBook c.args.book.now → c.args.with_shard ≡ true → HoldsTheRun c.args.book.now c.args.shard.now
 held c come plain =
-    let held = held-where-named c.args.book.now plain c.args.shard.now c.run_entries.new.replay.map c.min-applied.result
+    let held = held-where-left c.args.book.now plain c.args.shard.now c.run_entries.new.replay.map c.min-applied.result
     c.min-applied.ensures come.map in
     elim c.else-with_shard.branch [
-      | else-with_shard-via-then-with_shard+else-not-is_held w ↦ λ wanted. held.0
-          (w.is_held.ensures.0 w.if-not-is_held.false)
+      | else-with_shard-via-then-with_shard+in_ok-is_held+else-not-branch w ↦ λ wanted. held.0
+          (w.in_ok-is_held.ensures.ok.0 w.if-not-branch.false)
       | else-with_shard-via-else-with_shard w ↦ λ wanted. absurd (both_ways _ w.if-with_shard.false wanted)
     ]
 

@@ -8,46 +8,46 @@ use Rattle.fdb_core.specs.refinement.Cluster.{OpenRefines, WaitsRefines}
 use Rattle.fdb_core.proofs.machine.SessionLemmas.{open-has, open-put}
 use Rattle.fdb_core.proofs.machine.SessionMaps.{state-again}
 use Rattle.fdb_core.proofs.refinement.CommitProxyTies.{commit_proxies-set, commit_proxy-submit}
-use Rattle.fdb_core.proofs.refinement.Ties.{refines-sessions}
+use Rattle.fdb_core.specs.programs.Programs.{commit_request_of}
 use Rattle.fdb_core.proofs.programs.WriteSetLemmas.{commit_request_of-names}
 use Rattle.fdb_core.proofs.cluster.Cluster.submit.Goals as goal
 use Rattle.fdb_core.proofs.cluster.Cluster.submit.Goals.{In_ok-submit}
 use Rattle.fdb_core.specs.refinement.Resolving.{taken_by}
 
-pub returns-then-is_empty-2-clause-refines : goal.returns-then-is_empty-2-clause-refines
-returns-then-is_empty-2-clause-refines c =
-    let k = c.args.self.now in
-    refines-sessions k _ _ _ c.requires
-    (rw c.in-Some.ensures.ended
-    (open-put (OpenRefines k.sequencer.committed) k.sessions c.args.session Idle c.requires.opened tt))
-
 -- the session goes from its open transaction to waiting
 waits_as : (c : In_ok-submit) → c.wait.new.self ≡ with_state c.args.self.now.sessions c.args.session Waiting
 waits_as c =
     c.in_ok-wait.ensures
-    ∙ ap (λ (sessions : Sessions). with_state sessions c.args.session Waiting) c.in-Some.ensures.ended
+    ∙ ap (λ (sessions : Sessions). with_state sessions c.args.session Waiting) c.in-Some-take_open.ensures.ended
     ∙ state-again c.args.self.now.sessions c.args.session Idle Waiting
+
+-- what waits is sealed of the transaction that was open
+sealed_is : (c : In_ok-submit) → c.in_ok-sealed.sealed ≡ commit_request_of c.in-Some-take_open.transcript
+sealed_is c =
+    let same : c.in-Some.transcript.now ≡ c.in-Some-take_open.transcript = search rules in
+    c.in_ok-sealed.ensures.ok ∙ ap commit_request_of same
 
 pub returns-clause-after : goal.returns-clause-after
 unfolding submits
 returns-clause-after c =
     let waits : c.wait.new.self ≡ with_state c.args.self.now.sessions c.args.session Waiting = waits_as c in
+    let sealed : c.in_ok-sealed.sealed ≡ commit_request_of c.in-Some-take_open.transcript = sealed_is c in
     search rules
 
 pub returns-clause-refines : goal.returns-clause-refines
 returns-clause-refines c =
     let before = c.requires in
     let k = c.args.self.now in
-    let transcript = c.in-Some.transcript in
+    let transcript = c.in-Some-take_open.transcript in
     let commit_proxy = c.index_mut-commit_proxy.result.now in
     let submission : Submission = record { sealed = c.in_ok-sealed.sealed; transcript = transcript } in
-    let opened : open_at k.sessions c.args.session ≡ Some transcript = sym c.in-Some.ensures.taken in
+    let opened : open_at k.sessions c.args.session ≡ Some transcript = sym c.in-Some-take_open.ensures.taken in
     let ok = open-has (OpenRefines k.sequencer.committed) k.sessions c.args.session transcript before.opened opened in
     let read : c.in_ok-sealed.sealed.read ≡ transcript.read_version = ap (λ (t : Transaction). t.read)
-    c.in_ok-sealed.ensures in
+    (sealed_is c) in
     let waits : WaitsRefines k.sequencer.committed submission = (
       omega (arith, ok.below, read),
-      subst NamesWrites (sym c.in_ok-sealed.ensures)
+      subst NamesWrites (sym (sealed_is c))
           (commit_request_of-names transcript),
     ) in
     let inside : c.args.proxy < length k.commit_proxies.items = search rules in

@@ -1,8 +1,6 @@
 use Rattle.std.proofs.Common.{◌≡◌, take, fold}
-use Rattle.std.specs.Option.{option_copied}
 use Rattle.fdb_core.specs.programs.Programs.{value_after_op}
 use Rattle.fdb_core.proofs.roles.values.value_after_ops.Given as goal
 
 abbrev pub invariant-loop-op : goal.invariant-loop-op
-invariant-loop-op l = option_copied l.value ≡ fold (value_after_op l.key) (option_copied l.initial.value)
-    (take l.op-index l.ops)
+invariant-loop-op l = l.value ≡ fold (value_after_op l.key) l.initial.value (take l.op-index l.ops)

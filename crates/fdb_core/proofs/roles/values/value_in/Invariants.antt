@@ -1,7 +1,6 @@
 use Rattle.std.proofs.Common.{◌≡◌, take}
-use Rattle.std.specs.Option.{option_copied}
 use Rattle.fdb_txn.specs.rules.Messages.{value_in}
 use Rattle.fdb_core.proofs.roles.values.value_in.Given as goal
 
 abbrev pub invariant-loop-message : goal.invariant-loop-message
-invariant-loop-message l = option_copied l.value ≡ value_in l.version l.key (take l.message-index l.messages)
+invariant-loop-message l = l.value ≡ value_in l.version l.key (take l.message-index l.messages)
