@@ -1,0 +1,34 @@
+-- What a call's answer says of its fault.
+use Rattle.std.proofs.Common.{◌≡◌, refl, Option, Some, None, Ok, Err}
+use Rattle.fdb_keys.specs.Answers.{Answers, AnswersExactly}
+use Rattle.fdb_keys.specs.declared.refusal.Refusal.{Refusal}
+use Rattle.fdb_keys.specs.declared.refusal.Refusal.TheVariants.{NoMemory}
+
+-- a call that gave something had no fault, and what it gave is as it says
+pub given : {T : Type 0} (x : T) (fault : Option Refusal) (P : T → Type 0) → Answers (Ok x) fault P
+    → (fault ≡ None) × P x
+given x None P answered = (refl, answered)
+given x (Some why) P answered = absurd answered
+
+-- a call that is refused as another one was, for the same fault
+pub refused : {T U : Type 0} (why : Refusal) (fault : Option Refusal) (P : T → Type 0) (Q : U → Type 0)
+    → Answers (Err why) fault P → Answers (Err why) fault Q
+refused why None P Q answered = answered
+refused why (Some other) P Q answered = answered
+
+-- a call without a fault where memory ran out
+pub out_of_memory : {T : Type 0} (why : Refusal) (fault : Option Refusal) (P : T → Type 0) → fault ≡ None
+    → why ≡ NoMemory → Answers (Err why) fault P
+out_of_memory why fault P none ran_out = rw none ran_out
+
+-- a call that takes no memory and is refused has that fault
+pub checked : {T U : Type 0} (why : Refusal) (fault : Option Refusal) (P : T → Type 0) (Q : U → Type 0)
+    → AnswersExactly (Err why) fault P → Answers (Err why) fault Q
+checked why None P Q answered = absurd answered
+checked why (Some other) P Q answered = answered
+
+-- and one that isn't has none
+pub faultless : {T : Type 0} (x : T) (fault : Option Refusal) (P : T → Type 0) → AnswersExactly (Ok x) fault P
+    → fault ≡ None
+faultless x None P answered = refl
+faultless x (Some why) P answered = absurd answered

@@ -1,0 +1,9 @@
+mod ClearedLemmas
+mod FaultLemmas
+mod KeptLemmas
+mod OwnWritesLemmas
+mod PartsLemmas
+mod ProgramLemmas
+mod ProgramsAgree
+mod ReadSetLemmas
+mod WriteSetLemmas

@@ -1,0 +1,106 @@
+-- What a program's writes leave at a point.
+use Rattle.std.proofs.Common.{◌≡◌, ◌∙◌, sym, ap, refl, ℕ, Bool, true, false, ◌&&◌, ◌||◌, if◌then◌else◌, List, [], ◌∷◌, ◌++◌, fold, Option, None, ⊎_elim}
+use Rattle.std.specs.FinMap.{get}
+use Rattle.std.proofs.lemmas.Bool.{cases_Bool, or_parts, cond-true, cond-false}
+use Rattle.std.proofs.lemmas.List.Sums.{fold-append}
+use Rattle.fdb_keys.specs.Points.{Point}
+use Rattle.fdb_mutations.specs.declared.mutation.Mutation.{Mutation}
+use Rattle.fdb_mutations.specs.Maps.{Map}
+use Rattle.fdb_mutations.specs.Mutations.{names, new_value, is_blind}
+use Rattle.fdb_mutations.proofs.Effects.{at_every_point, blind_is_blind}
+use Rattle.fdb_client.specs.declared.left.Left.{Left}
+use Rattle.fdb_client.specs.declared.left.Left.TheVariants.{Value, Changes}
+use Rattle.fdb_client.specs.declared.program.Op.{Op}
+use Rattle.fdb_client.specs.declared.program.Op.TheVariants.{Get, Write, AddRead, AddWrite}
+use Rattle.fdb_client.specs.OwnWrites.{left_after, left_at, value_over, is_value}
+use Rattle.fdb_client.specs.Programs.{copy, decided, write_set, writes_on}
+
+-- what one more mutation leaves is a value where it was one, or where the mutation is blind
+after-is_value : (left : Left) (mutation : Mutation)
+    → is_value (left_after left mutation) ≡ (is_blind mutation || is_value left)
+after-is_value (Value value) mutation = sym (or-true (is_blind mutation))
+  where
+    or-true : (b : Bool) → (b || true) ≡ true
+    or-true true = refl
+    or-true false = refl
+after-is_value (Changes mutations) mutation = by_blind (is_blind mutation)
+  where
+    by_blind : (blind : Bool)
+        → is_value (if blind then Value (new_value mutation None) else Changes (mutations ++ mutation ∷ []))
+        ≡ (blind || false)
+    by_blind true = refl
+    by_blind false = refl
+
+-- the writes decide a point exactly where they leave a value there
+pub decided-left : (ops : List Op) (x : Point) → is_value (left_at ops x) ≡ decided ops x
+decided-left [] x = refl
+decided-left (Get key snapshot ∷ earlier) x = decided-left earlier x
+decided-left (AddRead range ∷ earlier) x = decided-left earlier x
+decided-left (AddWrite range ∷ earlier) x = decided-left earlier x
+decided-left (Write mutation ∷ earlier) x =
+    by_name (names mutation x) ∙ ap (λ (before : Bool). is_blind mutation && names mutation x || before)
+    (decided-left earlier x)
+  where
+    by_name : (named : Bool)
+        → is_value (if named then left_after (left_at earlier x) mutation else left_at earlier x)
+        ≡ (is_blind mutation && named || is_value (left_at earlier x))
+    by_name true = after-is_value (left_at earlier x) mutation
+        ∙ ap (λ (blind : Bool). blind || is_value (left_at earlier x)) (and-true (is_blind mutation))
+      where
+        and-true : (b : Bool) → b ≡ (b && true)
+        and-true true = refl
+        and-true false = refl
+    by_name false = ap (λ (none : Bool). none || is_value (left_at earlier x)) (and-false (is_blind mutation))
+      where
+        and-false : (b : Bool) → false ≡ (b && false)
+        and-false true = refl
+        and-false false = refl
+
+-- the values that mutations of one point leave there, one after another
+abbrev values_after : Option (List ℕ) → List Mutation → Option (List ℕ)
+values_after value mutations =
+    fold (λ (before : Option (List ℕ)) (mutation : Mutation). new_value mutation before) value mutations
+
+-- one more mutation makes its new value of what stood there after the writes
+over-after : (left : Left) (mutation : Mutation) (old : Option (List ℕ))
+    → value_over (left_after left mutation) old ≡ new_value mutation (value_over left old)
+over-after (Value value) mutation old = refl
+over-after (Changes mutations) mutation old = ⊎_elim
+    (λ (blind : is_blind mutation ≡ true).
+    ap (λ (left : Left). value_over left old) (cond-true _ (Value (new_value mutation None)) _ blind)
+    ∙ blind_is_blind mutation blind None (values_after old mutations))
+    (λ (other : is_blind mutation ≡ false).
+    ap (λ (left : Left). value_over left old) (cond-false _ (Value (new_value mutation None)) _ other)
+    ∙ fold-append (λ (before : Option (List ℕ)) (one : Mutation). new_value one before) old mutations (mutation ∷ []))
+    (cases_Bool (is_blind mutation))
+
+-- what stands at a point of the copy is what the writes make of what stands there on the map
+pub copy-left : (map : Map) (ops : List Op) (x : Point)
+    → get (copy map ops) x ≡ value_over (left_at ops x) (get map x)
+copy-left map [] x = refl
+copy-left map (Get key snapshot ∷ earlier) x = copy-left map earlier x
+copy-left map (AddRead range ∷ earlier) x = copy-left map earlier x
+copy-left map (AddWrite range ∷ earlier) x = copy-left map earlier x
+copy-left map (Write mutation ∷ earlier) x =
+    at_every_point (copy map earlier) mutation x
+    ∙ ap (λ (value : Option (List ℕ)). if names mutation x then new_value mutation value else value)
+    (copy-left map earlier x)
+    ∙ by_name (names mutation x)
+  where
+    by_name : (named : Bool)
+        → (if named then new_value mutation (value_over (left_at earlier x) (get map x))
+        else value_over (left_at earlier x) (get map x))
+        ≡ value_over (if named then left_after (left_at earlier x) mutation else left_at earlier x) (get map x)
+    by_name true = sym (over-after (left_at earlier x) mutation (get map x))
+    by_name false = refl
+
+-- at a point that a program doesn't write its writes leave what stood there
+pub unwritten-left : (ops : List Op) (x : Point) → write_set ops x ≡ false → left_at ops x ≡ Changes []
+unwritten-left [] x none = refl
+unwritten-left (Get key snapshot ∷ earlier) x none = unwritten-left earlier x none
+unwritten-left (AddRead range ∷ earlier) x none = unwritten-left earlier x none
+unwritten-left (AddWrite range ∷ earlier) x none =
+    unwritten-left earlier x (or_parts (writes_on (AddWrite range) x) (write_set earlier x) none).1
+unwritten-left (Write mutation ∷ earlier) x none =
+    cond-false (names mutation x) _ _ (or_parts (names mutation x) (write_set earlier x) none).0
+    ∙ unwritten-left earlier x (or_parts (names mutation x) (write_set earlier x) none).1

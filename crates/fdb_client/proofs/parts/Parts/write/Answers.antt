@@ -1,0 +1,49 @@
+use Rattle.std.proofs.Common.{◌∙◌, sym, ap, ap₂, refl, List, [], ◌∷◌, ◌++◌}
+use Rattle.fdb_keys.specs.Insertion.{with_range}
+use Rattle.fdb_keys.specs.Ranges.{Range, in_set}
+use Rattle.fdb_mutations.specs.declared.mutation.Mutation.{Mutation}
+use Rattle.fdb_mutations.specs.Mutations.{named_range}
+use Rattle.fdb_client.specs.declared.own_writes.OwnWrites.{OwnWrites}
+use Rattle.fdb_client.specs.declared.parts.Parts.{Parts}
+use Rattle.fdb_client.specs.declared.program.Op.TheVariants as operation
+use Rattle.fdb_client.specs.declared.program.Reply.TheVariants as answer
+use Rattle.fdb_client.specs.Kept.{kept}
+use Rattle.fdb_client.specs.OwnWrites.{left_with}
+use Rattle.fdb_client.specs.Parts.{with_op}
+use Rattle.fdb_client.proofs.PartsLemmas.{are-push, kept-unwritten, legal-push}
+use Rattle.fdb_client.proofs.parts.Parts.write.Goals as goal
+
+-- with a write listed among the operations and among the mutations
+abbrev listed_with : Parts → Mutation → Mutation → Parts
+listed_with old noted mutation = record old {
+  transcript = with_op old.transcript (operation.Write noted) answer.Done;
+  mutations = old.mutations ++ mutation ∷ [];
+}
+
+pub buffer-requires : goal.buffer-requires
+buffer-requires c = λ x none.
+    let old = c.args.self.now in
+    let listed = c.in_ok-list_write.ensures.answers in
+    let own = ap (λ (parts : Parts). parts.own) listed in
+    let writes = ap (λ (parts : Parts). parts.writes) listed in
+    ap (λ (there : OwnWrites). kept there x) own
+    ∙ kept-unwritten old.transcript.ops (kept old.own) old.reads old.writes old.mutations c.requires.kept x
+    (sym (ap (λ (set : List Range). in_set set x) writes) ∙ none)
+
+pub returns-clause-kept : goal.returns-clause-kept
+returns-clause-kept c =
+    let old = c.args.self.now in
+    let mutation = c.args.mutation.now in
+    let listed = c.in_ok-list_write.ensures.answers ∙ ap₂ (listed_with old)
+    c.in_ok-copy_of.ensures c.in_ok-copy_of-2.ensures in
+    let own = ap (λ (parts : Parts). parts.own) listed in
+    let writes = ap (λ (parts : Parts). parts.writes) listed in
+    let pushed = are-push old.transcript.ops (operation.Write mutation, answer.Done) (kept old.own)
+    (kept c.buffer.new.own) old.reads old.writes old.reads c.buffer.new.writes old.mutations
+    (old.mutations ++ mutation ∷ []) c.requires.kept
+    (λ x. c.in_default.ensures.kept x ∙ ap (λ (there : OwnWrites). left_with x (kept there x) mutation) own)
+    refl
+    (c.in_default.ensures.writes ∙ ap (with_range (named_range mutation)) writes)
+    refl
+    (legal-push old.mutations mutation c.requires.kept.legal c.requires.legal) in
+    rw listed pushed

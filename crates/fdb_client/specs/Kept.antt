@@ -1,0 +1,18 @@
+-- What a transaction keeps of its own writes.
+use Rattle.std.specs.Prelude.{Option}
+use Rattle.std.specs.Ordering.{nat_cmp}
+use Rattle.std.specs.Cmp.Lexicographic.{slice_cmp}
+use Rattle.std.specs.BTreeMap.{is_at}
+use Rattle.std.specs.Map.{lookup}
+use Rattle.fdb_keys.specs.Points.{Point}
+use Rattle.fdb_client.specs.declared.left.Left.{Left}
+use Rattle.fdb_client.specs.declared.own_writes.OwnWrites.{OwnWrites}
+use Rattle.fdb_client.specs.OwnWrites.{kept_at}
+
+-- what is kept under a key of its own
+abbrev pub entry_of : OwnWrites → Point → Option Left
+entry_of own x = lookup (is_at (slice_cmp nat_cmp x)) own.keys.entries
+
+-- what is kept for a point
+abbrev pub kept : OwnWrites → Point → Left
+kept own x = kept_at own.keys.entries own.cleared x

@@ -1,0 +1,13 @@
+pub mod Finishing
+pub mod Kept
+pub mod OwnWrites
+pub mod Pages
+pub mod Parts
+pub mod ProgramLaws
+pub mod Programs
+pub use Rattle.fdb_keys.specs.Answers
+pub use Rattle.fdb_keys.specs.Insertion
+pub use Rattle.fdb_keys.specs.Points
+pub use Rattle.fdb_keys.specs.Ranges
+pub use Rattle.fdb_mutations.specs.Maps
+pub use Rattle.fdb_mutations.specs.Mutations

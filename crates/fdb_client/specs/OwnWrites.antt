@@ -1,0 +1,70 @@
+-- What a transaction's own writes leave at a point.
+use Rattle.std.specs.Prelude.{ℕ, Bool, true, false, List, [], ◌∷◌, ◌++◌, fold, Option, Some, None, if◌then◌else◌}
+use Rattle.std.specs.Ordering.{nat_cmp}
+use Rattle.std.specs.Cmp.Lexicographic.{slice_cmp}
+use Rattle.std.specs.BTreeMap.{is_at}
+use Rattle.std.specs.BTreeMap.Range.{entries_between}
+use Rattle.std.specs.declared.ops.Bound.TheVariants.{Included, Excluded}
+use Rattle.std.specs.Map.{lookup, keys_of}
+use Rattle.std.specs.Option.{option_copied}
+use Rattle.fdb_keys.specs.Points.{Point}
+use Rattle.fdb_keys.specs.Ranges.{Range, in_set}
+use Rattle.fdb_mutations.specs.declared.mutation.Mutation.{Mutation}
+use Rattle.fdb_mutations.specs.Mutations.{names, new_value, is_blind}
+use Rattle.fdb_client.specs.declared.left.Left.{Left}
+use Rattle.fdb_client.specs.declared.left.Left.TheVariants.{Value, Changes}
+use Rattle.fdb_client.specs.declared.own_writes.Kept.{Kept}
+use Rattle.fdb_client.specs.declared.own_writes.Kept.TheVariants as kept
+use Rattle.fdb_client.specs.declared.program.Op.{Op}
+use Rattle.fdb_client.specs.declared.program.Op.TheVariants.{Get, Write, AddRead, AddWrite}
+
+-- what one more mutation makes of what earlier writes left at a point that it names
+abbrev pub left_after : Left → Mutation → Left
+left_after (Value value) mutation = Value (new_value mutation value)
+left_after (Changes mutations) mutation =
+    if is_blind mutation then Value (new_value mutation None) else Changes (mutations ++ mutation ∷ [])
+
+-- what one more mutation leaves at a point
+abbrev pub left_with : Point → Left → Mutation → Left
+left_with x left mutation = if names mutation x then left_after left mutation else left
+
+-- what one more operation leaves at a point
+abbrev pub left_by : Point → Left → Op → Left
+left_by x left (Get key snapshot) = left
+left_by x left (Write mutation) = left_with x left mutation
+left_by x left (AddRead range) = left
+left_by x left (AddWrite range) = left
+
+-- what a program's writes leave at a point
+abbrev pub left_at : List Op → Point → Left
+left_at [] x = Changes []
+left_at (op ∷ earlier) x = left_by x (left_at earlier x) op
+
+-- what stands at a point after these writes, by what stood there
+abbrev pub value_over : Left → Option (List ℕ) → Option (List ℕ)
+value_over (Value value) old = value
+value_over (Changes mutations) old =
+    fold (λ (value : Option (List ℕ)) (mutation : Mutation). new_value mutation value) old mutations
+
+-- these writes decide the point
+abbrev pub is_value : Left → Bool
+is_value (Value value) = true
+is_value (Changes mutations) = false
+
+-- what is lent of it
+abbrev pub as_left : Kept → Left
+as_left (kept.Value value) = Value (option_copied value)
+as_left (kept.Changes mutations) = Changes mutations.now
+
+-- what is kept for a point: what is under its own key, else that nothing stands there where it was cleared
+abbrev pub kept_of : List Range → Point → Option Left → Left
+kept_of cleared x None = if in_set cleared x then Value None else Changes []
+kept_of cleared x (Some left) = left
+
+abbrev pub kept_at : List (List ℕ × Left) → List Range → Point → Left
+kept_at entries cleared x = kept_of cleared x (lookup (is_at (slice_cmp nat_cmp x)) entries)
+
+-- the keys of a range that have an entry
+abbrev pub keys_between : Range → List (List ℕ × Left) → List Point
+keys_between range entries =
+    keys_of (entries_between (slice_cmp nat_cmp) (Included range.begin) (Excluded range.end) entries)

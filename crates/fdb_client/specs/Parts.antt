@@ -1,0 +1,39 @@
+-- How what a transaction keeps is tied to its operations.
+use Rattle.std.specs.Prelude.{◌≡◌, List, [], ◌∷◌, ◌++◌, None}
+use Rattle.std.specs.List.{AllByRecursion}
+use Rattle.fdb_keys.specs.Points.{Point}
+use Rattle.fdb_keys.specs.Ranges.{Range}
+use Rattle.fdb_mutations.specs.declared.mutation.Mutation.{Mutation}
+use Rattle.fdb_mutations.specs.Mutations.{mutation_fault}
+use Rattle.fdb_client.specs.declared.left.Left.{Left}
+use Rattle.fdb_client.specs.declared.parts.Parts.{Parts}
+use Rattle.fdb_client.specs.declared.program.Op.{Op}
+use Rattle.fdb_client.specs.declared.program.Reply.{Reply}
+use Rattle.fdb_client.specs.declared.program.Transcript.{Transcript}
+use Rattle.fdb_client.specs.Kept.{kept}
+use Rattle.fdb_client.specs.OwnWrites.{left_at, left_by}
+use Rattle.fdb_client.specs.Programs.{program, add_writes, add_mutation, read_ranges, write_ranges, mutations_of}
+
+-- the transcript with one operation more, and the reply to it
+abbrev pub with_op : Transcript → Op → Reply → Transcript
+with_op transcript op reply = record transcript { ops = transcript.ops ++ (op, reply) ∷ [] }
+
+-- the operation writes nothing
+abbrev pub WritesNothing : Op → Type 0
+WritesNothing op =
+    ((x : Point) (left : Left) → left_by x left op ≡ left)
+    × ((ranges : List Range) → add_writes op ranges ≡ ranges)
+    × ((mutations : List Mutation) → add_mutation op mutations ≡ mutations)
+
+-- what is kept of the operations: what the writes leave at each point, the read set and the write set, and the
+-- mutations, each of which is a legal one
+pub record AreOf (ops : List (Op × Reply)) (left : Point → Left) (reads writes : List Range)
+    (mutations : List Mutation) : Type 0 where
+  pub left_there : (x : Point) → left x ≡ left_at (program ops) x
+  pub are_read : reads ≡ read_ranges (program ops)
+  pub are_written : writes ≡ write_ranges (program ops)
+  pub are_mutations : mutations ≡ mutations_of (program ops)
+  pub legal : AllByRecursion (λ (mutation : Mutation). mutation_fault mutation ≡ None) mutations
+
+abbrev pub AreKept : Parts → Type 0
+AreKept parts = AreOf parts.transcript.ops (kept parts.own) parts.reads parts.writes parts.mutations

@@ -1,0 +1,20 @@
+//! What holds of programs, for the proofs of the crates that use transactions.
+ghost use Rattle.fdb_client.specs.ProgramLaws.{CommitRequestsAreWhole, ProgramsAgree, OneMoreIsExecuted};
+
+/// What is submitted of a transcript holds just the points that its program reads, on any map, and those that it
+/// writes, and its mutations leave any map as executing the program leaves it.
+pub fn commit_requests_have_what_their_programs_read_and_write()
+    ensures { CommitRequestsAreWhole }
+{}
+
+/// On maps that have the same at every point that a program reads on one of them, the program's ordinary
+/// replies are the same, and so is its read set.
+pub fn programs_agree_on_maps_that_agree_where_they_read()
+    ensures { ProgramsAgree }
+{}
+
+/// A transcript whose operations were each answered as on one map is the execution of its program on that map: with
+/// one operation more it stays so, if that replies what the program replies there.
+pub fn transcripts_of_one_map_are_its_executions()
+    ensures { OneMoreIsExecuted }
+{}

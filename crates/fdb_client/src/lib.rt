@@ -1,0 +1,23 @@
+//! The client's side of a transaction: it reads at one version, buffers its writes, reads its own writes, and notes
+//! what it reads and writes.
+#![tactic(auto)]
+
+mod buffering;
+mod finished;
+pub mod laws;
+mod left;
+mod own_writes;
+mod parts;
+mod plain_snapshot;
+mod program;
+mod reading;
+mod snapshot;
+#[cfg(test)]
+mod tests;
+mod txn;
+
+pub use finished::Finished;
+pub use plain_snapshot::PlainSnapshot;
+pub use program::{Op, Reply, Transcript};
+pub use snapshot::{Page, Snapshot};
+pub use txn::Txn;

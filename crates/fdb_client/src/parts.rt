@@ -1,0 +1,303 @@
+// What a transaction keeps, and how each operation changes it.
+ghost use Rattle.std.specs.Prelude.{◌≡◌, not, ◌&&◌, [], ◌∷◌, ◌++◌, None, IfOk, IfErr, OnOk, OnErr, if◌then◌else◌};
+ghost use Rattle.std.specs.FinMap.{get};
+ghost use Rattle.std.specs.Option.{option_copied};
+ghost use Rattle.fdb_keys.specs.Answers.{Answers, AnswersOrHandsBack, AnswersExactlyOrHandsBack};
+ghost use Rattle.fdb_keys.specs.Insertion.{with_range};
+ghost use Rattle.fdb_mutations.specs.Mutations.{mutation_fault};
+ghost use Rattle.fdb_client.specs.Programs.{program, copy, decided, add_reads, is_read_only, commit_request_of};
+ghost use Rattle.fdb_txn.specs.book.Size.{size_fault};
+ghost use Rattle.fdb_client.specs.Finishing.{finish_fault, IsFinished};
+ghost use Rattle.fdb_client.specs.declared.finished.Finished.TheVariants.{ToCommit};
+ghost use Rattle.fdb_client.specs.declared.program.Op.TheVariants as operation;
+ghost use Rattle.fdb_client.specs.declared.program.Reply.TheVariants as answer;
+
+use crate::buffering::buffer;
+use crate::finished::Finished;
+use crate::own_writes::OwnWrites;
+use crate::program::{Op, Reply, Transcript};
+use crate::reading::{copied, value_of};
+use crate::snapshot::Snapshot;
+use bytes::Bytes;
+use fdb_keys::{Items, Key, KeyRange, RangeSet, Refusal, Refused, TreeRangeSet};
+use fdb_mutations::Mutation;
+use fdb_txn::{Sealed, TxnId};
+use std::alloc::{AllocError, Global};
+
+#[derive(Debug, Drop)]
+pub(crate) struct Parts {
+    pub(crate) alloc: Global,
+    pub(crate) transcript: Transcript,
+    // What its writes leave at each key.
+    pub(crate) own: OwnWrites,
+    // What it reads and what it writes.
+    pub(crate) reads: TreeRangeSet,
+    pub(crate) writes: TreeRangeSet,
+    // The mutations among its operations.
+    pub(crate) mutations: Items<Mutation>,
+}
+
+impl Parts {
+    ghost use Rattle.fdb_client.specs.Parts.{AreKept, WritesNothing, with_op};
+
+    // A transaction without operations.
+    pub(crate) fn new(alloc: Global, id: TxnId, read_version: u64) -> Self
+        ensures transcript { result.transcript ≡ record { id = id; read_version = read_version; ops = [] } }
+        ensures kept { AreKept result }
+    {
+        Parts {
+            alloc,
+            transcript: Transcript {
+                id,
+                read_version,
+                ops: Items::new(alloc),
+            },
+            own: OwnWrites::new(alloc),
+            reads: TreeRangeSet::new(alloc),
+            writes: TreeRangeSet::new(alloc),
+            mutations: Items::new(alloc),
+        }
+    }
+
+    // Notes an operation that neither reads nor writes anything new. Where memory runs out, nothing changes.
+    fn note(&mut self, op: Op, reply: Reply) -> Result<(), Refusal>
+        requires kept { AreKept self.old }
+        requires unwritten { WritesNothing op }
+        requires unread { add_reads (program self.old.transcript.ops) op self.old.reads ≡ self.old.reads }
+        ensures answers { Answers result None (λ _. self.new.transcript ≡ with_op self.old.transcript op reply) }
+        ensures err { OnErr result (self.new ≡ self.old) }
+        ensures kept { OnOk result (AreKept self.new) }
+    {
+        self.transcript.ops.push((op, reply))?;
+        Ok(())
+    }
+
+    // Notes an operation that reads a range. Where memory runs out, nothing changes.
+    fn note_read(&mut self, op: Op, reply: Reply, range: &KeyRange) -> Result<(), Refusal>
+        requires kept { AreKept self.old }
+        requires unwritten { WritesNothing op }
+        requires read { add_reads (program self.old.transcript.ops) op self.old.reads
+            ≡ with_range range.now self.old.reads }
+        ensures answers { Answers result None (λ _. self.new.transcript ≡ with_op self.old.transcript op reply) }
+        ensures err { OnErr result (self.new ≡ self.old) }
+        ensures kept { OnOk result (AreKept self.new) }
+    {
+        let count = self.transcript.ops.len();
+        self.transcript.ops.push((op, reply))?;
+        if let Err(why) = self.reads.add(range) {
+            self.transcript.ops.truncate(count);
+            return Err(why);
+        }
+        Ok(())
+    }
+
+    // Whether a read of the key adds it to the read set.
+    fn is_read(&self, key: &Key, is_snapshot: bool) -> bool
+        requires { AreKept self.now }
+        ensures { result ≡ (not is_snapshot && not (decided (program self.now.transcript.ops) key.now)) }
+    {
+        !is_snapshot && !self.own.decides(key)
+    }
+
+    // Notes what the key was read as. Where memory runs out, nothing changes.
+    fn note_get(
+        &mut self,
+        key: &Key,
+        is_snapshot: bool,
+        value: Option<&Bytes>,
+    ) -> Result<(), Refusal>
+        requires { AreKept self.old }
+        ensures answers { Answers result None (λ _. self.new.transcript ≡ with_op self.old.transcript
+            (operation.Get key.now is_snapshot) (answer.Value (option_copied value.entry))) }
+        ensures err { OnErr result (self.new ≡ self.old) }
+        ensures kept { OnOk result (AreKept self.new) }
+    {
+        let op = Op::Get {
+            key: key.clone()?,
+            snapshot: is_snapshot,
+        };
+        let reply = Reply::Value(copied(value)?);
+        if !self.is_read(key, is_snapshot) {
+            return self.note(op, reply);
+        }
+        let range = KeyRange::single(self.alloc, key)?;
+        self.note_read(op, reply, &range)
+    }
+
+    // What stands at the key after its own writes.
+    fn read<S: Snapshot>(&self, snapshot: &S, key: &Key) -> Result<Option<Bytes>, Refusal>
+        requires { AreKept self.now }
+        ensures { Answers result
+            (if decided (program self.now.transcript.ops) key.now then None else S.key_fault snapshot.now key.now)
+            (λ value. value ≡ get (copy (S.map snapshot.now) (program self.now.transcript.ops)) key.now) }
+    {
+        value_of(self.alloc, &self.own, snapshot, key)
+    }
+
+    // Reads the key after its own writes, and notes that. Where it is refused, nothing changes.
+    pub(crate) fn get<S: Snapshot>(
+        &mut self,
+        snapshot: &S,
+        key: &Key,
+        is_snapshot: bool,
+    ) -> Result<Option<Bytes>, Refusal>
+        requires { AreKept self.old }
+        ensures answers { Answers result
+            (if decided (program self.old.transcript.ops) key.now then None else S.key_fault snapshot.now key.now)
+            (λ value. value ≡ get (copy (S.map snapshot.now) (program self.old.transcript.ops)) key.now) }
+        ensures ok { IfOk result (λ value. self.new.transcript
+            ≡ with_op self.old.transcript (operation.Get key.now is_snapshot) (answer.Value value)) }
+        ensures err { OnErr result (self.new ≡ self.old) }
+        ensures kept { OnOk result (AreKept self.new) }
+    {
+        let value = self.read(snapshot, key)?;
+        self.note_get(key, is_snapshot, value.as_ref())?;
+        Ok(value)
+    }
+
+    // Adds a range to the read set. Where memory runs out, nothing changes.
+    pub(crate) fn add_read(&mut self, range: &KeyRange) -> Result<(), Refusal>
+        requires { AreKept self.old }
+        ensures answers { Answers result None
+            (λ _. self.new.transcript ≡ with_op self.old.transcript (operation.AddRead range.now) answer.Done) }
+        ensures err { OnErr result (self.new ≡ self.old) }
+        ensures kept { OnOk result (AreKept self.new) }
+    {
+        let op = Op::AddRead(range.clone()?);
+        self.note_read(op, Reply::Done, range)
+    }
+
+    // Adds a range to the write set. Where memory runs out, nothing changes.
+    pub(crate) fn add_write(&mut self, range: &KeyRange) -> Result<(), Refusal>
+        requires { AreKept self.old }
+        ensures answers { Answers result None
+            (λ _. self.new.transcript ≡ with_op self.old.transcript (operation.AddWrite range.now) answer.Done) }
+        ensures err { OnErr result (self.new ≡ self.old) }
+        ensures kept { OnOk result (AreKept self.new) }
+    {
+        let op = Op::AddWrite(range.clone()?);
+        let count = self.transcript.ops.len();
+        self.transcript.ops.push((op, Reply::Done))?;
+        if let Err(why) = self.writes.add(range) {
+            self.transcript.ops.truncate(count);
+            return Err(why);
+        }
+        Ok(())
+    }
+
+    // Lists a write among the operations and among the mutations. Where memory runs out, nothing changes.
+    fn list_write(&mut self, op: Op, mutation: Mutation) -> Result<(), Refusal>
+        ensures answers { Answers result None (λ _. self.new ≡ record self.old {
+          transcript = with_op self.old.transcript op answer.Done;
+          mutations = self.old.mutations ++ mutation ∷ [];
+        }) }
+        ensures err { OnErr result (self.new ≡ self.old) }
+    {
+        let count = self.mutations.len();
+        self.mutations.push(mutation)?;
+        if let Err(failed) = self.transcript.ops.push((op, Reply::Done)) {
+            self.mutations.truncate(count);
+            return Err(Refusal::from(failed));
+        }
+        Ok(())
+    }
+
+    // Buffers a mutation. Where memory runs out, nothing changes.
+    pub(crate) fn write(&mut self, mutation: &Mutation) -> Result<(), Refusal>
+        requires kept { AreKept self.old }
+        requires legal { mutation_fault mutation.now ≡ None }
+        ensures answers { Answers result None
+            (λ _. self.new.transcript ≡ with_op self.old.transcript (operation.Write mutation.now) answer.Done) }
+        ensures err { OnErr result (self.new.transcript ≡ self.old.transcript) }
+        ensures kept { AreKept self.new }
+    {
+        let op = Op::Write(copy_of(mutation)?);
+        let (noted, listed) = (self.transcript.ops.len(), self.mutations.len());
+        self.list_write(op, copy_of(mutation)?)?;
+        if let Err(why) = buffer(self.alloc, &mut self.own, &mut self.writes, mutation) {
+            self.transcript.ops.truncate(noted);
+            self.mutations.truncate(listed);
+            return Err(why);
+        }
+        Ok(())
+    }
+
+    // Whether it writes nothing.
+    fn is_read_only(&self) -> bool
+        requires { AreKept self.now }
+        ensures { result ≡ is_read_only self.now.transcript }
+    {
+        self.mutations.is_empty() && self.writes.is_empty()
+    }
+
+    // Its read set and its write set, as they are submitted.
+    fn sets(&self) -> Result<(RangeSet, RangeSet), Refusal>
+        ensures { Answers result None (λ sets. (sets.0 ≡ self.now.reads) × (sets.1 ≡ self.now.writes)) }
+    {
+        let reads = self.reads.to_set(self.alloc)?;
+        let writes = self.writes.to_set(self.alloc)?;
+        Ok((reads, writes))
+    }
+
+    // What is left to do of it: nothing, or to commit it. A refusal hands it back.
+    pub(crate) fn finish(self) -> Result<Finished, Refused<Parts>>
+        requires { AreKept self }
+        ensures answers { AnswersOrHandsBack result self (finish_fault result self.transcript)
+            (IsFinished self.transcript) }
+        ensures back { IfErr result (λ refused. refused.back ≡ self) }
+    {
+        if self.is_read_only() {
+            return Ok(Finished::ReadOnly(self.transcript));
+        }
+        match self.sets() {
+            Ok((reads, writes)) => self.seal(reads, writes),
+            Err(why) => Err(Refused { why, back: self }),
+        }
+    }
+
+    // Seals it with its read set and its write set.
+    fn seal(self, reads: RangeSet, writes: RangeSet) -> Result<Finished, Refused<Parts>>
+        requires kept { AreKept self }
+        requires reads { reads ≡ self.reads }
+        requires writes { writes ≡ self.writes }
+        ensures { AnswersExactlyOrHandsBack result self (size_fault (commit_request_of self.transcript))
+            (λ finished. finished ≡ ToCommit (commit_request_of self.transcript) self.transcript) }
+    {
+        let Parts {
+            alloc,
+            transcript,
+            own,
+            reads: kept_reads,
+            writes: kept_writes,
+            mutations,
+        } = self;
+        match Sealed::from_joined(
+            transcript.id,
+            transcript.read_version,
+            reads,
+            writes,
+            mutations,
+        ) {
+            Ok(sealed) => Ok(Finished::ToCommit(sealed, transcript)),
+            Err(refused) => Err(Refused {
+                why: refused.why,
+                back: Parts {
+                    alloc,
+                    transcript,
+                    own,
+                    reads: kept_reads,
+                    writes: kept_writes,
+                    mutations: refused.back.mutations,
+                },
+            }),
+        }
+    }
+}
+
+// A copy of the mutation.
+fn copy_of(mutation: &Mutation) -> Result<Mutation, AllocError>
+    ensures { IfOk result (λ copy. copy ≡ mutation.now) }
+{
+    let copy = mutation.clone()?;
+    Ok(copy)
+}

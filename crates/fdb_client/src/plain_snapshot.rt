@@ -1,0 +1,57 @@
+ghost use Rattle.std.specs.Prelude.{◌≡◌};
+ghost use Rattle.fdb_client.specs.Pages.{wanted};
+
+use crate::reading::copied;
+use crate::snapshot::{Page, Snapshot};
+use bytes::Bytes;
+use fdb_keys::{Key, KeyRange, Refusal};
+use fdb_mutations::PlainMap;
+
+/// A plain map, read at a version. It is refused nothing but memory.
+#[derive(Clone, Copy, Debug)]
+pub struct PlainSnapshot<'a> {
+    /// The version that it is read at.
+    pub version: u64,
+    /// The map.
+    pub map: &'a PlainMap,
+}
+
+impl<'a> Snapshot for PlainSnapshot<'a> {
+    ghost use Rattle.std.specs.Prelude.{None};
+
+    ghost at = { λ snapshot. snapshot.version };
+
+    ghost map = { λ snapshot. snapshot.map.now };
+
+    ghost key_fault = { λ snapshot key. None };
+
+    ghost range_fault = { λ snapshot range. None };
+
+    fn version(&self) -> u64 {
+        self.version
+    }
+
+    fn get(&self, key: &Key) -> Result<Option<Bytes>, Refusal> {
+        let value = copied(self.map.get(key))?;
+        Ok(value)
+    }
+
+    fn page(&self, range: &KeyRange, limit: u32, reverse: bool) -> Result<Page, Refusal> {
+        let mut pairs = self.map.range(range, one_more(limit), reverse)?;
+        let more = limit != 0 && pairs.len() > limit as usize;
+        if more {
+            pairs.truncate(limit as usize);
+        }
+        Ok(Page { pairs, more })
+    }
+}
+
+// One more than the limit, where that is a limit, and else none.
+fn one_more(limit: u32) -> u32
+    ensures { result ≡ wanted limit }
+{
+    match limit {
+        0 => 0,
+        limit => limit.checked_add(1).unwrap_or(0),
+    }
+}

@@ -1,0 +1,37 @@
+use bytes::Bytes;
+use fdb_keys::{Items, Key, KeyRange};
+use fdb_mutations::Mutation;
+use fdb_txn::TxnId;
+
+/// An operation of a transaction.
+#[derive(Clone, Debug, Drop, PartialEq, Eq)]
+pub enum Op {
+    /// Reads the value of a key. A snapshot read adds nothing to the read set.
+    Get { key: Key, snapshot: bool },
+    /// Buffers a mutation, which adds what it names to the write set.
+    Write(Mutation),
+    /// Adds a range to the read set, whole.
+    AddRead(KeyRange),
+    /// Adds a range to the write set, whole.
+    AddWrite(KeyRange),
+}
+
+/// What an operation was answered.
+#[derive(Clone, Debug, Drop, PartialEq, Eq)]
+pub enum Reply {
+    /// The value that a key has, if any.
+    Value(Option<Bytes>),
+    /// The operation gives nothing.
+    Done,
+}
+
+/// A transaction's operations so far with their replies, the first one first.
+#[derive(Clone, Debug, Drop, PartialEq, Eq)]
+pub struct Transcript {
+    /// The name of the transaction.
+    pub id: TxnId,
+    /// The version that its reads are answered at.
+    pub read_version: u64,
+    /// The operations with their replies.
+    pub ops: Items<(Op, Reply)>,
+}

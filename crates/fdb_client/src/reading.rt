@@ -1,0 +1,63 @@
+// What a key is read as, after a transaction's own writes.
+ghost use Rattle.std.specs.Prelude.{◌≡◌, None, IfOk, fold, if◌then◌else◌};
+ghost use Rattle.std.specs.FinMap.{get};
+ghost use Rattle.std.specs.Option.{option_copied};
+ghost use Rattle.fdb_keys.specs.Answers.{Answers};
+ghost use Rattle.fdb_mutations.specs.Mutations.{new_value};
+ghost use Rattle.fdb_client.specs.Kept.{kept};
+ghost use Rattle.fdb_client.specs.OwnWrites.{is_value, value_over};
+
+use crate::own_writes::{Kept, OwnWrites};
+use crate::snapshot::Snapshot;
+use bytes::Bytes;
+use fdb_keys::{Key, Refusal};
+use fdb_mutations::Mutation;
+use std::alloc::{AllocError, Global};
+
+// A copy of the value, if there is one.
+pub(crate) fn copied(value: Option<&Bytes>) -> Result<Option<Bytes>, AllocError>
+    ensures { IfOk result (λ copy. copy ≡ option_copied value.entry) }
+{
+    match value {
+        None => Ok(None),
+        Some(value) => {
+            let copy = value.clone()?;
+            Ok(Some(copy))
+        }
+    }
+}
+
+// The value after mutations that name its key.
+fn value_after(
+    alloc: Global,
+    value: Option<Bytes>,
+    mutations: &[Mutation],
+) -> Result<Option<Bytes>, Refusal>
+    ensures { Answers result None
+        (λ after. after ≡ fold (λ before mutation. new_value mutation before) value mutations.now) }
+{
+    let mut value = value;
+    for mutation in mutations {
+        value = mutation.apply_value(alloc, value.as_ref())?;
+    }
+    Ok(value)
+}
+
+// What stands at the key after the writes. The snapshot is asked only where they don't decide the key.
+pub(crate) fn value_of<S: Snapshot>(
+    alloc: Global,
+    own: &OwnWrites,
+    snapshot: &S,
+    key: &Key,
+) -> Result<Option<Bytes>, Refusal>
+    ensures { Answers result (if is_value (kept own.now key.now) then None else S.key_fault snapshot.now key.now)
+        (λ value. value ≡ value_over (kept own.now key.now) (get (S.map snapshot.now) key.now)) }
+{
+    match own.kept(key) {
+        Kept::Value(value) => Ok(copied(value)?),
+        Kept::Changes(mutations) => {
+            let old = snapshot.get(key)?;
+            value_after(alloc, old, mutations)
+        }
+    }
+}

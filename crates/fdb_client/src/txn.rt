@@ -1,0 +1,148 @@
+use crate::finished::Finished;
+use crate::parts::Parts;
+use crate::program::Transcript;
+use crate::snapshot::Snapshot;
+use bytes::Bytes;
+use fdb_keys::{Key, KeyRange, Refusal, Refused, TreeRangeSet};
+use fdb_mutations::Mutation;
+use fdb_txn::TxnId;
+use std::alloc::Global;
+use std::marker::Model;
+
+/// An open transaction, by the rules of FoundationDB's client. It reads at one version, buffers its writes, reads its
+/// own writes, and keeps its operations with their replies, its read set and its write set.
+///
+/// A read or a write takes the logarithm of what it holds, and a read of a key also what its own atomic mutations of
+/// the key take that no write decided.
+#[derive(Debug, Drop)]
+pub struct Txn {
+    parts: Parts,
+}
+
+impl Model for Txn {
+    ghost use Rattle.fdb_client.specs.Parts.{AreKept};
+    ghost use Rattle.fdb_client.specs.declared.program.Transcript.{Transcript};
+
+    ghost Value = { Transcript };
+
+    ghost view = { λ txn. txn.parts.transcript };
+
+    ghost invariant = { λ txn. AreKept txn.parts };
+}
+
+impl Txn {
+    ghost use Rattle.std.specs.Prelude.{◌≡◌, [], None, IfOk, OnOk, OnErr, if◌then◌else◌};
+    ghost use Rattle.std.specs.FinMap.{get};
+    ghost use Rattle.fdb_keys.specs.Answers.{Answers, AnswersOrHandsBack};
+    ghost use Rattle.fdb_keys.specs.Points.{Point};
+    ghost use Rattle.fdb_keys.specs.Ranges.{in_set};
+    ghost use Rattle.fdb_mutations.specs.Maps.{Map};
+    ghost use Rattle.fdb_mutations.specs.Mutations.{mutation_fault};
+    ghost use Rattle.fdb_client.specs.Finishing.{finish_fault, IsFinished};
+    ghost use Rattle.fdb_client.specs.Parts.{with_op};
+    ghost use Rattle.fdb_client.specs.Programs.{program, copy, decided, read_set, write_set, read_ranges, write_ranges};
+    ghost use Rattle.fdb_client.specs.declared.program.Op.TheVariants as operation;
+    ghost use Rattle.fdb_client.specs.declared.program.Reply.TheVariants as answer;
+
+    /// A transaction without operations, under the name, that reads at the version. It takes no memory.
+    pub fn begin(alloc: Global, id: TxnId, read_version: u64) -> Self
+        ensures { result ≡ record { id = id; read_version = read_version; ops = [] } }
+    {
+        Txn {
+            parts: Parts::new(alloc, id, read_version),
+        }
+    }
+
+    /// The value of the key after the transaction's own writes, from a snapshot at its read version. Where its writes
+    /// decide the key, as a set or a clear does, the snapshot isn't asked, and else it refuses as the snapshot does. An
+    /// ordinary read, which is no snapshot read, of a key that isn't decided adds the key to the read set. Where it is
+    /// refused, nothing is noted.
+    pub fn get<S: Snapshot>(
+        &mut self,
+        snapshot: &S,
+        key: &Key,
+        is_snapshot: bool,
+    ) -> Result<Option<Bytes>, Refusal>
+        requires { S.at snapshot.now ≡ self.old.read_version }
+        ensures answers { Answers result
+            (if decided (program self.old.ops) key.now then None else S.key_fault snapshot.now key.now)
+            (λ value. value ≡ get (copy (S.map snapshot.now) (program self.old.ops)) key.now) }
+        ensures ok { IfOk result
+            (λ value. self.new ≡ with_op self.old (operation.Get key.now is_snapshot) (answer.Value value)) }
+        ensures err { OnErr result (self.new ≡ self.old) }
+    {
+        self.parts.get(snapshot, key, is_snapshot)
+    }
+
+    /// Buffers a mutation, whose key or range joins the write set. Refused as `ValueTooLarge` and as `BadOperand` where
+    /// `check` refuses it; then nothing changes.
+    pub fn write(&mut self, mutation: Mutation) -> Result<(), Refusal>
+        ensures answers { Answers result (mutation_fault mutation)
+            (λ _. self.new ≡ with_op self.old (operation.Write mutation) answer.Done) }
+        ensures err { OnErr result (self.new ≡ self.old) }
+    {
+        mutation.check()?;
+        self.parts.write(&mutation)
+    }
+
+    /// Adds the range to the read set, whole, also where its keys are decided. An empty range adds nothing. Refused
+    /// only as `NoMemory`, and then nothing changes.
+    pub fn add_read(&mut self, range: &KeyRange) -> Result<(), Refusal>
+        ensures answers { Answers result None
+            (λ _. self.new ≡ with_op self.old (operation.AddRead range.now) answer.Done) }
+        ensures err { OnErr result (self.new ≡ self.old) }
+    {
+        self.parts.add_read(range)
+    }
+
+    /// Adds the range to the write set, whole. An empty range adds nothing. Refused only as `NoMemory`, and then
+    /// nothing changes.
+    pub fn add_write(&mut self, range: &KeyRange) -> Result<(), Refusal>
+        ensures answers { Answers result None
+            (λ _. self.new ≡ with_op self.old (operation.AddWrite range.now) answer.Done) }
+        ensures err { OnErr result (self.new ≡ self.old) }
+    {
+        self.parts.add_write(range)
+    }
+
+    /// The name, the read version, and the operations so far with their replies.
+    pub fn transcript(&self) -> &Transcript
+        ensures { result.now ≡ self.now }
+    {
+        &self.parts.transcript
+    }
+
+    /// The read set: the keys of its ordinary reads that weren't decided, and the ranges that were added.
+    pub fn read_conflicts(&self) -> &TreeRangeSet
+        ensures value { result.now ≡ read_ranges (program self.now.ops) }
+        ensures points { (map : Map) (x : Point) → in_set result.now x ≡ read_set map (program self.now.ops) x }
+    {
+        &self.parts.reads
+    }
+
+    /// The write set: what its mutations name, and the ranges that were added.
+    pub fn write_conflicts(&self) -> &TreeRangeSet
+        ensures value { result.now ≡ write_ranges (program self.now.ops) }
+        ensures points { (x : Point) → in_set result.now x ≡ write_set (program self.now.ops) x }
+    {
+        &self.parts.writes
+    }
+
+    /// What is left to do of it: nothing where it has no mutation and an empty write set, and else to commit it.
+    /// Refused as `TransactionTooLarge` where what is to be committed has more than 10,000,000 bytes, and as `NoMemory`
+    /// where memory runs out before that is known; a refusal hands the transaction back.
+    pub fn finish(self) -> Result<Finished, Refused<Txn>>
+        ensures { AnswersOrHandsBack result self (finish_fault result self) (IsFinished self) }
+    {
+        let Txn { parts } = self;
+        match parts.finish() {
+            Ok(finished) => Ok(finished),
+            Err(refused) => Err(Refused {
+                why: refused.why,
+                back: Txn {
+                    parts: refused.back,
+                },
+            }),
+        }
+    }
+}
