@@ -104,7 +104,9 @@ fn too_large_transaction_stays_open(rt: HostRuntime) -> Result<(), Fail> {
     let mut expected = String::new(rt.alloc());
     expected.push_str("ok\nok\ngrant 0=0\n")?;
     push_oks(&mut expected, 100)?;
-    expected.push_str("refused 2101 TransactionTooLarge\nrefused 2101 TransactionTooLarge\nchecked 0\n")?;
+    expected.push_str(
+        "refused 2101 TransactionTooLarge\nrefused 2101 TransactionTooLarge\nchecked 0\n",
+    )?;
     let out = large_output_of(rt.alloc())?;
     assert!(rt; out.as_slice() == expected.as_bytes());
     Ok(())
