@@ -3,7 +3,7 @@ mod FaultLemmas
 mod KeptLemmas
 mod OwnWritesLemmas
 mod PartsLemmas
-mod ProgramLemmas
-mod ProgramsAgree
-mod ReadSetLemmas
-mod WriteSetLemmas
+pub mod ProgramLemmas
+pub mod ProgramsAgree
+pub mod ReadSetLemmas
+pub mod WriteSetLemmas

@@ -3,3 +3,4 @@ pub mod ComparingLemmas
 pub mod HoldingLemmas
 pub mod ReplayLemmas
 pub mod SoundChecks
+pub mod ValueLemmas

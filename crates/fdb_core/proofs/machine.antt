@@ -1,4 +1,6 @@
 pub mod AcceptedTransitions
+pub mod FinishLemmas
+pub mod OpenLemmas
 pub mod SessionLemmas
 pub mod SessionMaps
 pub mod Steps

@@ -9,4 +9,6 @@ pub mod RoleTies
 pub mod RunLaws
 pub mod SealLemmas
 pub mod TicketTies
+pub mod ShardMapLemmas
+pub mod ShardReads
 pub mod Ties

@@ -2,8 +2,9 @@ pub mod check
 pub mod headline
 pub mod invariant
 pub mod machine
-pub mod programs
 pub mod refinement
+pub use Rattle.fdb_client.specs.ProgramLaws
+pub use Rattle.fdb_client.specs.Programs
 pub use Rattle.fdb_keys.specs.Answers
 pub use Rattle.fdb_keys.specs.Insertion
 pub use Rattle.fdb_keys.specs.Points

@@ -1,3 +1,4 @@
 pub mod Checking
 pub mod Comparing
 pub mod Holding
+pub mod Values

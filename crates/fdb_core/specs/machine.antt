@@ -4,6 +4,7 @@ pub mod GrvProxySteps
 pub mod InFlight
 pub mod Limits
 pub mod Machine
+pub mod Opened
 pub mod RoleSteps
 pub mod Roles
 pub mod Sessions

@@ -1,4 +1,6 @@
 pub mod Cluster
 pub mod Resolving
 pub mod Roles
+pub mod Sessions
+pub mod ShardMaps
 pub mod Views

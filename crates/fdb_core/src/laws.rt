@@ -1,8 +1,7 @@
-//! What the machine promises, at every step and over every run, and what holds of programs.
+//! What the machine promises, at every step and over every run.
 ghost use Rattle.fdb_core.specs.headline.Promises.{RefusalsChangeNothing, GrantsCommitted, CommittedIsGreatestReported, GetsFromTheRun, GetsRefused};
 ghost use Rattle.fdb_core.specs.headline.Answers.{AnsweredByTheTrace};
 ghost use Rattle.fdb_core.specs.headline.RealTime.{RealTime};
-ghost use Rattle.fdb_core.specs.programs.ProgramLaws.{CommitRequestsAreWhole, ProgramsAgree};
 ghost use Rattle.fdb_core.specs.headline.Examples.{OnlyTheFirstIsSerialized, ReadOnlyAtItsVersion, AfterAVersion, AnEmptyShardDoesNotServe, OnlyOrdinaryReadsCount, BegunByServing, ForgetfulRolesDoNotKeep, ReadOffTheTrace, Traced};
 ghost use Rattle.fdb_core.specs.headline.Headline.{AcknowledgedAreSerialized};
 ghost use Rattle.fdb_core.specs.headline.Traces.{TracesDetermineTheMachine, WorldsShowWhatIsTold};
@@ -41,18 +40,6 @@ pub fn accepted_steps_are_answered_by_what_the_trace_told_before()
 /// exactly where they don't and that shard no longer serves it. A key that they decide is answered.
 pub fn gets_are_refused_exactly_where_the_shard_does_not_serve()
     ensures { GetsRefused }
-{}
-
-/// What is submitted of a transcript holds just the points that its program reads, on any map, and those that it
-/// writes, and its mutations leave any map as executing the program leaves it.
-pub fn commit_requests_have_what_their_programs_read_and_write()
-    ensures { CommitRequestsAreWhole }
-{}
-
-/// On maps that have the same at every point that a program reads on one of them, the program's ordinary
-/// replies are the same, and so is its read set.
-pub fn programs_agree_on_maps_that_agree_where_they_read()
-    ensures { ProgramsAgree }
 {}
 
 /// A trace determines the machine: a world that stands for a list of steps with their answers shows the machine

@@ -18,7 +18,6 @@ pub use config::Config;
 pub use fdb_resolver::Verdict;
 pub use in_flight::InFlight;
 pub use roles::client::Placed;
-pub use roles::client::program::{Op, Reply, Transcript};
 pub use runs::run;
 pub use step::{Answered, Outcome, Step};
 pub use world::{CheckFault, World};

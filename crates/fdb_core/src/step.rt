@@ -1,5 +1,5 @@
 use bytes::Bytes;
-use fdb_keys::{Items, Key};
+use fdb_keys::{Items, Key, KeyRange};
 use fdb_mutations::Mutation;
 use fdb_resolver::Verdict;
 
@@ -15,7 +15,7 @@ pub enum Step {
     Grant {
         proxy: u32,
     },
-    /// The session's transaction reads a key.
+    /// The session's transaction reads a key. A snapshot read adds nothing to the read set.
     Get {
         session: u32,
         key: Key,
@@ -25,6 +25,16 @@ pub enum Step {
     Write {
         session: u32,
         mutation: Mutation,
+    },
+    /// The session's transaction adds a range to its read set, whole.
+    AddRead {
+        session: u32,
+        range: KeyRange,
+    },
+    /// The session's transaction adds a range to its write set, whole.
+    AddWrite {
+        session: u32,
+        range: KeyRange,
     },
     /// The session submits its transaction to a commit proxy.
     Submit {

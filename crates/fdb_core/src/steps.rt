@@ -33,6 +33,8 @@ impl Cluster {
                 snapshot,
             } => self.get(*session, key, *snapshot),
             Step::Write { session, mutation } => self.write(*session, mutation),
+            Step::AddRead { session, range } => self.add_read(*session, range),
+            Step::AddWrite { session, range } => self.add_write(*session, range),
             Step::Submit { session, proxy } => self.submit(*session, *proxy),
             Step::Seal { proxy, advance } => self.seal(*proxy, *advance),
             Step::Resolve { entry, resolver } => self.resolve(*entry, *resolver),

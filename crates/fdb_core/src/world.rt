@@ -6,6 +6,7 @@ use crate::cluster::Cluster;
 use crate::config::{Config, ENTRY_LIMIT};
 use crate::in_flight::InFlight;
 use crate::step::{Answered, Step};
+use fdb_client::Txn;
 use fdb_keys::Refusal;
 use fdb_txn::TxnId;
 use std::alloc::Global;
@@ -54,7 +55,9 @@ impl World {
     ghost use Rattle.fdb_core.specs.declared.config.Config.{Config};
     ghost use Rattle.fdb_core.specs.declared.step.Answered.{Answered};
     ghost use Rattle.fdb_core.specs.declared.step.Step.{Step};
+    ghost use Rattle.std.specs.Option.{option_copied};
     ghost use Rattle.fdb_core.specs.machine.InFlight.{in_flight};
+    ghost use Rattle.fdb_core.specs.machine.Opened.{open_in};
     ghost use Rattle.fdb_core.specs.headline.Headline.{IsStrictlySerializable};
     ghost use Rattle.fdb_core.specs.headline.Serving.{RolesKeep};
     ghost use Rattle.fdb_core.specs.headline.Traces.{IsTraceOf};
@@ -123,6 +126,17 @@ impl World {
             return self.cluster.in_flight(proxy);
         }
         Err(Refusal::Failed)
+    }
+
+    /// The session's open transaction. There is none where the session has no open transaction, and once memory ran out
+    /// in a step.
+    pub fn txn(&self, session: u32) -> Option<&Txn>
+        ensures { option_copied result ≡ open_in self.now.machine session }
+    {
+        if self.failed {
+            return None;
+        }
+        self.cluster.sessions.open(session)
     }
 
     /// Compares the ordinary replies of every acknowledged transaction, and the shard at its version, with

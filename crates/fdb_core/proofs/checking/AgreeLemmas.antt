@@ -20,7 +20,7 @@ use Rattle.fdb_txn.proofs.rules.MessagesLemmas.{serial_map-add_places}
 use Rattle.fdb_core.specs.declared.check.serial.Replay.{Replay}
 use Rattle.fdb_core.specs.declared.check.compare.Moment.TheVariants.{Before, Between}
 use Rattle.fdb_core.specs.declared.roles.client.Placed.{Placed}
-use Rattle.fdb_core.specs.declared.roles.client.program.Transcript.{Transcript}
+use Rattle.fdb_client.specs.declared.program.Transcript.{Transcript}
 use Rattle.fdb_core.specs.declared.step.Outcome.{Outcome}
 use Rattle.fdb_core.specs.declared.world.CheckFault.{CheckFault}
 use Rattle.fdb_core.specs.check.Checking.{AnsweredIn, map_after, IsPlainBook, AgreesAt, Agrees, is_before, HasCome}

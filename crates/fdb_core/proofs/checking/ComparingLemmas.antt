@@ -3,17 +3,17 @@ use Rattle.std.proofs.Common.{◌≡◌, ◌∙◌, sym, ap, subst, refl, ℕ, s
 use Rattle.std.specs.FinMap.{get}
 use Rattle.std.specs.List.{slice_get}
 use Rattle.fdb_mutations.specs.Maps.{Map}
-use Rattle.fdb_core.specs.declared.roles.client.program.Op.{Op}
-use Rattle.fdb_core.specs.declared.roles.client.program.Op.TheVariants.{Get}
-use Rattle.fdb_core.specs.declared.roles.client.program.Reply.{Reply}
-use Rattle.fdb_core.specs.declared.roles.client.program.Reply.TheVariants.{Value}
+use Rattle.fdb_client.specs.declared.program.Op.{Op}
+use Rattle.fdb_client.specs.declared.program.Op.TheVariants.{Get}
+use Rattle.fdb_client.specs.declared.program.Reply.{Reply}
+use Rattle.fdb_client.specs.declared.program.Reply.TheVariants.{Value}
 use Rattle.fdb_core.specs.check.Comparing.{IsAnswered}
-use Rattle.fdb_core.specs.headline.Headline.{replies_of}
-use Rattle.fdb_core.specs.programs.ProgramLaws.{AgreeWhereOrdinary}
-use Rattle.fdb_core.specs.programs.Programs.{program, exec, value_after_op}
-use Rattle.fdb_core.proofs.programs.ProgramLaws.{get-copy, program-push}
+use Rattle.fdb_client.specs.ProgramLaws.{AgreeWhereOrdinary}
+use Rattle.fdb_client.specs.Programs.{program, exec, replies_of}
+use Rattle.fdb_core.specs.check.Values.{value_after_op}
+use Rattle.fdb_client.proofs.ProgramLemmas.{program-push, replies-push}
+use Rattle.fdb_core.proofs.checking.ValueLemmas.{get-copy}
 use Rattle.fdb_core.proofs.refinement.RoleTies.{take-next}
-use Rattle.fdb_core.proofs.invariant.SoundLemmas.{replies_of-push}
 
 -- a read that isn't a snapshot read was answered as on the copy just where it was told what the operations leave at its
 -- key
@@ -35,11 +35,11 @@ AnsweredSoFar map ops = AgreeWhereOrdinary (program ops) (replies_of ops) (exec 
 -- one operation more
 answered-push : (map : Map) (ops : List (Op × Reply)) (done : Op × Reply)
     → IsAnswered map ops done → AnsweredSoFar map ops → AnsweredSoFar map (ops ++ done ∷ [])
-answered-push map ops done here before = rw (program-push ops done, replies_of-push ops done) (here, before)
+answered-push map ops done here before = rw (program-push ops done, replies-push ops done) (here, before)
 
 answered-parts : (map : Map) (ops : List (Op × Reply)) (done : Op × Reply) → AnsweredSoFar map (ops ++ done ∷ [])
     → IsAnswered map ops done × AnsweredSoFar map ops
-answered-parts map ops done all = rw (program-push ops done, replies_of-push ops done) at all
+answered-parts map ops done all = rw (program-push ops done, replies-push ops done) at all
 
 -- and the first ones
 answered-front : (map : Map) (first later : List (Op × Reply)) → AnsweredSoFar map (first ++ later)

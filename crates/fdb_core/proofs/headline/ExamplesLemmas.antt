@@ -1,5 +1,5 @@
 -- The examples compute.
-use Rattle.std.proofs.Common.{◌≡◌, ◌∙◌, sym, ap, refl, subst, arith, ⊎_elim, inl, ℕ, true, false, List, [], ◌∷◌, Some, None, Result, Ok}
+use Rattle.std.proofs.Common.{◌≡◌, ◌∙◌, sym, ap, refl, subst, arith, ⊎_elim, inl, ℕ, true, false, List, [], ◌∷◌, Some, None, Result, Ok, length}
 use Rattle.std.specs.Prelude.{codes}
 use Rattle.std.specs.FinMap.{get, empty, get-empty}
 use Rattle.std.specs.Ordering.{nat_cmp}
@@ -15,7 +15,8 @@ use Rattle.fdb_txn.specs.book.Book.{Place, placed}
 use Rattle.fdb_txn.specs.rules.SerialMap.{serial_map}
 use Rattle.fdb_txn.proofs.rules.MessagesLemmas.{get-effects}
 use Rattle.fdb_txn.specs.rules.Admission.{committed}
-use Rattle.fdb_core.specs.declared.roles.client.program.Reply.TheVariants as reply
+use Rattle.fdb_client.specs.declared.program.Reply.TheVariants as reply
+use Rattle.fdb_keys.specs.Ranges.{Range}
 use Rattle.fdb_core.specs.headline.Examples.{reads_and_sets, OnlyTheFirstIsSerialized, ReadOnlyAtItsVersion, AfterAVersion, AnEmptyShardDoesNotServe, OnlyOrdinaryReadsCount, BegunByServing, ForgetfulRolesDoNotKeep, ReadOffTheTrace, plain, one_asks, Traced}
 use Rattle.fdb_core.specs.declared.step.Answered.TheVariants as answered
 use Rattle.fdb_core.specs.machine.GrvProxySteps.{asks, grants}
@@ -24,7 +25,7 @@ use Rattle.fdb_core.specs.machine.Sessions.{Session}
 use Rattle.fdb_core.specs.machine.Steps.{answer_of, after}
 use Rattle.fdb_core.specs.machine.Worlds.{start}
 use Rattle.fdb_core.specs.headline.Headline.{AnsweredOn}
-use Rattle.fdb_core.specs.programs.Programs.{commit_request_of}
+use Rattle.fdb_client.specs.Programs.{commit_request_of}
 
 -- the two places of the entry
 abbrev first : Place
@@ -69,12 +70,13 @@ only_the_first_is_serialized = (
 )
 
 pub read_only_at_its_version : ReadOnlyAtItsVersion
-unfolding point_lt
+unfolding point_lt insertion.inserted
 read_only_at_its_version = (
-  (refl, omega arith, refl, tt),
+  (refl, omega arith, (refl, refl), tt),
   (λ stands. omega (arith, stands.0)),
   (λ stands. omega (arith, stands.1)),
-  (λ stands. cc (stands.2)),
+  (λ stands. cc (stands.2.0)),
+  (λ stands. let wrong : 1 ≡ 0 = ap (λ (ranges : List Range). length ranges) stands.2.1 in omega (arith, wrong)),
   (λ stands. omega (arith, stands.0)),
 )
 

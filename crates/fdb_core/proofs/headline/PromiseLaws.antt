@@ -9,14 +9,14 @@ use Rattle.fdb_txn.specs.book.Book.{seen_of}
 use Rattle.fdb_txn.specs.rules.Owners.{first_owner}
 use Rattle.fdb_txn.specs.rules.SerialMap.{serial_map_at}
 use Rattle.fdb_core.specs.machine.Roles.{ShardProgress}
-use Rattle.fdb_core.specs.declared.roles.client.program.Transcript.{Transcript}
+use Rattle.fdb_client.specs.declared.program.Transcript.{Transcript}
 use Rattle.fdb_core.specs.declared.step.Answered.TheVariants as answered
 use Rattle.fdb_core.specs.machine.ClientSteps.{gets, read_fault}
 use Rattle.fdb_core.specs.machine.GrvProxySteps.{grants, has_no_number}
 use Rattle.fdb_core.specs.machine.RoleSteps.{shard_fault, version_of_shard}
 use Rattle.fdb_core.specs.machine.Machine.{Machine, Transition}
 use Rattle.fdb_core.specs.machine.Sessions.{open_at}
-use Rattle.fdb_core.specs.programs.Programs.{program, copy, decided}
+use Rattle.fdb_client.specs.Programs.{program, copy, decided}
 use Rattle.fdb_core.specs.headline.Promises.{RefusalsChangeNothing, GrantsCommitted, GetsFromTheRun, GetsRefused}
 use Rattle.fdb_core.specs.machine.Steps.{after}
 use Rattle.fdb_core.proofs.machine.Transitions.{gets-refused, gets-faultless}

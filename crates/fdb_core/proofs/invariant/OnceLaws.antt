@@ -12,17 +12,17 @@ use Rattle.fdb_txn.specs.declared.txn_id.TxnId.{TxnId}
 use Rattle.fdb_txn.specs.book.Transactions.{Transaction}
 use Rattle.fdb_core.specs.declared.config.Config.{Config}
 use Rattle.fdb_core.specs.machine.Roles.{Submission, CommitProxy}
-use Rattle.fdb_core.specs.declared.roles.client.program.Transcript.{Transcript}
+use Rattle.fdb_client.specs.declared.program.Transcript.{Transcript}
 use Rattle.fdb_core.specs.declared.step.Answered.{Answered}
 use Rattle.fdb_core.specs.declared.step.Step.{Step}
 use Rattle.fdb_txn.specs.book.Once.{NoIdTwice, same_name, times_named, times_in_book}
 use Rattle.fdb_core.specs.headline.Traces.{machine_of_trace}
-use Rattle.fdb_core.specs.machine.ClientSteps.{with_operation}
+use Rattle.fdb_client.specs.Parts.{with_op}
 use Rattle.fdb_core.specs.machine.GrvProxySteps.{has_no_number}
 use Rattle.fdb_core.specs.machine.Machine.{Machine}
 use Rattle.fdb_core.specs.machine.Sessions.{Session, SessionState, Idle, Asking, Open, Waiting, Sessions, session_of, with_state, open_of, open_at, next_number, greatest_number, has_used_up, serve, tell_all}
 use Rattle.fdb_core.specs.machine.Worlds.{start, idle_proxy}
-use Rattle.fdb_core.specs.programs.Programs.{commit_request_of}
+use Rattle.fdb_client.specs.Programs.{commit_request_of}
 use Rattle.fdb_core.proofs.common.SumLemmas.{sum-set, sum-made, none_or_some}
 use Rattle.fdb_core.proofs.invariant.SessionPlaces.{AllStand, session_steps, session-start, open-own, asks_once}
 use Rattle.fdb_core.proofs.machine.SessionLemmas.{put-cases, served-none, served-once, told-none, told-some, times_among, times_of, able, next-within}
@@ -232,7 +232,7 @@ module _ (id : TxnId) where
     );
     operated = λ m taken session transcript operation does opened once. (
       session_steps.operated m taken session transcript operation does opened once.0,
-      changed-once m session (Open (with_operation transcript operation _)) m.book m.commit_proxies once.1
+      changed-once m session (Open (with_op transcript operation _)) m.book m.commit_proxies once.1
           (λ same. omega (
             arith,
             once.1.stands,

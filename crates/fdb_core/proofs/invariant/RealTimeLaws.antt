@@ -12,14 +12,14 @@ use Rattle.fdb_txn.proofs.book.HistoryLemmas.{all-append, all-weaken}
 use Rattle.fdb_core.specs.declared.config.Config.{Config}
 use Rattle.fdb_core.specs.machine.Roles.{Submission, CommitProxy}
 use Rattle.fdb_core.specs.declared.roles.client.Placed.{Placed}
-use Rattle.fdb_core.specs.declared.roles.client.program.Transcript.{Transcript}
+use Rattle.fdb_client.specs.declared.program.Transcript.{Transcript}
 use Rattle.fdb_core.specs.declared.step.Answered.{Answered}
 use Rattle.fdb_core.specs.declared.step.Outcome.{Outcome}
 use Rattle.fdb_core.specs.declared.step.Outcome.TheVariants as outcome
 use Rattle.fdb_core.specs.declared.step.Step.{Step}
 use Rattle.fdb_core.specs.headline.RealTime.{IsAfterVersion, spot_version}
 use Rattle.fdb_core.specs.headline.Traces.{after_steps, machine_of_trace}
-use Rattle.fdb_core.specs.machine.ClientSteps.{with_operation}
+use Rattle.fdb_client.specs.Parts.{with_op}
 use Rattle.fdb_core.specs.machine.Sessions.{Session, SessionState, Sessions, EachOpen, Idle, Asking, Open, Waiting, session_of, with_state, open_of, open_at, begins_next, next_number, greatest_number, serve, tell_all}
 use Rattle.fdb_core.specs.machine.CommitProxySteps.{placed_from}
 use Rattle.fdb_core.specs.machine.Machine.{Machine}
@@ -201,7 +201,7 @@ module _ (P : Sessions → TxnId → ℕ → Type 0) (low : ℕ) where
           (kept.0, served-kept m.committed kept.0 there m.sessions m.commit_proxies m.acknowledged kept.1);
       operated = λ m taken session transcript operation does opened kept. (
         kept.0,
-        put-kept m.sessions session (Open (with_operation transcript operation _)) m.commit_proxies m.acknowledged
+        put-kept m.sessions session (Open (with_op transcript operation _)) m.commit_proxies m.acknowledged
             kept.1 (opened-has m kept session transcript opened),
       );
       read_only = λ m session proxy transcript opened empty kept.

@@ -1,5 +1,5 @@
 -- Acknowledged transactions stand where they are placed, and go on standing there when the book grows.
-use Rattle.std.proofs.Common.{◌≡◌, ◌∙◌, sym, ap, refl, ℕ, zero, suc, ◌+◌, ◌<◌, ◌≤◌, le_refl, le_trans, le_of_lt, Bool, true, false, ◌&&◌, if◌then◌else◌, List, [], ◌∷◌, ◌++◌, append_assoc, fold, map, length, take, Some, subst, zero-add, add-zero, arith}
+use Rattle.std.proofs.Common.{◌≡◌, ◌∙◌, sym, ap, refl, ℕ, zero, suc, ◌+◌, ◌<◌, ◌≤◌, le_refl, le_trans, le_of_lt, Bool, true, false, if◌then◌else◌, List, [], ◌∷◌, ◌++◌, append_assoc, fold, map, length, take, Some, subst, zero-add, add-zero, arith, ◌==◌}
 use Rattle.std.specs.List.{AllByRecursion, slice_get}
 use Rattle.std.proofs.lemmas.Bool.{and_parts, cond-false, eqb-true, lt-leb}
 use Rattle.std.proofs.Math.Nat.{suc-add, add-suc}
@@ -18,21 +18,20 @@ use Rattle.fdb_txn.proofs.book.HistoryLemmas.{all-append, all-weaken, add_places
 use Rattle.fdb_txn.proofs.rules.SerialMapLemmas.{reads_stand}
 use Rattle.fdb_core.specs.machine.Roles.{CommitProxy}
 use Rattle.fdb_core.specs.declared.roles.client.Placed.{Placed}
-use Rattle.fdb_core.specs.declared.roles.client.program.Op.{Op}
-use Rattle.fdb_core.specs.declared.roles.client.program.Reply.{Reply}
-use Rattle.fdb_core.specs.declared.roles.client.program.Transcript.{Transcript}
+use Rattle.fdb_client.specs.declared.program.Op.{Op}
+use Rattle.fdb_client.specs.declared.program.Reply.{Reply}
+use Rattle.fdb_client.specs.declared.program.Transcript.{Transcript}
 use Rattle.fdb_core.specs.declared.step.Outcome.{Outcome}
 use Rattle.fdb_core.specs.declared.step.Outcome.TheVariants as outcome
-use Rattle.fdb_core.specs.machine.ClientSteps.{is_nil}
-use Rattle.fdb_core.specs.headline.Headline.{replies_of, AnsweredOn, IsSerializedAtSpot}
+use Rattle.fdb_core.specs.headline.Headline.{AnsweredOn, IsSerializedAtSpot, WroteNothing}
 use Rattle.fdb_core.specs.machine.Machine.{Machine}
-use Rattle.fdb_core.specs.programs.ProgramLaws.{AgreeWhereOrdinary}
-use Rattle.fdb_core.specs.programs.Programs.{program, exec, mutations_of, commit_request_of}
+use Rattle.fdb_client.specs.ProgramLaws.{AgreeWhereOrdinary}
+use Rattle.fdb_client.specs.Programs.{program, exec, mutations_of, write_ranges, commit_request_of, is_read_only, replies_of}
 use Rattle.fdb_core.specs.machine.CommitProxySteps.{placed_from}
 use Rattle.fdb_core.specs.invariant.Invariant.{IsReplied, IsSerializedIn, IsReported}
 use Rattle.fdb_core.specs.machine.Verdicts.{moves_through, outcomes_from, outcomes_on}
-use Rattle.fdb_core.proofs.programs.ProgramsAgree.{programs_agree}
-use Rattle.fdb_core.proofs.programs.ReadSetLemmas.{in_read_ranges}
+use Rattle.fdb_client.proofs.ProgramsAgree.{programs_agree}
+use Rattle.fdb_client.proofs.ReadSetLemmas.{in_read_ranges}
 use Rattle.fdb_core.proofs.refinement.RoleTies.{last-push}
 
 -- a transaction is serialized at its spot, which is reported
@@ -45,20 +44,28 @@ agree-itself map [] = tt
 agree-itself map (op ∷ earlier) = (λ ordinary. refl, agree-itself map earlier)
 
 -- a list that is tested as empty has nothing
-pub nil-is : {A : Type 0} (xs : List A) → is_nil xs ≡ true → xs ≡ []
+nil-is : {A : Type 0} (xs : List A) → length xs == 0 ≡ true → xs ≡ []
 nil-is [] none = refl
 nil-is (x ∷ xs) none = let counted : length (x ∷ xs) ≡ 0 = eqb-true (length (x ∷ xs)) 0 none in absurd
     (omega (arith, counted))
 
--- an answered transaction that writes nothing is serialized at its read version
+-- a transaction that is read-only wrote nothing
+pub wrote_nothing : (transcript : Transcript) → is_read_only transcript ≡ true → WroteNothing transcript
+wrote_nothing transcript empty =
+    let parts = and_parts _ _ empty in (
+      nil-is (mutations_of (program transcript.ops)) parts.0,
+      nil-is (write_ranges (program transcript.ops)) parts.1,
+    )
+
+-- an answered transaction that wrote nothing is serialized at its read version
 pub read_only_serialized : (m : Machine) (transcript : Transcript) → m.committed ≤ last_version m.book
     → IsReplied m transcript
-    → is_nil (commit_request_of transcript).mutations && is_nil (commit_request_of transcript).writes ≡ true
+    → is_read_only transcript ≡ true
     → IsSerializedIn m (record { spot = spot.ReadOnly transcript.read_version; transcript = transcript })
 read_only_serialized m transcript reached told empty = (
   refl,
   le_trans told.0 reached,
-  nil-is (mutations_of (program transcript.ops)) (and_parts _ _ empty).0,
+  wrote_nothing transcript empty,
   subst (λ (replies : List Reply). AgreeWhereOrdinary (program transcript.ops) replies
       (exec there (program transcript.ops)))
       (sym told.1) (agree-itself there (program transcript.ops)),

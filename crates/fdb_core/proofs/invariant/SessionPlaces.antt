@@ -8,18 +8,18 @@ use Rattle.std.proofs.lemmas.Bool.{eq-eqb, ne_eqb}
 use Rattle.fdb_keys.specs.declared.refusal.Refusal.{Refusal}
 use Rattle.fdb_txn.specs.Limits.{place_limit}
 use Rattle.fdb_core.specs.declared.config.Config.{Config}
-use Rattle.fdb_core.specs.declared.roles.client.program.Transcript.{Transcript}
+use Rattle.fdb_client.specs.declared.program.Transcript.{Transcript}
 use Rattle.fdb_core.specs.declared.step.Answered.{Answered}
 use Rattle.fdb_core.specs.declared.step.Step.{Step}
 use Rattle.fdb_core.specs.headline.Sessions.{is_of, times_asking_at, times_asking, times_waiting_at, times_waiting}
 use Rattle.fdb_core.specs.headline.Traces.{machine_of_trace}
-use Rattle.fdb_core.specs.machine.ClientSteps.{with_operation}
+use Rattle.fdb_client.specs.Parts.{with_op}
 use Rattle.fdb_core.specs.machine.CommitProxySteps.{is_idle}
 use Rattle.fdb_core.specs.machine.Machine.{Machine}
 use Rattle.fdb_core.specs.machine.Roles.{Submission, CommitProxy}
 use Rattle.fdb_core.specs.machine.Sessions.{Session, SessionState, Idle, Asking, Open, Waiting, session_of, with_state, is_asking, is_waiting, is_busy, open_of, open_at, serve, tell_all}
 use Rattle.fdb_core.specs.machine.Worlds.{start, idle_proxy}
-use Rattle.fdb_core.specs.programs.Programs.{commit_request_of}
+use Rattle.fdb_client.specs.Programs.{commit_request_of}
 use Rattle.fdb_core.proofs.common.AllLemmas.{all-at, all-set, all-replicate}
 use Rattle.fdb_core.proofs.common.SumLemmas.{sum-set, sum-at, sum-made, none_or_some}
 use Rattle.fdb_core.proofs.machine.SessionLemmas.{state-put, served-none, served-once, told-none, told-some}
@@ -283,7 +283,7 @@ session_steps = record {
       (λ session. asked-stands session m asker proxy there at free (all.0 session), all.1);
   granted = λ m proxy there at left all. (λ session. granted-stands session m proxy there at (all.0 session), all.1);
   operated = λ m taken client transcript operation does opened all. (
-    λ session. opened-stands session m client transcript (Open (with_operation transcript operation _)) opened
+    λ session. opened-stands session m client transcript (Open (with_op transcript operation _)) opened
         (all.0 session)
         (λ same. open-own m client transcript (all.0 client) opened ∙ same) refl,
     all.1,

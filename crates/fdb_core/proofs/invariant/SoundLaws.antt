@@ -8,17 +8,17 @@ use Rattle.fdb_txn.proofs.book.HistoryLemmas.{all-append, all-weaken, entries_go
 use Rattle.fdb_core.specs.declared.config.Config.{Config}
 use Rattle.fdb_core.specs.machine.Roles.{Submission, CommitProxy, Reported, ShardProgress}
 use Rattle.fdb_core.specs.declared.roles.client.Placed.{Placed}
-use Rattle.fdb_core.specs.declared.roles.client.program.Transcript.{Transcript}
+use Rattle.fdb_client.specs.declared.program.Transcript.{Transcript}
 use Rattle.fdb_core.specs.declared.step.Answered.{Answered}
 use Rattle.fdb_core.specs.declared.step.Step.{Step}
 use Rattle.fdb_core.specs.headline.Traces.{machine_of_trace}
 use Rattle.fdb_core.specs.machine.CommitProxySteps.{is_idle, is_reported}
 use Rattle.fdb_txn.specs.book.Book.{last_version}
-use Rattle.fdb_core.specs.machine.ClientSteps.{with_operation}
+use Rattle.fdb_client.specs.Parts.{with_op}
 use Rattle.fdb_core.specs.machine.Machine.{Machine}
 use Rattle.fdb_core.specs.machine.Sessions.{Sessions, EachOpen, Idle, Asking, Open, Waiting, open_at}
 use Rattle.fdb_core.specs.machine.Worlds.{start, idle_proxy}
-use Rattle.fdb_core.specs.programs.Programs.{commit_request_of}
+use Rattle.fdb_client.specs.Programs.{commit_request_of}
 use Rattle.fdb_core.specs.invariant.Invariant.{IsReplied, IsSerializedIn, IsReported, Waits, CommitProxyIsSound, Invariant}
 use Rattle.fdb_core.proofs.common.AllLemmas.{all-at, all-set, all-push, all-drop, all-take, all-map, all-replicate}
 use Rattle.fdb_core.proofs.invariant.SerializedLemmas.{Stands, spot-stays, batch_serialized, read_only_serialized}
@@ -197,7 +197,7 @@ sound_steps = record {
       sound.commit_proxies sound.acknowledged sound.reported;
   operated = λ m taken session transcript operation does opened sound.
       same_book m sound
-      (open-put (IsReplied m) m.sessions session (Open (with_operation transcript operation _)) sound.opened
+      (open-put (IsReplied m) m.sessions session (Open (with_op transcript operation _)) sound.opened
       (told-push m transcript operation _ refl (opened-at m sound session transcript opened)))
       sound.commit_proxies sound.acknowledged sound.reported;
   read_only = λ m session proxy transcript opened empty sound.

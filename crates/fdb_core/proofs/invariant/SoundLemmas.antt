@@ -2,7 +2,6 @@
 -- change.
 use Rattle.std.proofs.Common.{◌≡◌, ◌∙◌, refl, sym, ap, ap₂, subst, arith, ◌<◌, ◌≤◌, le_refl, le_trans, ℕ, zero, suc, List, [], ◌∷◌, ◌++◌, map, Some}
 use Rattle.std.specs.List.{AllByRecursion, slice_get}
-use Rattle.std.proofs.lemmas.List.Sums.{fold-append}
 use Rattle.fdb_mutations.specs.Maps.{Map}
 use Rattle.fdb_txn.specs.declared.entry.Entry.{Entry}
 use Rattle.fdb_txn.specs.book.Book.{seen_of}
@@ -12,32 +11,27 @@ use Rattle.fdb_txn.specs.laws.SerialMapLaws.{version_after}
 use Rattle.fdb_txn.specs.book.Transactions.{Transaction, NamesWrites}
 use Rattle.fdb_txn.proofs.book.HistoryLemmas.{earlier_maps_stay}
 use Rattle.fdb_core.specs.machine.Roles.{CommitProxy, Submission}
-use Rattle.fdb_core.specs.declared.roles.client.program.Op.{Op}
-use Rattle.fdb_core.specs.declared.roles.client.program.Reply.{Reply}
-use Rattle.fdb_core.specs.declared.roles.client.program.Transcript.{Transcript}
-use Rattle.fdb_core.specs.headline.Headline.{replies_of}
+use Rattle.fdb_client.specs.declared.program.Op.{Op}
+use Rattle.fdb_client.specs.declared.program.Reply.{Reply}
+use Rattle.fdb_client.specs.declared.program.Transcript.{Transcript}
 use Rattle.fdb_core.specs.machine.Machine.{Machine}
-use Rattle.fdb_core.specs.programs.Programs.{program, copy, reply_on, exec, commit_request_of}
+use Rattle.fdb_client.specs.Programs.{program, copy, reply_on, exec, commit_request_of, replies_of}
+use Rattle.fdb_client.specs.Parts.{with_op}
 use Rattle.fdb_core.specs.invariant.Invariant.{IsReplied, Waits, CommitProxyIsSound}
 use Rattle.fdb_core.proofs.common.AllLemmas.{all-map}
 use Rattle.fdb_txn.proofs.book.HistoryLemmas.{all-weaken}
-use Rattle.fdb_core.proofs.programs.WriteSetLemmas.{commit_request_of-names}
-use Rattle.fdb_core.proofs.programs.ProgramLaws.{program-push}
-
--- the reply to one more operation is the newest
-pub replies_of-push : (ops : List (Op × Reply)) (done : Op × Reply)
-    → replies_of (ops ++ done ∷ []) ≡ done.1 ∷ replies_of ops
-replies_of-push ops done = fold-append (λ (earlier : List Reply) (one : Op × Reply). one.1 ∷ earlier) [] ops (done ∷ [])
+use Rattle.fdb_client.proofs.WriteSetLemmas.{commit_request_of-names}
+use Rattle.fdb_client.proofs.ProgramLemmas.{program-push, replies-push}
 
 -- a transcript stays told with one more operation that is replied from the copy after the earlier ones
 pub told-push : (m : Machine) (transcript : Transcript) (op : Op) (reply : Reply)
     → reply ≡ reply_on
     (copy (serial_map_at m.config.resolver_splits transcript.read_version (seen_of m.book).places)
     (program transcript.ops)) op
-    → IsReplied m transcript → IsReplied m (record transcript { ops = transcript.ops ++ (op, reply) ∷ [] })
+    → IsReplied m transcript → IsReplied m (with_op transcript op reply)
 told-push m transcript op reply is told = (
   told.0,
-  replies_of-push transcript.ops (op, reply) ∙ ap (λ (first : Reply). first ∷ replies_of transcript.ops) is
+  replies-push transcript.ops (op, reply) ∙ ap (λ (first : Reply). first ∷ replies_of transcript.ops) is
       ∙ ap (λ (others : List Reply). reply_on (copy there (program transcript.ops)) op ∷ others) told.1
       ∙ ap (exec there) (sym (program-push transcript.ops (op, reply))),
 )

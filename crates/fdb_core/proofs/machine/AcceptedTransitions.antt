@@ -4,7 +4,7 @@ use Rattle.std.specs.Prelude.{nat_lt, ⊤}
 use Rattle.fdb_keys.specs.declared.refusal.Refusal.{Refusal}
 use Rattle.fdb_keys.specs.declared.refusal.Refusal.TheVariants.{Stale, NotYet}
 use Rattle.fdb_txn.specs.declared.entry.Entry.{Entry}
-use Rattle.fdb_core.specs.declared.roles.client.program.Transcript.{Transcript}
+use Rattle.fdb_client.specs.declared.program.Transcript.{Transcript}
 use Rattle.fdb_core.specs.machine.Machine.{Transition, found, refused_where, refused_by, in_turn, waits_for, with_open}
 
 -- the property holds of the transition, if there is one

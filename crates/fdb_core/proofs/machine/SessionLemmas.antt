@@ -6,7 +6,7 @@ use Rattle.std.specs.FinMap.{insert, empty}
 use Rattle.std.proofs.lemmas.Bool.{or_parts}
 use Rattle.std.proofs.lemmas.Bool.Decides.{eqb_tells}
 use Rattle.fdb_txn.specs.declared.txn_id.TxnId.{TxnId}
-use Rattle.fdb_core.specs.declared.roles.client.program.Transcript.{Transcript}
+use Rattle.fdb_client.specs.declared.program.Transcript.{Transcript}
 use Rattle.fdb_core.specs.machine.GrvProxySteps.{has_no_number}
 use Rattle.fdb_core.specs.machine.Sessions.{Session, SessionState, Sessions, EachOpen, Idle, session_of, with_state, open_of, open_at, begins_next, next_number, greatest_number, serve, tell, tell_all}
 use Rattle.fdb_core.proofs.common.SumLemmas.{counted, none_or_some}

@@ -1,5 +1,5 @@
 -- The walk over the steps of all kinds: what accepted steps change, and what they keep.
-use Rattle.std.proofs.Common.{◌≡◌, ◌<◌, ◌≤◌, refl, ap, ℕ, ◌+◌, ◌%◌, min, max, Bool, true, false, not, ◌&&◌, List, [], ◌∷◌, ◌++◌, take, map, length, fold, Option, Some, None, Result, Ok, Err}
+use Rattle.std.proofs.Common.{◌≡◌, ◌<◌, ◌≤◌, refl, ap, ℕ, ◌+◌, ◌%◌, min, max, Bool, true, false, not, List, [], ◌∷◌, ◌++◌, take, map, length, fold, Option, Some, None, Result, Ok, Err}
 use Rattle.std.specs.Prelude.{nat_lt, nat_le}
 use Rattle.std.specs.List.{slice_get, slice_set, list_any}
 use Rattle.std.proofs.lemmas.Bool.{and_parts, not-false, ltb-false, leb-false}
@@ -13,16 +13,16 @@ use Rattle.fdb_txn.specs.rules.SerialMap.{serial_map_at}
 use Rattle.fdb_sequencer.specs.Limits.{version_limit}
 use Rattle.fdb_sequencer.specs.Sequencer.{next_version}
 use Rattle.fdb_core.specs.machine.Roles.{CommitProxy, Stage, Idle, Resolving, Logging, Reported, ShardProgress, Submission, Sender, FromResolver, FromLog}
-use Rattle.fdb_core.specs.declared.roles.client.program.Op.{Op}
-use Rattle.fdb_core.specs.declared.roles.client.program.Op.TheVariants as op
-use Rattle.fdb_core.specs.declared.roles.client.program.Transcript.{Transcript}
+use Rattle.fdb_client.specs.declared.program.Op.{Op}
+use Rattle.fdb_client.specs.declared.program.Op.TheVariants as op
+use Rattle.fdb_client.specs.declared.program.Transcript.{Transcript}
 use Rattle.fdb_core.specs.declared.step.Answered.{Answered}
 use Rattle.fdb_core.specs.declared.step.Answered.TheVariants as answered
 use Rattle.fdb_txn.specs.book.Size.{size_fault}
 use Rattle.fdb_core.specs.declared.step.Step.{Step}
 use Rattle.fdb_core.specs.declared.step.Step.TheVariants as step
 use Rattle.fdb_core.specs.headline.Traces.{after_steps}
-use Rattle.fdb_core.specs.machine.ClientSteps.{gets, writes, submits, answered_by, add_operation, read_fault, is_nil}
+use Rattle.fdb_core.specs.machine.ClientSteps.{gets, writes, adds_read, adds_write, submits, answered_by, add_operation, read_fault}
 use Rattle.fdb_core.specs.machine.GrvProxySteps.{asks, grants, has_no_number}
 use Rattle.fdb_core.specs.machine.CommitProxySteps.{seals, taken_by_sender, awaits, with_received, receives, decides, reports, answers, is_idle, is_resolving, is_logging, is_reported, placed_from, replies_from}
 use Rattle.fdb_core.specs.machine.Machine.{Machine, Transition, is_set, first_missing}
@@ -30,20 +30,17 @@ use Rattle.fdb_core.specs.machine.RoleSteps.{resolves, pushes, pulls}
 use Rattle.fdb_core.specs.machine.Sessions.{Idle as Free, Asking, Waiting, session_of, open_at, with_state, is_busy, serve, tell_all}
 use Rattle.fdb_core.specs.machine.Steps.{next, after}
 use Rattle.fdb_core.specs.machine.Verdicts.{is_needed, outcomes_on}
-use Rattle.fdb_core.specs.programs.Programs.{program, copy, reply_on, commit_request_of}
+use Rattle.fdb_client.specs.Programs.{program, copy, reply_on, commit_request_of, is_read_only}
 use Rattle.fdb_core.proofs.headline.TraceLaws.{kept-after_steps}
 use Rattle.fdb_core.proofs.machine.AcceptedTransitions.{IfAccepted, past-found, past-test, past-fault, past-wait, past-turn, past-choice, past-open}
 use Rattle.fdb_core.proofs.refinement.SealLemmas.{sealed_machine}
-
--- the transaction writes nothing
-abbrev pub writes_nothing : Transcript → Bool
-writes_nothing transcript = is_nil (commit_request_of transcript).mutations && is_nil
-    (commit_request_of transcript).writes
 
 -- the operation of a client's step, with its session
 abbrev pub operation_of : Step → Option (ℕ × Op)
 operation_of (step.Get session key snapshot) = Some (session, op.Get key snapshot)
 operation_of (step.Write session mutation) = Some (session, op.Write mutation)
+operation_of (step.AddRead session range) = Some (session, op.AddRead range)
+operation_of (step.AddWrite session range) = Some (session, op.AddWrite range)
 operation_of taken = None
 
 -- the step is one of a role that tells clients nothing
@@ -76,7 +73,7 @@ pub record HoldsOfSteps (R : Machine → Step → Answered → Machine → Type 
         sessions = fold (serve m.committed) m.sessions there;
         grv_proxies = slice_set m.grv_proxies proxy [];
       })
-  -- an operation went to a session's open transaction, with its reply (Get, Write)
+  -- an operation went to a session's open transaction, with its reply (Get, Write, AddRead, AddWrite)
   pub operated : (m : Machine) (taken : Step) (session : ℕ) (transcript : Transcript) (operation : Op)
       → operation_of taken ≡ Some (session, operation) → open_at m.sessions session ≡ Some transcript
       → let there = serial_map_at m.config.resolver_splits transcript.read_version (seen_of m.book).places in
@@ -84,7 +81,7 @@ pub record HoldsOfSteps (R : Machine → Step → Answered → Machine → Type 
       R m taken (answered_by reply) (add_operation m session transcript operation reply)
   -- a session's transaction that writes nothing is acknowledged (Submit)
   pub read_only : (m : Machine) (session proxy : ℕ) (transcript : Transcript)
-      → open_at m.sessions session ≡ Some transcript → writes_nothing transcript ≡ true
+      → open_at m.sessions session ≡ Some transcript → is_read_only transcript ≡ true
       → R m (step.Submit session proxy) (answered.ReadOnly transcript.read_version) (record m {
         sessions = with_state m.sessions session Free;
         acknowledged = m.acknowledged ++ record
@@ -93,7 +90,7 @@ pub record HoldsOfSteps (R : Machine → Step → Answered → Machine → Type 
   -- any other waits at a commit proxy (Submit)
   pub submitted : (m : Machine) (session proxy : ℕ) (commit_proxy : CommitProxy) (transcript : Transcript)
       → slice_get m.commit_proxies proxy ≡ Some commit_proxy → open_at m.sessions session ≡ Some transcript
-      → writes_nothing transcript ≡ false
+      → is_read_only transcript ≡ false
       → let submission : Submission = record { sealed = commit_request_of transcript; transcript = transcript } in
       R m (step.Submit session proxy) answered.Done (record m {
         sessions = with_state m.sessions session Waiting;
@@ -173,7 +170,7 @@ module _ (R : Machine → Step → Answered → Machine → Type 0) (holds : Hol
 
   -- it holds of every accepted step
   pub holds-next : (m : Machine) (taken : Step) → IfAccepted (Leads m taken) (next m taken)
-  unfolding asks grants gets writes submits seals resolves receives decides pushes reports answers pulls
+  unfolding asks grants gets writes adds_read adds_write submits seals resolves receives decides pushes reports answers pulls
   holds-next m (step.Ask session proxy) =
       past-found _ (slice_get m.grv_proxies proxy) _ (λ there at.
       past-test _ (is_busy (session_of m.sessions session).state) _ _
@@ -190,10 +187,16 @@ module _ (R : Machine → Step → Answered → Machine → Type 0) (holds : Hol
       past-open _ (open_at m.sessions session) _ (λ transcript opened.
       past-fault _ (mutation_fault mutation) _ (λ _.
       holds.operated m (step.Write session mutation) session transcript (op.Write mutation) refl opened))
+  holds-next m (step.AddRead session range) =
+      past-open _ (open_at m.sessions session) _ (λ transcript opened.
+      holds.operated m (step.AddRead session range) session transcript (op.AddRead range) refl opened)
+  holds-next m (step.AddWrite session range) =
+      past-open _ (open_at m.sessions session) _ (λ transcript opened.
+      holds.operated m (step.AddWrite session range) session transcript (op.AddWrite range) refl opened)
   holds-next m (step.Submit session proxy) =
       past-found _ (slice_get m.commit_proxies proxy) _ (λ commit_proxy at.
       past-open _ (open_at m.sessions session) _ (λ transcript opened.
-      past-choice _ (writes_nothing transcript) _ _ (holds.read_only m session proxy transcript opened)
+      past-choice _ (is_read_only transcript) _ _ (holds.read_only m session proxy transcript opened)
       (λ writes. past-fault _ (size_fault (commit_request_of transcript)) _
       (λ _. holds.submitted m session proxy commit_proxy transcript at opened writes))))
   holds-next m (step.Seal proxy advance) =

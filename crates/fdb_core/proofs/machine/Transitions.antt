@@ -1,31 +1,28 @@
 -- What the machine's longer steps come to, once what they look at is known.
-use Rattle.std.proofs.Common.{◌≡◌, ◌∙◌, refl, sym, ap, arith, ℕ, ◌+◌, Bool, true, false, List, fold, Option, Some, None, Ok, Err}
+use Rattle.std.proofs.Common.{◌≡◌, refl, sym, ap, arith, ℕ, ◌+◌, Bool, true, false, List, [], ◌∷◌, ◌++◌, Option, Some, None, Ok, Err}
 use Rattle.std.specs.Prelude.{◌↔◌}
 use Rattle.std.specs.List.{slice_get, slice_set}
 use Rattle.std.proofs.lemmas.Bool.{le-ltb}
 use Rattle.std.specs.FinMap.{get}
-use Rattle.fdb_keys.specs.Answers.{AnswersExactly}
 use Rattle.fdb_keys.specs.declared.refusal.Refusal.{Refusal}
 use Rattle.fdb_mutations.specs.declared.mutation.Mutation.{Mutation}
-use Rattle.fdb_mutations.specs.Maps.{Map}
 use Rattle.fdb_mutations.specs.Mutations.{mutation_fault}
 use Rattle.fdb_txn.specs.declared.entry.Entry.{Entry}
 use Rattle.fdb_txn.specs.book.Book.{seen_of, seen_before}
-use Rattle.fdb_txn.specs.rules.Owners.{first_owner}
+use Rattle.fdb_txn.specs.book.Size.{size_fault}
+use Rattle.fdb_txn.specs.declared.spot.Spot.TheVariants as spot
 use Rattle.fdb_txn.specs.rules.SerialMap.{serial_map_at}
-use Rattle.fdb_core.specs.declared.roles.client.program.Op.{Op}
-use Rattle.fdb_core.specs.declared.roles.client.program.Reply.{Reply}
-use Rattle.fdb_core.specs.declared.roles.client.program.Op.TheVariants as op
-use Rattle.fdb_core.specs.declared.roles.client.program.Reply.TheVariants as reply
-use Rattle.fdb_core.specs.declared.roles.client.program.Transcript.{Transcript}
+use Rattle.fdb_client.specs.declared.program.Op.TheVariants as op
+use Rattle.fdb_client.specs.declared.program.Reply.TheVariants as reply
+use Rattle.fdb_client.specs.declared.program.Transcript.{Transcript}
 use Rattle.fdb_core.specs.declared.step.Answered.TheVariants as answered
-use Rattle.fdb_core.specs.machine.ClientSteps.{gets, writes, add_operation, read_fault}
-use Rattle.fdb_core.specs.machine.RoleSteps.{shard_fault, resolves, pushes}
+use Rattle.fdb_core.specs.machine.ClientSteps.{gets, writes, submits, submit_fault, add_operation, read_fault}
+use Rattle.fdb_core.specs.machine.RoleSteps.{resolves, pushes}
 use Rattle.fdb_core.specs.machine.Machine.{Machine, Transition, refused_by, is_set}
-use Rattle.fdb_core.specs.machine.Sessions.{open_at}
+use Rattle.fdb_core.specs.machine.Roles.{CommitProxy}
+use Rattle.fdb_core.specs.machine.Sessions.{Idle, Waiting, open_at, with_state}
 use Rattle.fdb_core.specs.machine.Verdicts.{verdicts_on}
-use Rattle.fdb_core.specs.programs.Programs.{program, copy, decided, value_after_op}
-use Rattle.fdb_core.proofs.programs.ProgramLaws.{get-copy, decided-value}
+use Rattle.fdb_client.specs.Programs.{program, copy, commit_request_of, is_read_only}
 
 -- a read that finds the session's transaction, without a fault
 pub gets-transition : (m : Machine) (session : ℕ) (key : List ℕ) (snapshot : Bool) (transcript : Transcript)
@@ -81,41 +78,24 @@ gets-faultless m session key snapshot transcript opened faultless =
       gets-transition m session key snapshot transcript value opened faultless refl,
     )
 
--- the transition of a legal write of an open transaction
-pub writes-transition : (m : Machine) (session : ℕ) (mutation : Mutation) (transcript : Transcript)
-    → open_at m.sessions session ≡ Some transcript → mutation_fault mutation ≡ None
-    → writes m session mutation ≡ Ok (record {
+-- a transaction that wrote something waits at the proxy
+pub submits-to_commit : (m : Machine) (session proxy : ℕ) (commit_proxy : CommitProxy) (transcript : Transcript)
+    → slice_get m.commit_proxies proxy ≡ Some commit_proxy → open_at m.sessions session ≡ Some transcript
+    → is_read_only transcript ≡ false → submit_fault transcript ≡ None
+    → submits m session proxy ≡ Ok (record {
       answer = answered.Done;
-      next = add_operation m session transcript (op.Write mutation) reply.Done;
+      next = record m {
+        sessions = with_state m.sessions session Waiting;
+        commit_proxies = slice_set m.commit_proxies proxy (record commit_proxy {
+          waiting = commit_proxy.waiting
+              ++ record { sealed = commit_request_of transcript; transcript = transcript } ∷ [];
+        });
+      };
     })
-unfolding writes
-writes-transition m session mutation transcript opened faultless = rw (opened, faultless) refl
-
--- and the refusal of another one
-pub writes-refused : (m : Machine) (session : ℕ) (mutation : Mutation) (transcript : Transcript) (why : Refusal)
-    → open_at m.sessions session ≡ Some transcript → mutation_fault mutation ≡ Some why
-    → writes m session mutation ≡ Err why
-unfolding writes
-writes-refused m session mutation transcript why opened fault = rw (opened, fault) refl
-
--- a decided key stands as the transaction's own writes leave it, whatever stood there
-pub answers-decided : (m : Machine) (map : Map) (ops : List (Op × Reply)) (version : ℕ) (key : List ℕ)
-    (value : Option (List ℕ))
-    → decided (program ops) key ≡ true → value ≡ fold (value_after_op key) None ops
-    → AnswersExactly (Ok value) (read_fault m (program ops) version key) (λ v. v ≡ get (copy map (program ops)) key)
-answers-decided m map ops version key value own is =
-    rw own (is ∙ decided-value ops key own None (get map key) ∙ sym (get-copy map ops key))
-
--- any other key stands as those writes leave it on what a shard that serves the version has
-pub answers-undecided : (m : Machine) (map : Map) (ops : List (Op × Reply)) (version : ℕ) (key : List ℕ)
-    (there value : Option (List ℕ))
-    → decided (program ops) key ≡ false
-    → shard_fault m.book version (slice_get m.shards (first_owner m.config.shard_splits key)) ≡ None
-    → there ≡ get map key → value ≡ fold (value_after_op key) there ops
-    → AnswersExactly (Ok value) (read_fault m (program ops) version key) (λ v. v ≡ get (copy map (program ops)) key)
-answers-undecided m map ops version key there value other served holds is =
-    rw (other, served)
-    (is ∙ ap (λ (base : Option (List ℕ)). fold (value_after_op key) base ops) holds ∙ sym (get-copy map ops key))
+unfolding submits
+submits-to_commit m session proxy commit_proxy transcript at opened some fits =
+    let small : size_fault (commit_request_of transcript) ≡ None = rw some at fits in
+    rw (at, opened, some, small) refl
 
 -- a resolver takes the entry that is next for it
 pub resolves-transition : (m : Machine) (i r : ℕ) (entry : Entry) → slice_get m.book i ≡ Some entry

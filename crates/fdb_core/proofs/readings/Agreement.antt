@@ -11,9 +11,9 @@ use Rattle.fdb_mutations.specs.Maps.{Map}
 use Rattle.fdb_txn.specs.declared.entry.Entry.{Entry}
 use Rattle.fdb_txn.specs.declared.entry.Move.{Move}
 use Rattle.fdb_core.specs.declared.roles.client.Placed.{Placed}
-use Rattle.fdb_core.specs.declared.roles.client.program.Op.{Op}
-use Rattle.fdb_core.specs.declared.roles.client.program.Op.TheVariants as op
-use Rattle.fdb_core.specs.declared.roles.client.program.Transcript.{Transcript}
+use Rattle.fdb_client.specs.declared.program.Op.{Op}
+use Rattle.fdb_client.specs.declared.program.Op.TheVariants as op
+use Rattle.fdb_client.specs.declared.program.Transcript.{Transcript}
 use Rattle.fdb_core.specs.declared.step.Answered.{Answered}
 use Rattle.fdb_core.specs.declared.step.Step.{Step}
 use Rattle.fdb_core.specs.declared.step.Step.TheVariants as step
@@ -24,7 +24,7 @@ use Rattle.fdb_core.specs.machine.CommitProxySteps.{is_idle}
 use Rattle.fdb_core.specs.machine.Machine.{Machine}
 use Rattle.fdb_core.specs.machine.Roles.{CommitProxy, Submission}
 use Rattle.fdb_core.specs.machine.Sessions.{Sessions}
-use Rattle.fdb_core.specs.programs.Programs.{reply_on}
+use Rattle.fdb_client.specs.Programs.{reply_on}
 use Rattle.fdb_core.proofs.common.SumLemmas.{sum-set}
 use Rattle.fdb_core.proofs.invariant.SoundLemmas.{found-front}
 use Rattle.fdb_core.proofs.machine.Steps.{is_quiet, operation_of}
@@ -85,6 +85,8 @@ quiet-tells r (step.Ask session proxy) answer quiet = cc
 quiet-tells r (step.Grant proxy) answer quiet = cc
 quiet-tells r (step.Get session key snapshot) answer quiet = cc
 quiet-tells r (step.Write session mutation) answer quiet = cc
+quiet-tells r (step.AddRead session range) answer quiet = cc
+quiet-tells r (step.AddWrite session range) answer quiet = cc
 quiet-tells r (step.Submit session proxy) answer quiet = cc
 quiet-tells r (step.Seal proxy advance) answer quiet = cc
 quiet-tells r (step.Resolve i resolver) answer quiet = refl
@@ -108,6 +110,14 @@ operation-tells r (step.Write own mutation) session operation there is =
     subst (λ (done : ℕ × Op). has_done r done.0 done.1 (reply_on there done.1)
     ≡ read r (step.Write own mutation) (answered_by (reply_on there done.1)))
     (same_Some (own, op.Write mutation) (session, operation) is) refl
+operation-tells r (step.AddRead own range) session operation there is =
+    subst (λ (done : ℕ × Op). has_done r done.0 done.1 (reply_on there done.1)
+    ≡ read r (step.AddRead own range) (answered_by (reply_on there done.1)))
+    (same_Some (own, op.AddRead range) (session, operation) is) refl
+operation-tells r (step.AddWrite own range) session operation there is =
+    subst (λ (done : ℕ × Op). has_done r done.0 done.1 (reply_on there done.1)
+    ≡ read r (step.AddWrite own range) (answered_by (reply_on there done.1)))
+    (same_Some (own, op.AddWrite range) (session, operation) is) refl
 operation-tells r (step.Ask own proxy) session operation there is = cc
 operation-tells r (step.Grant proxy) session operation there is = cc
 operation-tells r (step.Submit own proxy) session operation there is = cc

@@ -2,7 +2,6 @@
 use Rattle.std.proofs.Common.{◌≡◌, ◌∙◌, refl, sym, ap, subst, ⊎_elim, ℕ, max, true, List, [], ◌∷◌, map, length, take, Option, Some, None, Result, Ok, Err}
 use Rattle.std.specs.List.{AllByRecursion, slice_get}
 use Rattle.std.specs.FinMap.{get}
-use Rattle.std.proofs.lemmas.Bool.{and_parts}
 use Rattle.std.proofs.lemmas.List.{length-map, take-map}
 use Rattle.std.proofs.lemmas.Option.{same_Some}
 use Rattle.fdb_keys.specs.declared.refusal.Refusal.{Refusal}
@@ -12,9 +11,9 @@ use Rattle.fdb_txn.specs.declared.entry.Entry.{Entry}
 use Rattle.fdb_txn.specs.book.Book.{seen_of, last_version, seen_before}
 use Rattle.fdb_txn.specs.rules.SerialMap.{serial_map_at}
 use Rattle.fdb_core.specs.declared.config.Config.{Config}
-use Rattle.fdb_core.specs.declared.roles.client.program.Op.{Op}
-use Rattle.fdb_core.specs.declared.roles.client.program.Op.TheVariants as op
-use Rattle.fdb_core.specs.declared.roles.client.program.Transcript.{Transcript}
+use Rattle.fdb_client.specs.declared.program.Op.{Op}
+use Rattle.fdb_client.specs.declared.program.Op.TheVariants as op
+use Rattle.fdb_client.specs.declared.program.Transcript.{Transcript}
 use Rattle.fdb_core.specs.declared.step.Answered.{Answered}
 use Rattle.fdb_core.specs.declared.step.Answered.TheVariants as answered
 use Rattle.fdb_core.specs.declared.step.Step.{Step}
@@ -27,10 +26,10 @@ use Rattle.fdb_core.specs.machine.Machine.{Machine, Transition}
 use Rattle.fdb_core.specs.machine.Steps.{next, answer_of}
 use Rattle.fdb_core.specs.machine.Verdicts.{outcomes_on}
 use Rattle.fdb_core.specs.machine.Worlds.{start, IsRun, IsStep}
-use Rattle.fdb_core.specs.programs.Programs.{program, copy, reply_on, mutations_of}
+use Rattle.fdb_client.specs.Programs.{program, copy, reply_on}
 use Rattle.fdb_core.proofs.headline.RunsLemmas.{run-last}
 use Rattle.fdb_core.proofs.headline.TraceLaws.{traces_tell}
-use Rattle.fdb_core.proofs.invariant.SerializedLemmas.{nil-is}
+use Rattle.fdb_core.proofs.invariant.SerializedLemmas.{wrote_nothing}
 use Rattle.fdb_core.proofs.machine.AcceptedTransitions.{IfAccepted}
 use Rattle.fdb_core.proofs.machine.Steps.{HoldsOfSteps, holds-next, is_quiet, operation_of}
 use Rattle.fdb_core.proofs.readings.Agreement.{TellsMachine}
@@ -50,6 +49,8 @@ quiet-answered splits r (step.Ask session proxy) answer quiet = cc
 quiet-answered splits r (step.Grant proxy) answer quiet = cc
 quiet-answered splits r (step.Get session key snapshot) answer quiet = cc
 quiet-answered splits r (step.Write session mutation) answer quiet = cc
+quiet-answered splits r (step.AddRead session range) answer quiet = cc
+quiet-answered splits r (step.AddWrite session range) answer quiet = cc
 quiet-answered splits r (step.Submit session proxy) answer quiet = cc
 quiet-answered splits r (step.Seal proxy advance) answer quiet = cc
 quiet-answered splits r (step.Resolve i resolver) answer quiet = tt
@@ -88,6 +89,14 @@ operation-answered splits r book (step.Write own mutation) session operation tra
     subst (λ (pair : ℕ × Op). IsAnswered splits r (step.Write own mutation) (answered_by (reply_on
     (copy (serial_map_at splits transcript.read_version (seen_of book).places) (program transcript.ops)) pair.1)))
     (same_Some (own, op.Write mutation) (session, operation) is) refl
+operation-answered splits r book (step.AddRead own range) session operation transcript same opened is =
+    subst (λ (pair : ℕ × Op). IsAnswered splits r (step.AddRead own range) (answered_by (reply_on
+    (copy (serial_map_at splits transcript.read_version (seen_of book).places) (program transcript.ops)) pair.1)))
+    (same_Some (own, op.AddRead range) (session, operation) is) refl
+operation-answered splits r book (step.AddWrite own range) session operation transcript same opened is =
+    subst (λ (pair : ℕ × Op). IsAnswered splits r (step.AddWrite own range) (answered_by (reply_on
+    (copy (serial_map_at splits transcript.read_version (seen_of book).places) (program transcript.ops)) pair.1)))
+    (same_Some (own, op.AddWrite range) (session, operation) is) refl
 operation-answered splits r book (step.Ask own proxy) session operation transcript same opened is = cc
 operation-answered splits r book (step.Grant proxy) session operation transcript same opened is = cc
 operation-answered splits r book (step.Submit own proxy) session operation transcript same opened is = cc
@@ -113,7 +122,7 @@ answered_steps = record {
     transcript,
     found-told r.opened m.sessions tells.opened_told session transcript opened,
     refl,
-    nil-is (mutations_of (program transcript.ops)) (and_parts _ _ empty).0,
+    wrote_nothing transcript empty,
   );
   submitted = λ m session proxy commit_proxy transcript at opened writes r tells. refl;
   sealed = λ m proxy advance commit_proxy at idle few room r tells.

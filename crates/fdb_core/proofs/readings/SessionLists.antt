@@ -2,12 +2,12 @@
 use Rattle.std.proofs.Common.{◌≡◌, ◌≢◌, ◌∙◌, refl, sym, ap, subst, arith, ⊎_elim, inl, inr, ◌⊎◌, ℕ, zero, suc, true, false, List, [], ◌∷◌, take, Option, Some, None}
 use Rattle.std.specs.List.{filter, slice_get, slice_set}
 use Rattle.std.proofs.lemmas.Bool.{cases_Bool, eqb-true, ne_eqb}
-use Rattle.fdb_core.specs.declared.roles.client.program.Op.{Op}
-use Rattle.fdb_core.specs.declared.roles.client.program.Reply.{Reply}
-use Rattle.fdb_core.specs.declared.roles.client.program.Transcript.{Transcript}
+use Rattle.fdb_client.specs.declared.program.Op.{Op}
+use Rattle.fdb_client.specs.declared.program.Reply.{Reply}
+use Rattle.fdb_client.specs.declared.program.Transcript.{Transcript}
 use Rattle.fdb_core.specs.headline.Readings.{is_of_session, of_session, others_than, with_one_more}
 use Rattle.fdb_core.specs.headline.Traces.{alone}
-use Rattle.fdb_core.specs.machine.ClientSteps.{with_operation}
+use Rattle.fdb_client.specs.Parts.{with_op}
 use Rattle.fdb_core.specs.machine.Sessions.{SessionState, Open, Sessions, with_state, open_of, open_at}
 use Rattle.fdb_core.proofs.machine.SessionLemmas.{state-put}
 
@@ -53,13 +53,13 @@ module _ (session : ℕ) where
   module _ (operation : Op) (reply : Reply) where
     -- the one that there is has one more operation
     own-more : (transcripts : List Transcript) (transcript : Transcript) → own transcripts ≡ transcript ∷ []
-        → own (with_one_more session operation reply transcripts) ≡ with_operation transcript operation reply ∷ []
+        → own (with_one_more session operation reply transcripts) ≡ with_op transcript operation reply ∷ []
     own-more [] transcript is = cc
     own-more (first ∷ others) transcript is = ⊎_elim
         (λ here. let found : first ∷ own others ≡ transcript ∷ [] = sym (rw here refl) ∙ is in
         let same : first ≡ transcript = cc found in
         let rest : own others ≡ [] = cc found in
-        rw here (rw here (λ i. with_operation (same i) operation reply ∷ rest i)))
+        rw here (rw here (λ i. with_op (same i) operation reply ∷ rest i)))
         (λ elsewhere. rw elsewhere
         (rw elsewhere (own-more others transcript (sym (rw elsewhere refl) ∙ is))))
         (cases_Bool (is_of_session session first))
@@ -103,12 +103,12 @@ module _ (opened : List Transcript) (sessions : Sessions) (told : OpenTold opene
   pub more-told : (client : ℕ) (transcript : Transcript) (operation : Op) (reply : Reply)
       → open_at sessions client ≡ Some transcript
       → OpenTold (with_one_more client operation reply opened)
-      (with_state sessions client (Open (with_operation transcript operation reply)))
+      (with_state sessions client (Open (with_op transcript operation reply)))
   more-told client transcript operation reply is session =
       state-put (λ (s : SessionState). own session (with_one_more client operation reply opened) ≡ alone (open_of s))
-      sessions client (Open (with_operation transcript operation reply)) session
+      sessions client (Open (with_op transcript operation reply)) session
       (λ same. subst (λ (n : ℕ). own session (with_one_more n operation reply opened)
-      ≡ with_operation transcript operation reply ∷ []) (sym same)
+      ≡ with_op transcript operation reply ∷ []) (sym same)
       (own-more session operation reply opened transcript
       (told session
       ∙ ap alone (subst (λ (n : ℕ). open_at sessions n ≡ Some transcript) same is))))

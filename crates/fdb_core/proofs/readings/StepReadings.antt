@@ -9,17 +9,18 @@ use Rattle.fdb_txn.specs.declared.spot.Spot.TheVariants as spot
 use Rattle.fdb_txn.specs.book.Book.{seen_of, seen_before, last_version}
 use Rattle.fdb_txn.specs.rules.SerialMap.{serial_map_at}
 use Rattle.fdb_core.specs.declared.roles.client.Placed.{Placed}
-use Rattle.fdb_core.specs.declared.roles.client.program.Transcript.{Transcript}
+use Rattle.fdb_client.specs.declared.program.Transcript.{Transcript}
 use Rattle.fdb_core.specs.headline.Readings.{Readings, SealedBatch, begins, waits_at, seals_entry, of_session, others_than, with_one_more, with_at, all_acknowledged_by}
 use Rattle.fdb_core.specs.invariant.Invariant.{Invariant, Waits, CommitProxyIsSound}
-use Rattle.fdb_core.specs.machine.ClientSteps.{add_operation, with_operation}
+use Rattle.fdb_client.specs.Parts.{with_op}
+use Rattle.fdb_core.specs.machine.ClientSteps.{add_operation}
 use Rattle.fdb_core.specs.machine.CommitProxySteps.{is_idle, replies_from}
 use Rattle.fdb_core.specs.headline.Traces.{alone}
 use Rattle.fdb_core.specs.machine.Machine.{Machine}
 use Rattle.fdb_core.specs.machine.Sessions.{Session, Sessions, Idle as Free, Asking, Open, Waiting, with_state, open_of, open_at, serve, tell_all}
 use Rattle.fdb_core.specs.machine.Roles.{CommitProxy, Submission, Reported, Idle}
 use Rattle.fdb_core.specs.machine.Verdicts.{outcomes_on}
-use Rattle.fdb_core.specs.programs.Programs.{program, copy, reply_on, commit_request_of}
+use Rattle.fdb_client.specs.Programs.{program, copy, reply_on, commit_request_of}
 use Rattle.fdb_sequencer.specs.Sequencer.{next_version}
 use Rattle.fdb_core.proofs.common.AllLemmas.{all-at, all-take}
 use Rattle.fdb_core.proofs.invariant.SessionPlaces.{AllStand, asks_once, asker-not-open, in_flight_once, flying-not-open}
@@ -259,7 +260,7 @@ tells_steps = record {
       subst (λ (told : Readings). TellsMachine told after) (operation-tells r taken session operation on does)
       (with-clients r m (with_one_more session operation (reply_on on operation) r.opened) after.sessions _ _ _ _ tells
       (more-told r.opened m.sessions tells.opened_told session transcript operation (reply_on on operation) opened)
-      (numbers-put r.begun m.sessions session (Open (with_operation transcript operation (reply_on on operation)))
+      (numbers-put r.begun m.sessions session (Open (with_op transcript operation (reply_on on operation)))
       tells.begun_told)
       tells.acknowledged_told tells.reported_told);
   read_only = λ m session proxy transcript opened empty r sound all tells.

@@ -14,7 +14,7 @@ use Rattle.fdb_sequencer.specs.Sequencer.{next_version}
 use Rattle.fdb_core.specs.machine.Roles.{CommitProxy, ShardProgress, Resolving, Submission}
 use Rattle.fdb_txn.specs.rules.Messages.{Message}
 use Rattle.fdb_core.specs.declared.roles.resolver.ResolverRole.{ResolverRole}
-use Rattle.fdb_core.specs.declared.roles.client.program.Transcript.{Transcript}
+use Rattle.fdb_client.specs.declared.program.Transcript.{Transcript}
 use Rattle.fdb_core.specs.declared.step.Answered.TheVariants as answered
 use Rattle.fdb_core.specs.declared.step.Outcome.{Outcome}
 use Rattle.fdb_core.specs.refinement.Cluster.{BookRefines, ResolversRefine, LogRefines, WaitsRefines, CommitProxyRefines}

@@ -7,13 +7,13 @@ use Rattle.fdb_txn.specs.declared.spot.Spot.TheVariants as spot
 use Rattle.fdb_core.specs.declared.check.compare.Moment.{Moment}
 use Rattle.fdb_core.specs.declared.check.compare.Moment.TheVariants.{Before, Between}
 use Rattle.fdb_core.specs.declared.roles.client.Placed.{Placed}
-use Rattle.fdb_core.specs.declared.roles.client.program.Op.{Op}
-use Rattle.fdb_core.specs.declared.roles.client.program.Reply.{Reply}
+use Rattle.fdb_client.specs.declared.program.Op.{Op}
+use Rattle.fdb_client.specs.declared.program.Reply.{Reply}
 use Rattle.fdb_core.specs.declared.world.CheckFault.{CheckFault}
 use Rattle.fdb_core.specs.declared.world.CheckFault.TheVariants.{Txn, NoMemory}
 use Rattle.fdb_core.specs.headline.Headline.{AnsweredOn}
-use Rattle.fdb_core.specs.programs.ProgramLaws.{is_ordinary}
-use Rattle.fdb_core.specs.programs.Programs.{program, copy, reply_on}
+use Rattle.fdb_client.specs.ProgramLaws.{is_ordinary}
+use Rattle.fdb_client.specs.Programs.{program, copy, reply_on}
 
 -- the operation, if it is an ordinary one, was answered as on the copy of the map after the earlier ones
 abbrev pub IsAnswered : Map → List (Op × Reply) → Op × Reply → Type 0

@@ -10,18 +10,19 @@ use Rattle.fdb_txn.specs.book.Book.{seen_of, last_version, seen_before}
 use Rattle.fdb_txn.specs.rules.SerialMap.{serial_map_at}
 use Rattle.fdb_sequencer.specs.Sequencer.{next_version}
 use Rattle.fdb_core.specs.declared.config.Config.{Config}
-use Rattle.fdb_core.specs.declared.roles.client.program.Transcript.{Transcript}
+use Rattle.fdb_client.specs.declared.program.Transcript.{Transcript}
 use Rattle.fdb_core.specs.declared.step.Answered.{Answered}
 use Rattle.fdb_core.specs.declared.step.Answered.TheVariants as answered
 use Rattle.fdb_core.specs.declared.step.Outcome.{Outcome}
 use Rattle.fdb_core.specs.declared.step.Step.{Step}
 use Rattle.fdb_core.specs.declared.step.Step.TheVariants as step
+use Rattle.fdb_core.specs.headline.Headline.{WroteNothing}
 use Rattle.fdb_core.specs.headline.Readings.{Readings, readings_of, of_session}
 use Rattle.fdb_core.specs.headline.Traces.{IsTraceOf}
 use Rattle.fdb_core.specs.machine.CommitProxySteps.{replies_from}
 use Rattle.fdb_core.specs.machine.Machine.{Machine}
 use Rattle.fdb_core.specs.machine.Verdicts.{outcomes_on}
-use Rattle.fdb_core.specs.programs.Programs.{program, copy, mutations_of}
+use Rattle.fdb_client.specs.Programs.{program, copy}
 
 -- the session has this transaction open
 abbrev pub HasOpened : Readings → ℕ → Transcript → Type 0
@@ -39,7 +40,7 @@ module _ (splits : List Point) (r : Readings) where
   abbrev pub IsReadOnly : ℕ → ℕ → Type 0
   IsReadOnly session version =
       (transcript : Transcript) × HasOpened r session transcript × (version ≡ transcript.read_version)
-      × (mutations_of (program transcript.ops) ≡ [])
+      × WroteNothing transcript
 
   -- an entry has the number of those before it, the version of the last of them as the previous one, the next version,
   -- and as many places as wait at the proxy, or as a batch may have
@@ -64,6 +65,8 @@ module _ (splits : List Point) (r : Readings) where
   IsAnswered (step.Get session key snapshot) (answered.Value value) = IsRead session key value
   IsAnswered (step.Get session key snapshot) answer = ⊥
   IsAnswered (step.Write session mutation) answer = answer ≡ answered.Done
+  IsAnswered (step.AddRead session range) answer = answer ≡ answered.Done
+  IsAnswered (step.AddWrite session range) answer = answer ≡ answered.Done
   IsAnswered (step.Submit session proxy) (answered.ReadOnly version) = IsReadOnly session version
   IsAnswered (step.Submit session proxy) answer = answer ≡ answered.Done
   IsAnswered (step.Seal proxy advance) (answered.Issued index version prev places) =

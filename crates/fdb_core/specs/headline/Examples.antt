@@ -9,9 +9,9 @@ use Rattle.fdb_txn.specs.declared.spot.Spot.TheVariants as spot
 use Rattle.fdb_txn.specs.book.Book.{seen_of}
 use Rattle.fdb_txn.specs.rules.Resolvers.{IsStateOf}
 use Rattle.fdb_core.specs.declared.config.Config.{Config}
-use Rattle.fdb_core.specs.declared.roles.client.program.Op.TheVariants as op
-use Rattle.fdb_core.specs.declared.roles.client.program.Reply.TheVariants as reply
-use Rattle.fdb_core.specs.declared.roles.client.program.Transcript.{Transcript}
+use Rattle.fdb_client.specs.declared.program.Op.TheVariants as op
+use Rattle.fdb_client.specs.declared.program.Reply.TheVariants as reply
+use Rattle.fdb_client.specs.declared.program.Transcript.{Transcript}
 use Rattle.fdb_core.specs.declared.step.Answered.{Answered}
 use Rattle.fdb_core.specs.declared.step.Answered.TheVariants as answered
 use Rattle.fdb_core.specs.declared.step.Outcome.TheVariants as outcome
@@ -20,7 +20,7 @@ use Rattle.fdb_core.specs.declared.step.Step.TheVariants as step
 use Rattle.fdb_core.specs.headline.Headline.{AnsweredOn, IsSerializedAtSpot}
 use Rattle.fdb_core.specs.headline.Readings.{Readings, nothing_read, readings_of}
 use Rattle.fdb_core.specs.machine.Machine.{Machine}
-use Rattle.fdb_core.specs.programs.Programs.{commit_request_of}
+use Rattle.fdb_client.specs.Programs.{commit_request_of}
 use Rattle.fdb_core.specs.headline.RealTime.{HasBegun, IsAfterVersion}
 use Rattle.fdb_core.specs.headline.Serving.{LogKeeps, ShardServes}
 use Rattle.fdb_core.specs.headline.Traces.{machine_of_trace, IsTraceOf}
@@ -64,14 +64,20 @@ OnlyTheFirstIsSerialized =
     × (IsSerializedAtSpot [] two_in_one_entry (reads_and_sets 0 (Some (codes "1"))) (spot.Entry 0 0 100) → ⊥)
     × (IsSerializedAtSpot [] two_in_one_entry (reads_and_sets 1 None) (spot.Entry 0 1 100) → ⊥)
 
+-- of session 0, which added a range to its write set and wrote nothing else
+abbrev pub adds_a_write_range : Transcript
+adds_a_write_range = record does_nothing
+    { ops = (op.AddWrite (record { begin = codes "a"; end = codes "b" }), reply.Done) ∷ [] }
+
 -- A transaction that wrote nothing is serialized at its read version alone, and at none that the book hasn't reached.
--- One that wrote is serialized at no such spot.
+-- One that wrote is serialized at no such spot, and neither is one that added a range to its write set.
 abbrev pub ReadOnlyAtItsVersion : Type 0
 ReadOnlyAtItsVersion =
     IsSerializedAtSpot [] two_in_one_entry does_nothing (spot.ReadOnly 0)
     × (IsSerializedAtSpot [] two_in_one_entry does_nothing (spot.ReadOnly 1) → ⊥)
     × (IsSerializedAtSpot [] two_in_one_entry (record does_nothing { read_version = 101 }) (spot.ReadOnly 101) → ⊥)
     × (IsSerializedAtSpot [] two_in_one_entry (reads_and_sets 0 None) (spot.ReadOnly 0) → ⊥)
+    × (IsSerializedAtSpot [] two_in_one_entry adds_a_write_range (spot.ReadOnly 0) → ⊥)
     × (IsSerializedAtSpot [] two_in_one_entry (record does_nothing { read_version = 1 }) (spot.ReadOnly 0) → ⊥)
 
 -- of a session, which read the key a, and was answered so

@@ -1,5 +1,5 @@
 -- What an acknowledgement means: where the transaction stands, and what its reads were answered.
-use Rattle.std.specs.Prelude.{◌≡◌, ◌≤◌, ℕ, true, List, [], ◌∷◌, fold, Option, Some, IfSome, Result}
+use Rattle.std.specs.Prelude.{◌≡◌, ◌≤◌, ℕ, true, List, [], Option, Some, IfSome, Result}
 use Rattle.std.specs.List.{AllByRecursion}
 use Rattle.fdb_keys.specs.declared.refusal.Refusal.{Refusal}
 use Rattle.fdb_keys.specs.Points.{Point}
@@ -13,23 +13,17 @@ use Rattle.fdb_txn.specs.rules.Admission.{committed}
 use Rattle.fdb_txn.specs.rules.SerialMap.{serial_map, serial_map_at}
 use Rattle.fdb_core.specs.declared.config.Config.{Config}
 use Rattle.fdb_core.specs.declared.roles.client.Placed.{Placed}
-use Rattle.fdb_core.specs.declared.roles.client.program.Op.{Op}
-use Rattle.fdb_core.specs.declared.roles.client.program.Reply.{Reply}
-use Rattle.fdb_core.specs.declared.roles.client.program.Transcript.{Transcript}
+use Rattle.fdb_client.specs.declared.program.Transcript.{Transcript}
 use Rattle.fdb_core.specs.declared.step.Answered.{Answered}
 use Rattle.fdb_core.specs.declared.step.Step.{Step}
 use Rattle.fdb_core.specs.machine.Machine.{Machine}
 use Rattle.fdb_core.specs.headline.Readings.{Readings, readings_of}
-use Rattle.fdb_core.specs.programs.ProgramLaws.{AgreeWhereOrdinary}
-use Rattle.fdb_core.specs.programs.Programs.{program, exec, mutations_of, commit_request_of}
+use Rattle.fdb_client.specs.ProgramLaws.{AgreeWhereOrdinary}
+use Rattle.fdb_client.specs.Programs.{program, replies_of, exec, mutations_of, write_ranges, commit_request_of}
 use Rattle.fdb_core.specs.headline.Books.{HasBook}
 use Rattle.fdb_core.specs.headline.RealTime.{KeepsRealTime}
 use Rattle.fdb_core.specs.headline.Serving.{System, AllServe}
 use Rattle.fdb_core.specs.headline.Traces.{IsTraceOf}
-
--- a transcript's replies in the order of its program, which has the newest operation first
-abbrev pub replies_of : List (Op × Reply) → List Reply
-replies_of ops = fold (λ (earlier : List Reply) (done : Op × Reply). done.1 ∷ earlier) [] ops
 
 -- each ordinary operation of the transcript was answered as its program answers it on the map
 abbrev pub AnsweredOn : Map → Transcript → Type 0
@@ -45,12 +39,17 @@ IsSerializedAt splits book transcript entry place version =
     × (committed splits there.1 there.0 ≡ true)
     × AnsweredOn (serial_map splits there.1) transcript
 
+-- the transaction wrote nothing: it has no mutation, and its write set is empty
+abbrev pub WroteNothing : Transcript → Type 0
+WroteNothing transcript =
+    (mutations_of (program transcript.ops) ≡ []) × (write_ranges (program transcript.ops) ≡ [])
+
 -- The transaction wrote nothing, and was answered as on the map of the run after all entries of version at most
 -- its read version.
 abbrev pub IsReadOnlyAt : List Point → List Entry → Transcript → ℕ → Type 0
 IsReadOnlyAt splits book transcript version =
     (version ≡ transcript.read_version) × (version ≤ last_version book)
-    × (mutations_of (program transcript.ops) ≡ [])
+    × WroteNothing transcript
     × AnsweredOn (serial_map_at splits version (seen_of book).places) transcript
 
 -- the transaction is serialized at its spot

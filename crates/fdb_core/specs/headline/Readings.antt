@@ -7,18 +7,19 @@ use Rattle.fdb_txn.specs.Limits.{place_limit}
 use Rattle.fdb_txn.specs.declared.entry.Entry.{Entry}
 use Rattle.fdb_txn.specs.declared.spot.Spot.TheVariants as spot
 use Rattle.fdb_core.specs.declared.roles.client.Placed.{Placed}
-use Rattle.fdb_core.specs.declared.roles.client.program.Op.{Op}
-use Rattle.fdb_core.specs.declared.roles.client.program.Op.TheVariants as op
-use Rattle.fdb_core.specs.declared.roles.client.program.Reply.{Reply}
-use Rattle.fdb_core.specs.declared.roles.client.program.Reply.TheVariants as reply
-use Rattle.fdb_core.specs.declared.roles.client.program.Transcript.{Transcript}
+use Rattle.fdb_client.specs.declared.program.Op.{Op}
+use Rattle.fdb_client.specs.declared.program.Op.TheVariants as op
+use Rattle.fdb_client.specs.declared.program.Reply.{Reply}
+use Rattle.fdb_client.specs.declared.program.Reply.TheVariants as reply
+use Rattle.fdb_client.specs.declared.program.Transcript.{Transcript}
 use Rattle.fdb_core.specs.declared.step.Answered.{Answered}
 use Rattle.fdb_core.specs.declared.step.Answered.TheVariants as answered
 use Rattle.fdb_core.specs.declared.step.Outcome.{Outcome}
 use Rattle.fdb_core.specs.declared.step.Outcome.TheVariants as outcome
 use Rattle.fdb_core.specs.declared.step.Step.{Step}
 use Rattle.fdb_core.specs.declared.step.Step.TheVariants as step
-use Rattle.fdb_core.specs.programs.Programs.{commit_request_of}
+use Rattle.fdb_client.specs.Parts.{with_op}
+use Rattle.fdb_client.specs.Programs.{commit_request_of}
 
 -- the batch of a proxy's last Seal: the number and the version of its entry, and the transactions by place
 pub record SealedBatch : Type 0 where
@@ -82,7 +83,7 @@ abbrev pub with_one_more : ℕ → Op → Reply → List Transcript → List Tra
 with_one_more session operation reply [] = []
 with_one_more session operation reply (transcript ∷ others) =
     if is_of_session session transcript
-    then record transcript { ops = transcript.ops ++ (operation, reply) ∷ [] } ∷ others
+    then with_op transcript operation reply ∷ others
     else transcript ∷ with_one_more session operation reply others
 
 -- how many transactions the session began
@@ -153,6 +154,8 @@ read r (step.Get session key snapshot) (answered.Value value) =
     has_done r session (op.Get key snapshot) (reply.Value value)
 read r (step.Get session key snapshot) answer = r
 read r (step.Write session mutation) answer = has_done r session (op.Write mutation) reply.Done
+read r (step.AddRead session range) answer = has_done r session (op.AddRead range) reply.Done
+read r (step.AddWrite session range) answer = has_done r session (op.AddWrite range) reply.Done
 read r (step.Submit session proxy) answered.Done = waits_at r session proxy
 read r (step.Submit session proxy) (answered.ReadOnly version) = is_done_at r session version
 read r (step.Submit session proxy) answer = r

@@ -2,7 +2,7 @@
 use Rattle.std.specs.Prelude.{◌≡◌, ℕ, min, false, map, filter, slice_get, List, [], ◌∷◌, Option, Some, None, Result, Ok, Err}
 use Rattle.fdb_keys.specs.declared.refusal.Refusal.{Refusal}
 use Rattle.fdb_core.specs.declared.config.Config.{Config}
-use Rattle.fdb_core.specs.declared.roles.client.program.Transcript.{Transcript}
+use Rattle.fdb_client.specs.declared.program.Transcript.{Transcript}
 use Rattle.fdb_core.specs.declared.step.Answered.{Answered}
 use Rattle.fdb_core.specs.declared.step.Step.{Step}
 use Rattle.fdb_core.specs.headline.Readings.{Readings, readings_of, is_of_session, times_begun}

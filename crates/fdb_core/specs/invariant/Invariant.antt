@@ -8,12 +8,12 @@ use Rattle.fdb_txn.specs.book.History.{AreEntries}
 use Rattle.fdb_txn.specs.rules.SerialMap.{serial_map_at}
 use Rattle.fdb_core.specs.machine.Roles.{CommitProxy, Submission}
 use Rattle.fdb_core.specs.declared.roles.client.Placed.{Placed}
-use Rattle.fdb_core.specs.declared.roles.client.program.Transcript.{Transcript}
-use Rattle.fdb_core.specs.headline.Headline.{replies_of, IsSerialized}
+use Rattle.fdb_client.specs.declared.program.Transcript.{Transcript}
+use Rattle.fdb_core.specs.headline.Headline.{IsSerialized}
 use Rattle.fdb_core.specs.headline.RealTime.{spot_version, IsAfterVersion}
 use Rattle.fdb_core.specs.machine.Machine.{Machine}
 use Rattle.fdb_core.specs.machine.Sessions.{EachOpen}
-use Rattle.fdb_core.specs.programs.Programs.{program, exec, commit_request_of}
+use Rattle.fdb_client.specs.Programs.{program, replies_of, exec, commit_request_of}
 use Rattle.fdb_core.specs.machine.CommitProxySteps.{is_idle, is_reported}
 
 -- The transcript reads at most at the committed version, and was answered as its program is on the map at its

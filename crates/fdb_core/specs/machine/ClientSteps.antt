@@ -1,6 +1,7 @@
 -- The steps of clients.
-use Rattle.std.specs.Prelude.{ℕ, Bool, ◌&&◌, ◌==◌, List, [], ◌∷◌, ◌++◌, length, Option, None, Result, Ok, slice_get, slice_set, if◌then◌else◌}
+use Rattle.std.specs.Prelude.{ℕ, Bool, List, [], ◌∷◌, ◌++◌, Option, None, Result, Ok, slice_get, slice_set, if◌then◌else◌}
 use Rattle.fdb_keys.specs.declared.refusal.Refusal.{Refusal}
+use Rattle.fdb_keys.specs.Ranges.{Range}
 use Rattle.fdb_mutations.specs.declared.mutation.Mutation.{Mutation}
 use Rattle.fdb_mutations.specs.Mutations.{mutation_fault}
 use Rattle.fdb_txn.specs.declared.spot.Spot.TheVariants as spot
@@ -8,16 +9,17 @@ use Rattle.fdb_txn.specs.book.Book.{seen_of}
 use Rattle.fdb_txn.specs.book.Size.{size_fault}
 use Rattle.fdb_txn.specs.rules.Owners.{first_owner}
 use Rattle.fdb_txn.specs.rules.SerialMap.{serial_map_at}
-use Rattle.fdb_core.specs.declared.roles.client.program.Op.{Op}
-use Rattle.fdb_core.specs.declared.roles.client.program.Op.TheVariants as op
-use Rattle.fdb_core.specs.declared.roles.client.program.Reply.{Reply}
-use Rattle.fdb_core.specs.declared.roles.client.program.Reply.TheVariants as reply
-use Rattle.fdb_core.specs.declared.roles.client.program.Transcript.{Transcript}
+use Rattle.fdb_client.specs.declared.program.Op.{Op}
+use Rattle.fdb_client.specs.declared.program.Op.TheVariants as op
+use Rattle.fdb_client.specs.declared.program.Reply.{Reply}
+use Rattle.fdb_client.specs.declared.program.Reply.TheVariants as reply
+use Rattle.fdb_client.specs.declared.program.Transcript.{Transcript}
+use Rattle.fdb_client.specs.Parts.{with_op}
 use Rattle.fdb_core.specs.declared.step.Answered.{Answered}
 use Rattle.fdb_core.specs.declared.step.Answered.TheVariants as answered
 use Rattle.fdb_core.specs.machine.Machine.{Machine, Transition, found, refused_by, with_open}
 use Rattle.fdb_core.specs.machine.Sessions.{Idle, Open, Waiting, open_at, with_state}
-use Rattle.fdb_core.specs.programs.Programs.{program, copy, reply_on, decided, commit_request_of}
+use Rattle.fdb_client.specs.Programs.{program, copy, reply_on, decided, commit_request_of, is_read_only}
 use Rattle.fdb_core.specs.machine.RoleSteps.{shard_fault}
 
 -- the answer that gives a reply
@@ -25,14 +27,10 @@ abbrev pub answered_by : Reply → Answered
 answered_by (reply.Value value) = answered.Value value
 answered_by reply.Done = answered.Done
 
--- the transaction with one more operation and its reply
-abbrev pub with_operation : Transcript → Op → Reply → Transcript
-with_operation transcript op reply = record transcript { ops = transcript.ops ++ (op, reply) ∷ [] }
-
 -- the machine with one more operation and its reply at the session's open transaction
 abbrev pub add_operation : Machine → ℕ → Transcript → Op → Reply → Machine
 add_operation m session transcript op reply = record m {
-  sessions = with_state m.sessions session (Open (with_operation transcript op reply));
+  sessions = with_state m.sessions session (Open (with_op transcript op reply));
 }
 
 -- why a key is not read after the earlier operations; a decided key asks no shard
@@ -51,23 +49,37 @@ gets m session key snapshot = with_open (open_at m.sessions session) (λ transcr
     refused_by (read_fault m earlier transcript.read_version key)
     (Ok (record { answer = answered_by reply; next = add_operation m session transcript operation reply })))
 
+-- the session's open transaction notes an operation that gives nothing
+abbrev pub notes : Machine → ℕ → Transcript → Op → Result Transition Refusal
+notes m session transcript op =
+    Ok (record { answer = answered.Done; next = add_operation m session transcript op reply.Done })
+
 -- Write: the mutation is buffered.
 unfoldable pub writes : Machine → ℕ → Mutation → Result Transition Refusal
 writes m session mutation = with_open (open_at m.sessions session) (λ transcript.
-    refused_by (mutation_fault mutation)
-    (Ok (record { answer = answered.Done; next = add_operation m session transcript (op.Write mutation) reply.Done })))
+    refused_by (mutation_fault mutation) (notes m session transcript (op.Write mutation)))
 
--- the list is empty
-abbrev pub is_nil : {A : Type 0} → List A → Bool
-is_nil xs = length xs == 0
+-- AddRead: the range joins the read set, whole.
+unfoldable pub adds_read : Machine → ℕ → Range → Result Transition Refusal
+adds_read m session range = with_open (open_at m.sessions session) (λ transcript.
+    notes m session transcript (op.AddRead range))
 
--- Submit: a transaction that writes nothing is acknowledged at its read version, any other waits at the proxy. One that
+-- AddWrite: the range joins the write set, whole.
+unfoldable pub adds_write : Machine → ℕ → Range → Result Transition Refusal
+adds_write m session range = with_open (open_at m.sessions session) (λ transcript.
+    notes m session transcript (op.AddWrite range))
+
+-- why an open transaction is not submitted; one that wrote nothing always is
+abbrev pub submit_fault : Transcript → Option Refusal
+submit_fault transcript = if is_read_only transcript then None else size_fault (commit_request_of transcript)
+
+-- Submit: a transaction that wrote nothing is acknowledged at its read version, any other waits at the proxy. One that
 -- is too large is refused, and stays open.
 unfoldable pub submits : Machine → ℕ → ℕ → Result Transition Refusal
 submits m session proxy = found (slice_get m.commit_proxies proxy) (λ commit_proxy.
     with_open (open_at m.sessions session) (λ transcript.
     let sealed = commit_request_of transcript in
-    if is_nil sealed.mutations && is_nil sealed.writes
+    if is_read_only transcript
     then Ok (record {
       answer = answered.ReadOnly transcript.read_version;
       next = record m {

@@ -43,9 +43,13 @@ pulls m shard limit = found (slice_get m.shards shard)
 abbrev pub version_of_shard : List Entry → ShardProgress → ℕ
 version_of_shard book progress = last_version (take progress.applied book)
 
+-- why a version is not served by who serves from a floor through a greatest version
+abbrev pub serving_fault : (version floor greatest : ℕ) → Option Refusal
+serving_fault version floor greatest =
+    if nat_lt version floor then Some TransactionTooOld
+    else (if nat_lt greatest version then Some FutureVersion else None)
+
 -- why a shard does not serve a version
 abbrev pub shard_fault : List Entry → ℕ → Option ShardProgress → Option Refusal
 shard_fault book version None = Some Unknown
-shard_fault book version (Some progress) =
-    if nat_lt version progress.floor then Some TransactionTooOld
-    else (if nat_lt (version_of_shard book progress) version then Some FutureVersion else None)
+shard_fault book version (Some progress) = serving_fault version progress.floor (version_of_shard book progress)

@@ -1,7 +1,7 @@
 -- What the machine says of each role.
 use Rattle.std.specs.Prelude.{ℕ, Bool, List}
 use Rattle.fdb_txn.specs.book.Transactions.{Transaction}
-use Rattle.fdb_core.specs.declared.roles.client.program.Transcript.{Transcript}
+use Rattle.fdb_client.specs.declared.program.Transcript.{Transcript}
 
 -- a transaction that waits for a batch: what is judged of it, and what it was answered while it ran
 pub record Submission : Type 0 where

@@ -2,7 +2,7 @@
 use Rattle.std.specs.Prelude.{ℕ, ◌+◌, ◌-◌, ◌^◌, ◌==◌, ◌||◌, min, Bool, true, false, List, [], fold, Option, Some, None, unwrap_or, IfSome}
 use Rattle.std.specs.Ordering.{nat_cmp}
 use Rattle.std.specs.FinMap.{FinMap, get, insert}
-use Rattle.fdb_core.specs.declared.roles.client.program.Transcript.{Transcript}
+use Rattle.fdb_client.specs.declared.program.Transcript.{Transcript}
 
 -- what a session is at: it has no transaction; it asks for a read version; its transaction is open; it waits for what
 -- becomes of the one that it submitted
@@ -16,6 +16,10 @@ pub data SessionState : Type 0 where
 pub record Session : Type 0 where
   pub last_number : Option ℕ
   pub state : SessionState
+
+-- the session at another state
+abbrev pub at_state : Session → SessionState → Session
+at_state session state = record session { state = state }
 
 -- the sessions by number, in their order
 abbrev pub Sessions : Type 0

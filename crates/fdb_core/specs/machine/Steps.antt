@@ -6,7 +6,7 @@ use Rattle.fdb_core.specs.declared.step.Step.{Step}
 use Rattle.fdb_core.specs.declared.step.Step.TheVariants as step
 use Rattle.fdb_core.specs.declared.step.Answered.{Answered}
 use Rattle.fdb_core.specs.machine.Machine.{Machine, Transition}
-use Rattle.fdb_core.specs.machine.ClientSteps.{gets, writes, submits}
+use Rattle.fdb_core.specs.machine.ClientSteps.{gets, writes, adds_read, adds_write, submits}
 use Rattle.fdb_core.specs.machine.GrvProxySteps.{asks, grants}
 use Rattle.fdb_core.specs.machine.CommitProxySteps.{seals, receives, decides, reports, answers}
 use Rattle.fdb_core.specs.machine.Roles.{FromResolver, FromLog}
@@ -17,6 +17,8 @@ next m (step.Ask session proxy) = asks m session proxy
 next m (step.Grant proxy) = grants m proxy
 next m (step.Get session key snapshot) = gets m session key snapshot
 next m (step.Write session mutation) = writes m session mutation
+next m (step.AddRead session range) = adds_read m session range
+next m (step.AddWrite session range) = adds_write m session range
 next m (step.Submit session proxy) = submits m session proxy
 next m (step.Seal proxy advance) = seals m proxy advance
 next m (step.Resolve entry resolver) = resolves m entry resolver

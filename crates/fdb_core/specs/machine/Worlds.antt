@@ -7,10 +7,13 @@ use Rattle.fdb_core.specs.declared.config.Config.{Config}
 use Rattle.fdb_core.specs.machine.Roles.{CommitProxy, Idle}
 use Rattle.fdb_core.specs.declared.step.Answered.{Answered}
 use Rattle.fdb_core.specs.declared.step.Step.{Step}
-use Rattle.fdb_core.specs.machine.ClientSteps.{is_nil}
 use Rattle.fdb_core.specs.machine.Limits.{entry_limit}
 use Rattle.fdb_core.specs.machine.Machine.{Machine}
 use Rattle.fdb_core.specs.machine.Steps.{next, answer_of, after}
+
+-- the list is empty
+abbrev pub is_nil : {A : Type 0} → List A → Bool
+is_nil xs = length xs == 0
 
 -- for now a world has one of each role; its book has from 1 to the limit of entries
 abbrev pub is_served : Config → Bool

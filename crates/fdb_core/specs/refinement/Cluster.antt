@@ -1,7 +1,6 @@
 -- The world's parts as the machine, and what ties the roles' own lists to it.
 use Rattle.std.specs.Prelude.{◌≡◌, ℕ, ◌<◌, ◌≤◌, Bool, true, false, List, [], ◌∷◌, take, map, length, Option, Some, None, slice_get, if◌then◌else◌}
 use Rattle.std.specs.List.{AllByRecursion}
-use Rattle.fdb_mutations.specs.Mutations.{mutation_fault}
 use Rattle.fdb_txn.specs.declared.entry.Entry.{Entry}
 use Rattle.fdb_txn.specs.book.Transactions.{NamesWrites}
 use Rattle.fdb_txn.specs.book.History.{AreEntries}
@@ -11,7 +10,7 @@ use Rattle.fdb_core.specs.declared.cluster.Cluster.{Cluster}
 use Rattle.fdb_core.specs.machine.Roles.{CommitProxy, Submission, ShardProgress}
 use Rattle.fdb_txn.specs.rules.Messages.{Message}
 use Rattle.fdb_core.specs.declared.roles.resolver.ResolverRole.{ResolverRole}
-use Rattle.fdb_core.specs.declared.roles.client.program.Transcript.{Transcript}
+use Rattle.fdb_client.specs.declared.program.Transcript.{Transcript}
 use Rattle.fdb_resolver.specs.declared.verdict.Verdict.{Verdict}
 use Rattle.fdb_core.specs.declared.step.Outcome.{Outcome}
 use Rattle.fdb_core.specs.machine.Limits.{entry_limit}
@@ -19,7 +18,6 @@ use Rattle.fdb_txn.specs.book.Book.{last_version, seen_before}
 use Rattle.fdb_core.specs.machine.Machine.{Machine, is_set}
 use Rattle.fdb_core.specs.machine.Sessions.{EachOpen}
 use Rattle.fdb_core.specs.refinement.Resolving.{NoMovesIn, ResolverAt, taken_by}
-use Rattle.fdb_core.specs.programs.Programs.{program, mutations_of}
 use Rattle.fdb_core.specs.machine.CommitProxySteps.{is_idle, is_resolving}
 use Rattle.fdb_core.specs.refinement.Roles.{along, message_on, outcomes_by, body_by}
 use Rattle.fdb_core.specs.headline.Serving.{System, Shard}
@@ -145,10 +143,9 @@ pub record CommitProxiesRefine (book : List Entry) (resolvers : List ℕ) (commi
   pub one : commit_proxies ≡ commit_proxy ∷ []
   pub ok : CommitProxyRefines book resolvers committed commit_proxy outcomes
 
--- an open transaction reads at most at the committed version, and its mutations are legal
-pub record OpenRefines (committed : ℕ) (transcript : Transcript) : Type 0 where
-  pub below : transcript.read_version ≤ committed
-  pub legal : AllByRecursion (λ mutation. mutation_fault mutation ≡ None) (mutations_of (program transcript.ops))
+-- an open transaction reads at most at the committed version
+abbrev pub ReadsWithin : ℕ → Transcript → Type 0
+ReadsWithin committed transcript = transcript.read_version ≤ committed
 
 -- the outcomes and the message of entry i, by the verdicts on it where they came, else by none
 abbrev pub IsDecision : List Entry → List (List (ℕ × Verdict)) → ℕ → Bool → List Outcome × Message → Type 0
@@ -169,4 +166,4 @@ pub record Refines (k : Cluster) : Type 0 where
   pub log : LogRefines k.book.items k.logs.items k.shards.items k.log.items k.shard.items
   pub commit_proxies : CommitProxiesRefine k.book.items (taken_by k.resolvers.items) k.sequencer.committed
       k.commit_proxies.items k.outcomes
-  pub opened : EachOpen (OpenRefines k.sequencer.committed) k.sessions
+  pub opened : EachOpen (ReadsWithin k.sequencer.committed) k.sessions

@@ -21,5 +21,5 @@ sender_of (code_sender.Log log) = FromLog log
 abbrev pub state_of : CodeState → SessionState
 state_of code_state.Idle = Free
 state_of code_state.Asking = Asking
-state_of (code_state.Open transcript) = Open transcript
+state_of (code_state.Open txn) = Open txn
 state_of code_state.Waiting = Waiting

@@ -3,15 +3,15 @@ ghost use Rattle.std.specs.Prelude.{◌≡◌, ◌↔◌, ◌⊎◌, fold, IsTru
 ghost use Rattle.std.specs.FinMap.{get};
 ghost use Rattle.std.specs.Option.{option_copied};
 ghost use Rattle.fdb_keys.specs.Answers.{Answers};
-ghost use Rattle.fdb_core.specs.programs.Programs.{value_after_op};
+ghost use Rattle.fdb_core.specs.check.Values.{value_after_op};
 ghost use Rattle.fdb_core.specs.check.Comparing.{is_below, is_at, IsAnswered, AnsweredAt, Checks};
 ghost use Rattle.fdb_core.specs.headline.Headline.{AnsweredOn};
 
 use crate::roles::client::Placed;
-use crate::roles::client::program::{Op, Reply, Transcript};
 use crate::roles::values::{copied, value_after_ops};
 use crate::world::CheckFault;
 use bytes::Bytes;
+use fdb_client::{Op, Reply, Transcript};
 use fdb_keys::{Key, Refusal};
 use fdb_mutations::PlainMap;
 use fdb_txn::Spot;
@@ -98,7 +98,7 @@ fn is_answered(
             Ok(answered)
         }
         Op::Get { .. } => Ok(true),
-        Op::Write(_) => Ok(matches!(reply, Reply::Done)),
+        Op::Write(_) | Op::AddRead(_) | Op::AddWrite(_) => Ok(matches!(reply, Reply::Done)),
     }
 }
 

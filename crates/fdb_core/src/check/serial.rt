@@ -14,11 +14,12 @@ ghost use Rattle.fdb_core.specs.machine.Verdicts.{outcomes_on};
 
 use crate::book::last_version;
 use crate::check::compare::{Moment, compare};
-use crate::check::maps::{apply, is_left};
+use crate::check::maps::is_left;
 use crate::cluster::Cluster;
 use crate::roles::client::Placed;
 use crate::roles::commit_proxy::deciding::decide_batch;
 use crate::roles::log::Message;
+use crate::roles::maps::apply;
 use crate::roles::resolver::{first_resolver, judge_entry};
 use crate::step::Outcome;
 use crate::world::CheckFault;
@@ -75,7 +76,9 @@ fn run_place(
 {
     compare(alloc, map, acknowledged, moment)?;
     if let Outcome::Commit { .. } = outcome {
-        apply(map, txn.mutations())?;
+        let Ok(()) = apply(map, txn.mutations()) else {
+            return Err(CheckFault::NoMemory);
+        };
     }
     Ok(())
 }

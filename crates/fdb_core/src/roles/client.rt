@@ -1,10 +1,8 @@
 // What a session keeps of its transactions.
-pub(crate) mod commit_request;
-pub(crate) mod program;
 pub(crate) mod session;
 pub(crate) mod sessions;
 
-use crate::roles::client::program::Transcript;
+use fdb_client::Transcript;
 use fdb_txn::{Sealed, Spot};
 use std::marker::Model;
 

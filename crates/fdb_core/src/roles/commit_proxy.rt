@@ -5,9 +5,9 @@ pub(crate) mod flags;
 pub(crate) mod replying;
 
 use crate::roles::client::Submission;
-use crate::roles::client::program::Transcript;
 use crate::roles::commit_proxy::batching::take_batch;
 use crate::roles::commit_proxy::flags::{is_set, set, unset};
+use fdb_client::Transcript;
 use fdb_keys::Items;
 use fdb_txn::Sealed;
 use std::alloc::{AllocError, Global};

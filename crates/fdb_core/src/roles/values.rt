@@ -1,14 +1,13 @@
 // What a shard answers from the messages that it applied, and a transaction's own writes over it.
-ghost use Rattle.std.specs.Prelude.{◌≡◌, ◌&&◌, fold, None};
+ghost use Rattle.std.specs.Prelude.{◌≡◌, fold, None};
 ghost use Rattle.std.specs.Option.{option_copied};
 ghost use Rattle.fdb_keys.specs.Answers.{Answers};
-ghost use Rattle.fdb_mutations.specs.Mutations.{is_blind, names};
-ghost use Rattle.fdb_core.specs.programs.Programs.{program, decided, value_after_op};
+ghost use Rattle.fdb_core.specs.check.Values.{value_after_op};
 ghost use Rattle.fdb_txn.specs.rules.Messages.{value_in, value_after};
 
-use crate::roles::client::program::{Op, Reply};
 use crate::roles::log::Message;
 use bytes::Bytes;
+use fdb_client::{Op, Reply};
 use fdb_keys::{Key, Refusal};
 use fdb_mutations::Mutation;
 use std::alloc::Global;
@@ -59,25 +58,6 @@ pub(crate) fn value_in(
         }
     }
     Ok(value)
-}
-
-/// Whether an operation decides the key, so that no shard need be asked.
-pub(crate) fn is_decided(ops: &[(Op, Reply)], key: &Key) -> bool
-    ensures { result ≡ decided (program ops.now) key.now }
-{
-    let mut is_decided = false;
-    for (op, _) in ops {
-        if let Op::Write(mutation) = op {
-            is_decided = is_decided || decides(mutation, key);
-        }
-    }
-    is_decided
-}
-
-fn decides(mutation: &Mutation, key: &Key) -> bool
-    ensures { result ≡ (is_blind mutation.now && names mutation.now key.now) }
-{
-    mutation.is_blind() && mutation.names(key)
 }
 
 /// What stands at the key after the operations, by what a shard has there. Refused only as `NoMemory`.

@@ -1,5 +1,14 @@
-use crate::roles::client::program::{Op, Reply, Transcript};
-use std::alloc::AllocError;
+ghost use Rattle.std.specs.Prelude.{◌≡◌, OnErr};
+ghost use Rattle.fdb_keys.specs.Answers.{Answers};
+ghost use Rattle.fdb_mutations.specs.Mutations.{mutation_fault};
+ghost use Rattle.fdb_client.specs.Parts.{with_op};
+ghost use Rattle.fdb_client.specs.declared.program.Op.TheVariants as operation;
+ghost use Rattle.fdb_client.specs.declared.program.Reply.TheVariants as answer;
+
+use bytes::Bytes;
+use fdb_client::{Finished, Snapshot, Txn};
+use fdb_keys::{Key, KeyRange, Refusal};
+use fdb_mutations::Mutation;
 use std::marker::Model;
 use std::mem;
 
@@ -9,7 +18,7 @@ use std::mem;
 pub(crate) enum SessionState {
     Idle,
     Asking,
-    Open(Transcript),
+    Open(Txn),
     Waiting,
 }
 
@@ -30,11 +39,18 @@ impl Model for Session {
 }
 
 impl Session {
-    ghost use Rattle.std.specs.Prelude.{◌≡◌, IfSome, IfNone, OnOk, Some};
+    ghost use Rattle.std.specs.Prelude.{◌≡◌, None, Some, IfSome, OnOk, OnErr, if◌then◌else◌};
+    ghost use Rattle.std.specs.FinMap.{get};
     ghost use Rattle.std.specs.Option.{option_copied};
-    ghost use Rattle.fdb_core.specs.declared.roles.client.program.Transcript.{Transcript};
-    ghost use Rattle.fdb_core.specs.machine.ClientSteps.{with_operation};
-    ghost use Rattle.fdb_core.specs.machine.Sessions.{Idle, Open, open_of, is_busy};
+    ghost use Rattle.fdb_keys.specs.Answers.{Answers};
+    ghost use Rattle.fdb_mutations.specs.Mutations.{mutation_fault};
+    ghost use Rattle.fdb_client.specs.Parts.{with_op};
+    ghost use Rattle.fdb_client.specs.Programs.{program, copy, decided};
+    ghost use Rattle.fdb_client.specs.declared.program.Op.TheVariants as operation;
+    ghost use Rattle.fdb_client.specs.declared.program.Reply.TheVariants as answer;
+    ghost use Rattle.fdb_client.specs.declared.program.Transcript.{Transcript};
+    ghost use Rattle.fdb_core.specs.machine.Sessions.{Idle, Open, open_of, is_busy, at_state};
+    ghost use Rattle.fdb_core.specs.refinement.Sessions.{OfOpen, Finishes};
     ghost use Rattle.fdb_core.specs.refinement.Views.{state_of};
 
     /// A session whose last transaction has the number, and which is at the state.
@@ -59,46 +75,112 @@ impl Session {
     }
 
     /// Its open transaction, if it has one.
-    pub(crate) fn open(&self) -> Option<&Transcript>
+    pub(crate) fn open(&self) -> Option<&Txn>
         ensures { option_copied result ≡ open_of self.now.state }
     {
         match &self.state {
-            SessionState::Open(transcript) => Some(transcript),
+            SessionState::Open(txn) => Some(txn),
             _ => None,
         }
     }
 
-    /// Notes an operation with its reply at its open transaction.
-    pub(crate) fn add_operation(&mut self, op: Op, reply: Reply) -> Result<(), AllocError>
-        ensures { OnOk result ((transcript : Transcript) → open_of self.old.state ≡ Some transcript
-            → self.new ≡ record {
-              last_number = self.old.last_number;
-              state = Open (with_operation transcript op reply);
-            }) }
+    /// Its open transaction reads a key.
+    pub(crate) fn get<S: Snapshot>(
+        &mut self,
+        snapshot: &S,
+        key: &Key,
+        is_snapshot: bool,
+    ) -> Result<Option<Bytes>, Refusal>
+        requires { IfSome (open_of self.old.state) (λ transcript. S.at snapshot.now ≡ transcript.read_version) }
+        ensures answers { OfOpen (open_of self.old.state) result (λ transcript. Answers result
+            (if decided (program transcript.ops) key.now then None else S.key_fault snapshot.now key.now)
+            (λ value. (value ≡ get (copy (S.map snapshot.now) (program transcript.ops)) key.now)
+            × (self.new ≡ at_state self.old
+            (Open (with_op transcript (operation.Get key.now is_snapshot) (answer.Value value)))))) }
+        ensures err { OnErr result (self.new ≡ self.old) }
     {
         match &mut self.state {
-            SessionState::Open(transcript) => transcript.ops.push((op, reply))?,
-            _ => leave_out(op, reply),
+            SessionState::Open(txn) => txn.get(snapshot, key, is_snapshot),
+            _ => Err(Refusal::NoTransaction),
         }
-        Ok(())
     }
 
-    /// Its open transaction, if it has one, which it has no more.
-    pub(crate) fn take_open(&mut self) -> Option<Transcript>
-        ensures taken { result ≡ open_of self.old.state }
-        ensures ended { IfSome result (λ _.
-            self.new ≡ record { last_number = self.old.last_number; state = Idle }) }
-        ensures kept { IfNone result (self.new ≡ self.old) }
+    /// Its open transaction buffers a copy of the mutation.
+    pub(crate) fn write(&mut self, mutation: &Mutation) -> Result<(), Refusal>
+        ensures answers { OfOpen (open_of self.old.state) result (λ transcript. Answers result
+            (mutation_fault mutation.now)
+            (λ _. self.new ≡ at_state self.old (Open (with_op transcript (operation.Write mutation.now) answer.Done)))) }
+        ensures err { OnErr result (self.new ≡ self.old) }
+    {
+        match &mut self.state {
+            SessionState::Open(txn) => write_copy(txn, mutation),
+            _ => Err(Refusal::NoTransaction),
+        }
+    }
+
+    /// Its open transaction adds a range to its read set.
+    pub(crate) fn add_read(&mut self, range: &KeyRange) -> Result<(), Refusal>
+        ensures answers { OfOpen (open_of self.old.state) result (λ transcript. Answers result None
+            (λ _. self.new ≡ at_state self.old (Open (with_op transcript (operation.AddRead range.now) answer.Done)))) }
+        ensures err { OnErr result (self.new ≡ self.old) }
+    {
+        match &mut self.state {
+            SessionState::Open(txn) => txn.add_read(range),
+            _ => Err(Refusal::NoTransaction),
+        }
+    }
+
+    /// Its open transaction adds a range to its write set.
+    pub(crate) fn add_write(&mut self, range: &KeyRange) -> Result<(), Refusal>
+        ensures answers { OfOpen (open_of self.old.state) result (λ transcript. Answers result None
+            (λ _. self.new ≡ at_state self.old (Open (with_op transcript (operation.AddWrite range.now) answer.Done)))) }
+        ensures err { OnErr result (self.new ≡ self.old) }
+    {
+        match &mut self.state {
+            SessionState::Open(txn) => txn.add_write(range),
+            _ => Err(Refusal::NoTransaction),
+        }
+    }
+
+    /// Finishes its open transaction, which it has no more, and gives what is left to do of it. Where that is refused,
+    /// the transaction stays open.
+    pub(crate) fn finish(&mut self) -> Result<Finished, Refusal>
+        ensures answers { OfOpen (open_of self.old.state) result (Finishes result) }
+        ensures ok { OnOk result (self.new ≡ at_state self.old Idle) }
+        ensures err { OnErr result (self.new ≡ self.old) }
     {
         match mem::replace(&mut self.state, SessionState::Idle) {
-            SessionState::Open(transcript) => Some(transcript),
+            SessionState::Open(txn) => self.finish_open(txn),
             other => {
                 self.state = other;
-                None
+                Err(Refusal::NoTransaction)
+            }
+        }
+    }
+
+    // Finishes the transaction, which is open again where that is refused.
+    fn finish_open(&mut self, txn: Txn) -> Result<Finished, Refusal>
+        ensures answers { Finishes result txn }
+        ensures ended { OnOk result (self.new ≡ self.old) }
+        ensures stays { OnErr result (self.new ≡ at_state self.old (Open txn)) }
+    {
+        match txn.finish() {
+            Ok(finished) => Ok(finished),
+            Err(refused) => {
+                self.state = SessionState::Open(refused.back);
+                Err(refused.why)
             }
         }
     }
 }
 
-// There is no transaction to note the operation at.
-fn leave_out(_op: Op, _reply: Reply) {}
+// Buffers a copy of the mutation, which is checked before the copy takes memory.
+fn write_copy(txn: &mut Txn, mutation: &Mutation) -> Result<(), Refusal>
+    ensures answers { Answers result (mutation_fault mutation.now)
+        (λ _. txn.new ≡ with_op txn.old (operation.Write mutation.now) answer.Done) }
+    ensures err { OnErr result (txn.new ≡ txn.old) }
+{
+    mutation.check()?;
+    let mutation = mutation.clone()?;
+    txn.write(mutation)
+}

@@ -1,6 +1,8 @@
-use crate::roles::client::program::{Op, Reply, Transcript};
 use crate::roles::client::session::{Session, SessionState};
-use fdb_keys::Items;
+use bytes::Bytes;
+use fdb_client::{Finished, Snapshot, Transcript, Txn};
+use fdb_keys::{Key, KeyRange, Refusal};
+use fdb_mutations::Mutation;
 use fdb_txn::TxnId;
 use std::alloc::{AllocError, Global};
 use std::collections::BTreeMap;
@@ -25,11 +27,16 @@ impl Model for Sessions {
 }
 
 impl Sessions {
-    ghost use Rattle.std.specs.Prelude.{◌≡◌, Some, IfSome, IfNone, OnOk};
+    ghost use Rattle.std.specs.Prelude.{◌≡◌, None, Some, IfSome, OnOk, OnErr, if◌then◌else◌};
     ghost use Rattle.std.specs.FinMap.{empty, get};
     ghost use Rattle.std.specs.Option.{option_copied};
-    ghost use Rattle.fdb_core.specs.declared.roles.client.program.Transcript.{Transcript};
-    ghost use Rattle.fdb_core.specs.machine.ClientSteps.{with_operation};
+    ghost use Rattle.fdb_keys.specs.Answers.{Answers};
+    ghost use Rattle.fdb_mutations.specs.Mutations.{mutation_fault};
+    ghost use Rattle.fdb_client.specs.Parts.{with_op};
+    ghost use Rattle.fdb_client.specs.Programs.{program, copy, decided};
+    ghost use Rattle.fdb_client.specs.declared.program.Op.TheVariants as operation;
+    ghost use Rattle.fdb_client.specs.declared.program.Reply.TheVariants as answer;
+    ghost use Rattle.fdb_core.specs.refinement.Sessions.{OfOpen, Finishes};
     ghost use Rattle.fdb_core.specs.machine.GrvProxySteps.{has_no_number};
     ghost use Rattle.fdb_core.specs.machine.Sessions.{Idle, Asking, Open, Waiting, session_of, open_at, with_state, is_busy, next_number, serve, tell};
     ghost use Rattle.fdb_core.specs.refinement.Views.{state_of};
@@ -61,7 +68,7 @@ impl Sessions {
     }
 
     /// The session's open transaction, if it has one.
-    pub(crate) fn open(&self, session: u32) -> Option<&Transcript>
+    pub(crate) fn open(&self, session: u32) -> Option<&Txn>
         ensures { option_copied result ≡ open_at self.now session }
     {
         match self.known(session) {
@@ -134,41 +141,86 @@ impl Sessions {
         ensures { OnOk result (self.new ≡ serve read_version self.old session) }
     {
         let number = self.next_number(session);
-        let transcript = Transcript {
-            id: TxnId { session, number },
-            read_version,
-            ops: Items::new(alloc),
-        };
-        let next = Session::new(Some(number), SessionState::Open(transcript));
+        let txn = Txn::begin(alloc, TxnId { session, number }, read_version);
+        let next = Session::new(Some(number), SessionState::Open(txn));
         self.by_number.insert(session, next)?;
         Ok(())
     }
 
-    /// Notes an operation with its reply at the session's open transaction.
-    pub(crate) fn add_operation(
+    /// The session's open transaction reads a key, as `Txn::get` does. Refused as `NoTransaction` where there is none.
+    pub(crate) fn get<S: Snapshot>(
         &mut self,
         session: u32,
-        op: Op,
-        reply: Reply,
-    ) -> Result<(), AllocError>
-        ensures { OnOk result ((transcript : Transcript) → open_at self.old session ≡ Some transcript
-            → self.new ≡ with_state self.old session (Open (with_operation transcript op reply))) }
+        snapshot: &S,
+        key: &Key,
+        is_snapshot: bool,
+    ) -> Result<Option<Bytes>, Refusal>
+        requires { IfSome (open_at self.old session) (λ transcript. S.at snapshot.now ≡ transcript.read_version) }
+        ensures answers { OfOpen (open_at self.old session) result (λ transcript. Answers result
+            (if decided (program transcript.ops) key.now then None else S.key_fault snapshot.now key.now)
+            (λ value. (value ≡ get (copy (S.map snapshot.now) (program transcript.ops)) key.now)
+            × (self.new ≡ with_state self.old session
+            (Open (with_op transcript (operation.Get key.now is_snapshot) (answer.Value value)))))) }
+        ensures err { OnErr result (self.new ≡ self.old) }
     {
         let Some(known) = self.by_number.get_mut(&session) else {
-            return Ok(());
+            return Err(Refusal::NoTransaction);
         };
-        known.add_operation(op, reply)?;
-        Ok(())
+        known.get(snapshot, key, is_snapshot)
     }
 
-    /// The session's open transaction, if it has one, which it has no more.
-    pub(crate) fn take_open(&mut self, session: u32) -> Option<Transcript>
-        ensures taken { result ≡ open_at self.old session }
-        ensures ended { IfSome result (λ _. self.new ≡ with_state self.old session Idle) }
-        ensures kept { IfNone result (self.new ≡ self.old) }
+    /// The session's open transaction buffers a copy of the mutation, as `Txn::write` does. Refused as `NoTransaction` where there
+    /// is none.
+    pub(crate) fn write(&mut self, session: u32, mutation: &Mutation) -> Result<(), Refusal>
+        ensures answers { OfOpen (open_at self.old session) result (λ transcript. Answers result
+            (mutation_fault mutation.now)
+            (λ _. self.new ≡ with_state self.old session
+            (Open (with_op transcript (operation.Write mutation.now) answer.Done)))) }
+        ensures err { OnErr result (self.new ≡ self.old) }
     {
-        let known = self.by_number.get_mut(&session)?;
-        known.take_open()
+        let Some(known) = self.by_number.get_mut(&session) else {
+            return Err(Refusal::NoTransaction);
+        };
+        known.write(mutation)
+    }
+
+    /// The session's open transaction adds a range to its read set. Refused as `NoTransaction` where there is none.
+    pub(crate) fn add_read(&mut self, session: u32, range: &KeyRange) -> Result<(), Refusal>
+        ensures answers { OfOpen (open_at self.old session) result (λ transcript. Answers result None
+            (λ _. self.new ≡ with_state self.old session
+            (Open (with_op transcript (operation.AddRead range.now) answer.Done)))) }
+        ensures err { OnErr result (self.new ≡ self.old) }
+    {
+        let Some(known) = self.by_number.get_mut(&session) else {
+            return Err(Refusal::NoTransaction);
+        };
+        known.add_read(range)
+    }
+
+    /// The session's open transaction adds a range to its write set. Refused as `NoTransaction` where there is none.
+    pub(crate) fn add_write(&mut self, session: u32, range: &KeyRange) -> Result<(), Refusal>
+        ensures answers { OfOpen (open_at self.old session) result (λ transcript. Answers result None
+            (λ _. self.new ≡ with_state self.old session
+            (Open (with_op transcript (operation.AddWrite range.now) answer.Done)))) }
+        ensures err { OnErr result (self.new ≡ self.old) }
+    {
+        let Some(known) = self.by_number.get_mut(&session) else {
+            return Err(Refusal::NoTransaction);
+        };
+        known.add_write(range)
+    }
+
+    /// Finishes the session's open transaction, which it has no more, and gives what is left to do of it. Refused as
+    /// `NoTransaction` where there is none, and as `Txn::finish` refuses it; then it stays open.
+    pub(crate) fn finish(&mut self, session: u32) -> Result<Finished, Refusal>
+        ensures answers { OfOpen (open_at self.old session) result (Finishes result) }
+        ensures ok { OnOk result (self.new ≡ with_state self.old session Idle) }
+        ensures err { OnErr result (self.new ≡ self.old) }
+    {
+        let Some(known) = self.by_number.get_mut(&session) else {
+            return Err(Refusal::NoTransaction);
+        };
+        known.finish()
     }
 
     /// The transaction's session is told what became of it, and has none any more.

@@ -3,7 +3,7 @@ ghost use Rattle.std.specs.Prelude.{◌≡◌, take, drop, map, IfOk, OnOk};
 ghost use Rattle.fdb_txn.specs.Limits.{place_limit};
 
 use crate::roles::client::Submission;
-use crate::roles::client::program::Transcript;
+use fdb_client::Transcript;
 use fdb_keys::Items;
 use fdb_txn::{Batch, PLACE_LIMIT, Sealed};
 use std::alloc::{AllocError, Global};

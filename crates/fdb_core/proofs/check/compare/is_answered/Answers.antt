@@ -1,7 +1,7 @@
 use Rattle.std.proofs.Common.{◌≡◌, false, fold, refl, rules}
 use Rattle.std.specs.FinMap.{get}
-use Rattle.fdb_core.specs.declared.roles.client.program.Op.TheVariants.{Get}
-use Rattle.fdb_core.specs.programs.Programs.{value_after_op}
+use Rattle.fdb_client.specs.declared.program.Op.TheVariants.{Get}
+use Rattle.fdb_core.specs.check.Values.{value_after_op}
 use Rattle.fdb_core.proofs.checking.ComparingLemmas.{answered-read}
 use Rattle.fdb_core.proofs.check.compare.is_answered.Goals as goal
 

@@ -1,7 +1,6 @@
 use Rattle.std.proofs.Common.{take}
-use Rattle.fdb_core.specs.programs.ProgramLaws.{AgreeWhereOrdinary}
-use Rattle.fdb_core.specs.headline.Headline.{replies_of}
-use Rattle.fdb_core.specs.programs.Programs.{program, exec}
+use Rattle.fdb_client.specs.ProgramLaws.{AgreeWhereOrdinary}
+use Rattle.fdb_client.specs.Programs.{program, exec, replies_of}
 use Rattle.fdb_core.proofs.check.compare.is_answered_on.Given as goal
 
 abbrev pub invariant-loop-place : goal.invariant-loop-place

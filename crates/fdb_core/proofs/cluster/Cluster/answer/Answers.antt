@@ -3,10 +3,10 @@ use Rattle.std.proofs.lemmas.Option.{slice_get_within}
 use Rattle.fdb_txn.specs.declared.entry.Entry.{Entry}
 use Rattle.fdb_core.specs.declared.cluster.Cluster.{Cluster}
 use Rattle.fdb_core.specs.machine.Roles.{CommitProxy, Idle}
-use Rattle.fdb_core.specs.declared.roles.client.program.Transcript.{Transcript}
+use Rattle.fdb_client.specs.declared.program.Transcript.{Transcript}
 use Rattle.fdb_core.specs.declared.step.Answered.TheVariants as answered
 use Rattle.fdb_core.specs.declared.step.Outcome.{Outcome}
-use Rattle.fdb_core.specs.refinement.Cluster.{machine_of, OpenRefines}
+use Rattle.fdb_core.specs.refinement.Cluster.{machine_of, ReadsWithin}
 use Rattle.fdb_core.specs.machine.CommitProxySteps.{is_reported, placed_from, replies_from}
 use Rattle.fdb_core.specs.machine.Sessions.{tell_all}
 use Rattle.fdb_core.specs.machine.Steps.{answer_of, after}
@@ -99,5 +99,5 @@ returns-clause-refines c =
       log = before.log;
       commit_proxies = search rules;
       opened = rw c.in_ok-tell_all.ensures
-          (open-told (OpenRefines k.sequencer.committed) c.in_flight-transcripts.result.now k.sessions before.opened);
+          (open-told (ReadsWithin k.sequencer.committed) c.in_flight-transcripts.result.now k.sessions before.opened);
     }

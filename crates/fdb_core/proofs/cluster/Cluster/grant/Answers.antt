@@ -1,6 +1,6 @@
 use Rattle.std.proofs.Common.{sym, subst, ℕ, fold, arith}
 use Rattle.fdb_core.specs.machine.Sessions.{EachOpen, serve}
-use Rattle.fdb_core.specs.refinement.Cluster.{OpenRefines}
+use Rattle.fdb_core.specs.refinement.Cluster.{ReadsWithin}
 use Rattle.fdb_core.proofs.machine.SessionLemmas.{open-served}
 use Rattle.fdb_core.proofs.refinement.Ties.{refines-sessions}
 use Rattle.fdb_core.proofs.cluster.Cluster.grant.Goals as goal
@@ -11,7 +11,7 @@ returns-clause-refines c =
     let k = c.args.self.now in
     refines-sessions k _ _ _ before
     (rw c.in_ok-granted.ensures.sessions
-    (subst (λ (committed : ℕ). EachOpen (OpenRefines k.sequencer.committed)
+    (subst (λ (committed : ℕ). EachOpen (ReadsWithin k.sequencer.committed)
     (fold (serve committed) k.sessions c.as_slice-2.result.now)) (sym c.committed.ensures.value)
-    (open-served (OpenRefines k.sequencer.committed) k.sequencer.committed
-    (λ id. record { below = omega arith; legal = tt }) c.as_slice-2.result.now k.sessions before.opened)))
+    (open-served (ReadsWithin k.sequencer.committed) k.sequencer.committed
+    (λ id. omega arith) c.as_slice-2.result.now k.sessions before.opened)))

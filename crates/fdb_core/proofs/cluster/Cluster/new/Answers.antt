@@ -1,5 +1,5 @@
 use Rattle.std.proofs.Common.{◌≡◌, refl, arith, rules, [], ◌∷◌}
-use Rattle.fdb_core.specs.refinement.Cluster.{BookRefines, CommitProxiesRefine, LogRefines, OpenRefines, ResolverRefines, SequencerRefines}
+use Rattle.fdb_core.specs.refinement.Cluster.{BookRefines, CommitProxiesRefine, LogRefines, ReadsWithin, ResolverRefines, SequencerRefines}
 use Rattle.fdb_core.specs.refinement.Resolving.{taken_by}
 use Rattle.fdb_core.proofs.machine.SessionLemmas.{open-new}
 use Rattle.fdb_core.proofs.cluster.Cluster.new.Goals as goal
@@ -44,5 +44,5 @@ returns-clause-refines c =
             c.in_ok-commit_proxies.ensures,
             c.new-10.ensures,
           ) commit_proxies;
-      opened = rw c.new-8.ensures (open-new (OpenRefines _));
+      opened = rw c.new-8.ensures (open-new (ReadsWithin _));
     }

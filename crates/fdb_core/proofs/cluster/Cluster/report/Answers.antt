@@ -2,7 +2,7 @@ use Rattle.std.proofs.Common.{◌≡◌, ◌∙◌, refl, sym, ap, ◌<◌, ◌�
 use Rattle.std.proofs.lemmas.Option.{slice_get_read}
 use Rattle.fdb_core.specs.machine.Roles.{CommitProxy, Logging, Reported}
 use Rattle.fdb_core.specs.declared.step.Answered.TheVariants as answered
-use Rattle.fdb_core.specs.refinement.Cluster.{machine_of, OpenRefines}
+use Rattle.fdb_core.specs.refinement.Cluster.{machine_of, ReadsWithin}
 use Rattle.fdb_txn.specs.book.Book.{last_version}
 use Rattle.fdb_core.specs.machine.Machine.{first_missing}
 use Rattle.fdb_core.specs.machine.CommitProxySteps.{is_logging, reports}
@@ -120,7 +120,7 @@ returns-clause-refines c =
           before.commit_proxies (there c)
           (commit_proxy-reported k.book.items (taken_by k.resolvers.items) k.sequencer.committed committed
           k.outcomes commit_proxy above (logging c)));
-      opened = open-weaken (OpenRefines k.sequencer.committed) (OpenRefines committed)
-          (λ transcript ok. record { below = omega (arith, ok.below, above); legal = ok.legal }) k.sessions
+      opened = open-weaken (ReadsWithin k.sequencer.committed) (ReadsWithin committed)
+          (λ transcript below. omega (arith, below, above)) k.sessions
           before.opened;
     })

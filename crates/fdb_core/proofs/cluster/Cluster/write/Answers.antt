@@ -1,30 +1,42 @@
-use Rattle.std.proofs.Common.{◌≡◌, true, Option, None, Some, rules}
-use Rattle.std.specs.Bool.{⊤}
+use Rattle.std.proofs.Common.{◌≡◌, refl, sym, ap, rules, Err}
 use Rattle.fdb_mutations.specs.Mutations.{mutation_fault}
-use Rattle.fdb_core.specs.declared.roles.client.program.Reply.TheVariants as reply
-use Rattle.fdb_core.specs.declared.roles.client.program.Transcript.{Transcript}
+use Rattle.fdb_core.specs.machine.ClientSteps.{writes}
 use Rattle.fdb_core.specs.machine.Sessions.{open_at}
-use Rattle.fdb_core.proofs.common.FaultLemmas.{given-fault}
-use Rattle.std.specs.Option.{is_some}
-use Rattle.fdb_core.proofs.refinement.Ties.{opened-write, refines-sessions}
+use Rattle.fdb_core.specs.machine.Steps.{Unless, ran_out, answer_of, after}
+use Rattle.fdb_core.specs.refinement.Cluster.{machine_of}
+use Rattle.fdb_core.proofs.common.FaultLemmas.{answers-fault, unless-fault, unless-map}
+use Rattle.fdb_core.proofs.machine.OpenLemmas.{open-given, open-refused}
+use Rattle.fdb_core.proofs.refinement.Ties.{opened-with_op, refines-sessions}
 use Rattle.fdb_core.proofs.cluster.Cluster.write.Goals as goal
+use Rattle.fdb_core.proofs.cluster.Cluster.write.Goals.{In_err-write}
 
--- what is there
-some-there : (opened : Option Transcript) → is_some opened ≡ true
-    → (transcript : Transcript) × (opened ≡ Some transcript)
-some-there None is = cc
-some-there (Some transcript) is = (transcript, λ i. Some transcript)
+-- the machine refuses the write too, unless memory ran out
+refused : (c : In_err-write) → Unless (ran_out (Err c.in_err-write.field-0.0))
+    (writes (machine_of c.args.self.now) c.args.session c.args.mutation.now ≡ Err c.in_err-write.field-0.0)
+unfolding writes
+refused c =
+    open-refused (Unit {0}) (open_at c.args.self.now.sessions c.args.session) c.in_err-write.field-0.0
+    _ _ c.in_err-write.ensures.answers (λ transcript is. unless-fault (mutation_fault c.args.mutation.now)
+    c.in_err-write.field-0.0 _ _ is (λ faulty. rw faulty refl))
+
+pub returns-in_err-write-clause-answer : goal.returns-in_err-write-clause-answer
+returns-in_err-write-clause-answer c =
+    let same : c.from_residual.result ≡ Err c.in_err-write.field-0.0 = search rules in
+    rw same (unless-map (ran_out (Err c.in_err-write.field-0.0)) _ _
+    (λ is. sym (ap answer_of is)) (refused c.before))
+
+pub returns-in_err-write-clause-after : goal.returns-in_err-write-clause-after
+returns-in_err-write-clause-after c =
+    let same : c.from_residual.result ≡ Err c.in_err-write.field-0.0 = search rules in
+    rw (same, c.in_err-write.ensures.err) (unless-map (ran_out (Err c.in_err-write.field-0.0)) _ _
+    (λ is. sym (ap (after (machine_of c.args.self.now)) is)) (refused c.before))
 
 pub returns-clause-refines : goal.returns-clause-refines
 returns-clause-refines c =
-    let before = c.requires in
     let k = c.args.self.now in
-    let opened : is_some (open_at k.sessions c.args.session) ≡ true = search rules in
-    let there = some-there (open_at k.sessions c.args.session) opened in
-    let faultless : mutation_fault c.args.mutation.now ≡ None =
-    (given-fault (mutation_fault c.args.mutation.now) c.in_ok-check.field-0 (λ _. ⊤) c.in_ok-check.ensures).0 in
-    let same : c.in_ok-mutation.mutation ≡ c.args.mutation.now = search rules in
-    refines-sessions k _ _ _ before
-    (rw (c.in_ok-add_operation.ensures there.0 there.1, same)
-    (opened-write k.sequencer.committed k.sessions c.args.session there.0 before.opened there.1 c.args.mutation.now
-    reply.Done faultless))
+    let there = open-given (open_at k.sessions c.args.session) c.in_ok-write.field-0 _ c.in_ok-write.ensures.answers in
+    let given = answers-fault (mutation_fault c.args.mutation.now) c.in_ok-write.field-0 _ there.2 in
+    let changed : c.write.new.self ≡ _ = given.1 in
+    refines-sessions k _ _ _ c.requires
+    (rw changed
+    (opened-with_op k.sequencer.committed k.sessions c.args.session there.0 _ _ c.requires.opened there.1))

@@ -1,5 +1,5 @@
 use Rattle.std.proofs.Common.{◌≡◌, take, fold}
-use Rattle.fdb_core.specs.programs.Programs.{value_after_op}
+use Rattle.fdb_core.specs.check.Values.{value_after_op}
 use Rattle.fdb_core.proofs.roles.values.value_after_ops.Given as goal
 
 abbrev pub invariant-loop-op : goal.invariant-loop-op

@@ -1,5 +1,0 @@
-use Rattle.fdb_core.proofs.programs.ProgramsAgree.{programs_agree}
-use Rattle.fdb_core.proofs.laws.programs_agree_on_maps_that_agree_where_they_read.Goals as goal
-
-pub returns : goal.returns
-returns c = programs_agree

@@ -1,4 +1,0 @@
-pub mod ProgramLaws
-pub mod ProgramsAgree
-pub mod ReadSetLemmas
-pub mod WriteSetLemmas

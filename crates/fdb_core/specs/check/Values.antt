@@ -1,0 +1,14 @@
+-- What operations leave at a point.
+use Rattle.std.specs.Prelude.{ℕ, List, Option}
+use Rattle.fdb_keys.specs.Points.{Point}
+use Rattle.fdb_txn.specs.rules.Messages.{value_after}
+use Rattle.fdb_client.specs.declared.program.Op.{Op}
+use Rattle.fdb_client.specs.declared.program.Op.TheVariants.{Get, Write, AddRead, AddWrite}
+use Rattle.fdb_client.specs.declared.program.Reply.{Reply}
+
+-- what stands at a point after an operation, by what stood there
+abbrev pub value_after_op : Point → Option (List ℕ) → Op × Reply → Option (List ℕ)
+value_after_op x value (Get key snapshot, reply) = value
+value_after_op x value (Write mutation, reply) = value_after x value mutation
+value_after_op x value (AddRead range, reply) = value
+value_after_op x value (AddWrite range, reply) = value

@@ -1,2 +1,0 @@
-pub mod ProgramLaws
-pub mod Programs
