@@ -1,3 +1,4 @@
 pub mod driving;
 pub mod script;
+pub mod showing;
 pub mod stop;

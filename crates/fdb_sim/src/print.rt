@@ -1,4 +1,5 @@
 pub mod answers;
 pub mod endings;
 pub mod refusals;
+pub mod sets;
 pub mod texts;

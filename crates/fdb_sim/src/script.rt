@@ -1,5 +1,6 @@
 pub mod config_line;
 pub mod fault;
+pub mod keys;
 pub mod line;
 pub mod lines;
 pub mod numbers;

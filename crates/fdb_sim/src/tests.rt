@@ -5,6 +5,7 @@ mod lines;
 mod playing;
 mod rows;
 mod scripts;
+mod sets;
 mod words;
 mod worlds;
 mod writes;

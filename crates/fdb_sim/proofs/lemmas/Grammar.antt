@@ -1,71 +1,70 @@
 -- What the words of a line write, and what they don't.
-use Rattle.std.proofs.Common.{◌≡◌, ◌≢◌, ◌+◌, ◌*◌, ◌==◌, ℕ, true, false, List, [], ◌∷◌, Some, Err, drop, get_or, refl, ap, sym, ◌∙◌, if◌then◌else◌, codes}
+use Rattle.std.proofs.Common.{◌≡◌, ◌≢◌, ◌+◌, ◌*◌, ◌==◌, ℕ, true, false, List, [], ◌∷◌, Option, Err, get_or, refl, ap, sym, subst, ◌∙◌, if◌then◌else◌, codes}
+use Rattle.std.specs.Cmp.Lexicographic.{bytes_decides}
+use Rattle.std.proofs.lemmas.Bool.{both_ways}
 use Rattle.fdb_core.specs.declared.step.Step.{Step}
-use Rattle.fdb_core.specs.declared.step.Step.TheVariants as made
-use Rattle.fdb_keys.specs.Texts.{key_fault}
-use Rattle.fdb_sim.specs.script.Faults.{MatchFault, Reads}
-use Rattle.fdb_sim.specs.script.Grammar.{WritesSmall, WritesText, WritesOne, WritesMutation, WritesRest, WritesStep, WritesLine, mutation_fault, step_fault, read_fault}
+use Rattle.fdb_keys.specs.declared.refusal.Refusal.{Refusal}
+use Rattle.fdb_sim.specs.script.Faults.{Reads}
+use Rattle.fdb_sim.specs.script.Grammar.{WritesSmall, WritesOne, WritesNumberAnd, WritesRest, WritesStep, WritesLine, step_fault, read_fault}
 use Rattle.fdb_sim.specs.script.Kinds.{name_of}
 use Rattle.fdb_sim.specs.script.Words.{words_of}
 use Rattle.fdb_sim.specs.declared.script.fault.Fault.{Fault}
 use Rattle.fdb_sim.specs.declared.script.line.Line.{Line}
 use Rattle.fdb_sim.specs.declared.script.line.Line.TheVariants as given
 use Rattle.fdb_sim.specs.declared.script.step_line.Kind.{Kind}
-use Rattle.fdb_sim.specs.declared.script.step_line.Kind.TheVariants.{Ask, Grant, Get, Write, Submit, Seal, Resolve, Verdict, Decide, Push, Logged, Report, Answer, Pull}
-use Rattle.fdb_sim.proofs.lemmas.Faults.{Reads-refused, Reads-whole}
+use Rattle.fdb_sim.specs.declared.script.step_line.Kind.TheVariants.{Ask, Grant, Get, SnapshotGet, Write, AddRead, AddWrite, Submit, Seal, Resolve, Verdict, Decide, Push, Logged, Report, Answer, Pull}
+use Rattle.fdb_sim.proofs.lemmas.Faults.{Reads-whole}
+use Rattle.fdb_sim.proofs.lemmas.Words.{after_first, first_of}
 
--- a get whose key is refused
-pub get_refused : (words after : List (List ℕ)) (session : ℕ) (text key : List ℕ) (fault : Fault)
-    → ((x : List ℕ) × (words ≡ x ∷ after) × WritesSmall x session)
-    → ((y : List ℕ) × (after ≡ y ∷ []) × WritesText y text) → key ≡ text
-    → MatchFault fault ⊥ (λ why. key_fault key ≡ Some why) → Reads (Err fault) (WritesRest Get words) step_fault
-get_refused words after session text key fault first second same refused =
-    Reads-refused fault (key_fault key) _ _ refused (made.Get session text false)
-    (session, text, (first.0, second.0, (cc), first.2, second.2), refl) (ap key_fault (sym same))
+-- a number before words that write no such part, or a part whose key or range is refused
+pub number_fault : {Part Whole : Type 0} (Rest : Part → List (List ℕ) → Type 0) (part_fault : Part → Option Refusal)
+    (make : ℕ → Part → Whole) (whole_fault : Whole → Option Refusal) (words after : List (List ℕ)) (number : ℕ)
+    (fault : Fault)
+    → ((x : List ℕ) × (words ≡ x ∷ after) × WritesSmall x number)
+    → ((part : Part) → whole_fault (make number part) ≡ part_fault part)
+    → Reads (Err fault) (λ part. Rest part after) part_fault
+    → Reads (Err fault) (λ whole. (a : ℕ) × (part : Part) × WritesNumberAnd (Rest part) words a × (whole ≡ make a part))
+    whole_fault
+number_fault Rest part_fault make whole_fault words after number fault first same found =
+    Reads-whole fault (λ part. Rest part after) part_fault _ _ found
+    (λ none whole written.
+    let more = written.2 in
+    none written.1 (subst (Rest written.1) (after_first (sym more.2 ∙ first.1)) more.4))
+    (λ part written. (make number part, (number, part, (first.0, after, first.1, first.2, written), refl), same part))
 
--- a write without a mutation, and one whose key is refused
-pub write_fault : (words after : List (List ℕ)) (session : ℕ) (fault : Fault)
-    → ((x : List ℕ) × (words ≡ x ∷ after) × WritesSmall x session)
-    → Reads (Err fault) (WritesMutation after) mutation_fault → Reads (Err fault) (WritesRest Write words) step_fault
-write_fault words after session fault first found =
-    Reads-whole fault (WritesMutation after) mutation_fault _ _ found
-    (λ none step write. let more = write.2 in let same : more.1 ≡ after = cc in none write.1 (rw same at more.4))
-    (λ mutation written.
-    (made.Write session mutation, (session, mutation, (first.0, after, first.1, first.2, written), refl), refl))
-
-after_first : {first second : List ℕ} {words rest : List (List ℕ)} → first ∷ words ≡ second ∷ rest → words ≡ rest
-after_first is = ap (λ (ws : List (List ℕ)). drop 1 ws) is
-
-first_of : {first second : List ℕ} {words rest : List (List ℕ)} → first ∷ words ≡ second ∷ rest → first ≡ second
-first_of is = ap (λ (ws : List (List ℕ)). get_or ws 0 []) is
-
--- the kind that a word names, by the word's first three letters
+-- the kind that a word names, by the word's first four letters
 letters_of : List ℕ → ℕ
-letters_of word = (get_or word 0 0 * 256 + get_or word 1 0) * 256 + get_or word 2 0
+letters_of word = ((get_or word 0 0 * 256 + get_or word 1 0) * 256 + get_or word 2 0) * 256 + get_or word 3 0
 
 abbrev kind_of_letters : ℕ → Kind
 kind_of_letters n =
-    (if n == 6386539 then Ask else
-    (if n == 6779489 then Grant else
-    (if n == 6776180 then Get else
-    (if n == 7828073 then Write else
-    (if n == 7566690 then Submit else
-    (if n == 7562593 then Seal else
-    (if n == 7497075 then Resolve else
-    (if n == 7759218 then Verdict else
-    (if n == 6579555 then Decide else
-    (if n == 7370099 then Push else
-    (if n == 7106407 then Logged else
-    (if n == 7497072 then Report else
-    (if n == 6385267 then Answer else
-    Pull)))))))))))))
+    (if n == 1634953984 then Ask else
+    (if n == 1735549294 then Grant else
+    (if n == 1734702080 then Get else
+    (if n == 1936156020 then SnapshotGet else
+    (if n == 2003986804 then Write else
+    (if n == 1633969266 then AddRead else
+    (if n == 1633969271 then AddWrite else
+    (if n == 1937072749 then Submit else
+    (if n == 1936023916 then Seal else
+    (if n == 1919251311 then Resolve else
+    (if n == 1986359908 then Verdict else
+    (if n == 1684366185 then Decide else
+    (if n == 1886745448 then Push else
+    (if n == 1819240295 then Logged else
+    (if n == 1919250543 then Report else
+    (if n == 1634628471 then Answer else
+    Pull))))))))))))))))
 
 kind_of_name : (kind : Kind) → kind_of_letters (letters_of (name_of kind)) ≡ kind
 unfolding letters_of
 kind_of_name Ask = refl
 kind_of_name Grant = refl
 kind_of_name Get = refl
+kind_of_name SnapshotGet = refl
 kind_of_name Write = refl
+kind_of_name AddRead = refl
+kind_of_name AddWrite = refl
 kind_of_name Submit = refl
 kind_of_name Seal = refl
 kind_of_name Resolve = refl
@@ -99,18 +98,32 @@ step_of_rest first after named fault first_is found =
     (λ none read. no_step first after named first_is none read.0 read.1)
     (λ step written. ((named, step), (after, ap (λ (word : List ℕ). word ∷ after) first_is, written), refl))
 
--- no kind of steps is named "drive"
+-- a word that doesn't begin as the name of a kind names none; `Pull` stands for all others
+not_named : (word : List ℕ) → kind_of_letters (letters_of word) ≡ Pull → (get_or word 0 0 == 112) ≡ false
+    → (kind : Kind) → name_of kind ≢ word
+not_named word others other kind is =
+    let same : kind ≡ Pull = sym (kind_of_name kind) ∙ ap (λ (named : List ℕ). kind_of_letters (letters_of named)) is
+    ∙ others in
+    let first : true ≡ false = ap (λ (named : List ℕ). get_or named 0 0 == 112) (ap name_of (sym same) ∙ is) ∙ other in
+    cc
+
+-- no kind of steps is named "drive", and none "show"
 not_drive : (kind : Kind) → name_of kind ≢ codes "drive"
 unfolding letters_of
-not_drive kind is =
-    let same : kind ≡ Pull = sym (kind_of_name kind) ∙ ap (λ (word : List ℕ). kind_of_letters (letters_of word)) is in
-    let first : false ≡ true = ap (λ (word : List ℕ). get_or word 0 0 == 100) (ap name_of (sym same) ∙ is) in
-    cc
+not_drive kind is = not_named (codes "drive") refl refl kind is
+
+not_show : (kind : Kind) → name_of kind ≢ codes "show"
+unfolding letters_of
+not_show kind is = not_named (codes "show") refl refl kind is
 
 -- a line without words gives nothing
 pub no_words : (line : List ℕ) → words_of line ≡ [] → (read : Line) → ¬ WritesLine line read
 no_words line none (given.Step kind step) written = cc
 no_words line none (given.Drive proxy) written = cc
+no_words line none (given.Show session) written = cc
+
+drive_is_not_show : codes "drive" ≢ codes "show"
+drive_is_not_show is = both_ways false refl ((bytes_decides (codes "drive") (codes "show")).1 is)
 
 -- a line whose first word is "drive", and whose other words are no number
 pub no_proxy : (line : List ℕ) (after : List (List ℕ)) → words_of line ≡ codes "drive" ∷ after
@@ -119,20 +132,35 @@ no_proxy line after words_are none (given.Step kind step) written = not_drive ki
     (sym (first_of (sym words_are ∙ written.1)))
 no_proxy line after words_are none (given.Drive proxy) written =
     none proxy (rw (after_first (sym words_are ∙ written.1)) written.2)
+no_proxy line after words_are none (given.Show session) written =
+    drive_is_not_show (first_of (sym words_are ∙ written.1))
+
+-- the same of "show"
+pub no_session : (line : List ℕ) (after : List (List ℕ)) → words_of line ≡ codes "show" ∷ after
+    → ((session : ℕ) → ¬ WritesOne after session) → (read : Line) → ¬ WritesLine line read
+no_session line after words_are none (given.Step kind step) written = not_show kind
+    (sym (first_of (sym words_are ∙ written.1)))
+no_session line after words_are none (given.Drive proxy) written =
+    drive_is_not_show (sym (first_of (sym words_are ∙ written.1)))
+no_session line after words_are none (given.Show session) written =
+    none session (rw (after_first (sym words_are ∙ written.1)) written.2)
 
 -- a line whose first word is another one
 pub line_of_step : (line first : List ℕ) (after : List (List ℕ)) (fault : Fault) → words_of line ≡ first ∷ after
-    → first ≢ codes "drive"
+    → first ≢ codes "drive" → first ≢ codes "show"
     → Reads {T = Kind × Step} (Err fault) (λ read. WritesStep (first ∷ after) read.0 read.1) (λ read. step_fault read.1)
     → Reads (Err fault) (WritesLine line) read_fault
-line_of_step line first after fault words_are other found =
+line_of_step line first after fault words_are no_drive no_show found =
     Reads-whole {Part = Kind × Step} fault _ _ (WritesLine line) read_fault found
-    (no_line line first after words_are other)
+    (no_line line first after words_are no_drive no_show)
     (λ read written. (given.Step read.0 read.1, rw words_are written, refl))
   where
     no_line : (line first : List ℕ) (after : List (List ℕ)) → words_of line ≡ first ∷ after → first ≢ codes "drive"
-        → ((read : Kind × Step) → ¬ WritesStep (first ∷ after) read.0 read.1) → (read : Line) → ¬ WritesLine line read
-    no_line line first after words_are other none (given.Step kind step) written = none (kind, step)
+        → first ≢ codes "show" → ((read : Kind × Step) → ¬ WritesStep (first ∷ after) read.0 read.1) → (read : Line)
+        → ¬ WritesLine line read
+    no_line line first after words_are no_drive no_show none (given.Step kind step) written = none (kind, step)
         (rw (sym words_are) written)
-    no_line line first after words_are other none (given.Drive proxy) written = other
+    no_line line first after words_are no_drive no_show none (given.Drive proxy) written = no_drive
+        (first_of (sym words_are ∙ written.1))
+    no_line line first after words_are no_drive no_show none (given.Show session) written = no_show
         (first_of (sym words_are ∙ written.1))

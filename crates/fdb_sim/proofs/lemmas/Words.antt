@@ -1,4 +1,4 @@
--- The first word of a text.
+-- The first word of a text, and of a list of words.
 use Rattle.std.proofs.Common.{◌≡◌, ◌≢◌, ℕ, ◌<◌, ◌≤◌, true, false, zero, suc, length, drop, take, get_or, List, [], ◌∷◌, refl, ap, sym, ◌∙◌, arith, length-drop, get_or-drop}
 use Rattle.std.specs.List.{slice_split, onto_first}
 use Rattle.std.specs.Prelude.{filter}
@@ -78,3 +78,10 @@ end_of_word begin zero text rest is some plain ends =
     ∙ ap (λ i. get_or text i 0) (omega arith) in
     absurd (plain (sym first ∙ ends some))
 end_of_word begin (suc end) text rest is some plain ends = omega arith
+
+-- equal rows of words have one first word, and the same words after it
+pub first_of : {first second : List ℕ} {words rest : List (List ℕ)} → first ∷ words ≡ second ∷ rest → first ≡ second
+first_of is = ap (λ (ws : List (List ℕ)). get_or ws 0 []) is
+
+pub after_first : {first second : List ℕ} {words rest : List (List ℕ)} → first ∷ words ≡ second ∷ rest → words ≡ rest
+after_first is = ap (λ (ws : List (List ℕ)). drop 1 ws) is

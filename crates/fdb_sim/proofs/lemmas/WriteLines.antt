@@ -1,17 +1,19 @@
 -- What the words after a session's number write, and what they don't.
-use Rattle.std.proofs.Common.{◌≡◌, ◌≢◌, ℕ, ◌<◌, false, List, [], ◌∷◌, None, Some, Err, drop, get_or, refl, ap, ap₂, sym, ◌∙◌, codes, arith}
+use Rattle.std.proofs.Common.{◌≡◌, ◌≢◌, ℕ, ◌<◌, false, List, [], ◌∷◌, None, Some, Err, get_or, refl, ap, sym, ◌∙◌, codes, arith}
 use Rattle.std.specs.Cmp.Lexicographic.{bytes_decides}
 use Rattle.std.proofs.lemmas.Bool.{both_ways}
-use Rattle.fdb_keys.specs.Texts.{key_fault, range_fault}
+use Rattle.fdb_keys.specs.Ranges.{Range}
+use Rattle.fdb_keys.specs.Texts.{key_fault}
 use Rattle.fdb_mutations.specs.declared.mutation.Mutation.{Mutation}
 use Rattle.fdb_mutations.specs.declared.mutation.Mutation.TheVariants as made
 use Rattle.fdb_sim.specs.script.Faults.{MatchFault, Reads}
-use Rattle.fdb_sim.specs.script.Grammar.{WritesText, WritesTwoTexts, WritesMutation, mutation_fault}
+use Rattle.fdb_sim.specs.script.Grammar.{WritesText, WritesOneText, WritesTwoTexts, WritesBounds, WritesMutation, bounds_fault, mutation_fault}
 use Rattle.fdb_sim.specs.script.Operations.{operation_name, operation_on}
 use Rattle.fdb_sim.specs.declared.script.fault.Fault.{Fault}
 use Rattle.fdb_sim.specs.declared.script.operation.Operation.{Operation}
 use Rattle.fdb_sim.specs.declared.script.operation.Operation.TheVariants.{Set, Add, And, Or, Xor, Max, Min, ByteMin, ByteMax, CompareAndClear}
-use Rattle.fdb_sim.proofs.lemmas.Faults.{Reads-refused}
+use Rattle.fdb_sim.proofs.lemmas.Faults.{Reads-refused, Reads-whole}
+use Rattle.fdb_sim.proofs.lemmas.Words.{after_first, first_of}
 
 abbrev operations : List Operation
 operations = Set ∷ Add ∷ And ∷ Or ∷ Xor ∷ Max ∷ Min ∷ ByteMin ∷ ByteMax ∷ CompareAndClear ∷ []
@@ -29,12 +31,6 @@ names_no_operation word none Min = none 6 (omega arith)
 names_no_operation word none ByteMin = none 7 (omega arith)
 names_no_operation word none ByteMax = none 8 (omega arith)
 names_no_operation word none CompareAndClear = none 9 (omega arith)
-
-first_of : {first second : List ℕ} {words rest : List (List ℕ)} → first ∷ words ≡ second ∷ rest → first ≡ second
-first_of is = ap (λ (ws : List (List ℕ)). get_or ws 0 []) is
-
-after_first : {first second : List ℕ} {words rest : List (List ℕ)} → first ∷ words ≡ second ∷ rest → words ≡ rest
-after_first is = ap (λ (ws : List (List ℕ)). drop 1 ws) is
 
 -- a key and a byte text after the name of an operation write its mutation
 operation_written : (operation : Operation) (words : List (List ℕ)) (key operand : List ℕ)
@@ -85,16 +81,17 @@ operation_back operation words mutation written = absurd (both_ways false refl
     ((bytes_decides (operation_name operation) _).1 (first_of written.2)))
 
 clear_range_back : (words : List (List ℕ)) (mutation : Mutation) → WritesMutation (codes "clearrange" ∷ words) mutation
-    → (begin : List ℕ) × (end : List ℕ) × WritesTwoTexts (codes "clearrange" ∷ words) (codes "clearrange") begin end
-clear_range_back words (made.ClearRange range) written = (range.begin, range.end, written)
+    → (range : Range) × WritesBounds words range
+clear_range_back words (made.ClearRange range) written =
+    (range, (written.0, written.1, after_first written.2, written.3, written.4))
 clear_range_back words (made.Clear key) written = absurd (both_ways false refl
     ((bytes_decides (codes "clearrange") (codes "clear")).1 (first_of written.1)))
 clear_range_back words mutation written = absurd (both_ways false refl
     ((bytes_decides (codes "clearrange") _).1 (first_of written.2)))
 
 clear_back : (words : List (List ℕ)) (mutation : Mutation) → WritesMutation (codes "clear" ∷ words) mutation
-    → (x : List ℕ) × (key : List ℕ) × (words ≡ x ∷ []) × WritesText x key
-clear_back words (made.Clear key) written = (written.0, key, after_first written.1, written.2)
+    → (key : List ℕ) × WritesOneText words key
+clear_back words (made.Clear key) written = (key, (written.0, after_first written.1, written.2))
 clear_back words mutation written = absurd (both_ways false refl
     ((bytes_decides (codes "clear") _).1 (first_of written.2)))
 
@@ -149,26 +146,6 @@ no_operation_operand operation words after text before none mutation written =
     let back = operation_back operation words mutation written in
     no_second (operation_name operation) words after text before none back.0 back.1 back.2
 
-pub no_range_begin : (words : List (List ℕ))
-    → ((word : List ℕ) (rest : List (List ℕ)) (bytes : List ℕ) → words ≡ word ∷ rest → ¬ WritesText word bytes)
-    → (mutation : Mutation) → ¬ WritesMutation (codes "clearrange" ∷ words) mutation
-no_range_begin words none mutation written =
-    let back = clear_range_back words mutation written in no_first (codes "clearrange") words none back.0 back.1 back.2
-
-pub no_range_end : (words after : List (List ℕ)) (text : List ℕ)
-    → ((x : List ℕ) × (words ≡ x ∷ after) × WritesText x text)
-    → ((word : List ℕ) (bytes : List ℕ) → after ≡ word ∷ [] → ¬ WritesText word bytes)
-    → (mutation : Mutation) → ¬ WritesMutation (codes "clearrange" ∷ words) mutation
-no_range_end words after text before none mutation written =
-    let back = clear_range_back words mutation written in
-    no_second (codes "clearrange") words after text before none back.0 back.1 back.2
-
-pub no_clear : (words : List (List ℕ)) → ((word : List ℕ) (bytes : List ℕ) → words ≡ word ∷ []
-    → ¬ WritesText word bytes)
-    → (mutation : Mutation) → ¬ WritesMutation (codes "clear" ∷ words) mutation
-no_clear words none mutation written =
-    let back = clear_back words mutation written in none back.0 back.1 back.2 back.3
-
 -- two byte texts after a word
 two_texts : (name : List ℕ) (words after : List (List ℕ)) (first second : List ℕ)
     → ((x : List ℕ) × (words ≡ x ∷ after) × WritesText x first)
@@ -201,19 +178,17 @@ operation_refused operation words after text key operand fault first second same
     (two_texts (operation_name operation) words after text operand first second))
     (operation_fault operation text operand ∙ ap key_fault (sym same))
 
-pub range_refused : (words after : List (List ℕ)) (first second begin end : List ℕ) (fault : Fault)
-    → ((x : List ℕ) × (words ≡ x ∷ after) × WritesText x first)
-    → ((y : List ℕ) × (after ≡ y ∷ []) × WritesText y second)
-    → begin ≡ first → end ≡ second → MatchFault fault ⊥ (λ why. range_fault begin end ≡ Some why)
+-- the range or the key of a clear that isn't written, or is refused
+pub clear_range_fault : (words : List (List ℕ)) (fault : Fault) → Reads (Err fault) (WritesBounds words) bounds_fault
     → Reads (Err fault) (WritesMutation (codes "clearrange" ∷ words)) mutation_fault
-range_refused words after first second begin end fault before last begins ends refused =
-    Reads-refused fault (range_fault begin end) _ _ refused (made.ClearRange (record { begin = first; end = second }))
-    (two_texts (codes "clearrange") words after first second before last)
-    (ap₂ range_fault (sym begins) (sym ends))
+clear_range_fault words fault found =
+    Reads-whole fault (WritesBounds words) bounds_fault _ _ found
+    (λ none mutation written. let back = clear_range_back words mutation written in none back.0 back.1)
+    (λ range two. (made.ClearRange range, (two.0, two.1, (cc), two.3, two.4), refl))
 
-pub clear_refused : (words : List (List ℕ)) (text key : List ℕ) (fault : Fault)
-    → ((x : List ℕ) × (words ≡ x ∷ []) × WritesText x text) → key ≡ text
-    → MatchFault fault ⊥ (λ why. key_fault key ≡ Some why)
+pub clear_fault : (words : List (List ℕ)) (fault : Fault) → Reads (Err fault) (WritesOneText words) key_fault
     → Reads (Err fault) (WritesMutation (codes "clear" ∷ words)) mutation_fault
-clear_refused words text key fault first same refused =
-    Reads-refused fault (key_fault key) _ _ refused (made.Clear text) (first.0, (cc), first.2) (ap key_fault (sym same))
+clear_fault words fault found =
+    Reads-whole fault (WritesOneText words) key_fault _ _ found
+    (λ none mutation written. let back = clear_back words mutation written in none back.0 back.1)
+    (λ key one. (made.Clear key, (one.0, (cc), one.2), refl))

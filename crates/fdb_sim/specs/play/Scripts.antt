@@ -18,7 +18,9 @@ use Rattle.fdb_sim.specs.declared.play.stop.Stop.{Stop}
 use Rattle.fdb_sim.specs.declared.play.stop.Stop.TheVariants as stop
 use Rattle.fdb_sim.specs.print.Answers.{refusal_text, result_text}
 use Rattle.fdb_sim.specs.script.Configs.{WritesConfig, line_fault}
+use Rattle.fdb_sim.specs.print.Sets.{shown_text}
 use Rattle.fdb_sim.specs.play.Driving.{Drives}
+use Rattle.fdb_sim.specs.play.Showing.{lent}
 use Rattle.fdb_sim.specs.script.Grammar.{WritesLine, read_fault, step_fault}
 use Rattle.fdb_sim.specs.script.Lines.{lines_of}
 
@@ -85,16 +87,22 @@ DrivesBatch line old printed new =
     (proxy : ℕ) × (result : Result Answered Refusal) × WritesLine line (given.Drive proxy)
     × Drives proxy old result new × (printed ≡ printed_line (result_text Answer result))
 
--- the line gives a step whose key is refused, and no step is taken
+-- the line gives a step whose key or range is refused, and no step is taken
 abbrev pub RefusesKey : List ℕ → Option Machine → List ℕ → Option Machine → Type 0
 RefusesKey line old printed new =
     (read : Line) × (refusal : Refusal) × WritesLine line read × (read_fault read ≡ Some refusal)
     × (new ≡ old) × (printed ≡ refused_line refusal)
 
+-- the line shows the sets of a session's open transaction, and the world stays as it is
+abbrev pub ShowsSets : List ℕ → Option Machine → List ℕ → Option Machine → Type 0
+ShowsSets line old printed new =
+    (session : ℕ) × WritesLine line (given.Show session) × (new ≡ old)
+    × (printed ≡ printed_line (shown_text (lent old session)))
+
 -- what a line after the configuration prints, and the world that it leaves
 abbrev pub AnswersLine : List ℕ → Option Machine → List ℕ → Option Machine → Type 0
 AnswersLine line old printed new = TakesStep line old printed new
-    ⊎ (DrivesBatch line old printed new ⊎ RefusesKey line old printed new)
+    ⊎ (DrivesBatch line old printed new ⊎ (ShowsSets line old printed new ⊎ RefusesKey line old printed new))
 
 -- what a line after the configuration prints that ends the script
 abbrev pub StopsAt : ℕ → List ℕ → List ℕ → ℕ → Type 0

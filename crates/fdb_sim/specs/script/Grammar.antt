@@ -1,6 +1,7 @@
 -- The lines after the configuration, each as the words that write it.
-use Rattle.std.specs.Prelude.{◌≡◌, ℕ, ◌^◌, ◌<◌, false, List, [], ◌∷◌, Option, Some, None, codes}
+use Rattle.std.specs.Prelude.{◌≡◌, ℕ, ◌^◌, ◌<◌, Bool, true, false, List, [], ◌∷◌, Option, Some, None, codes}
 use Rattle.std.specs.Str.Parse.{IsNumeral, digits_value}
+use Rattle.fdb_keys.specs.Ranges.{Range}
 use Rattle.fdb_keys.specs.Texts.{key_fault, range_fault}
 use Rattle.fdb_keys.specs.declared.refusal.Refusal.{Refusal}
 use Rattle.fdb_core.specs.declared.step.Step.{Step}
@@ -12,7 +13,7 @@ use Rattle.fdb_mutations.specs.Naming.{NamedKeys, OneKey, KeysIn}
 use Rattle.fdb_sim.specs.declared.script.line.Line.{Line}
 use Rattle.fdb_sim.specs.declared.script.line.Line.TheVariants as given
 use Rattle.fdb_sim.specs.declared.script.step_line.Kind.{Kind}
-use Rattle.fdb_sim.specs.declared.script.step_line.Kind.TheVariants.{Ask, Grant, Get, Write, Submit, Seal, Resolve, Verdict, Decide, Push, Logged, Report, Answer, Pull}
+use Rattle.fdb_sim.specs.declared.script.step_line.Kind.TheVariants.{Ask, Grant, Get, SnapshotGet, Write, AddRead, AddWrite, Submit, Seal, Resolve, Verdict, Decide, Push, Logged, Report, Answer, Pull}
 use Rattle.fdb_sim.specs.script.Kinds.{name_of}
 use Rattle.fdb_sim.specs.script.Texts.{value_of}
 use Rattle.fdb_sim.specs.script.Words.{words_of}
@@ -41,10 +42,19 @@ WritesTwo words a b = (x : List ℕ) × (y : List ℕ) × (words ≡ x ∷ y ∷
 abbrev pub WritesSmallAndNumber : List (List ℕ) → ℕ → ℕ → Type 0
 WritesSmallAndNumber words a b = (x : List ℕ) × (y : List ℕ) × (words ≡ x ∷ y ∷ []) × WritesSmall x a × WritesNumber y b
 
--- the words are a number below 2^32 and a byte text
-abbrev pub WritesNumberAndText : List (List ℕ) → ℕ → List ℕ → Type 0
-WritesNumberAndText words a bytes = (x : List ℕ) × (y : List ℕ) × (words ≡ x ∷ y ∷ []) × WritesSmall x a
-    × WritesText y bytes
+-- the words are one byte text
+abbrev pub WritesOneText : List (List ℕ) → List ℕ → Type 0
+WritesOneText words bytes = (x : List ℕ) × (words ≡ x ∷ []) × WritesText x bytes
+
+-- the words are two byte texts, the bounds of the range
+abbrev pub WritesBounds : List (List ℕ) → Range → Type 0
+WritesBounds words range =
+    (x : List ℕ) × (y : List ℕ) × (words ≡ x ∷ y ∷ []) × WritesText x range.begin × WritesText y range.end
+
+-- the words are a number below 2^32, and then words that write more
+abbrev pub WritesNumberAnd : (List (List ℕ) → Type 0) → List (List ℕ) → ℕ → Type 0
+WritesNumberAnd Rest words a =
+    (x : List ℕ) × (rest : List (List ℕ)) × (words ≡ x ∷ rest) × WritesSmall x a × Rest rest
 
 -- the words are this one and two byte texts
 abbrev pub WritesTwoTexts : List (List ℕ) → List ℕ → List ℕ → List ℕ → Type 0
@@ -66,21 +76,28 @@ WritesMutation words (ByteMin key operand) = WritesTwoTexts words (codes "bytemi
 WritesMutation words (ByteMax key operand) = WritesTwoTexts words (codes "bytemax") key operand
 WritesMutation words (CompareAndClear key operand) = WritesTwoTexts words (codes "cac") key operand
 
--- the words are a number below 2^32 and a mutation
-abbrev pub WritesNumberAndMutation : List (List ℕ) → ℕ → Mutation → Type 0
-WritesNumberAndMutation words a mutation =
-    (x : List ℕ) × (rest : List (List ℕ)) × (words ≡ x ∷ rest) × WritesSmall x a × WritesMutation rest mutation
+-- the words are a session's number and a key that the step reads
+abbrev pub WritesGet : Bool → List (List ℕ) → Step → Type 0
+WritesGet snapshot words step =
+    (session : ℕ) × (key : List ℕ) × WritesNumberAnd (λ rest. WritesOneText rest key) words session
+    × (step ≡ made.Get session key snapshot)
 
 -- the words after the first one of such a line write the step
 abbrev pub WritesRest : Kind → List (List ℕ) → Step → Type 0
 WritesRest Ask words step = (session : ℕ) × (proxy : ℕ) × WritesTwo words session proxy
     × (step ≡ made.Ask session proxy)
 WritesRest Grant words step = (proxy : ℕ) × WritesOne words proxy × (step ≡ made.Grant proxy)
-WritesRest Get words step =
-    (session : ℕ) × (key : List ℕ) × WritesNumberAndText words session key × (step ≡ made.Get session key false)
+WritesRest Get words step = WritesGet false words step
+WritesRest SnapshotGet words step = WritesGet true words step
 WritesRest Write words step =
-    (session : ℕ) × (mutation : Mutation) × WritesNumberAndMutation words session mutation
+    (session : ℕ) × (mutation : Mutation) × WritesNumberAnd (λ rest. WritesMutation rest mutation) words session
     × (step ≡ made.Write session mutation)
+WritesRest AddRead words step =
+    (session : ℕ) × (range : Range) × WritesNumberAnd (λ rest. WritesBounds rest range) words session
+    × (step ≡ made.AddRead session range)
+WritesRest AddWrite words step =
+    (session : ℕ) × (range : Range) × WritesNumberAnd (λ rest. WritesBounds rest range) words session
+    × (step ≡ made.AddWrite session range)
 WritesRest Submit words step = (session : ℕ) × (proxy : ℕ) × WritesTwo words session proxy
     × (step ≡ made.Submit session proxy)
 WritesRest Seal words step = (proxy : ℕ) × (advance : ℕ) × WritesSmallAndNumber words proxy advance
@@ -104,15 +121,24 @@ WritesStep words kind step = (rest : List (List ℕ)) × (words ≡ name_of kind
 abbrev pub WritesDrive : List (List ℕ) → ℕ → Type 0
 WritesDrive words proxy = (rest : List (List ℕ)) × (words ≡ codes "drive" ∷ rest) × WritesOne rest proxy
 
+-- the words are 'show' and the number of a session
+abbrev pub WritesShow : List (List ℕ) → ℕ → Type 0
+WritesShow words session = (rest : List (List ℕ)) × (words ≡ codes "show" ∷ rest) × WritesOne rest session
+
 -- the line writes what it gives
 abbrev pub WritesLine : List ℕ → Line → Type 0
 WritesLine line (given.Step kind step) = WritesStep (words_of line) kind step
 WritesLine line (given.Drive proxy) = WritesDrive (words_of line) proxy
+WritesLine line (given.Show session) = WritesShow (words_of line) session
+
+-- why the bounds of the range are those of none
+abbrev pub bounds_fault : Range → Option Refusal
+bounds_fault range = range_fault range.begin range.end
 
 -- why what the mutation names is no key, or no range
 abbrev pub named_fault : NamedKeys → Option Refusal
 named_fault (OneKey key) = key_fault key
-named_fault (KeysIn range) = range_fault range.begin range.end
+named_fault (KeysIn range) = bounds_fault range
 
 abbrev pub mutation_fault : Mutation → Option Refusal
 mutation_fault mutation = named_fault (named mutation)
@@ -123,6 +149,8 @@ step_fault (made.Ask session proxy) = None
 step_fault (made.Grant proxy) = None
 step_fault (made.Get session key snapshot) = key_fault key
 step_fault (made.Write session mutation) = mutation_fault mutation
+step_fault (made.AddRead session range) = bounds_fault range
+step_fault (made.AddWrite session range) = bounds_fault range
 step_fault (made.Submit session proxy) = None
 step_fault (made.Seal proxy advance) = None
 step_fault (made.Resolve entry resolver) = None
@@ -138,3 +166,4 @@ step_fault (made.Pull shard limit) = None
 abbrev pub read_fault : Line → Option Refusal
 read_fault (given.Step kind step) = step_fault step
 read_fault (given.Drive proxy) = None
+read_fault (given.Show session) = None

@@ -6,6 +6,7 @@ ghost use Rattle.fdb_sim.specs.script.Lines.{left, line_text, line_number};
 ghost use Rattle.fdb_sim.specs.play.Scripts.{is_silent, AnswersLine, PlaysOn, PlaysFrom, Plays, Unconfigured, StopsAt, Printed, Knows, Says, Reaches};
 
 use crate::play::driving::drive;
+use crate::play::showing::push_shown;
 use crate::play::stop::Stop;
 use crate::print::answers::{push_refusal, push_result};
 use crate::print::endings::{print_check, print_stop};
@@ -158,7 +159,7 @@ fn is_silent(line: &[u8]) -> bool
     }
 }
 
-// Takes the step or the steps that the current line gives, and writes what the line prints to the empty text.
+// Takes the step or the steps that the current line gives, if any, and appends what the line prints to the text.
 fn take_line<R: Source + Drop>(
     alloc: Global,
     lines: &Lines<R>,
@@ -175,6 +176,7 @@ fn take_line<R: Source + Drop>(
     match read_line(alloc, lines.text()) {
         Ok(Line::Step { kind, step }) => Ok(push_result(text, kind, world.step(step))?),
         Ok(Line::Drive { proxy }) => Ok(push_result(text, Kind::Answer, drive(world, proxy))?),
+        Ok(Line::Show { session }) => Ok(push_shown(text, world, session)?),
         Err(Fault::Refused(refusal)) => Ok(push_refusal(text, refusal)?),
         Err(Fault::Bad) => Err(Stop::BadLine(lines.number())),
         Err(Fault::NoMemory) => Err(Stop::NoMemory),

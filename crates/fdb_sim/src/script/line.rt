@@ -15,6 +15,8 @@ pub enum Line {
     Step { kind: Kind, step: Step },
     /// The steps of the batch that a commit proxy has in flight.
     Drive { proxy: u32 },
+    /// The read set and the write set of a session's open transaction.
+    Show { session: u32 },
 }
 
 /// What the line gives. A line of another form is bad, also where its key would be refused. Refused as
@@ -27,6 +29,10 @@ pub fn read_line(alloc: Global, line: &[u8]) -> Result<Line, Fault>
     if first == b"drive".as_slice() {
         let proxy = words.last_number()?;
         return Ok(Line::Drive { proxy });
+    }
+    if first == b"show".as_slice() {
+        let session = words.last_number()?;
+        return Ok(Line::Show { session });
     }
     let (kind, step) = read_step(alloc, first, &mut words)?;
     Ok(Line::Step { kind, step })

@@ -1,22 +1,25 @@
 ghost use Rattle.std.specs.Prelude.{◌≡◌, ◌≢◌, ◌∷◌, MatchResult};
 ghost use Rattle.fdb_sim.specs.script.Faults.{Reads};
-ghost use Rattle.fdb_sim.specs.script.Grammar.{WritesRest, WritesStep, step_fault};
+ghost use Rattle.fdb_sim.specs.script.Grammar.{WritesGet, WritesRest, WritesStep, step_fault};
 ghost use Rattle.fdb_sim.specs.script.Kinds.{name_of};
 
 use crate::script::fault::Fault;
-use crate::script::texts::make_key;
+use crate::script::keys::{last_key, last_range};
 use crate::script::words::Words;
 use crate::script::write_line::read_mutation;
 use fdb_core::Step;
 use std::alloc::Global;
 
-/// The kinds of lines that give a step, each named as its first word is.
+/// The kinds of lines that give a step. A read of a key is of one of two kinds, by whether it is a snapshot read.
 #[derive(Clone, Copy)]
 pub enum Kind {
     Ask,
     Grant,
     Get,
+    SnapshotGet,
     Write,
+    AddRead,
+    AddWrite,
     Submit,
     Seal,
     Resolve,
@@ -30,11 +33,14 @@ pub enum Kind {
 }
 
 /// All kinds of lines.
-const KINDS: [Kind; 14] = [
+const KINDS: [Kind; 17] = [
     Kind::Ask,
     Kind::Grant,
     Kind::Get,
+    Kind::SnapshotGet,
     Kind::Write,
+    Kind::AddRead,
+    Kind::AddWrite,
     Kind::Submit,
     Kind::Seal,
     Kind::Resolve,
@@ -56,7 +62,10 @@ impl Kind {
             Kind::Ask => b"ask",
             Kind::Grant => b"grant",
             Kind::Get => b"get",
+            Kind::SnapshotGet => b"sget",
             Kind::Write => b"write",
+            Kind::AddRead => b"addread",
+            Kind::AddWrite => b"addwrite",
             Kind::Submit => b"submit",
             Kind::Seal => b"seal",
             Kind::Resolve => b"resolve",
@@ -101,8 +110,11 @@ fn read_words(alloc: Global, kind: Kind, words: &mut Words<'_>) -> Result<Step, 
     match kind {
         Kind::Ask => read_ask(words),
         Kind::Grant => read_grant(words),
-        Kind::Get => read_get(alloc, words),
+        Kind::Get => read_get(alloc, false, words),
+        Kind::SnapshotGet => read_get(alloc, true, words),
         Kind::Write => read_write(alloc, words),
+        Kind::AddRead => read_add_read(alloc, words),
+        Kind::AddWrite => read_add_write(alloc, words),
         Kind::Submit => read_submit(words),
         Kind::Seal => read_seal(words),
         Kind::Resolve => read_resolve(words),
@@ -130,16 +142,15 @@ fn read_grant(words: &mut Words<'_>) -> Result<Step, Fault>
     Ok(Step::Grant { proxy })
 }
 
-fn read_get(alloc: Global, words: &mut Words<'_>) -> Result<Step, Fault>
-    ensures { Reads result (WritesRest Kind.Get words.old) step_fault }
+fn read_get(alloc: Global, snapshot: bool, words: &mut Words<'_>) -> Result<Step, Fault>
+    ensures { Reads result (WritesGet snapshot words.old) step_fault }
 {
     let session = words.small_number()?;
-    let text = words.last_text(alloc)?;
-    let key = make_key(alloc, text.as_slice())?;
+    let key = last_key(alloc, words)?;
     Ok(Step::Get {
         session,
         key,
-        snapshot: false,
+        snapshot,
     })
 }
 
@@ -149,6 +160,22 @@ fn read_write(alloc: Global, words: &mut Words<'_>) -> Result<Step, Fault>
     let session = words.small_number()?;
     let mutation = read_mutation(alloc, words)?;
     Ok(Step::Write { session, mutation })
+}
+
+fn read_add_read(alloc: Global, words: &mut Words<'_>) -> Result<Step, Fault>
+    ensures { Reads result (WritesRest Kind.AddRead words.old) step_fault }
+{
+    let session = words.small_number()?;
+    let range = last_range(alloc, words)?;
+    Ok(Step::AddRead { session, range })
+}
+
+fn read_add_write(alloc: Global, words: &mut Words<'_>) -> Result<Step, Fault>
+    ensures { Reads result (WritesRest Kind.AddWrite words.old) step_fault }
+{
+    let session = words.small_number()?;
+    let range = last_range(alloc, words)?;
+    Ok(Step::AddWrite { session, range })
 }
 
 fn read_submit(words: &mut Words<'_>) -> Result<Step, Fault>

@@ -5,8 +5,9 @@ ghost use Rattle.fdb_sim.specs.script.Grammar.{WritesMutation, mutation_fault};
 ghost use Rattle.fdb_sim.specs.script.Operations.{operation_name};
 
 use crate::script::fault::Fault;
+use crate::script::keys::{last_key, last_range};
 use crate::script::operation::{Operation, operation_named};
-use crate::script::texts::{make_key, make_range};
+use crate::script::texts::make_key;
 use crate::script::words::Words;
 use bytes::Bytes;
 use fdb_mutations::Mutation;
@@ -31,17 +32,14 @@ pub fn read_mutation(alloc: Global, words: &mut Words<'_>) -> Result<Mutation, F
 fn read_clear(alloc: Global, words: &mut Words<'_>) -> Result<Mutation, Fault>
     ensures { Reads result (WritesMutation (codes "clear" ∷ words.old)) mutation_fault }
 {
-    let text = words.last_text(alloc)?;
-    let key = make_key(alloc, text.as_slice())?;
+    let key = last_key(alloc, words)?;
     Ok(Mutation::Clear { key })
 }
 
 fn read_clear_range(alloc: Global, words: &mut Words<'_>) -> Result<Mutation, Fault>
     ensures { Reads result (WritesMutation (codes "clearrange" ∷ words.old)) mutation_fault }
 {
-    let begin = words.text(alloc)?;
-    let end = words.last_text(alloc)?;
-    let range = make_range(alloc, begin.as_slice(), end.as_slice())?;
+    let range = last_range(alloc, words)?;
     Ok(Mutation::ClearRange { range })
 }
 

@@ -1,4 +1,4 @@
-// A script is played over memory.
+// Scripts are played over memory.
 use crate::play::script::run_script;
 use std::alloc::Global;
 use std::process::Abort;
@@ -17,5 +17,13 @@ pub fn check_script(
     let ended = run_script(alloc, &mut reader, &mut out)?;
     let is_played = out.as_slice() == output && ended == status;
     assert!(rt; is_played, "the output or the status of {script:?}");
+    Ok(())
+}
+
+/// Adds a line that begins with the front and goes on with so many letters.
+pub fn push_long_line(script: &mut Vec<u8>, front: &[u8], count: usize) -> Result<(), Fail> {
+    script.extend_from_slice(front)?;
+    script.resize(script.len().saturating_add(count), b'k')?;
+    script.push(b'\n')?;
     Ok(())
 }

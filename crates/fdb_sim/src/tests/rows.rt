@@ -1,4 +1,4 @@
-use crate::tests::playing::check_script;
+use crate::tests::playing::{check_script, push_long_line};
 use std::test::Fail;
 
 const CONFIG: &[u8] = b"config proxies 1 logs 1 resolvers - shards - book 100\n";
@@ -90,14 +90,6 @@ const EMPTY: &[u8] = b"config proxies 1 logs 1 resolvers - shards - book 100\n\
 fn empty(rt: HostRuntime) -> Result<(), Fail> {
     let output = b"ok\nok\ngrant 0=0\nnone\nreadonly 0\nchecked 1\n";
     check_script(&rt, rt.alloc(), EMPTY, 0, output)
-}
-
-// A line that begins with the front and goes on with the count of letters.
-fn push_long_line(script: &mut Vec<u8>, front: &[u8], count: usize) -> Result<(), Fail> {
-    script.extend_from_slice(front)?;
-    script.resize(script.len().saturating_add(count), b'k')?;
-    script.push(b'\n')?;
-    Ok(())
 }
 
 #[test]

@@ -28,10 +28,13 @@ fn check_lines(
 const TOO_MANY: &[u8] = b"ask 0 0 0\n\
     grant 0 0\n\
     get 0 a b\n\
+    sget 0 a b\n\
     write 0 set a b c\n\
     write 0 clear a b\n\
     write 0 clearrange a b c\n\
     write 0 cac a b c\n\
+    addread 0 b a c\n\
+    addwrite 0 a b c\n\
     submit 0 0 0\n\
     seal 0 1 1\n\
     resolve 0 0 0\n\
@@ -42,6 +45,7 @@ const TOO_MANY: &[u8] = b"ask 0 0 0\n\
     report 0 0\n\
     answer 0 0\n\
     pull 0 9 9\n\
+    show 0 0\n\
     drive 0 0";
 
 /// Lines with a word too few, of spaces alone at last.
@@ -49,12 +53,15 @@ const TOO_FEW: &[u8] = b"ask 0\n\
     grant\n\
     get 0\n\
     get\n\
+    sget 0\n\
     write 0 set a\n\
     write 0 clear\n\
     write 0 clearrange a\n\
     write 0 add a\n\
     write 0\n\
     write\n\
+    addread 0 a\n\
+    addwrite 0\n\
     submit 0\n\
     seal 0\n\
     resolve 0\n\
@@ -65,6 +72,7 @@ const TOO_FEW: &[u8] = b"ask 0\n\
     report\n\
     answer\n\
     pull 0\n\
+    show\n\
     drive\n\
     \x20  ";
 
@@ -73,17 +81,15 @@ const NO_WORDS: &[u8] = b"wri\n\
     Ask 0 0\n\
     ask\t0 0\n\
     \x20# 0\n\
-    sget 0 a\n\
     range 0 a b 1\n\
     srange 0 a b 1\n\
     write 0 clearranges a b\n\
     write 0 append a b\n\
-    addread 0 a b\n\
-    addwrite 0 a b\n\
+    addreads 0 a b\n\
     move a b 0\n\
     forget 0 1\n\
     pop 0\n\
-    show 0\n\
+    shows 0\n\
     Drive 0\n\
     drives 0\n\
     get 0 a\xc3\xa9\n\
@@ -102,6 +108,10 @@ const NO_NUMBERS: &[u8] = b"ask 4294967296 0\n\
     seal 0 18446744073709551616\n\
     pull 0 4294967296\n\
     pull 4294967296 0\n\
+    sget a a\n\
+    addread 4294967296 a b\n\
+    addwrite a a b\n\
+    show 4294967296\n\
     drive 4294967296\n\
     drive a\n\
     get 99999999999999999999999999999999999999 a";
@@ -120,6 +130,9 @@ const NO_TEXTS: &[u8] = b"get 0 a%\n\
     write 0 clear %f\n\
     write 0 clearrange c %f\n\
     write 0 xor %f a\n\
+    sget 0 %f\n\
+    addread 0 %f a\n\
+    addwrite 0 %ff%00 %f\n\
     write 0 set %ff b%";
 
 // Each line is bad after a configuration.
@@ -148,11 +161,14 @@ fn legal_forms(rt: HostRuntime) -> Result<(), Fail> {
         "  get   0  %ff  ",
         "get 000 %ff",
         "get 4294967295 %ff",
+        "sget 0 %ff",
         "write 0 set %ff %",
         "write 0 set %ff a%00Z._/9",
         "write 0 clear %ff",
         "write 0 bytemax %ff %",
         "write 0 clearrange b %ff%00",
+        "addread 0 b %ff%00",
+        "addwrite 0 %ff%00 %",
         "get 0 %ff\r",
     ];
     for line in lines {

@@ -1,8 +1,7 @@
 // Worlds with known answers, by what a caller of `fdb_core` sees.
 use bytes::Bytes;
-use fdb_core::{
-    Answered, Config, InFlight, Op, Reply, Step, Transcript, World, is_answered_on, run,
-};
+use fdb_client::{Op, Reply, Transcript};
+use fdb_core::{Answered, Config, InFlight, Step, World, is_answered_on, run};
 use fdb_keys::{Items, Key, Refusal};
 use fdb_mutations::PlainMap;
 use fdb_txn::TxnId;

@@ -1,0 +1,31 @@
+// Keys and ranges that are the last words of a line. All words are read before a key or a range is made.
+ghost use Rattle.fdb_keys.specs.Texts.{key_fault};
+ghost use Rattle.fdb_sim.specs.script.Faults.{Reads};
+ghost use Rattle.fdb_sim.specs.script.Grammar.{WritesBounds, WritesOneText, bounds_fault};
+
+use crate::script::fault::Fault;
+use crate::script::texts::{make_key, make_range};
+use crate::script::words::Words;
+use fdb_keys::{Key, KeyRange};
+use std::alloc::Global;
+
+/// The key that the last word gives. Bad where it is no byte text, and where words are left. Refused as `make_key`
+/// refuses it.
+pub fn last_key(alloc: Global, words: &mut Words<'_>) -> Result<Key, Fault>
+    ensures { Reads result (WritesOneText words.old) key_fault }
+{
+    let text = words.last_text(alloc)?;
+    let key = make_key(alloc, text.as_slice())?;
+    Ok(key)
+}
+
+/// The range that the last two words give by its bounds. Bad where one is no byte text, and where words are left.
+/// Refused as `make_range` refuses it.
+pub fn last_range(alloc: Global, words: &mut Words<'_>) -> Result<KeyRange, Fault>
+    ensures { Reads result (WritesBounds words.old) bounds_fault }
+{
+    let begin = words.text(alloc)?;
+    let end = words.last_text(alloc)?;
+    let range = make_range(alloc, begin.as_slice(), end.as_slice())?;
+    Ok(range)
+}
