@@ -1,4 +1,5 @@
-// Calls with known answers.
+// Calls with known answers. The prover goes over every kind of mutation where one goes out of scope, so few functions
+// hold one, each drops it by a call, and none leaves early.
 use crate::mutation::Mutation;
 use crate::plain_map::PlainMap;
 use bytes::Bytes;
@@ -6,38 +7,56 @@ use fdb_keys::{Items, Key, KeyRange, Refusal};
 use std::alloc::Global;
 use std::test::Fail;
 
-// The kinds of mutations that have an operand.
-#[derive(Clone, Copy)]
-enum Kind {
-    Add,
-    And,
-    Or,
-    Xor,
-    Max,
-    Min,
-    ByteMin,
-    ByteMax,
-    CompareAndClear,
-}
-
-fn of_kind(kind: Kind, key: Key, operand: Bytes) -> Mutation {
-    match kind {
-        Kind::Add => Mutation::Add { key, operand },
-        Kind::And => Mutation::And { key, operand },
-        Kind::Or => Mutation::Or { key, operand },
-        Kind::Xor => Mutation::Xor { key, operand },
-        Kind::Max => Mutation::Max { key, operand },
-        Kind::Min => Mutation::Min { key, operand },
-        Kind::ByteMin => Mutation::ByteMin { key, operand },
-        Kind::ByteMax => Mutation::ByteMax { key, operand },
-        Kind::CompareAndClear => Mutation::CompareAndClear { key, operand },
-    }
-}
-
-fn with_operand(alloc: Global, kind: Kind, operand: &[u8]) -> Result<Mutation, Refusal> {
+// The key a, and an operand.
+fn parts(alloc: Global, operand: &[u8]) -> Result<(Key, Bytes), Refusal> {
     let key = Key::new(alloc, b"a")?;
     let operand = Bytes::copy_from_slice(alloc, operand)?;
-    Ok(of_kind(kind, key, operand))
+    Ok((key, operand))
+}
+
+fn add(alloc: Global, operand: &[u8]) -> Result<Mutation, Refusal> {
+    let (key, operand) = parts(alloc, operand)?;
+    Ok(Mutation::Add { key, operand })
+}
+
+fn and(alloc: Global, operand: &[u8]) -> Result<Mutation, Refusal> {
+    let (key, operand) = parts(alloc, operand)?;
+    Ok(Mutation::And { key, operand })
+}
+
+fn or(alloc: Global, operand: &[u8]) -> Result<Mutation, Refusal> {
+    let (key, operand) = parts(alloc, operand)?;
+    Ok(Mutation::Or { key, operand })
+}
+
+fn xor(alloc: Global, operand: &[u8]) -> Result<Mutation, Refusal> {
+    let (key, operand) = parts(alloc, operand)?;
+    Ok(Mutation::Xor { key, operand })
+}
+
+fn max(alloc: Global, operand: &[u8]) -> Result<Mutation, Refusal> {
+    let (key, operand) = parts(alloc, operand)?;
+    Ok(Mutation::Max { key, operand })
+}
+
+fn min(alloc: Global, operand: &[u8]) -> Result<Mutation, Refusal> {
+    let (key, operand) = parts(alloc, operand)?;
+    Ok(Mutation::Min { key, operand })
+}
+
+fn byte_min(alloc: Global, operand: &[u8]) -> Result<Mutation, Refusal> {
+    let (key, operand) = parts(alloc, operand)?;
+    Ok(Mutation::ByteMin { key, operand })
+}
+
+fn byte_max(alloc: Global, operand: &[u8]) -> Result<Mutation, Refusal> {
+    let (key, operand) = parts(alloc, operand)?;
+    Ok(Mutation::ByteMax { key, operand })
+}
+
+fn compare_and_clear(alloc: Global, operand: &[u8]) -> Result<Mutation, Refusal> {
+    let (key, operand) = parts(alloc, operand)?;
+    Ok(Mutation::CompareAndClear { key, operand })
 }
 
 fn set(alloc: Global, key: &[u8], value: &[u8]) -> Result<Mutation, Refusal> {
@@ -64,74 +83,118 @@ fn check_code(mutation: &Mutation) -> u32 {
     }
 }
 
-// The same of an `Add` of as many bytes.
-fn add_code(alloc: Global, count: usize) -> Result<u32, Refusal> {
-    let operand = vec![in alloc; 1u8; count]?;
-    let mutation = with_operand(alloc, Kind::Add, operand.as_slice())?;
-    Ok(check_code(&mutation))
-}
-
-fn is_value(value: Option<&Bytes>, expected: &[u8]) -> bool {
-    match value {
-        Some(value) => value.as_slice() == expected,
-        None => false,
+// The code of the refusal, or 0, and the size. There is none where memory ran out.
+fn code_and_size(mutation: Result<Mutation, Refusal>) -> Option<(u32, u64)> {
+    match mutation {
+        Ok(mutation) => {
+            let found = (check_code(&mutation), mutation.size());
+            drop(mutation);
+            Some(found)
+        }
+        Err(_why) => None,
     }
 }
 
-// Whether the mutation of an absent value leaves just this one.
-fn makes(alloc: Global, kind: Kind, operand: &[u8], expected: &[u8]) -> Result<bool, Refusal> {
-    let mutation = with_operand(alloc, kind, operand)?;
-    let new = mutation.apply_value(alloc, None)?;
-    Ok(is_value(new.as_ref(), expected))
+// The same of an `Add` of as many bytes.
+fn of_add(alloc: Global, count: usize) -> Result<Option<(u32, u64)>, Refusal> {
+    let operand = vec![in alloc; 1u8; count]?;
+    Ok(code_and_size(add(alloc, operand.as_slice())))
 }
 
-fn applied(alloc: Global, mutation: &Mutation, value: &[u8]) -> Result<Option<Bytes>, Refusal> {
-    let value = Bytes::copy_from_slice(alloc, value)?;
-    mutation.apply_value(alloc, Some(&value))
+// The same of a `Set` to as many bytes.
+fn of_set(alloc: Global, count: usize) -> Result<Option<(u32, u64)>, Refusal> {
+    let value = vec![in alloc; b'v'; count]?;
+    Ok(code_and_size(set(alloc, b"a", value.as_slice())))
+}
+
+// The new value of a key that has the value, or has none.
+fn applied(
+    alloc: Global,
+    mutation: &Mutation,
+    value: Option<&[u8]>,
+) -> Result<Option<Bytes>, Refusal> {
+    match value {
+        None => mutation.apply_value(alloc, None),
+        Some(value) => {
+            let value = Bytes::copy_from_slice(alloc, value)?;
+            mutation.apply_value(alloc, Some(&value))
+        }
+    }
+}
+
+fn is_value(value: Option<&Bytes>, expected: Option<&[u8]>) -> bool {
+    match (value, expected) {
+        (Some(value), Some(expected)) => value.as_slice() == expected,
+        (None, None) => true,
+        _ => false,
+    }
+}
+
+fn changes(
+    alloc: Global,
+    mutation: &Mutation,
+    value: Option<&[u8]>,
+    expected: Option<&[u8]>,
+) -> bool {
+    match applied(alloc, mutation, value) {
+        Ok(new) => is_value(new.as_ref(), expected),
+        Err(_why) => false,
+    }
+}
+
+// Whether the mutation makes just the one of the other.
+fn leaves(
+    alloc: Global,
+    mutation: Result<Mutation, Refusal>,
+    value: Option<&[u8]>,
+    expected: Option<&[u8]>,
+) -> bool {
+    match mutation {
+        Ok(mutation) => {
+            let holds = changes(alloc, &mutation, value, expected);
+            drop(mutation);
+            holds
+        }
+        Err(_why) => false,
+    }
 }
 
 // Whether the mutation of the value leaves just this one.
-fn leaves(
-    alloc: Global,
-    kind: Kind,
-    operand: &[u8],
-    value: &[u8],
-    expected: &[u8],
-) -> Result<bool, Refusal> {
-    let mutation = with_operand(alloc, kind, operand)?;
-    let new = applied(alloc, &mutation, value)?;
-    Ok(is_value(new.as_ref(), expected))
+fn turns(alloc: Global, mutation: Result<Mutation, Refusal>, value: &[u8], new: &[u8]) -> bool {
+    leaves(alloc, mutation, Some(value), Some(new))
+}
+
+// Whether the mutation of an absent value leaves just this one.
+fn makes(alloc: Global, mutation: Result<Mutation, Refusal>, new: &[u8]) -> bool {
+    leaves(alloc, mutation, None, Some(new))
 }
 
 // Whether the mutation of the value leaves none.
-fn clears(alloc: Global, kind: Kind, operand: &[u8], value: &[u8]) -> Result<bool, Refusal> {
-    let mutation = with_operand(alloc, kind, operand)?;
-    let new = applied(alloc, &mutation, value)?;
-    Ok(new.is_none())
+fn clears(alloc: Global, mutation: Result<Mutation, Refusal>, value: &[u8]) -> bool {
+    leaves(alloc, mutation, Some(value), None)
 }
 
-fn apply_set(map: &mut PlainMap, alloc: Global, key: &[u8], value: &[u8]) -> Result<(), Refusal> {
-    let mutation = set(alloc, key, value)?;
-    map.apply(&mutation)
+fn is_applied(map: &mut PlainMap, mutation: &Mutation) -> bool {
+    map.apply(mutation).is_ok()
 }
 
-fn apply_clear_range(
-    map: &mut PlainMap,
-    alloc: Global,
-    begin: &[u8],
-    end: &[u8],
-) -> Result<(), Refusal> {
-    let mutation = clear_range(alloc, begin, end)?;
-    map.apply(&mutation)
+// Whether the mutation could be made and applied.
+fn applies(map: &mut PlainMap, mutation: Result<Mutation, Refusal>) -> bool {
+    match mutation {
+        Ok(mutation) => {
+            let holds = is_applied(map, &mutation);
+            drop(mutation);
+            holds
+        }
+        Err(_why) => false,
+    }
 }
 
-// The keys a, b and c, with values 1, 2 and 3.
-fn three_pairs(alloc: Global) -> Result<PlainMap, Refusal> {
-    let mut map = PlainMap::new(alloc);
-    apply_set(&mut map, alloc, b"c", b"3")?;
-    apply_set(&mut map, alloc, b"a", b"1")?;
-    apply_set(&mut map, alloc, b"b", b"2")?;
-    Ok(map)
+// Gives the keys a, b and c the values 1, 2 and 3.
+fn fill(map: &mut PlainMap, alloc: Global) -> bool {
+    applies(map, set(alloc, b"c", b"3"))
+        && applies(map, set(alloc, b"a", b"1"))
+        && applies(map, set(alloc, b"b", b"2"))
 }
 
 fn pairs(
@@ -159,102 +222,142 @@ fn clipped(alloc: Global, mutation: &Mutation) -> Result<Option<Mutation>, Refus
     mutation.clip(&range)
 }
 
-// A clear of the keys from a up to z, cut to those from m up to t.
-fn clipped_clear(alloc: Global) -> Result<Option<Mutation>, Refusal> {
-    let mutation = clear_range(alloc, b"a", b"z")?;
-    clipped(alloc, &mutation)
-}
-
 fn has_bounds(range: &KeyRange, begin: &[u8], end: &[u8]) -> bool {
     range.begin() == begin && range.end() == end
 }
 
-fn is_clear_of(mutation: Option<&Mutation>, begin: &[u8], end: &[u8]) -> bool {
-    match mutation {
-        Some(Mutation::ClearRange { range }) => has_bounds(range, begin, end),
+// Whether there is a clear of just these keys, or nothing where none are given.
+fn is_clear_of(mutation: Option<&Mutation>, bounds: Option<(&[u8], &[u8])>) -> bool {
+    match (mutation, bounds) {
+        (Some(Mutation::ClearRange { range }), Some((begin, end))) => has_bounds(range, begin, end),
+        (None, None) => true,
         _ => false,
     }
 }
 
-fn equals_its_copy(mutation: &Mutation) -> Result<bool, Refusal> {
-    let copy = mutation.clone()?;
-    Ok(copy == *mutation)
+fn cuts(alloc: Global, mutation: &Mutation, bounds: Option<(&[u8], &[u8])>) -> bool {
+    match clipped(alloc, mutation) {
+        Ok(clipped) => {
+            let holds = is_clear_of(clipped.as_ref(), bounds);
+            drop(clipped);
+            holds
+        }
+        Err(_why) => false,
+    }
 }
 
-fn is_clear_of_key(alloc: Global, mutation: &Mutation, key: &[u8]) -> Result<bool, Refusal> {
-    let clear = clear(alloc, key)?;
-    Ok(clear == *mutation)
+// Whether the cut leaves a clear of just these keys, or nothing where none are given.
+fn is_cut(
+    alloc: Global,
+    mutation: Result<Mutation, Refusal>,
+    bounds: Option<(&[u8], &[u8])>,
+) -> bool {
+    match mutation {
+        Ok(mutation) => {
+            let holds = cuts(alloc, &mutation, bounds);
+            drop(mutation);
+            holds
+        }
+        Err(_why) => false,
+    }
+}
+
+fn copied(mutation: &Mutation) -> Result<Mutation, Refusal> {
+    let copy = mutation.clone()?;
+    Ok(copy)
+}
+
+// Whether they are equal. There is no answer where memory ran out.
+fn is_same(mutation: &Mutation, other: Result<Mutation, Refusal>) -> Option<bool> {
+    match other {
+        Ok(other) => {
+            let holds = *mutation == other;
+            drop(other);
+            Some(holds)
+        }
+        Err(_why) => None,
+    }
+}
+
+// Whether the mutation equals its copy, and whether it equals the clear of a.
+fn compared(alloc: Global, mutation: Result<Mutation, Refusal>) -> Option<(bool, bool)> {
+    match mutation {
+        Ok(mutation) => {
+            let to_copy = is_same(&mutation, copied(&mutation));
+            let to_clear = is_same(&mutation, clear(alloc, b"a"));
+            drop(mutation);
+            to_copy.zip(to_clear)
+        }
+        Err(_why) => None,
+    }
 }
 
 #[test]
 fn values_have_at_most_100_000_bytes(rt: HostRuntime) -> Result<(), Fail> {
-    let longest = vec![in rt.alloc(); b'v'; 100_000]?;
-    let too_long = vec![in rt.alloc(); b'v'; 100_001]?;
-    let legal = set(rt.alloc(), b"a", &longest)?;
-    let refused = set(rt.alloc(), b"a", &too_long)?;
-    assert_eq!(rt; check_code(&legal), 0);
-    assert_eq!(rt; check_code(&refused), 2103);
+    assert_eq!(rt; of_set(rt.alloc(), 100_000)?, Some((0, 100_001)));
+    assert_eq!(rt; of_set(rt.alloc(), 100_001)?, Some((2103, 100_002)));
     Ok(())
 }
 
 #[test]
 fn added_numbers_have_1_to_16_bytes(rt: HostRuntime) -> Result<(), Fail> {
-    assert_eq!(rt; add_code(rt.alloc(), 0)?, 9008);
-    assert_eq!(rt; add_code(rt.alloc(), 16)?, 0);
-    assert_eq!(rt; add_code(rt.alloc(), 17)?, 9008);
-    assert_eq!(rt; add_code(rt.alloc(), 100_001)?, 2103);
+    assert_eq!(rt; of_add(rt.alloc(), 0)?, Some((9008, 1)));
+    assert_eq!(rt; of_add(rt.alloc(), 16)?, Some((0, 17)));
+    assert_eq!(rt; of_add(rt.alloc(), 17)?, Some((9008, 18)));
+    assert_eq!(rt; of_add(rt.alloc(), 100_001)?, Some((2103, 100_002)));
     Ok(())
 }
 
 #[test]
-fn sums_have_the_length_of_the_operand(rt: HostRuntime) -> Result<(), Fail> {
-    assert!(rt; leaves(rt.alloc(), Kind::Add, &[1, 0], &[0xff], &[0, 1])?);
-    assert!(rt; leaves(rt.alloc(), Kind::Add, &[1], &[0xff, 7], &[0])?);
-    assert!(rt; makes(rt.alloc(), Kind::Add, &[5], &[5])?);
-    Ok(())
+fn sums_have_the_length_of_the_operand(rt: HostRuntime) {
+    let alloc = rt.alloc();
+    assert!(rt; turns(alloc, add(alloc, &[1, 0]), &[0xff], &[0, 1]));
+    assert!(rt; turns(alloc, add(alloc, &[1]), &[0xff, 7], &[0]));
+    assert!(rt; makes(alloc, add(alloc, &[5]), &[5]));
 }
 
 #[test]
-fn bits_are_those_of_the_fitted_value(rt: HostRuntime) -> Result<(), Fail> {
-    assert!(rt; leaves(rt.alloc(), Kind::And, &[0x0f, 0x0f], &[0xff], &[0x0f, 0])?);
-    assert!(rt; leaves(rt.alloc(), Kind::Or, &[], &[7], &[])?);
-    assert!(rt; leaves(rt.alloc(), Kind::Xor, &[0xff], &[0x0f, 1], &[0xf0])?);
-    Ok(())
+fn bits_are_those_of_the_fitted_value(rt: HostRuntime) {
+    let alloc = rt.alloc();
+    assert!(rt; turns(alloc, and(alloc, &[0x0f, 0x0f]), &[0xff], &[0x0f, 0]));
+    assert!(rt; turns(alloc, or(alloc, &[]), &[7], &[]));
+    assert!(rt; turns(alloc, xor(alloc, &[0xff]), &[0x0f, 1], &[0xf0]));
 }
 
 #[test]
-fn operand_stands_where_no_value_did(rt: HostRuntime) -> Result<(), Fail> {
-    assert!(rt; makes(rt.alloc(), Kind::And, &[0x0f], &[0x0f])?);
-    assert!(rt; makes(rt.alloc(), Kind::Xor, &[0xff], &[0xff])?);
-    assert!(rt; makes(rt.alloc(), Kind::Min, &[5], &[5])?);
-    Ok(())
+fn operand_stands_where_no_value_did(rt: HostRuntime) {
+    let alloc = rt.alloc();
+    assert!(rt; makes(alloc, and(alloc, &[0x0f]), &[0x0f]));
+    assert!(rt; makes(alloc, xor(alloc, &[0xff]), &[0xff]));
+    assert!(rt; makes(alloc, min(alloc, &[5]), &[5]));
 }
 
 #[test]
-fn numbers_are_compared_from_the_last_byte(rt: HostRuntime) -> Result<(), Fail> {
-    assert!(rt; leaves(rt.alloc(), Kind::Max, &[1, 2], &[0xff, 1], &[1, 2])?);
-    assert!(rt; leaves(rt.alloc(), Kind::Min, &[1, 2], &[0xff, 1], &[0xff, 1])?);
-    assert!(rt; leaves(rt.alloc(), Kind::Min, &[5, 0], &[9], &[5, 0])?);
-    Ok(())
+fn numbers_are_compared_from_the_last_byte(rt: HostRuntime) {
+    let alloc = rt.alloc();
+    assert!(rt; turns(alloc, max(alloc, &[1, 2]), &[0xff, 1], &[1, 2]));
+    assert!(rt; turns(alloc, min(alloc, &[1, 2]), &[0xff, 1], &[0xff, 1]));
+    assert!(rt; turns(alloc, min(alloc, &[5, 0]), &[9], &[5, 0]));
 }
 
 #[test]
-fn bytes_are_compared_from_the_first_one(rt: HostRuntime) -> Result<(), Fail> {
-    assert!(rt; leaves(rt.alloc(), Kind::ByteMax, &[1, 2], &[0xff, 1], &[0xff, 1])?);
-    assert!(rt; leaves(rt.alloc(), Kind::ByteMin, &[1, 2], &[0xff, 1], &[1, 2])?);
-    Ok(())
+fn bytes_are_compared_from_the_first_one(rt: HostRuntime) {
+    let alloc = rt.alloc();
+    assert!(rt; turns(alloc, byte_max(alloc, &[1, 2]), &[0xff, 1], &[0xff, 1]));
+    assert!(rt; turns(alloc, byte_min(alloc, &[1, 2]), &[0xff, 1], &[1, 2]));
 }
 
 #[test]
-fn only_an_equal_value_is_cleared(rt: HostRuntime) -> Result<(), Fail> {
-    assert!(rt; clears(rt.alloc(), Kind::CompareAndClear, &[7], &[7])?);
-    assert!(rt; leaves(rt.alloc(), Kind::CompareAndClear, &[7], &[8], &[8])?);
-    Ok(())
+fn only_an_equal_value_is_cleared(rt: HostRuntime) {
+    let alloc = rt.alloc();
+    assert!(rt; clears(alloc, compare_and_clear(alloc, &[7]), &[7]));
+    assert!(rt; turns(alloc, compare_and_clear(alloc, &[7]), &[8], &[8]));
 }
 
 #[test]
 fn ranges_are_read_in_both_orders(rt: HostRuntime) -> Result<(), Fail> {
-    let map = three_pairs(rt.alloc())?;
+    let mut map = PlainMap::new(rt.alloc());
+    assert!(rt; fill(&mut map, rt.alloc()));
     let first = pairs(&map, rt.alloc(), b"c", 1, false)?;
     let last = pairs(&map, rt.alloc(), b"c", 1, true)?;
     assert!(rt; is_pair(first.as_slice(), b"a", b"1"));
@@ -264,33 +367,27 @@ fn ranges_are_read_in_both_orders(rt: HostRuntime) -> Result<(), Fail> {
 
 #[test]
 fn other_keys_keep_their_values(rt: HostRuntime) -> Result<(), Fail> {
-    let mut map = three_pairs(rt.alloc())?;
-    apply_clear_range(&mut map, rt.alloc(), b"a", b"c")?;
+    let mut map = PlainMap::new(rt.alloc());
+    assert!(rt; fill(&mut map, rt.alloc()));
+    assert!(rt; applies(&mut map, clear_range(rt.alloc(), b"a", b"c")));
     let left = pairs(&map, rt.alloc(), b"z", 0, false)?;
     assert!(rt; is_pair(left.as_slice(), b"c", b"3"));
     Ok(())
 }
 
 #[test]
-fn clears_of_ranges_are_cut(rt: HostRuntime) -> Result<(), Fail> {
-    let clipped = clipped_clear(rt.alloc())?;
-    assert!(rt; is_clear_of(clipped.as_ref(), b"m", b"t"));
-    Ok(())
+fn mutations_are_cut(rt: HostRuntime) {
+    let alloc = rt.alloc();
+    assert!(rt; is_cut(alloc, clear_range(alloc, b"a", b"z"), Some((b"m", b"t"))));
+    assert!(rt; is_cut(alloc, set(alloc, b"b", b"one"), None));
+    assert_eq!(rt; code_and_size(set(alloc, b"b", b"one")), Some((0, 4)));
 }
 
 #[test]
-fn mutations_of_other_keys_are_cut_away(rt: HostRuntime) -> Result<(), Fail> {
-    let mutation = set(rt.alloc(), b"b", b"one")?;
-    let clipped = clipped(rt.alloc(), &mutation)?;
-    assert!(rt; clipped.is_none());
-    assert_eq!(rt; mutation.size(), 4);
-    Ok(())
-}
-
-#[test]
-fn copies_of_mutations_are_equal(rt: HostRuntime) -> Result<(), Fail> {
-    let mutation = set(rt.alloc(), b"a", b"one")?;
-    assert!(rt; equals_its_copy(&mutation)?);
-    assert!(rt; !is_clear_of_key(rt.alloc(), &mutation, b"a")?);
-    Ok(())
+fn copies_of_mutations_are_equal(rt: HostRuntime) {
+    let alloc = rt.alloc();
+    assert_eq!(rt;
+        compared(alloc, set(alloc, b"a", b"one")),
+        Some((true, false))
+    );
 }
