@@ -142,7 +142,7 @@ fn changes(
     }
 }
 
-// Whether the mutation makes just the one of the other.
+// Whether the mutation of a value, or of an absent one, leaves just what is expected.
 fn leaves(
     alloc: Global,
     mutation: Result<Mutation, Refusal>,
