@@ -169,7 +169,7 @@ apart_parts range ranges apart =
     × (begins_after range.end ranges ≡ true) = and_parts _ _ parts.0 in
     (of_range.0, of_range.1, parts.1)
 
-apart_from : (range : Range) (ranges : List Range) → point_lt range.begin range.end ≡ true
+pub apart_from : (range : Range) (ranges : List Range) → point_lt range.begin range.end ≡ true
     → begins_after range.end ranges ≡ true → is_apart ranges ≡ true
     → is_apart (range ∷ ranges) ≡ true
 apart_from range ranges some after apart =

@@ -6,6 +6,7 @@ pub mod PlaceLemmas
 pub mod PointOrder
 pub mod RangeMapLemmas
 pub mod RangesLemmas
+pub mod RemovalLemmas
 pub mod SingleLemmas
 pub mod SwallowedLemmas
 pub mod TextsLemmas

@@ -8,5 +8,6 @@ pub mod Points
 pub mod RangeMaps
 pub mod Ranges
 pub mod Refusals
+pub mod Removal
 pub mod Texts
 pub mod Touching

@@ -1,5 +1,10 @@
+ghost use Rattle.std.specs.Prelude.{◌≡◌, ◌++◌, OnOk, IsTrue};
+ghost use Rattle.fdb_keys.specs.Removal.{range_between};
+ghost use Rattle.fdb_keys.specs.Texts.{is_bound};
+
 use crate::key::Key;
 use crate::order::{greater_bound, have_common_point, is_after_ff, is_before, lesser_bound};
+use crate::range_set::RangeSet;
 use crate::refusal::Refusal;
 use bytes::Bytes;
 use std::alloc::{AllocError, Global};
@@ -32,12 +37,13 @@ impl Model for KeyRange {
 }
 
 impl KeyRange {
-    ghost use Rattle.std.specs.Prelude.{◌≡◌, Some, None, IfOk, IsTrue, ◌↔◌, ◌&&◌, Bool, true, false, IfOk};
+    ghost use Rattle.std.specs.Prelude.{◌≡◌, ◌++◌, Some, None, IfOk, OnOk, IsTrue, ◌↔◌, ◌&&◌, not, Bool, true, false};
     ghost use Rattle.fdb_keys.specs.Answers.{Answers};
     ghost use Rattle.fdb_keys.specs.Clipping.{clipped_range, in_clipped};
     ghost use Rattle.fdb_keys.specs.Insertion.{joined_range};
     ghost use Rattle.fdb_keys.specs.Points.{Point, point_eq, point_lt};
-    ghost use Rattle.fdb_keys.specs.Ranges.{in_range, single_range, is_empty_range, ranges_meet};
+    ghost use Rattle.fdb_keys.specs.Ranges.{in_range, in_set, single_range, is_apart, is_empty_range, ranges_meet};
+    ghost use Rattle.fdb_keys.specs.Removal.{range_between, range_minus};
     ghost use Rattle.fdb_keys.specs.Texts.{is_bound, range_fault};
 
     /// The range from `begin` up to but not including `end`. Refused as `KeyTooLarge` where a bound
@@ -149,6 +155,36 @@ impl KeyRange {
         Ok(Some(KeyRange { begin, end }))
     }
 
+    /// What is left of the range without the other one's points: nothing where the other one covers it, the range
+    /// itself where the two don't meet, and else what comes before the other one and what comes after it. Refused only
+    /// as `NoMemory`.
+    pub fn minus(&self, alloc: Global, other: &KeyRange) -> Result<RangeSet, Refusal>
+        ensures answers { Answers result None (λ left. left ≡ range_minus self.now other.now) }
+        ensures points { IfOk result (λ left. (x : Point)
+            → in_set left x ≡ (in_range self.now x && not (in_range other.now x))) }
+        ensures apart { IfOk result (λ left. IsTrue (is_apart left)) }
+    {
+        let mut left = Vec::new(alloc);
+        self.push_minus(other, &mut left)?;
+        Ok(RangeSet::from_ranges(left))
+    }
+
+    // Adds what is left of the range without the other one's points to the list.
+    pub(crate) fn push_minus(
+        &self,
+        other: &KeyRange,
+        left: &mut Vec<KeyRange>,
+    ) -> Result<(), AllocError>
+        ensures { OnOk result (left.new.items ≡ left.old.items ++ range_minus self.now other.now) }
+    {
+        if self.meets(other) {
+            push_between(&self.begin, &other.begin, left)?;
+            push_between(&other.end, &self.end, left)
+        } else {
+            push_between(&self.begin, &self.end, left)
+        }
+    }
+
     // The shortest range that holds both.
     pub(crate) fn joined(&self, other: &KeyRange) -> Result<KeyRange, AllocError>
         ensures { IfOk result (λ range. range ≡ joined_range self.now other.now) }
@@ -157,4 +193,22 @@ impl KeyRange {
         let end = greater_bound(&self.end, &other.end)?;
         Ok(KeyRange { begin, end })
     }
+}
+
+// Adds the points from the begin up to but not including the end to the list, as a range, if there are any.
+pub(crate) fn push_between(
+    begin: &Bytes,
+    end: &Bytes,
+    ranges: &mut Vec<KeyRange>,
+) -> Result<(), AllocError>
+    requires begin { IsTrue (is_bound begin.now) }
+    requires end { IsTrue (is_bound end.now) }
+    ensures { OnOk result (ranges.new.items ≡ ranges.old.items ++ range_between begin.now end.now) }
+{
+    if is_before(begin.as_slice(), end.as_slice()) {
+        let begin = begin.clone()?;
+        let end = end.clone()?;
+        ranges.push(KeyRange { begin, end })?;
+    }
+    Ok(())
 }
