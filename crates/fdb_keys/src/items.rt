@@ -44,6 +44,11 @@ impl<T> Items<T> {
         self.list
     }
 
+    // The allocator from which the list takes its memory.
+    pub(crate) fn allocator(&self) -> Global {
+        *self.list.allocator()
+    }
+
     /// The items as a slice.
     pub fn as_slice(&self) -> &[T]
         ensures { result.now ≡ self.now }

@@ -10,6 +10,7 @@ mod order;
 mod range_map;
 mod range_set;
 mod refusal;
+mod removal;
 #[cfg(test)]
 mod tests;
 mod tree_range_set;

@@ -2,6 +2,7 @@ use crate::insertion::{Joined, join};
 use crate::items::Items;
 use crate::key_range::KeyRange;
 use crate::refusal::Refusal;
+use crate::removal::without;
 use std::alloc::Global;
 use std::marker::Model;
 use std::slice;
@@ -26,12 +27,13 @@ impl Model for RangeSet {
 }
 
 impl RangeSet {
-    ghost use Rattle.std.specs.Prelude.{◌≡◌, ◌==◌, ◌||◌, [], length, IsTrue, None, OnOk, OnErr};
+    ghost use Rattle.std.specs.Prelude.{◌≡◌, ◌==◌, ◌||◌, ◌&&◌, not, [], length, IsTrue, None, OnOk, OnErr};
     ghost use Rattle.std.specs.Slice.Iter.{iter_rest};
     ghost use Rattle.fdb_keys.specs.Answers.{Answers};
     ghost use Rattle.fdb_keys.specs.Insertion.{with_range};
     ghost use Rattle.fdb_keys.specs.Points.{Point};
     ghost use Rattle.fdb_keys.specs.Ranges.{in_range, in_set, is_apart};
+    ghost use Rattle.fdb_keys.specs.Removal.{without_range};
 
     /// The empty set. It takes no memory.
     pub fn new(alloc: Global) -> Self
@@ -71,6 +73,18 @@ impl RangeSet {
         }
         let Joined { start, end, range } = join(self.ranges.as_slice(), range)?;
         self.ranges.replace(start, end, range)?;
+        Ok(())
+    }
+
+    /// Takes out the keys of the range. Refused only as `NoMemory`, and then nothing changes.
+    pub fn remove(&mut self, range: &KeyRange) -> Result<(), Refusal>
+        ensures answers { Answers result None
+            (λ _. (x : Point) → in_set self.new x ≡ (in_set self.old x && not (in_range range.now x))) }
+        ensures list { OnOk result (self.new ≡ without_range range.now self.old) }
+        ensures err { OnErr result (self.new ≡ self.old) }
+    {
+        let left = without(self.ranges.allocator(), self.ranges.as_slice(), range)?;
+        self.ranges = Items::from_vec(left);
         Ok(())
     }
 
