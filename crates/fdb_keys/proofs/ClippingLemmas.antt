@@ -13,7 +13,7 @@ use Rattle.fdb_keys.proofs.RangesLemmas.{in_range_parts, in_range_from, meet_fro
 use Rattle.fdb_keys.proofs.InsertionLemmas.{HasLegalBounds, lesser-left, lesser-right, greater-left, greater-right, below_lesser, greater_below, is_bound-lesser, is_bound-greater}
 
 -- the greater of two points is no later than what both are no later than
-greater_by : (x y z : Point) → point_lt z x ≡ false → point_lt z y ≡ false → point_lt z (greater_point x y) ≡ false
+pub greater_by : (x y z : Point) → point_lt z x ≡ false → point_lt z y ≡ false → point_lt z (greater_point x y) ≡ false
 greater_by x y z by_x by_y =
     ⊎_elim
     (λ before. ap (point_lt z) (cond-true _ _ _ before) ∙ by_y)

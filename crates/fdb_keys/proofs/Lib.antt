@@ -2,6 +2,7 @@ pub mod ApartLemmas
 pub mod ClippingLemmas
 pub mod InsertionLemmas
 pub mod LastLemmas
+pub mod OutsideLemmas
 pub mod PlaceLemmas
 pub mod PointOrder
 pub mod RangeMapLemmas

@@ -1,13 +1,13 @@
 -- Ranges in a map, each under its begin, as the list of the ranges.
-use Rattle.std.proofs.Common.{◌≡◌, ◌∙◌, sym, ap, refl, subst, Bool, true, false, not, ⊎_elim, Option, Some, None, is_some, List, [], ◌∷◌, ◌++◌, Less, Equal, Greater}
+use Rattle.std.proofs.Common.{◌≡◌, ◌∙◌, sym, ap, refl, subst, Bool, true, false, not, ◌&&◌, ⊎_elim, Option, Some, None, is_some, List, [], ◌∷◌, ◌++◌, Less, Equal, Greater}
 use Rattle.std.specs.BTreeMap.{insert_entry, is_at}
-use Rattle.std.specs.BTreeMap.Range.{entries_between}
+use Rattle.std.specs.BTreeMap.Range.{entries_between, range_contains}
 use Rattle.std.specs.Cmp.Lexicographic.{slice_cmp}
 use Rattle.std.specs.List.{AllByRecursion, filter, last_or}
 use Rattle.std.specs.Map.{keys_of, values_of, lookup, remove_entry}
-use Rattle.std.specs.Ordering.{nat_cmp, is_eq, match_ordering}
+use Rattle.std.specs.Ordering.{nat_cmp, is_eq, is_le, is_lt, match_ordering, ordering_reverse}
 use Rattle.std.specs.declared.cmp.Ordering.{Ordering}
-use Rattle.std.specs.declared.ops.Bound.TheVariants.{Included, Unbounded}
+use Rattle.std.specs.declared.ops.Bound.TheVariants.{Included, Excluded, Unbounded}
 use Rattle.std.proofs.lemmas.Bool.{cases_Bool, and_left, both_ways, cond-true, cond-false, not_from_true, not_from_false}
 use Rattle.std.proofs.lemmas.Cmp.{nat_list_cmp_total, tied_itself}
 use Rattle.fdb_keys.specs.Insertion.{inserted}
@@ -18,6 +18,7 @@ use Rattle.fdb_keys.specs.Ranges.{Range, is_apart}
 use Rattle.fdb_keys.proofs.PointOrder.{lt-itself, lt_one_way, cmp_less, cmp_greater, same_point}
 use Rattle.fdb_keys.proofs.InsertionLemmas.{apart_parts, inserted-before, inserted-joined, apart-inserted}
 use Rattle.fdb_keys.proofs.ApartLemmas.{all_after}
+use Rattle.fdb_keys.proofs.OutsideLemmas.{begins_inside}
 use Rattle.fdb_keys.proofs.SwallowedLemmas.{is_within, after_by, before_from, joined-same, inserted-swallows}
 use Rattle.fdb_keys.proofs.TouchedLemmas.{Fits, some_touched, touched_fits, inserted-touched}
 
@@ -57,6 +58,33 @@ under-filter p (entry ∷ entries) under =
     (under_from entry (filter (λ e. p e.0) entries) parts.0 (under-filter p entries parts.1)))
     (λ fails. subst AreUnderBegins (sym (cond-false _ _ _ fails)) (under-filter p entries parts.1))
     (cases_Bool (p entry.0))
+
+-- the ranges under the begins that come after the range's begin, and before its end
+not_past : (x y : Point) → not (is_le (slice_cmp nat_cmp y x)) ≡ point_lt x y
+unfolding point_lt
+not_past x y = ap (λ o. not (is_le o)) (nat_list_cmp_total.antisymm y x) ∙ turned (slice_cmp nat_cmp x y)
+  where
+    turned : (o : Ordering) → not (is_le (ordering_reverse o)) ≡ is_lt o
+    turned Less = refl
+    turned Equal = refl
+    turned Greater = refl
+
+inside_bounds : (range : Range) (x : Point)
+    → range_contains (slice_cmp nat_cmp) (Excluded range.begin) (Excluded range.end) x
+    ≡ (point_lt range.begin x && point_lt x range.end)
+unfolding point_lt
+inside_bounds range x = ap (λ (t : Bool). is_lt (slice_cmp nat_cmp range.begin x) && t) (not_past x range.end)
+
+pub values-inside : (range : Range) (begin end : Point) (entries found : Entries) → AreUnderBegins entries
+    → begin ≡ range.begin → end ≡ range.end
+    → found ≡ entries_between (slice_cmp nat_cmp) (Excluded begin) (Excluded end) entries
+    → values_of found ≡ filter (begins_inside range) (values_of entries)
+values-inside range begin end entries found under begins ends between =
+    let contains = range_contains (slice_cmp nat_cmp) (Excluded range.begin) (Excluded range.end) in
+    ap values_of between
+    ∙ (λ i. values_of (entries_between (slice_cmp nat_cmp) (Excluded (begins i)) (Excluded (ends i)) entries))
+    ∙ values-filter contains entries under
+    ∙ (λ i. filter (λ (r : Range). inside_bounds range r.begin i) (values_of entries))
 
 last_value : (entries : Entries) (entry : Point × Range) (other : Option Range)
     → last_or other (values_of (entries ++ entry ∷ [])) ≡ Some entry.1

@@ -1,7 +1,6 @@
--- Ranges without the points of others, and sets with those of others.
+-- Ranges without the points of others.
 use Rattle.std.specs.Prelude.{List, [], ◌∷◌, ◌++◌, if◌then◌else◌}
 use Rattle.std.specs.List.{flat_map, fold}
-use Rattle.fdb_keys.specs.Insertion.{with_range}
 use Rattle.fdb_keys.specs.Points.{Point, point_lt}
 use Rattle.fdb_keys.specs.Ranges.{Range, ranges_meet}
 
@@ -22,7 +21,3 @@ without_range range ranges = flat_map (λ held. range_minus held range) ranges
 -- what of the range lies in none of the ranges, each of which is taken out of what is left
 abbrev pub outside : List Range → Range → List Range
 outside ranges range = fold (λ left held. without_range held left) (range_between range.begin range.end) ranges
-
--- the set with the points of all ranges of the list too
-abbrev pub with_ranges : List Range → List Range → List Range
-with_ranges ranges set = fold (λ all range. with_range range all) set ranges

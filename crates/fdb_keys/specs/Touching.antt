@@ -1,7 +1,7 @@
 -- Which ranges of a sorted list a range touches, and what it becomes with them.
 use Rattle.std.specs.Prelude.{Bool, false, not, Option, Some, None, List, if◌then◌else◌}
 use Rattle.std.specs.List.{filter, last_or}
-use Rattle.fdb_keys.specs.Insertion.{joined_range}
+use Rattle.fdb_keys.specs.Insertion.{greater_point, joined_range}
 use Rattle.fdb_keys.specs.Points.{Point, point_lt}
 use Rattle.fdb_keys.specs.Ranges.{Range}
 
@@ -24,3 +24,8 @@ abbrev pub joined_with_touched : Range → List Range → Range
 joined_with_touched range ranges =
     let from_first = joined_where_touching range (last_by range.begin ranges) in
     joined_where_touching from_first (last_by from_first.end ranges)
+
+-- where the range goes on after the other one, which begins no later, if there is one
+abbrev pub begin_past : Range → Option Range → Point
+begin_past range None = range.begin
+begin_past range (Some other) = greater_point range.begin other.end

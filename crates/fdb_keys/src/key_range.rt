@@ -38,6 +38,7 @@ impl Model for KeyRange {
 
 impl KeyRange {
     ghost use Rattle.std.specs.Prelude.{◌≡◌, ◌++◌, Some, None, IfOk, OnOk, IsTrue, ◌↔◌, ◌&&◌, not, Bool, true, false};
+    ghost use Rattle.std.specs.Option.{option_copied};
     ghost use Rattle.fdb_keys.specs.Answers.{Answers};
     ghost use Rattle.fdb_keys.specs.Clipping.{clipped_range, in_clipped};
     ghost use Rattle.fdb_keys.specs.Insertion.{joined_range};
@@ -45,6 +46,7 @@ impl KeyRange {
     ghost use Rattle.fdb_keys.specs.Ranges.{in_range, in_set, single_range, is_apart, is_empty_range, ranges_meet};
     ghost use Rattle.fdb_keys.specs.Removal.{range_between, range_minus};
     ghost use Rattle.fdb_keys.specs.Texts.{is_bound, range_fault};
+    ghost use Rattle.fdb_keys.specs.Touching.{begin_past};
 
     /// The range from `begin` up to but not including `end`. Refused as `KeyTooLarge` where a bound
     /// exceeds 10,001 bytes, as `KeyOutsideLegalRange` where one comes after the one byte `FF`, and as
@@ -105,6 +107,7 @@ impl KeyRange {
     pub fn end_text(&self) -> &Bytes
         ensures value { result.now ≡ self.now.end }
         ensures order { point_lt self.now.end self.now.begin ≡ false }
+        ensures legal { IsTrue (is_bound self.now.end) }
     {
         &self.end
     }
@@ -182,6 +185,29 @@ impl KeyRange {
             push_between(&other.end, &self.end, left)
         } else {
             push_between(&self.begin, &self.end, left)
+        }
+    }
+
+    // Adds what lies between the point and the range's begin to the list.
+    pub(crate) fn push_before(
+        &self,
+        point: &Bytes,
+        ranges: &mut Vec<KeyRange>,
+    ) -> Result<(), AllocError>
+        requires { IsTrue (is_bound point.now) }
+        ensures { OnOk result (ranges.new.items ≡ ranges.old.items ++ range_between point.now self.now.begin) }
+    {
+        push_between(point, &self.begin, ranges)
+    }
+
+    // Where the range goes on after the other one, which begins no later, if there is one.
+    pub(crate) fn begin_past(&self, other: Option<&KeyRange>) -> Result<Bytes, AllocError>
+        ensures value { IfOk result (λ begin. begin ≡ begin_past self.now (option_copied other.entry)) }
+        ensures legal { IfOk result (λ begin. IsTrue (is_bound begin)) }
+    {
+        match other {
+            Some(other) => greater_bound(&self.begin, &other.end),
+            None => self.begin.clone(),
         }
     }
 

@@ -7,9 +7,10 @@ ghost use Rattle.std.specs.Ordering.{nat_cmp};
 ghost use Rattle.fdb_keys.specs.Points.{point_lt};
 ghost use Rattle.fdb_keys.specs.Ranges.{is_apart};
 ghost use Rattle.fdb_keys.specs.RangeMaps.{AreUnderBegins, HasAlso, begins_within, without};
+ghost use Rattle.fdb_keys.specs.Removal.{outside};
 ghost use Rattle.fdb_keys.specs.Touching.{last_by, ends_by, joined_where_touching, joined_with_touched};
 
-use crate::key_range::KeyRange;
+use crate::key_range::{KeyRange, push_between};
 use crate::order::is_before;
 use bytes::Bytes;
 use std::alloc::{AllocError, Global};
@@ -84,6 +85,29 @@ pub(crate) fn list_begins_within(
         begins.push(begin.clone()?)?;
     }
     Ok(begins)
+}
+
+// What of the range, which has a point, lies in none of the ranges.
+pub(crate) fn outside(
+    alloc: Global,
+    ranges: &BTreeMap<Bytes, KeyRange>,
+    range: &KeyRange,
+) -> Result<Vec<KeyRange>, AllocError>
+    requires some { IsTrue (point_lt range.now.begin range.now.end) }
+    requires keyed { AreUnderBegins ranges.now.entries }
+    requires apart { IsTrue (is_apart (values ranges.now)) }
+    ensures { IfOk result (λ left. left.items ≡ outside (values ranges.now) range.now) }
+{
+    let mut left = Vec::new(alloc);
+    let mut reached = range.begin_past(last_by(ranges, range.begin_text()))?;
+    let after = Bound::Excluded(range.begin_text());
+    let before = Bound::Excluded(range.end_text());
+    for (_begin, held) in ranges.range((after, before)) {
+        held.push_before(&reached, &mut left)?;
+        reached = held.end_text().clone()?;
+    }
+    push_between(&reached, range.end_text(), &mut left)?;
+    Ok(left)
 }
 
 // Puts the range under its begin, and takes out those under the other begins. Where memory runs out, nothing

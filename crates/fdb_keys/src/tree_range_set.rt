@@ -1,6 +1,8 @@
 use crate::key::Key;
 use crate::key_range::KeyRange;
-use crate::range_map::{add_both, is_held, join_touched, last_by, list_begins_within, replace};
+use crate::range_map::{
+    add_both, is_held, join_touched, last_by, list_begins_within, outside, replace,
+};
 use crate::range_set::RangeSet;
 use crate::refusal::Refusal;
 use bytes::Bytes;
@@ -32,12 +34,13 @@ impl Model for TreeRangeSet {
 }
 
 impl TreeRangeSet {
-    ghost use Rattle.std.specs.Prelude.{◌≡◌, ◌==◌, ◌<◌, ◌^◌, ◌||◌, [], length, IsTrue, None, OnOk, OnErr};
+    ghost use Rattle.std.specs.Prelude.{◌≡◌, ◌==◌, ◌<◌, ◌^◌, ◌||◌, ◌&&◌, not, [], length, IsTrue, None, IfOk, OnOk, OnErr};
     ghost use Rattle.std.specs.Map.Iter.{ShowsInOrder, deref};
     ghost use Rattle.fdb_keys.specs.Answers.{Answers};
     ghost use Rattle.fdb_keys.specs.Insertion.{with_range};
     ghost use Rattle.fdb_keys.specs.Points.{Point};
     ghost use Rattle.fdb_keys.specs.Ranges.{Range, in_range, in_set, is_apart};
+    ghost use Rattle.fdb_keys.specs.Removal.{outside};
 
     /// The empty set. It takes no memory.
     pub fn new(alloc: Global) -> Self
@@ -97,6 +100,21 @@ impl TreeRangeSet {
         }
         add_both(first.alloc, &mut first.ranges, &mut second.ranges, range)?;
         Ok(())
+    }
+
+    /// The parts of the range that are not in the set. It takes a look-up and what the set has inside the range.
+    /// Refused only as `NoMemory`.
+    pub fn outside(&self, alloc: Global, range: &KeyRange) -> Result<RangeSet, Refusal>
+        ensures answers { Answers result None (λ left. left ≡ outside self.now range.now) }
+        ensures points { IfOk result (λ left. (x : Point)
+            → in_set left x ≡ (in_range range.now x && not (in_set self.now x))) }
+        ensures apart { IfOk result (λ left. IsTrue (is_apart left)) }
+    {
+        if range.is_empty() {
+            return Ok(RangeSet::new(alloc));
+        }
+        let left = outside(alloc, &self.ranges, range)?;
+        Ok(RangeSet::from_ranges(left))
     }
 
     /// The ranges of the set: sorted, none touching the next, and none empty.
