@@ -133,6 +133,46 @@ fn push(items: &mut Items<u8>, byte: u8) -> bool {
     items.push(byte).is_ok()
 }
 
+fn is_list(set: &RangeSet, bounds: &[(&[u8], &[u8])]) -> bool {
+    let mut ranges = set.iter();
+    for (begin, end) in bounds {
+        match ranges.next() {
+            Some(range) if has_bounds(range, begin, end) => {}
+            _ => return false,
+        }
+    }
+    ranges.next().is_none()
+}
+
+// Whether the call gave the set of just the ranges with the bounds.
+fn gave(answer: Result<RangeSet, Refusal>, bounds: &[(&[u8], &[u8])]) -> bool {
+    match answer {
+        Ok(set) => is_list(&set, bounds),
+        Err(_why) => false,
+    }
+}
+
+// The range from a to d without the other one.
+fn a_to_d_minus(alloc: Global, begin: &[u8], end: &[u8]) -> Result<RangeSet, Refusal> {
+    let range = KeyRange::new(alloc, b"a", b"d")?;
+    let other = KeyRange::new(alloc, begin, end)?;
+    range.minus(alloc, &other)
+}
+
+fn remove(set: &mut RangeSet, alloc: Global, begin: &[u8], end: &[u8]) -> bool {
+    match KeyRange::new(alloc, begin, end) {
+        Ok(range) => set.remove(&range).is_ok(),
+        Err(_why) => false,
+    }
+}
+
+// What of the range from a to z is not in the set of the ranges.
+fn outside(alloc: Global, bounds: &[(&[u8], &[u8])]) -> Result<RangeSet, Refusal> {
+    let tree = tree_of(alloc, bounds)?;
+    let range = KeyRange::new(alloc, b"a", b"z")?;
+    tree.outside(alloc, &range)
+}
+
 #[test]
 fn keys_are_short_and_come_before_ff(rt: HostRuntime) -> Result<(), Fail> {
     assert_eq!(rt; long_key_code(rt.alloc(), 10_000)?, 0);
@@ -179,6 +219,34 @@ fn touching_ranges_are_joined(rt: HostRuntime) {
     assert!(rt; add_to_d(&mut set, rt.alloc()));
     assert!(rt; is_one_range(&set, b"a", b"d"));
     assert!(rt; !set.is_empty());
+}
+
+#[test]
+fn range_is_taken_out_of_another_one(rt: HostRuntime) {
+    let parts = [(b"a".as_slice(), b"b".as_slice()), (b"c", b"d")];
+    assert!(rt; gave(a_to_d_minus(rt.alloc(), b"b", b"c"), &parts));
+    assert!(rt; gave(a_to_d_minus(rt.alloc(), b"d", b"e"), &[(b"a", b"d")]));
+    assert!(rt; gave(a_to_d_minus(rt.alloc(), b"a", b"e"), &[]));
+}
+
+#[test]
+fn range_is_taken_out_of_a_set(rt: HostRuntime) {
+    let alloc = rt.alloc();
+    let mut set = RangeSet::new(alloc);
+    assert!(rt; add_to_d(&mut set, alloc));
+    assert!(rt; remove(&mut set, alloc, b"b", b"c"));
+    assert!(rt; is_list(&set, &[(b"a", b"b"), (b"c", b"d")]));
+}
+
+#[test]
+fn range_has_parts_outside_a_tree(rt: HostRuntime) {
+    let held = [(b"b".as_slice(), b"c".as_slice()), (b"d", b"e")];
+    let parts = [
+        (b"a".as_slice(), b"b".as_slice()),
+        (b"c", b"d"),
+        (b"e", b"z"),
+    ];
+    assert!(rt; gave(outside(rt.alloc(), &held), &parts));
 }
 
 #[test]
