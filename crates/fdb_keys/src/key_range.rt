@@ -158,9 +158,9 @@ impl KeyRange {
         Ok(Some(KeyRange { begin, end }))
     }
 
-    /// What is left of the range without the other one's points: nothing where the other one covers it, the range
-    /// itself where the two don't meet, and else what comes before the other one and what comes after it. Refused only
-    /// as `NoMemory`.
+    /// What is left of the range without the other one's points: nothing where the other one covers it or it has no
+    /// point, the range itself where the two don't meet, and else what comes before the other one and what comes after
+    /// it. Refused only as `NoMemory`.
     pub fn minus(&self, alloc: Global, other: &KeyRange) -> Result<RangeSet, Refusal>
         ensures answers { Answers result None (λ left. left ≡ range_minus self.now other.now) }
         ensures points { IfOk result (λ left. (x : Point)
