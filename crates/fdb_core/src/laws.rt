@@ -44,8 +44,8 @@ pub fn gets_are_refused_exactly_where_the_shard_does_not_serve()
 
 /// A trace determines the machine: a world that stands for a list of steps with their answers shows the machine
 /// that the list takes the first one to, an accepted step after another. And what the machine has of the entries, of
-/// the transaction that each session has open and the number of its next one, of transactions that wait, are in flight or
-/// are acknowledged, and of versions that were reported, is what is read off the steps and their answers.
+/// the transaction that each session has open and the number of its next one, of transactions that wait, are in flight
+/// or are acknowledged, and of versions that were reported, is what is read off the steps and their answers.
 pub fn traces_determine_the_machine()
     ensures determined { TracesDetermineTheMachine }
     ensures told { WorldsShowWhatIsTold }

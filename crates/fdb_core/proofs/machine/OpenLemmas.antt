@@ -64,7 +64,8 @@ answers-follow (Err why) None P Q follows holds = holds
 answers-follow (Err why) (Some fault) P Q follows holds = holds
 
 -- what holds after a refused call follows too
-pub refused-follows : {T : Type 0} (result : Result T Refusal) (P Q : Type 0) → (P → Q) → OnErr result P → OnErr result Q
+pub refused-follows : {T : Type 0} (result : Result T Refusal) (P Q : Type 0) → (P → Q) → OnErr result P
+    → OnErr result Q
 refused-follows (Ok given) P Q follows holds = holds
 refused-follows (Err why) P Q follows holds = follows holds
 
@@ -73,7 +74,8 @@ pub given-follows : {T : Type 0} (result : Result T Refusal) (P Q : Type 0) → 
 given-follows (Ok given) P Q follows holds = follows holds
 given-follows (Err why) P Q follows holds = holds
 
-module _ (pairs : List (ℕ × Session)) (sessions : Sessions) (number : ℕ) (is : from_entries {R = nat_cmp} pairs ≡ sessions)
+module _ (pairs : List (ℕ × Session)) (sessions : Sessions) (number : ℕ)
+    (is : from_entries {R = nat_cmp} pairs ≡ sessions)
   where
     -- one that did nothing yet has no open transaction
     pub open-none : None ≡ at_number pairs number → open_at sessions number ≡ None
@@ -89,7 +91,8 @@ module _ (pairs : List (ℕ × Session)) (sessions : Sessions) (number : ℕ) (i
 
       -- and with another state there, so are the sessions
       pub state-put : (after : List (ℕ × Session)) (new : Session) (state : SessionState)
-          → ((other : ℕ) → at_number after other ≡ cond (is_at (nat_cmp number) other) (Some new) (at_number pairs other))
+          → ((other : ℕ)
+          → at_number after other ≡ cond (is_at (nat_cmp number) other) (Some new) (at_number pairs other))
           → new ≡ at_state known state → from_entries {R = nat_cmp} after ≡ with_state sessions number state
       state-put after new state put changed =
           one_put pairs after number new put
@@ -98,7 +101,8 @@ module _ (pairs : List (ℕ × Session)) (sessions : Sessions) (number : ℕ) (i
 
       -- where it is left as it is, so are the sessions
       pub state-kept : (after : List (ℕ × Session)) (new : Session)
-          → after ≡ set_value (is_at (nat_cmp number)) pairs new → new ≡ known → from_entries {R = nat_cmp} after ≡ sessions
+          → after ≡ set_value (is_at (nat_cmp number)) pairs new → new ≡ known
+          → from_entries {R = nat_cmp} after ≡ sessions
       state-kept after new put same =
           ap (λ (list : List (ℕ × Session)). from_entries {R = nat_cmp} list)
           (put ∙ set_value_same (is_at (nat_cmp number)) pairs new

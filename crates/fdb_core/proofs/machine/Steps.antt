@@ -170,7 +170,8 @@ module _ (R : Machine → Step → Answered → Machine → Type 0) (holds : Hol
 
   -- it holds of every accepted step
   pub holds-next : (m : Machine) (taken : Step) → IfAccepted (Leads m taken) (next m taken)
-  unfolding asks grants gets writes adds_read adds_write submits seals resolves receives decides pushes reports answers pulls
+  unfolding asks grants gets writes adds_read adds_write submits seals resolves receives decides pushes reports answers
+      pulls
   holds-next m (step.Ask session proxy) =
       past-found _ (slice_get m.grv_proxies proxy) _ (λ there at.
       past-test _ (is_busy (session_of m.sessions session).state) _ _

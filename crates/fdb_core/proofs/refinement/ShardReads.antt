@@ -47,7 +47,8 @@ module _ (k : Cluster) (before : Refines k) (version : ℕ) where
 
   -- the shard that holds a key is the one shard
   pub fault-there : (key : Point)
-      → shard_fault k.book.items version (slice_get k.shards.items (first_owner k.config.shard_splits key)) ≡ fault_there
+      → shard_fault k.book.items version (slice_get k.shards.items (first_owner k.config.shard_splits key))
+      ≡ fault_there
   fault-there key =
       ap (λ (shards : List ShardProgress).
       shard_fault k.book.items version (slice_get shards (first_owner k.config.shard_splits key))) before.log.one_shard

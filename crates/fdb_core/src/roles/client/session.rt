@@ -109,7 +109,8 @@ impl Session {
     pub(crate) fn write(&mut self, mutation: &Mutation) -> Result<(), Refusal>
         ensures answers { OfOpen (open_of self.old.state) result (λ transcript. Answers result
             (mutation_fault mutation.now)
-            (λ _. self.new ≡ at_state self.old (Open (with_op transcript (operation.Write mutation.now) answer.Done)))) }
+            (λ _. self.new ≡ at_state self.old
+            (Open (with_op transcript (operation.Write mutation.now) answer.Done)))) }
         ensures err { OnErr result (self.new ≡ self.old) }
     {
         match &mut self.state {
@@ -133,7 +134,8 @@ impl Session {
     /// Its open transaction adds a range to its write set.
     pub(crate) fn add_write(&mut self, range: &KeyRange) -> Result<(), Refusal>
         ensures answers { OfOpen (open_of self.old.state) result (λ transcript. Answers result None
-            (λ _. self.new ≡ at_state self.old (Open (with_op transcript (operation.AddWrite range.now) answer.Done)))) }
+            (λ _. self.new ≡ at_state self.old
+            (Open (with_op transcript (operation.AddWrite range.now) answer.Done)))) }
         ensures err { OnErr result (self.new ≡ self.old) }
     {
         match &mut self.state {

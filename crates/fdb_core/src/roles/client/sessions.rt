@@ -169,8 +169,8 @@ impl Sessions {
         known.get(snapshot, key, is_snapshot)
     }
 
-    /// The session's open transaction buffers a copy of the mutation, as `Txn::write` does. Refused as `NoTransaction` where there
-    /// is none.
+    /// The session's open transaction buffers a copy of the mutation, as `Txn::write` does. Refused as `NoTransaction`
+    /// where there is none.
     pub(crate) fn write(&mut self, session: u32, mutation: &Mutation) -> Result<(), Refusal>
         ensures answers { OfOpen (open_at self.old session) result (λ transcript. Answers result
             (mutation_fault mutation.now)

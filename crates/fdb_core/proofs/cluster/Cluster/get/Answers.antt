@@ -31,7 +31,8 @@ opened : (c : After-get) → open_at c.args.self.now.sessions c.args.session ≡
 opened c = sym c.in-Some.ensures
 
 -- how far the shard is
-reaches : (c : After-get) → c.index-progress.result.now ≡ progress c.args.self.now c.requires c.in-Some.txn.now.read_version
+reaches : (c : After-get)
+    → c.index-progress.result.now ≡ progress c.args.self.now c.requires c.in-Some.txn.now.read_version
 reaches c =
     c.index-progress.ensures
     ∙ ap (λ (shards : List ShardProgress). get_or shards 0 c.index-progress.result.now) c.requires.log.one_shard
@@ -74,8 +75,8 @@ given : (c : In_ok-value)
     × (c.get.new.self ≡ with_state c.args.self.now.sessions c.args.session
     (Open (with_op c.in-Some.txn.now (op.Get c.args.key.now c.args.snapshot) (reply.Value c.in_ok-value.value)))))
 given c = answers-fault _ c.in_ok-value.value _
-    (at-open (open_at c.args.self.now.sessions c.args.session) c.in-Some.txn.now (Ok c.in_ok-value.value) _ (opened c.before.before)
-    c.in_ok-value.ensures.answers)
+    (at-open (open_at c.args.self.now.sessions c.args.session) c.in-Some.txn.now (Ok c.in_ok-value.value) _
+    (opened c.before.before) c.in_ok-value.ensures.answers)
 
 -- the transition that the machine makes
 turn_of : (c : In_ok-value) → gets (machine_of c.args.self.now) c.args.session c.args.key.now c.args.snapshot
@@ -107,7 +108,8 @@ returns-clause-refines c =
     let k = c.args.self.now in
     refines-sessions k _ _ _ c.requires
     (rw (given c).1.1
-    (opened-with_op k.sequencer.committed k.sessions c.args.session c.in-Some.txn.now _ _ c.requires.opened (opened c.before.before)))
+    (opened-with_op k.sequencer.committed k.sessions c.args.session c.in-Some.txn.now _ _ c.requires.opened
+    (opened c.before.before)))
 
 -- where the key is not read, the machine refuses with the same fault, unless memory ran out
 refused : (c : In_err-value) → Unless (ran_out (Err c.in_err-value.field-0.0))
