@@ -1,3 +1,5 @@
 pub mod Effects
 pub mod MapsLemmas
 pub mod NumbersLemmas
+pub mod OrderedLemmas
+pub mod PairsLemmas

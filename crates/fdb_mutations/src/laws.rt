@@ -4,6 +4,7 @@ ghost use Rattle.std.specs.Bool.{Decides};
 ghost use Rattle.fdb_mutations.specs.Equality.{mutation_eq};
 ghost use Rattle.fdb_mutations.specs.Examples.{WorkedExamples};
 ghost use Rattle.fdb_mutations.specs.Mutations.{EffectAtEveryPoint, BlindIsBlind, RangesAreCleared};
+ghost use Rattle.fdb_mutations.specs.PairLaws.{RangeHasThePairsOfItsParts, KeyHasItsPair, SameValuesSamePairs, NoValuesNoPairs};
 
 use crate::mutation::Mutation;
 
@@ -21,6 +22,22 @@ pub fn blind_is_blind()
 /// A mutation that names a range clears it.
 pub fn ranges_are_cleared()
     ensures { RangesAreCleared }
+{}
+
+/// The pairs of a range are those of its two parts, one after the other, wherever it is cut.
+pub fn range_has_the_pairs_of_its_parts()
+    ensures { RangeHasThePairsOfItsParts }
+{}
+
+/// The range of one key has the pair of that key, or none where the key has no value.
+pub fn key_has_its_pair()
+    ensures { KeyHasItsPair }
+{}
+
+/// Maps with the same value at each point of a range have the same pairs in it, and none where there is no value.
+pub fn values_decide_the_pairs()
+    ensures same { SameValuesSamePairs }
+    ensures none { NoValuesNoPairs }
 {}
 
 /// What mutations leave of some values.
