@@ -3,3 +3,4 @@ pub mod MapsLemmas
 pub mod NumbersLemmas
 pub mod OrderedLemmas
 pub mod PairsLemmas
+pub mod ScannedLemmas

@@ -1,6 +1,6 @@
 -- Lists in an order, and what filters keep of them.
 use Rattle.std.specs.Prelude.{⊤}
-use Rattle.std.proofs.Common.{◌≡◌, ◌∙◌, sym, ap, ap₂, refl, subst, ℕ, ◌-◌, Bool, true, false, not, ◌&&◌, cond, List, [], ◌∷◌, ◌++◌, length, reverse, filter, Option, Some, None, arith}
+use Rattle.std.proofs.Common.{◌≡◌, ◌∙◌, sym, ap, ap₂, refl, subst, ℕ, zero, suc, ◌-◌, Bool, true, false, not, ◌&&◌, cond, List, [], ◌∷◌, ◌++◌, length, reverse, filter, Option, Some, None, arith}
 use Rattle.std.specs.List.{AllByRecursion, slice_get}
 use Rattle.std.proofs.lemmas.Bool.{cond_both, cond-true, cond-false, not_from_false}
 use Rattle.std.proofs.lemmas.List.{append-nil, append_assoc, reverse-append}
@@ -34,11 +34,25 @@ all_behind : {A : Type 0} (P : A → Type 0) (xs ys : List A) → AllByRecursion
 all_behind P [] ys all = all
 all_behind P (x ∷ xs) ys all = all_behind P xs ys all.1
 
-all-reverse : {A : Type 0} (P : A → Type 0) (xs : List A) → AllByRecursion P xs → AllByRecursion P (reverse xs)
+pub all-reverse : {A : Type 0} (P : A → Type 0) (xs : List A) → AllByRecursion P xs → AllByRecursion P (reverse xs)
 all-reverse P [] all = tt
 all-reverse P (x ∷ xs) all =
     subst (AllByRecursion P) (sym (reverse-append (x ∷ []) xs))
     (all-append P (reverse xs) (x ∷ []) (all-reverse P xs all.1) (all.0, tt))
+
+pub all-passes : {A : Type 0} (test : A → Bool) (xs : List A) → AllByRecursion (λ x. test x ≡ true) (filter test xs)
+all-passes test [] = tt
+all-passes test (x ∷ xs) =
+    let rest = all-passes test xs in
+    cond_both (test x) (x ∷ filter test xs) (filter test xs) (AllByRecursion (λ y. test y ≡ true))
+    (λ passes. (passes, rest)) (λ fails. rest)
+
+-- of two lists, one after the other, at a place in the first
+pub all_at : {A : Type 0} (P : A → Type 0) (xs ys : List A) (i : ℕ) (x : A) → slice_get xs i ≡ Some x
+    → AllByRecursion P (xs ++ ys) → P x
+all_at P [] ys i x is all = absurd (none-some x is)
+all_at P (y ∷ xs) ys zero x is all = subst P (same_Some y x is) all.0
+all_at P (y ∷ xs) ys (suc i) x is all = all_at P xs ys i x is all.1
 
 -- ---- lists in an order
 pub ordered-filter : {A : Type 0} (before : A → A → Bool) (test : A → Bool) (xs : List A) → AreOrdered before xs
@@ -119,6 +133,10 @@ parted before test falls (x ∷ xs) ordered =
     ] refl
 
 -- ---- the first items of a list, up to a last one
+pub last_of : {A : Type 0} (x : A) (xs : List A) → (last : A) × (slice_get (x ∷ xs) (length xs) ≡ Some last)
+last_of x [] = (x, refl)
+last_of x (y ∷ ys) = last_of y ys
+
 split_last : {A : Type 0} (x : A) (xs : List A) (last : A) → slice_get (x ∷ xs) (length xs) ≡ Some last
     → (front : List A) × (x ∷ xs ≡ front ++ last ∷ [])
 split_last x [] last is = ([], ap (λ y. y ∷ []) (same_Some x last is))

@@ -18,7 +18,7 @@ use Rattle.fdb_keys.proofs.SingleLemmas.{in_range-single}
 use Rattle.fdb_mutations.specs.Maps.{Map}
 use Rattle.fdb_mutations.specs.Pairs.{pairs_within, pairs_in}
 use Rattle.fdb_mutations.specs.PairLaws.{RangeHasThePairsOfItsParts, KeyHasItsPair, AgreeIn, SameValuesSamePairs, NoValuesNoPairs, pair_of}
-use Rattle.fdb_mutations.proofs.OrderedLemmas.{AreOrdered, ordered-filter, ordered-reverse, filter-reverse, filter_both, parted}
+use Rattle.fdb_mutations.proofs.OrderedLemmas.{AreOrdered, all-passes, all-reverse, ordered-filter, ordered-reverse, filter-reverse, filter_both, parted}
 
 -- ---- the pairs are in the order of their keys
 true_from_T : (b : Bool) → T b → b ≡ true
@@ -51,6 +51,14 @@ pub ordered-pairs_in : (map : Map) (range : Range) (is_reverse : Bool)
     → AreOrdered (λ a b. comes_before is_reverse a.0 b.0) (pairs_in map range is_reverse)
 ordered-pairs_in map range false = ordered-within map range
 ordered-pairs_in map range true = ordered-reverse (λ a b. point_lt a.0 b.0) _ (ordered-within map range)
+
+-- and their keys lie in the range
+pub all_in-pairs_in : (map : Map) (range : Range) (is_reverse : Bool)
+    → AllByRecursion (λ pair. in_range range pair.0 ≡ true) (pairs_in map range is_reverse)
+all_in-pairs_in map range false = all-passes (λ pair. in_range range pair.0) (entries map)
+all_in-pairs_in map range true =
+    all-reverse (λ pair. in_range range pair.0 ≡ true) (pairs_within range (entries map))
+    (all-passes (λ pair. in_range range pair.0) (entries map))
 
 -- ---- a part of a range
 within-part : (map : Map) (range part : Range) (test : Point → Bool)

@@ -4,7 +4,7 @@ ghost use Rattle.std.specs.Bool.{Decides};
 ghost use Rattle.fdb_mutations.specs.Equality.{mutation_eq};
 ghost use Rattle.fdb_mutations.specs.Examples.{WorkedExamples};
 ghost use Rattle.fdb_mutations.specs.Mutations.{EffectAtEveryPoint, BlindIsBlind, RangesAreCleared};
-ghost use Rattle.fdb_mutations.specs.PairLaws.{RangeHasThePairsOfItsParts, KeyHasItsPair, SameValuesSamePairs, NoValuesNoPairs};
+ghost use Rattle.fdb_mutations.specs.PairLaws.{RangeHasThePairsOfItsParts, KeyHasItsPair, SameValuesSamePairs, NoValuesNoPairs, ScannedLiesInTheRange, ScannedHasWhatWasGiven, ScannedDecidesWhatIsGiven};
 
 use crate::mutation::Mutation;
 
@@ -38,6 +38,14 @@ pub fn key_has_its_pair()
 pub fn values_decide_the_pairs()
     ensures same { SameValuesSamePairs }
     ensures none { NoValuesNoPairs }
+{}
+
+/// What a read of a range scanned lies in the range, has just the pairs that the read was given, and decides these: a
+/// map with the same values there gives the same.
+pub fn scanned_decides_what_is_given()
+    ensures inside { ScannedLiesInTheRange }
+    ensures given { ScannedHasWhatWasGiven }
+    ensures decided { ScannedDecidesWhatIsGiven }
 {}
 
 /// What mutations leave of some values.
