@@ -7,6 +7,7 @@ pub mod Mutations
 pub mod Naming
 pub mod Numbers
 pub mod Operands
+pub mod PairExamples
 pub mod PairLaws
 pub mod Pairs
 pub use Rattle.fdb_keys.specs.Answers

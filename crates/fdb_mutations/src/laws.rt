@@ -4,6 +4,7 @@ ghost use Rattle.std.specs.Bool.{Decides};
 ghost use Rattle.fdb_mutations.specs.Equality.{mutation_eq};
 ghost use Rattle.fdb_mutations.specs.Examples.{WorkedExamples};
 ghost use Rattle.fdb_mutations.specs.Mutations.{EffectAtEveryPoint, BlindIsBlind, RangesAreCleared};
+ghost use Rattle.fdb_mutations.specs.PairExamples.{WorkedReads};
 ghost use Rattle.fdb_mutations.specs.PairLaws.{RangeHasThePairsOfItsParts, KeyHasItsPair, SameValuesSamePairs, NoValuesNoPairs, ScannedLiesInTheRange, ScannedHasWhatWasGiven, ScannedDecidesWhatIsGiven};
 
 use crate::mutation::Mutation;
@@ -51,6 +52,11 @@ pub fn scanned_decides_what_is_given()
 /// What mutations leave of some values.
 pub fn worked_examples()
     ensures { WorkedExamples }
+{}
+
+/// What reads of some ranges are given and scanned.
+pub fn worked_reads()
+    ensures { WorkedReads }
 {}
 
 /// Two mutations are equal exactly where they are the same.
