@@ -1,6 +1,6 @@
 -- Lists in an order, and what filters keep of them.
 use Rattle.std.specs.Prelude.{⊤}
-use Rattle.std.proofs.Common.{◌≡◌, ◌∙◌, sym, ap, ap₂, refl, subst, ℕ, zero, suc, ◌-◌, Bool, true, false, not, ◌&&◌, cond, List, [], ◌∷◌, ◌++◌, length, reverse, filter, Option, Some, None, arith}
+use Rattle.std.proofs.Common.{◌≡◌, ◌∙◌, sym, ap, ap₂, refl, subst, ℕ, zero, suc, ◌-◌, Bool, true, false, not, ◌&&◌, cond, List, [], ◌∷◌, ◌++◌, length, reverse, filter, Some, arith}
 use Rattle.std.specs.List.{AllByRecursion, slice_get}
 use Rattle.std.proofs.lemmas.Bool.{cond_both, cond-true, cond-false, not_from_false}
 use Rattle.std.proofs.lemmas.List.{append-nil, append_assoc, reverse-append}
@@ -13,10 +13,10 @@ AreOrdered before [] = ⊤
 AreOrdered before (x ∷ xs) = AllByRecursion (λ y. before x y ≡ true) xs × AreOrdered before xs
 
 -- ---- what holds of each item
-all_from : {A : Type 0} {P Q : A → Type 0} → ((a : A) → P a → Q a) → (xs : List A) → AllByRecursion P xs
+all-map : {A : Type 0} {P Q : A → Type 0} → ((a : A) → P a → Q a) → (xs : List A) → AllByRecursion P xs
     → AllByRecursion Q xs
-all_from step [] all = tt
-all_from step (x ∷ xs) all = (step x all.0, all_from step xs all.1)
+all-map step [] all = tt
+all-map step (x ∷ xs) all = (step x all.0, all-map step xs all.1)
 
 all-filter : {A : Type 0} (P : A → Type 0) (test : A → Bool) (xs : List A) → AllByRecursion P xs
     → AllByRecursion P (filter test xs)
@@ -127,9 +127,9 @@ parted before test falls (x ∷ xs) ordered =
     → x ∷ xs ≡ cond b (x ∷ filter test xs) (filter test xs) ++ cond (not b) (x ∷ others) others) [
       | true ↦ λ passes. ap (λ ys. x ∷ ys) (parted before test falls xs ordered.1)
       | false ↦ λ fails.
-          let fail = all_from (λ y later. falls x y later fails) xs ordered.0 in
+          let fail = all-map (λ y later. falls x y later fails) xs ordered.0 in
           sym (ap₂ (λ ys zs. ys ++ x ∷ zs) (filter_none test xs fail)
-          (filter_all (λ y. not (test y)) xs (all_from (λ y failed. not_from_false (test y) failed) xs fail)))
+          (filter_all (λ y. not (test y)) xs (all-map (λ y failed. not_from_false (test y) failed) xs fail)))
     ] refl
 
 -- ---- the first items of a list, up to a last one
@@ -150,7 +150,7 @@ through_last : {A : Type 0} (before : A → A → Bool) → ((x : A) → before 
 through_last before itself one_way [] last rest ordered =
     cond-true _ _ _ (not_from_false _ (itself last))
     ∙ ap (λ ys. last ∷ ys)
-    (filter_none (λ x. not (before last x)) rest (all_from (λ x later. ap not later) rest ordered.0))
+    (filter_none (λ x. not (before last x)) rest (all-map (λ x later. ap not later) rest ordered.0))
 through_last before itself one_way (x ∷ front) last rest ordered =
     let later = all_behind (λ y. before x y ≡ true) front (last ∷ rest) ordered.0 in
     cond-true _ _ _ (not_from_false _ (one_way x last later.0))

@@ -1,5 +1,5 @@
 -- What a read of a range scanned: the pairs that it was given, and no other.
-use Rattle.std.proofs.Common.{◌≡◌, ◌∙◌, sym, ap, ap₂, refl, subst, ℕ, ◌-◌, ◌<◌, ◌≤◌, Bool, true, false, not, ◌&&◌, cond, List, [], ◌∷◌, ◌++◌, length, take, drop, filter, Option, Some, None, nat_eq, if◌then◌else◌, ⊎_elim, arith}
+use Rattle.std.proofs.Common.{◌≡◌, ◌∙◌, sym, ap, refl, subst, ℕ, ◌-◌, ◌<◌, Bool, true, false, not, ◌&&◌, List, [], ◌∷◌, ◌++◌, length, take, drop, filter, Some, nat_eq, ⊎_elim, arith}
 use Rattle.std.specs.Cmp.{both_ways as same_tests}
 use Rattle.std.specs.Cmp.Lexicographic.{bytes_decides}
 use Rattle.std.specs.List.{AllByRecursion, slice_get}
@@ -11,7 +11,7 @@ use Rattle.fdb_keys.proofs.PointOrder.{lt-itself, lt_one_way, lt_chain, le_lt_ch
 use Rattle.fdb_keys.proofs.RangesLemmas.{in_range_parts, in_range_from}
 use Rattle.fdb_keys.proofs.SingleLemmas.{in_range-single}
 use Rattle.fdb_mutations.specs.Maps.{Map}
-use Rattle.fdb_mutations.specs.Pairs.{pairs_in, first_of, is_limit_reached, part_to_last, scanned}
+use Rattle.fdb_mutations.specs.Pairs.{pairs_in, first_of, is_limit_reached, part_to_last}
 use Rattle.fdb_mutations.specs.PairLaws.{given_of, scanned_of, ScannedLiesInTheRange, ScannedHasWhatWasGiven, ScannedDecidesWhatIsGiven}
 use Rattle.fdb_mutations.proofs.OrderedLemmas.{all_at, parted, kept_through_last, last_of}
 use Rattle.fdb_mutations.proofs.PairsLemmas.{comes_before, ordered-pairs_in, all_in-pairs_in, pairs_in-part, in_after, same_values}
@@ -70,7 +70,8 @@ before_chain false x y z first second = lt_chain x y z first second
 -- ---- a part that was read
 -- The part has the points of the range that pass a test, which none passes behind one that fails. The pairs at such
 -- points are those that were given, and are enough for the limit, if others follow.
-record IsRead (range : Range) (is_reverse : Bool) (limit : ℕ) (pairs given : List (Point × List ℕ)) (part : Range) : Type 0 where
+record IsRead (range : Range) (is_reverse : Bool) (limit : ℕ) (pairs given : List (Point × List ℕ)) (part : Range)
+    : Type 0 where
   test : Point → Bool
   inside : (x : Point) → in_range part x ≡ (in_range range x && test x)
   falls : (x y : Point) → comes_before is_reverse x y ≡ true → test x ≡ false → test y ≡ false
