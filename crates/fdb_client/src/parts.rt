@@ -1,5 +1,5 @@
 // What a transaction keeps, and how each operation changes it.
-ghost use Rattle.std.specs.Prelude.{◌≡◌, not, ◌&&◌, [], ◌∷◌, ◌++◌, None, IfOk, IfErr, OnOk, OnErr, if◌then◌else◌};
+ghost use Rattle.std.specs.Prelude.{◌≡◌, true, not, ◌&&◌, [], ◌∷◌, ◌++◌, None, IfOk, IfErr, IsOk, OnOk, OnErr, if◌then◌else◌};
 ghost use Rattle.std.specs.FinMap.{get};
 ghost use Rattle.std.specs.Option.{option_copied};
 ghost use Rattle.fdb_keys.specs.Answers.{Answers, AnswersOrHandsBack, AnswersExactlyOrHandsBack};
@@ -239,12 +239,13 @@ impl Parts {
         Ok((reads, writes))
     }
 
-    // What is left to do of it: nothing, or to commit it. A refusal hands it back.
+    // What is left to do of it: nothing, which takes no memory, or to commit it. A refusal hands it back.
     pub(crate) fn finish(self) -> Result<Finished, Refused<Parts>>
         requires { AreKept self }
         ensures answers { AnswersOrHandsBack result self (finish_fault result self.transcript)
             (IsFinished self.transcript) }
         ensures back { IfErr result (λ refused. refused.back ≡ self) }
+        ensures read_only { is_read_only self.transcript ≡ true → IsOk result }
     {
         if self.is_read_only() {
             return Ok(Finished::ReadOnly(self.transcript));

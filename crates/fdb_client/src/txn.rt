@@ -31,7 +31,7 @@ impl Model for Txn {
 }
 
 impl Txn {
-    ghost use Rattle.std.specs.Prelude.{◌≡◌, [], None, IfOk, OnOk, OnErr, if◌then◌else◌};
+    ghost use Rattle.std.specs.Prelude.{◌≡◌, true, [], None, IfOk, IsOk, OnOk, OnErr, if◌then◌else◌};
     ghost use Rattle.std.specs.FinMap.{get};
     ghost use Rattle.fdb_keys.specs.Answers.{Answers, AnswersOrHandsBack};
     ghost use Rattle.fdb_keys.specs.Points.{Point};
@@ -40,7 +40,7 @@ impl Txn {
     ghost use Rattle.fdb_mutations.specs.Mutations.{mutation_fault};
     ghost use Rattle.fdb_client.specs.Finishing.{finish_fault, IsFinished};
     ghost use Rattle.fdb_client.specs.Parts.{with_op};
-    ghost use Rattle.fdb_client.specs.Programs.{program, copy, decided, read_set, write_set, read_ranges, write_ranges};
+    ghost use Rattle.fdb_client.specs.Programs.{program, copy, decided, read_set, write_set, read_ranges, write_ranges, is_read_only};
     ghost use Rattle.fdb_client.specs.declared.program.Op.TheVariants as operation;
     ghost use Rattle.fdb_client.specs.declared.program.Reply.TheVariants as answer;
 
@@ -128,11 +128,13 @@ impl Txn {
         &self.parts.writes
     }
 
-    /// What is left to do of it: nothing where it has no mutation and an empty write set, and else to commit it.
-    /// Refused as `TransactionTooLarge` where what is to be committed has more than 10,000,000 bytes, and as `NoMemory`
-    /// where memory runs out before that is known; a refusal hands the transaction back.
+    /// What is left to do of it: nothing where it has no mutation and an empty write set, which takes no memory and is
+    /// never refused, and else to commit it. Refused as `TransactionTooLarge` where what is to be committed has more
+    /// than 10,000,000 bytes, and as `NoMemory` where memory runs out before that is known; a refusal hands the
+    /// transaction back.
     pub fn finish(self) -> Result<Finished, Refused<Txn>>
-        ensures { AnswersOrHandsBack result self (finish_fault result self) (IsFinished self) }
+        ensures answers { AnswersOrHandsBack result self (finish_fault result self) (IsFinished self) }
+        ensures read_only { is_read_only self ≡ true → IsOk result }
     {
         let Txn { parts } = self;
         match parts.finish() {
