@@ -3,11 +3,11 @@ ghost use Rattle.std.specs.FinMap.{get};
 ghost use Rattle.std.specs.Option.{option_copied};
 ghost use Rattle.fdb_keys.specs.Answers.{Answers, AnswersExactly};
 ghost use Rattle.fdb_keys.specs.Points.{Point};
-ghost use Rattle.fdb_keys.specs.Ranges.{in_range};
+ghost use Rattle.fdb_keys.specs.Ranges.{Range, in_range};
 ghost use Rattle.fdb_mutations.specs.Maps.{Map};
 ghost use Rattle.fdb_mutations.specs.Mutations.{mutation_fault, named, names, named_range, is_blind, mutation_size, new_value, effect, clipped_mutation, effect_of, carried};
 ghost use Rattle.fdb_mutations.specs.Naming.{named_by};
-ghost use Rattle.fdb_mutations.specs.declared.mutation.Mutation.TheVariants.{Clear};
+ghost use Rattle.fdb_mutations.specs.declared.mutation.Mutation.TheVariants.{Clear, ClearRange};
 
 use crate::operands::{
     added, and, byte_max, byte_min, copy, is_addend, max, min, or, without, xor,
@@ -143,8 +143,8 @@ impl Mutation {
         (naming + self.carried().len()) as u64
     }
 
-    /// What stands at a key that the mutation names, by what stood there. Refused only as `NoMemory`. A clear takes
-    /// no memory, and is never refused. An `Add` that `check` refuses leaves what stood there.
+    /// What stands at a key that the mutation names, by what stood there. Refused only as `NoMemory`. A clear of a
+    /// key or of a range takes no memory, and is never refused. An `Add` that `check` refuses leaves what stood there.
     pub fn apply_value(
         &self,
         alloc: Global,
@@ -152,6 +152,7 @@ impl Mutation {
     ) -> Result<Option<Bytes>, Refusal>
         ensures answers { Answers result None (λ new. new ≡ new_value self.now (option_copied value.entry)) }
         ensures clears { (key : Point) → self.now ≡ Clear key → IsOk result }
+        ensures clears_ranges { (range : Range) → self.now ≡ ClearRange range → IsOk result }
     {
         match self {
             Mutation::Set { value: set, .. } => Ok(Some(copy(set)?)),
