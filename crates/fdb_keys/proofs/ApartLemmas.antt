@@ -3,7 +3,8 @@ use Rattle.std.proofs.Common.{◌≡◌, ◌∙◌, sym, ap, refl, Bool, true, f
 use Rattle.std.specs.Cmp.{both_ways as same_tests}
 use Rattle.std.specs.List.{AllByRecursion}
 use Rattle.std.proofs.lemmas.Bool.{cases_Bool, and_left, and_right, or_left, or_right, or_cases, or_from, both_ways, cond-true, cond-false, not-false, not_from_true, false_from_ne_true}
-use Rattle.fdb_keys.specs.Insertion.{with_range}
+use Rattle.std.proofs.Math.Bool.{or_assoc, or_comm}
+use Rattle.fdb_keys.specs.Insertion.{with_range, with_ranges}
 use Rattle.fdb_keys.specs.Points.{Point, point_lt}
 use Rattle.fdb_keys.specs.Ranges.{Range, in_range, in_set, is_empty_range, begins_after, is_apart}
 use Rattle.fdb_keys.proofs.PointOrder.{lt-itself, lt_one_way, lt_chain, le_lt_chain, same_point}
@@ -114,6 +115,22 @@ in_with_range range ranges x =
     ∙ ap (λ (t : Bool). t || in_set ranges x) (sym (in_range-empty range x empty)))
     (λ some. ap (λ (l : List Range). in_set l x) (cond-false _ _ _ some) ∙ in_inserted range ranges x)
     (cases_Bool (is_empty_range range))
+
+-- the same of more than one range
+pub apart-with_ranges : (added ranges : List Range) → is_apart ranges ≡ true
+    → is_apart (with_ranges added ranges) ≡ true
+apart-with_ranges [] ranges apart = apart
+apart-with_ranges (range ∷ added) ranges apart =
+    apart-with_ranges added (with_range range ranges) (apart-with_range range ranges apart)
+
+pub in_with_ranges : (added ranges : List Range) (x : Point)
+    → in_set (with_ranges added ranges) x ≡ (in_set added x || in_set ranges x)
+in_with_ranges [] ranges x = refl
+in_with_ranges (range ∷ added) ranges x =
+    in_with_ranges added (with_range range ranges) x
+    ∙ ap (λ (t : Bool). in_set added x || t) (in_with_range range ranges x)
+    ∙ sym (or_assoc (in_set added x) (in_range range x) (in_set ranges x))
+    ∙ ap (λ (t : Bool). t || in_set ranges x) (or_comm (in_set added x) (in_range range x))
 
 -- a range whose points are all in the set changes nothing
 pub with_range-held : (range : Range) (ranges : List Range) → is_apart ranges ≡ true

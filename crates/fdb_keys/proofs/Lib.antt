@@ -1,10 +1,14 @@
 pub mod ApartLemmas
+pub mod BehindLemmas
 pub mod ClippingLemmas
+pub mod CuttingLemmas
 pub mod InsertionLemmas
+pub mod JoiningLemmas
 pub mod LastLemmas
 pub mod OutsideLemmas
 pub mod PlaceLemmas
 pub mod PointOrder
+pub mod PutBackLemmas
 pub mod RangeMapLemmas
 pub mod RangesLemmas
 pub mod RemovalLemmas

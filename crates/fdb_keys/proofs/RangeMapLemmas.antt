@@ -114,7 +114,7 @@ last_by-none x entries under between =
 not_at : (x y : Point) → point_lt x y ≡ true → is_at (slice_cmp nat_cmp y) x ≡ false
 not_at x y before = ap is_eq (cmp_greater y x before)
 
-at_itself : (x : Point) → is_at (slice_cmp nat_cmp x) x ≡ true
+pub at_itself : (x : Point) → is_at (slice_cmp nat_cmp x) x ≡ true
 at_itself x = ap is_eq (tied_itself nat_list_cmp_total x)
 
 -- an entry whose key isn't named stays
@@ -141,13 +141,13 @@ keys_after x p (entry ∷ entries) under after =
     (cases_Bool (p entry.0))
 
 -- the entries whose keys are within the range, and the others
-abbrev within_of : Range → Entries → Entries
+abbrev pub within_of : Range → Entries → Entries
 within_of range entries = filter (λ entry. is_within range entry.0) entries
 
-abbrev outside_of : Range → Entries → Entries
+abbrev pub outside_of : Range → Entries → Entries
 outside_of range entries = filter (λ entry. not (is_within range entry.0)) entries
 
-begins_within-is : (range : Range) (entries : Entries)
+pub begins_within-is : (range : Range) (entries : Entries)
     → begins_within range entries ≡ keys_of (within_of range entries)
 unfolding point_lt
 begins_within-is range entries = refl
@@ -188,7 +188,7 @@ abbrev pub put : Range → Entries → Entries
 put range entries = insert_entry (slice_cmp nat_cmp) entries range.begin range
 
 -- the entries with the range under its begin, and without those within it
-abbrev replaced : Range → Entries → Entries
+abbrev pub replaced : Range → Entries → Entries
 replaced range entries =
     without (keys_of (within_of range entries)) (put range entries)
 
@@ -241,7 +241,7 @@ replaced-sooner range entry entries under apart sooner =
     ∙ without-other (keys_of within) entry (put range entries) keys
 
 -- the entries are each under its begin, and their ranges are those of the list with the range in it
-abbrev IsInserted : Range → Entries → Entries → Type 0
+abbrev pub IsInserted : Range → Entries → Entries → Type 0
 IsInserted range entries result = (values_of result ≡ inserted range (values_of entries)) × AreUnderBegins result
 
 -- what is left of the entries, after the range under its begin
@@ -256,7 +256,7 @@ inserted-swallowed range key entries same under = (
       (under-filter (λ k. not (is_within range k)) entries under),
 )
 
-is_inserted : (range : Range) (entries : Entries) → point_lt range.begin range.end ≡ true
+pub is_inserted : (range : Range) (entries : Entries) → point_lt range.begin range.end ≡ true
     → AreUnderBegins entries → is_apart (values_of entries) ≡ true → AllByRecursion (Fits range) (values_of entries)
     → IsInserted range entries (replaced range entries)
 unfolding inserted

@@ -1,12 +1,14 @@
--- The range of a key holds that key alone.
+-- The range of a key holds that key alone, so its end comes right after the key.
 use Rattle.std.proofs.Common.{◌≡◌, ◌∙◌, sym, ap, refl, ℕ, zero, suc, ◌<◌, true, false, not, ◌&&◌, nat_eq, List, [], ◌∷◌, ◌++◌, Less, Greater, ⊎_elim, subst, arith}
 use Rattle.std.specs.Ordering.{nat_cmp, is_lt, ordering_then}
-use Rattle.std.specs.Cmp.Lexicographic.{slice_cmp, pointwise}
-use Rattle.std.specs.Cmp.{nat_cmp_is}
+use Rattle.std.specs.Cmp.Lexicographic.{slice_cmp, pointwise, bytes_decides}
+use Rattle.std.specs.Cmp.{nat_cmp_is, both_ways as same_tests}
 use Rattle.std.proofs.lemmas.Cmp.{nat_cmp_total, tied_itself}
-use Rattle.std.proofs.lemmas.Bool.{cases_order, eq-eqb, ne_eqb, and_right}
+use Rattle.std.proofs.lemmas.Bool.{cases_Bool, cases_order, both_ways, eq-eqb, ne_eqb, and_right, not-true, not_from_false}
 use Rattle.fdb_keys.specs.Points.{Point, point_lt, point_eq}
 use Rattle.fdb_keys.specs.Ranges.{single_range, in_range}
+use Rattle.fdb_keys.proofs.PointOrder.{lt-itself, lt_one_way, le_lt_chain}
+use Rattle.fdb_keys.proofs.RangesLemmas.{in_range_parts, in_range_from}
 
 -- what two texts with first bytes compared by `first` and rests compared by `rest` answer
 first_less : (x y : ℕ) (xs ys : List ℕ) → x < y → point_lt (x ∷ xs) (y ∷ ys) ≡ true
@@ -57,3 +59,21 @@ in_range-single (k ∷ ks) (x ∷ xs) =
     and_right _ _ (first_greater x k xs (ks ++ 0 ∷ []) greater)
     ∙ sym (ap (λ equal. equal && pointwise nat_eq xs ks) (ne_eqb x k (λ same. omega arith)))))
     (cases_order x k)
+
+-- a key comes before the end of its own range, and whatever comes before that end doesn't come after the key
+pub next_after : (key : Point) → point_lt key (single_range key).end ≡ true
+next_after key = (in_range_parts (single_range key) key (in_range-single key key ∙ (bytes_decides key key).1 refl)).1
+
+none_between : (key x : Point) → point_lt x (single_range key).end ≡ true → point_lt key x ≡ true → x ≡ key
+none_between key x until after =
+    (bytes_decides x key).0
+    (sym (in_range-single key x) ∙ in_range_from (single_range key) x (lt_one_way key x after) until)
+
+pub below_next : (key x : Point) → point_lt x (single_range key).end ≡ not (point_lt key x)
+below_next key x = same_tests _ _
+    (λ until. ⊎_elim
+    (λ after. absurd (both_ways _ (lt-itself key)
+    (subst (λ y. point_lt key y ≡ true) (none_between key x until after) after)))
+    (λ by. not_from_false _ by)
+    (cases_Bool (point_lt key x)))
+    (λ by. le_lt_chain x key (single_range key).end (not-true _ by) (next_after key))

@@ -1,5 +1,6 @@
 -- A sorted list of ranges with one more range in it.
 use Rattle.std.specs.Prelude.{List, [], ◌∷◌, if◌then◌else◌}
+use Rattle.std.specs.List.{fold}
 use Rattle.fdb_keys.specs.Points.{Point, point_lt}
 use Rattle.fdb_keys.specs.Ranges.{Range, is_empty_range}
 
@@ -26,3 +27,7 @@ inserted carried (range ∷ ranges) =
 -- sorted, apart and without an empty range.
 abbrev pub with_range : Range → List Range → List Range
 with_range range ranges = if is_empty_range range then ranges else inserted range ranges
+
+-- the set with the points of all these ranges too
+abbrev pub with_ranges : List Range → List Range → List Range
+with_ranges added ranges = fold (λ set range. with_range range set) ranges added

@@ -1,7 +1,9 @@
 pub mod Answers
 pub mod Clipping
+pub mod Cutting
 pub mod Equality
 pub mod Insertion
+pub mod Joining
 pub mod KeyOrder
 pub mod Limits
 pub mod Points

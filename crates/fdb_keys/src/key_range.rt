@@ -1,4 +1,5 @@
-ghost use Rattle.std.specs.Prelude.{◌≡◌, ◌++◌, OnOk, IsTrue};
+ghost use Rattle.std.specs.Prelude.{◌≡◌, ◌++◌, IfOk, OnOk, IsTrue};
+ghost use Rattle.fdb_keys.specs.Ranges.{single_range};
 ghost use Rattle.fdb_keys.specs.Removal.{range_between};
 ghost use Rattle.fdb_keys.specs.Texts.{is_bound};
 
@@ -41,6 +42,7 @@ impl KeyRange {
     ghost use Rattle.std.specs.Option.{option_copied};
     ghost use Rattle.fdb_keys.specs.Answers.{Answers};
     ghost use Rattle.fdb_keys.specs.Clipping.{clipped_range, in_clipped};
+    ghost use Rattle.fdb_keys.specs.Cutting.{range_through, range_behind};
     ghost use Rattle.fdb_keys.specs.Insertion.{joined_range};
     ghost use Rattle.fdb_keys.specs.Points.{Point, point_eq, point_lt};
     ghost use Rattle.fdb_keys.specs.Ranges.{in_range, in_set, single_range, is_apart, is_empty_range, ranges_meet};
@@ -74,10 +76,9 @@ impl KeyRange {
         ensures answers { Answers result None (λ range. range ≡ single_range key.now) }
         ensures alone { IfOk result (λ range. (x : Point) → in_range range x ≡ point_eq x key.now) }
     {
-        let mut end = Vec::with_capacity(alloc, key.bytes().len() + 1)?;
-        end.extend_from_slice(key.bytes())?;
-        end.push(0)?;
-        KeyRange::new(alloc, key.bytes(), end.as_slice())
+        let begin = key.text().clone()?;
+        let end = text_after(alloc, key)?;
+        Ok(KeyRange { begin, end })
     }
 
     /// The bytes of the range's begin, which it includes.
@@ -172,6 +173,38 @@ impl KeyRange {
         Ok(RangeSet::from_ranges(left))
     }
 
+    /// The range up to and including the key, which lies in it; where it is read from its end (`reverse`), from the key
+    /// on. Refused only as `NoMemory`.
+    pub fn through(&self, alloc: Global, reverse: bool, key: &Key) -> Result<KeyRange, Refusal>
+        requires { IsTrue (in_range self.now key.now) }
+        ensures { Answers result None (λ part. part ≡ range_through self.now reverse key.now) }
+    {
+        if reverse {
+            let begin = key.text().clone()?;
+            let end = self.end.clone()?;
+            return Ok(KeyRange { begin, end });
+        }
+        let begin = self.begin.clone()?;
+        let end = text_after(alloc, key)?;
+        Ok(KeyRange { begin, end })
+    }
+
+    /// What of the range lies behind the key, which lies in it; where the range is read from its end (`reverse`), what
+    /// lies before the key. Refused only as `NoMemory`.
+    pub fn behind(&self, alloc: Global, reverse: bool, key: &Key) -> Result<KeyRange, Refusal>
+        requires { IsTrue (in_range self.now key.now) }
+        ensures { Answers result None (λ part. part ≡ range_behind self.now reverse key.now) }
+    {
+        if reverse {
+            let begin = self.begin.clone()?;
+            let end = key.text().clone()?;
+            return Ok(KeyRange { begin, end });
+        }
+        let begin = text_after(alloc, key)?;
+        let end = self.end.clone()?;
+        Ok(KeyRange { begin, end })
+    }
+
     // Adds what is left of the range without the other one's points to the list.
     pub(crate) fn push_minus(
         &self,
@@ -219,6 +252,17 @@ impl KeyRange {
         let end = greater_bound(&self.end, &other.end)?;
         Ok(KeyRange { begin, end })
     }
+}
+
+// The least text after the key.
+fn text_after(alloc: Global, key: &Key) -> Result<Bytes, AllocError>
+    ensures value { IfOk result (λ text. text ≡ (single_range key.now).end) }
+    ensures legal { IfOk result (λ text. IsTrue (is_bound text)) }
+{
+    let mut text = Vec::with_capacity(alloc, key.bytes().len() + 1)?;
+    text.extend_from_slice(key.bytes())?;
+    text.push(0)?;
+    Ok(Bytes::from_vec(text)?)
 }
 
 // Adds the points from the begin up to but not including the end to the list, as a range, if there are any.

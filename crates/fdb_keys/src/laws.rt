@@ -5,7 +5,7 @@ ghost use Rattle.std.specs.Ordering.{nat_cmp};
 ghost use Rattle.std.specs.Bool.{Decides};
 ghost use Rattle.std.specs.Cmp.Lexicographic.{pointwise, slice_cmp};
 ghost use Rattle.fdb_keys.specs.Equality.{key_eq, range_eq, range_set_eq, refusal_eq};
-ghost use Rattle.fdb_keys.specs.Insertion.{with_range};
+ghost use Rattle.fdb_keys.specs.Insertion.{with_range, with_ranges};
 ghost use Rattle.fdb_keys.specs.KeyOrder.{key_lt, key_cmp};
 ghost use Rattle.fdb_keys.specs.Points.{Point, point_lt};
 ghost use Rattle.fdb_keys.specs.Ranges.{Range, in_range, in_set, is_apart, ranges_meet};
@@ -60,12 +60,16 @@ pub fn apart_ranges_with_the_same_points_are_the_same()
         → ((x : Point) → in_set a x ≡ in_set b x) → a ≡ b }
 {}
 
-/// A set with one more range is that list of the points of both.
+/// A set with one more range is that list of the points of both, and so is a set with several more ranges.
 pub fn set_with_a_range_has_the_points_of_both()
     ensures points { (range : Range) (ranges : List Range) (x : Point)
         → in_set (with_range range ranges) x ≡ (in_range range x || in_set ranges x) }
     ensures apart { (range : Range) (ranges : List Range) → is_apart ranges ≡ true
         → is_apart (with_range range ranges) ≡ true }
+    ensures points_of_all { (added ranges : List Range) (x : Point)
+        → in_set (with_ranges added ranges) x ≡ (in_set added x || in_set ranges x) }
+    ensures all_apart { (added ranges : List Range) → is_apart ranges ≡ true
+        → is_apart (with_ranges added ranges) ≡ true }
 {}
 
 /// A range whose points are all in a set adds nothing to it.

@@ -13,6 +13,7 @@ mod refusal;
 mod removal;
 #[cfg(test)]
 mod tests;
+mod tree_joining;
 mod tree_range_set;
 
 pub use items::Items;

@@ -195,7 +195,7 @@ fn replace_in_both(
 }
 
 // Takes out the ranges under the begins.
-fn remove_all(ranges: &mut BTreeMap<Bytes, KeyRange>, begins: &[Bytes])
+pub(crate) fn remove_all(ranges: &mut BTreeMap<Bytes, KeyRange>, begins: &[Bytes])
     ensures { ranges.new.entries ≡ without begins.now ranges.old.entries }
 {
     for begin in begins {

@@ -62,6 +62,40 @@ fn ends_at(alloc: Global, key: &Key, end: &[u8]) -> bool {
     }
 }
 
+// Whether the range through the key has the bounds.
+fn through_has(
+    alloc: Global,
+    range: &KeyRange,
+    reverse: bool,
+    key: &[u8],
+    bounds: (&[u8], &[u8]),
+) -> bool {
+    match Key::new(alloc, key) {
+        Ok(key) if range.contains(&key) => match range.through(alloc, reverse, &key) {
+            Ok(part) => has_bounds(&part, bounds.0, bounds.1),
+            Err(_why) => false,
+        },
+        _ => false,
+    }
+}
+
+// Whether the range behind the key has the bounds.
+fn behind_has(
+    alloc: Global,
+    range: &KeyRange,
+    reverse: bool,
+    key: &[u8],
+    bounds: (&[u8], &[u8]),
+) -> bool {
+    match Key::new(alloc, key) {
+        Ok(key) if range.contains(&key) => match range.behind(alloc, reverse, &key) {
+            Ok(part) => has_bounds(&part, bounds.0, bounds.1),
+            Err(_why) => false,
+        },
+        _ => false,
+    }
+}
+
 fn add(set: &mut RangeSet, alloc: Global, begin: &[u8], end: &[u8]) -> bool {
     match KeyRange::new(alloc, begin, end) {
         Ok(range) => set.add(&range).is_ok(),
@@ -72,6 +106,17 @@ fn add(set: &mut RangeSet, alloc: Global, begin: &[u8], end: &[u8]) -> bool {
 // Adds the keys from a to d, of which the first come in two ranges that touch.
 fn add_to_d(set: &mut RangeSet, alloc: Global) -> bool {
     add(set, alloc, b"a", b"c") && add(set, alloc, b"c", b"d") && add(set, alloc, b"e", b"e")
+}
+
+// Adds all of the ranges to the tree at once.
+fn add_all(alloc: Global, tree: &mut TreeRangeSet, bounds: &[(&[u8], &[u8])]) -> bool {
+    let mut set = RangeSet::new(alloc);
+    for (begin, end) in bounds {
+        if !add(&mut set, alloc, begin, end) {
+            return false;
+        }
+    }
+    tree.add_all(&set).is_ok()
 }
 
 fn has_bounds(range: &KeyRange, begin: &[u8], end: &[u8]) -> bool {
@@ -214,6 +259,17 @@ fn range_of_one_key_ends_right_after_it(rt: HostRuntime) -> Result<(), Fail> {
 }
 
 #[test]
+fn range_is_cut_at_a_key(rt: HostRuntime) -> Result<(), Fail> {
+    let alloc = rt.alloc();
+    let range = KeyRange::new(alloc, b"a", b"d")?;
+    assert!(rt; through_has(alloc, &range, false, b"b", (b"a", b"b\0")));
+    assert!(rt; behind_has(alloc, &range, false, b"b", (b"b\0", b"d")));
+    assert!(rt; through_has(alloc, &range, true, b"b", (b"b", b"d")));
+    assert!(rt; behind_has(alloc, &range, true, b"b", (b"a", b"b")));
+    Ok(())
+}
+
+#[test]
 fn touching_ranges_are_joined(rt: HostRuntime) {
     let mut set = RangeSet::new(rt.alloc());
     assert!(rt; add_to_d(&mut set, rt.alloc()));
@@ -257,6 +313,16 @@ fn range_is_added_to_both_trees(rt: HostRuntime) -> Result<(), Fail> {
     TreeRangeSet::add_to_both(&mut first, &mut second, &range)?;
     assert!(rt; tree_is_one_range(rt.alloc(), &first, b"a", b"c"));
     assert!(rt; tree_is_one_range(rt.alloc(), &second, b"b", b"c"));
+    Ok(())
+}
+
+#[test]
+fn ranges_are_added_to_a_tree_at_once(rt: HostRuntime) -> Result<(), Fail> {
+    let mut tree = tree_of(rt.alloc(), &[(b"b", b"c")])?;
+    assert!(rt; add_all(rt.alloc(), &mut tree, &[(b"a", b"b"), (b"c", b"d")]));
+    assert!(rt; tree_is_one_range(rt.alloc(), &tree, b"a", b"d"));
+    assert!(rt; add_all(rt.alloc(), &mut tree, &[]));
+    assert!(rt; tree_is_one_range(rt.alloc(), &tree, b"a", b"d"));
     Ok(())
 }
 

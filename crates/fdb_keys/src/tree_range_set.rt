@@ -5,6 +5,7 @@ use crate::range_map::{
 };
 use crate::range_set::RangeSet;
 use crate::refusal::Refusal;
+use crate::tree_joining;
 use bytes::Bytes;
 use std::alloc::Global;
 use std::collections::BTreeMap;
@@ -37,7 +38,7 @@ impl TreeRangeSet {
     ghost use Rattle.std.specs.Prelude.{◌≡◌, ◌==◌, ◌<◌, ◌^◌, ◌||◌, ◌&&◌, not, [], length, IsTrue, None, IfOk, OnOk, OnErr};
     ghost use Rattle.std.specs.Map.Iter.{ShowsInOrder, deref};
     ghost use Rattle.fdb_keys.specs.Answers.{Answers};
-    ghost use Rattle.fdb_keys.specs.Insertion.{with_range};
+    ghost use Rattle.fdb_keys.specs.Insertion.{with_range, with_ranges};
     ghost use Rattle.fdb_keys.specs.Points.{Point};
     ghost use Rattle.fdb_keys.specs.Ranges.{Range, in_range, in_set, is_apart};
     ghost use Rattle.fdb_keys.specs.Removal.{outside};
@@ -100,6 +101,17 @@ impl TreeRangeSet {
         }
         add_both(first.alloc, &mut first.ranges, &mut second.ranges, range)?;
         Ok(())
+    }
+
+    /// Adds the keys of all ranges of the other set, or none of them. It takes what each range takes alone. Refused
+    /// only as `NoMemory`, and then nothing changes.
+    pub fn add_all(&mut self, ranges: &RangeSet) -> Result<(), Refusal>
+        ensures answers { Answers result None
+            (λ _. (x : Point) → in_set self.new x ≡ (in_set ranges.now x || in_set self.old x)) }
+        ensures list { OnOk result (self.new ≡ with_ranges ranges.now self.old) }
+        ensures err { OnErr result (self.new ≡ self.old) }
+    {
+        tree_joining::add_all(self.alloc, &mut self.ranges, ranges)
     }
 
     /// The parts of the range that are not in the set. It takes a look-up and what the set has inside the range.
