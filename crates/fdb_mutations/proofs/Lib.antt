@@ -1,4 +1,5 @@
 pub mod Effects
+pub mod FirstPairLemmas
 pub mod MapsLemmas
 pub mod NumbersLemmas
 pub mod OrderedLemmas

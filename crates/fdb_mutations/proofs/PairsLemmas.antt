@@ -6,18 +6,19 @@ use Rattle.std.specs.Cmp.Lexicographic.{slice_cmp, bytes_decides}
 use Rattle.std.specs.List.{AllByRecursion}
 use Rattle.std.specs.FinMap.{get, entries, find, is_sorted, entries_sorted, get-entries, slice_cmp-IsAntisymmetric, nat_cmp-IsAntisymmetric}
 use Rattle.std.specs.FinMap.Entries.{below_all, same_entries, is_sorted-where_key, find-where_key}
-use Rattle.std.proofs.lemmas.Bool.{and_parts, and_from, not-true, not_from_false}
+use Rattle.std.proofs.lemmas.Bool.{and_parts, and_from, not-true, not_from_true, not_from_false}
 use Rattle.std.proofs.lemmas.Cmp.{nat_list_cmp_total}
 use Rattle.std.proofs.lemmas.List.{reverse-append}
 use Rattle.std.proofs.lemmas.Map.Text.{is_eq-slice_cmp}
+use Rattle.fdb_keys.specs.Cutting.{range_behind}
 use Rattle.fdb_keys.specs.Points.{Point, point_lt, point_eq}
 use Rattle.fdb_keys.specs.Ranges.{Range, in_range, single_range}
 use Rattle.fdb_keys.proofs.PointOrder.{lt_one_way, le_chain, lt_le_chain}
 use Rattle.fdb_keys.proofs.RangesLemmas.{in_range_parts, in_range_from}
-use Rattle.fdb_keys.proofs.SingleLemmas.{in_range-single}
+use Rattle.fdb_keys.proofs.SingleLemmas.{in_range-single, next_after, below_next}
 use Rattle.fdb_mutations.specs.Maps.{Map}
 use Rattle.fdb_mutations.specs.Pairs.{pairs_within, pairs_in}
-use Rattle.fdb_mutations.specs.PairLaws.{RangeHasThePairsOfItsParts, KeyHasItsPair, SameValuesSamePairs, NoValuesNoPairs, pair_of}
+use Rattle.fdb_mutations.specs.PairLaws.{RangeHasThePairsOfItsParts, PairsFromAKeyOn, KeyHasItsPair, SameValuesSamePairs, NoValuesNoPairs, pair_of}
 use Rattle.fdb_mutations.proofs.OrderedLemmas.{AreOrdered, all-passes, all-reverse, ordered-filter, ordered-reverse, filter-reverse, filter_both, parted}
 
 -- ---- the pairs are in the order of their keys
@@ -108,7 +109,7 @@ pairs_of_parts map range point from until =
     (forward, ap reverse forward ∙ reverse-append (pairs_in map before false) (pairs_in map after false))
 
 -- ---- the pairs are determined by the values
-find-within : (map : Map) (range : Range) (x : Point)
+pub find-within : (map : Map) (range : Range) (x : Point)
     → find (slice_cmp nat_cmp) x (pairs_within range (entries map)) ≡ cond (in_range range x) (get map x) None
 find-within map range x =
     find-where_key (slice_cmp nat_cmp) (in_range range) x tied (entries map)
@@ -184,3 +185,34 @@ within-single map key =
 pub key_has_its_pair : KeyHasItsPair
 key_has_its_pair map key false = within-single map key
 key_has_its_pair map key true = ap reverse (within-single map key) ∙ reverse-pair_of key (get map key)
+
+-- ---- from a key of the range on
+-- what lies from the key on has the pair of the key and those behind it
+pairs_from : (map : Map) (range : Range) (key : Point) → point_lt key range.end ≡ true
+    → let from : Range = record { begin = key; end = range.end } in
+    let behind : Range = record { begin = (single_range key).end; end = range.end } in
+    (pairs_in map from false ≡ pair_of key (get map key) ++ pairs_in map behind false)
+    × (pairs_in map from true ≡ pairs_in map behind true ++ pair_of key (get map key))
+pairs_from map range key until =
+    let next = (single_range key).end in
+    let behind : Range = record { begin = next; end = range.end } in
+    let cut = pairs_of_parts map (record { begin = key; end = range.end }) next
+    (lt_one_way key next (next_after key)) (below_next key range.end ∙ not_from_true _ until) in (
+      cut.0 ∙ ap (λ pairs. pairs ++ pairs_in map behind false) (key_has_its_pair map key false),
+      cut.1 ∙ ap (λ pairs. pairs_in map behind true ++ pairs) (key_has_its_pair map key true),
+    )
+
+pub pairs_from_a_key_on : PairsFromAKeyOn
+pairs_from_a_key_on map range is_reverse key inside =
+    let parts = in_range_parts range key inside in
+    let cut = pairs_of_parts map range key parts.0 (lt_one_way key range.end parts.1) in
+    let from = pairs_from map range key parts.1 in
+    let pair = pair_of key (get map key) in
+    let before : Range = record { begin = range.begin; end = key } in
+    elim is_reverse as (λ way. pairs_in map (range_behind range (not way) key) way ≡ []
+    → pairs_in map range way ≡ pair ++ pairs_in map (range_behind range way key) way) [
+      | false ↦ λ none. cut.0 ∙ ap (λ pairs. pairs ++ pairs_in map (record { begin = key; end = range.end }) false) none
+          ∙ from.0
+      | true ↦ λ none. cut.1
+          ∙ ap (λ pairs. pairs ++ pairs_in map before true) (from.1 ∙ ap (λ pairs. pairs ++ pair) none)
+    ]

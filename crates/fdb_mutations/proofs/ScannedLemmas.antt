@@ -1,15 +1,14 @@
 -- What a read of a range scanned: the pairs that it was given, and no other.
 use Rattle.std.proofs.Common.{◌≡◌, ◌∙◌, sym, ap, refl, subst, ℕ, ◌-◌, ◌<◌, Bool, true, false, not, ◌&&◌, List, [], ◌∷◌, ◌++◌, length, take, drop, filter, Some, nat_eq, ⊎_elim, arith}
 use Rattle.std.specs.Cmp.{both_ways as same_tests}
-use Rattle.std.specs.Cmp.Lexicographic.{bytes_decides}
 use Rattle.std.specs.List.{AllByRecursion, slice_get}
-use Rattle.std.proofs.lemmas.Bool.{cases_Bool, cases_order, both_ways, and_parts, and_from, not-true, not_from_false, cond-true, cond-false, eqb-true, eq-eqb}
+use Rattle.std.proofs.lemmas.Bool.{cases_Bool, cases_order, both_ways, and_parts, and_from, not-true, cond-true, cond-false, eqb-true, eq-eqb}
 use Rattle.std.proofs.lemmas.List.{take_all, take-append-drop, take_at, length-take-le, append-nil}
 use Rattle.fdb_keys.specs.Points.{Point, point_lt}
 use Rattle.fdb_keys.specs.Ranges.{Range, in_range, single_range}
 use Rattle.fdb_keys.proofs.PointOrder.{lt-itself, lt_one_way, lt_chain, le_lt_chain}
 use Rattle.fdb_keys.proofs.RangesLemmas.{in_range_parts, in_range_from}
-use Rattle.fdb_keys.proofs.SingleLemmas.{in_range-single}
+use Rattle.fdb_keys.proofs.SingleLemmas.{below_next}
 use Rattle.fdb_mutations.specs.Maps.{Map}
 use Rattle.fdb_mutations.specs.Pairs.{pairs_in, first_of, is_limit_reached, part_to_last}
 use Rattle.fdb_mutations.specs.PairLaws.{given_of, scanned_of, ScannedLiesInTheRange, ScannedHasWhatWasGiven, ScannedDecidesWhatIsGiven}
@@ -17,24 +16,6 @@ use Rattle.fdb_mutations.proofs.OrderedLemmas.{all_at, parted, kept_through_last
 use Rattle.fdb_mutations.proofs.PairsLemmas.{comes_before, ordered-pairs_in, all_in-pairs_in, pairs_in-part, in_after, same_values}
 
 -- ---- the part of a range up to a key
--- a key comes before the end of its own range, and whatever comes before that end doesn't come after the key
-next_after : (key : Point) → point_lt key (single_range key).end ≡ true
-next_after key = (in_range_parts (single_range key) key (in_range-single key key ∙ (bytes_decides key key).1 refl)).1
-
-none_between : (key x : Point) → point_lt x (single_range key).end ≡ true → point_lt key x ≡ true → x ≡ key
-none_between key x until after =
-    (bytes_decides x key).0
-    (sym (in_range-single key x) ∙ in_range_from (single_range key) x (lt_one_way key x after) until)
-
-below_next : (key x : Point) → point_lt x (single_range key).end ≡ not (point_lt key x)
-below_next key x = same_tests _ _
-    (λ until. ⊎_elim
-    (λ after. absurd (both_ways _ (lt-itself key)
-    (subst (λ y. point_lt key y ≡ true) (none_between key x until after) after)))
-    (λ by. not_from_false _ by)
-    (cases_Bool (point_lt key x)))
-    (λ by. le_lt_chain x key (single_range key).end (not-true _ by) (next_after key))
-
 -- The part of a range up to one of its points has the points that don't come behind it.
 in_part_to : (range : Range) (is_reverse : Bool) (last : Point × List ℕ) → in_range range last.0 ≡ true → (x : Point)
     → in_range (part_to_last range is_reverse (Some last)) x

@@ -1,6 +1,7 @@
 -- What holds of the pairs of a map in a range, and of what a read of a range scanned.
-use Rattle.std.specs.Prelude.{◌≡◌, ℕ, Bool, true, false, List, [], ◌∷◌, ◌++◌, Option, Some, None}
+use Rattle.std.specs.Prelude.{◌≡◌, ℕ, Bool, true, false, not, List, [], ◌∷◌, ◌++◌, Option, Some, None}
 use Rattle.std.specs.FinMap.{get}
+use Rattle.fdb_keys.specs.Cutting.{range_behind}
 use Rattle.fdb_keys.specs.Points.{Point, point_lt}
 use Rattle.fdb_keys.specs.Ranges.{Range, in_range, single_range}
 use Rattle.fdb_mutations.specs.Maps.{Map}
@@ -42,6 +43,14 @@ abbrev pub NoValuesNoPairs : Type 0
 NoValuesNoPairs =
     (map : Map) (range : Range) (is_reverse : Bool)
     → ((x : Point) → in_range range x ≡ true → get map x ≡ None) → pairs_in map range is_reverse ≡ []
+
+-- Where no pair comes before a key of the range, the pairs are that of the key, if it has one, and those behind it.
+abbrev pub PairsFromAKeyOn : Type 0
+PairsFromAKeyOn =
+    (map : Map) (range : Range) (is_reverse : Bool) (key : Point) → in_range range key ≡ true
+    → pairs_in map (range_behind range (not is_reverse) key) is_reverse ≡ []
+    → pairs_in map range is_reverse
+    ≡ pair_of key (get map key) ++ pairs_in map (range_behind range is_reverse key) is_reverse
 
 -- what a read of the range is given
 abbrev pub given_of : Map → Range → ℕ → Bool → List (Point × List ℕ)

@@ -3,7 +3,8 @@ use Rattle.std.specs.Prelude.{ℕ, ◌-◌, Bool, nat_eq, not, ◌&&◌, List, l
 use Rattle.std.specs.List.{slice_get}
 use Rattle.std.specs.FinMap.{entries}
 use Rattle.fdb_keys.specs.Points.{Point}
-use Rattle.fdb_keys.specs.Ranges.{Range, in_range, single_range}
+use Rattle.fdb_keys.specs.Ranges.{Range, in_range}
+use Rattle.fdb_keys.specs.Cutting.{range_through}
 use Rattle.fdb_mutations.specs.Maps.{Map}
 
 -- of some pairs those whose keys lie in the range
@@ -26,9 +27,7 @@ is_limit_reached limit given = not (nat_eq limit 0) && nat_eq (length given) lim
 -- the range up to and including the key of the last pair, or from it on where the pairs are read from the end
 abbrev pub part_to_last : Range → Bool → Option (Point × List ℕ) → Range
 part_to_last range is_reverse None = range
-part_to_last range is_reverse (Some last) =
-    if is_reverse then record { begin = last.0; end = range.end }
-    else record { begin = range.begin; end = (single_range last.0).end }
+part_to_last range is_reverse (Some last) = range_through range is_reverse last.0
 
 -- What a read of a range scanned, by the pairs that it was given: the whole range, unless the limit ended it. What
 -- lies behind the last pair was not looked at then.

@@ -5,7 +5,7 @@ ghost use Rattle.fdb_mutations.specs.Equality.{mutation_eq};
 ghost use Rattle.fdb_mutations.specs.Examples.{WorkedExamples};
 ghost use Rattle.fdb_mutations.specs.Mutations.{EffectAtEveryPoint, BlindIsBlind, RangesAreCleared};
 ghost use Rattle.fdb_mutations.specs.PairExamples.{WorkedReads};
-ghost use Rattle.fdb_mutations.specs.PairLaws.{RangeHasThePairsOfItsParts, KeyHasItsPair, SameValuesSamePairs, NoValuesNoPairs, ScannedLiesInTheRange, ScannedHasWhatWasGiven, ScannedDecidesWhatIsGiven};
+ghost use Rattle.fdb_mutations.specs.PairLaws.{RangeHasThePairsOfItsParts, PairsFromAKeyOn, KeyHasItsPair, SameValuesSamePairs, NoValuesNoPairs, ScannedLiesInTheRange, ScannedHasWhatWasGiven, ScannedDecidesWhatIsGiven};
 
 use crate::mutation::Mutation;
 
@@ -28,6 +28,12 @@ pub fn ranges_are_cleared()
 /// The pairs of a range are those of its two parts, one after the other, wherever it is cut.
 pub fn range_has_the_pairs_of_its_parts()
     ensures { RangeHasThePairsOfItsParts }
+{}
+
+/// Where no pair comes before a key of a range, the pairs of the range are that of the key, if it has one, and those
+/// behind it, in whichever order the range is read.
+pub fn pairs_from_a_key_on()
+    ensures { PairsFromAKeyOn }
 {}
 
 /// The range of one key has the pair of that key, or none where the key has no value.
