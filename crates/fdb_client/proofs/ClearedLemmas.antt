@@ -31,7 +31,7 @@ before_end Less = refl
 before_end Equal = refl
 before_end Greater = refl
 
-between-range : (range : Range) (x : Point)
+pub between-range : (range : Range) (x : Point)
     → range_contains (slice_cmp nat_cmp) (Included range.begin) (Excluded range.end) x ≡ in_range range x
 unfolding point_lt
 between-range range x = ap₂ (λ (from before : Bool). from && before)

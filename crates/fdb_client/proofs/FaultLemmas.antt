@@ -1,5 +1,5 @@
 -- What a call's answer says of its fault.
-use Rattle.std.proofs.Common.{◌≡◌, refl, Option, Some, None, Ok, Err}
+use Rattle.std.proofs.Common.{◌≡◌, refl, Option, Some, None, Result, Ok, Err}
 use Rattle.fdb_keys.specs.Answers.{Answers, AnswersExactly}
 use Rattle.fdb_keys.specs.declared.refusal.Refusal.{Refusal}
 use Rattle.fdb_keys.specs.declared.refusal.Refusal.TheVariants.{NoMemory}
@@ -32,3 +32,16 @@ pub faultless : {T : Type 0} (x : T) (fault : Option Refusal) (P : T → Type 0)
     → fault ≡ None
 faultless x None P answered = refl
 faultless x (Some why) P answered = absurd answered
+
+-- what a call gave, in other words
+pub same_fault : {T : Type 0} (result : Result T Refusal) (fault : Option Refusal) (P Q : T → Type 0)
+    → ((x : T) → P x → Q x) → Answers result fault P → Answers result fault Q
+same_fault (Ok x) None P Q says answered = says x answered
+same_fault (Ok x) (Some why) P Q says answered = absurd answered
+same_fault (Err why) None P Q says answered = answered
+same_fault (Err why) (Some other) P Q says answered = answered
+
+-- a call without a fault that was refused lacked memory
+pub lacked_memory : {T : Type 0} (why : Refusal) (fault : Option Refusal) (P : T → Type 0) → fault ≡ None
+    → Answers (Err why) fault P → why ≡ NoMemory
+lacked_memory why fault P none answered = rw none at answered

@@ -12,6 +12,7 @@ use Rattle.fdb_client.specs.declared.left.Left.{Left}
 use Rattle.fdb_client.specs.declared.left.Left.TheVariants.{Value, Changes}
 use Rattle.fdb_client.specs.declared.program.Op.{Op}
 use Rattle.fdb_client.specs.declared.program.Op.TheVariants.{Get, Write, AddRead, AddWrite}
+use Rattle.fdb_client.specs.declared.program.Op.TheVariants as operation
 use Rattle.fdb_client.specs.OwnWrites.{left_after, left_at, value_over, is_value}
 use Rattle.fdb_client.specs.Programs.{copy, decided, write_set, writes_on}
 
@@ -35,6 +36,7 @@ after-is_value (Changes mutations) mutation = by_blind (is_blind mutation)
 pub decided-left : (ops : List Op) (x : Point) → is_value (left_at ops x) ≡ decided ops x
 decided-left [] x = refl
 decided-left (Get key snapshot ∷ earlier) x = decided-left earlier x
+decided-left (operation.Range range limit is_reverse snapshot ∷ earlier) x = decided-left earlier x
 decided-left (AddRead range ∷ earlier) x = decided-left earlier x
 decided-left (AddWrite range ∷ earlier) x = decided-left earlier x
 decided-left (Write mutation ∷ earlier) x =
@@ -79,6 +81,7 @@ pub copy-left : (map : Map) (ops : List Op) (x : Point)
     → get (copy map ops) x ≡ value_over (left_at ops x) (get map x)
 copy-left map [] x = refl
 copy-left map (Get key snapshot ∷ earlier) x = copy-left map earlier x
+copy-left map (operation.Range range limit is_reverse snapshot ∷ earlier) x = copy-left map earlier x
 copy-left map (AddRead range ∷ earlier) x = copy-left map earlier x
 copy-left map (AddWrite range ∷ earlier) x = copy-left map earlier x
 copy-left map (Write mutation ∷ earlier) x =
@@ -98,6 +101,7 @@ copy-left map (Write mutation ∷ earlier) x =
 pub unwritten-left : (ops : List Op) (x : Point) → write_set ops x ≡ false → left_at ops x ≡ Changes []
 unwritten-left [] x none = refl
 unwritten-left (Get key snapshot ∷ earlier) x none = unwritten-left earlier x none
+unwritten-left (operation.Range range limit is_reverse snapshot ∷ earlier) x none = unwritten-left earlier x none
 unwritten-left (AddRead range ∷ earlier) x none = unwritten-left earlier x none
 unwritten-left (AddWrite range ∷ earlier) x none =
     unwritten-left earlier x (or_parts (writes_on (AddWrite range) x) (write_set earlier x) none).1

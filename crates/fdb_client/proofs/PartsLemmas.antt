@@ -1,5 +1,5 @@
 -- One operation more of what a transaction keeps.
-use Rattle.std.proofs.Common.{◌≡◌, ◌∙◌, sym, ap, List, [], ◌∷◌, ◌++◌, None, false}
+use Rattle.std.proofs.Common.{◌≡◌, ◌∙◌, sym, ap, ap₂, List, [], ◌∷◌, ◌++◌, None, false}
 use Rattle.std.specs.List.{AllByRecursion}
 use Rattle.std.specs.FinMap.{get}
 use Rattle.fdb_keys.specs.Points.{Point}
@@ -9,49 +9,63 @@ use Rattle.fdb_mutations.specs.Maps.{Map}
 use Rattle.fdb_mutations.specs.Mutations.{mutation_fault}
 use Rattle.fdb_client.specs.declared.left.Left.{Left}
 use Rattle.fdb_client.specs.declared.left.Left.TheVariants.{Changes}
+use Rattle.fdb_client.specs.declared.own_writes.OwnWrites.{OwnWrites}
 use Rattle.fdb_client.specs.declared.program.Op.{Op}
 use Rattle.fdb_client.specs.declared.program.Reply.{Reply}
+use Rattle.fdb_client.specs.Kept.{kept, HasLegalKeys}
 use Rattle.fdb_client.specs.OwnWrites.{left_by, left_at, is_value, value_over}
 use Rattle.fdb_client.specs.Parts.{AreOf}
-use Rattle.fdb_client.specs.Programs.{program, copy, decided, add_reads, add_writes, add_mutation, read_ranges, write_ranges, mutations_of}
+use Rattle.fdb_client.specs.Programs.{program, copy, decided, add_decided, add_reads, add_writes, add_mutation, decided_ranges, read_ranges, write_ranges, mutations_of}
+use Rattle.fdb_client.proofs.DecidedLemmas.{in_decided_ranges}
 use Rattle.fdb_client.proofs.OwnWritesLemmas.{decided-left, copy-left, unwritten-left}
-use Rattle.fdb_client.proofs.ProgramLemmas.{program-push}
+use Rattle.fdb_client.proofs.ProgramLemmas.{program-push, replies-push}
 use Rattle.fdb_client.proofs.WriteSetLemmas.{in_write_ranges}
 
 module _ (ops : List (Op × Reply)) (done : Op × Reply) where
   -- what is kept with one operation more: each part has what the operation adds to it
-  pub are-push : (left after : Point → Left) (reads writes new_reads new_writes : List Range)
-      (mutations new_mutations : List Mutation) → AreOf ops left reads writes mutations
-      → ((x : Point) → after x ≡ left_by x (left x) done.0)
-      → new_reads ≡ add_reads (program ops) done.0 reads
+  pub are-push : (own after : OwnWrites) (reads writes new_reads new_writes : List Range)
+      (mutations new_mutations : List Mutation) → AreOf ops own reads writes mutations
+      → ((x : Point) → kept after x ≡ left_by x (kept own x) done.0)
+      → HasLegalKeys after
+      → after.decided ≡ add_decided done.0 own.decided
+      → new_reads ≡ add_reads (program ops) done.0 done.1 reads
       → new_writes ≡ add_writes done.0 writes
       → new_mutations ≡ add_mutation done.0 mutations
       → AllByRecursion (λ (mutation : Mutation). mutation_fault mutation ≡ None) new_mutations
       → AreOf (ops ++ done ∷ []) after new_reads new_writes new_mutations
-  are-push left after reads writes new_reads new_writes mutations new_mutations are there read written added legal =
+  are-push own after reads writes new_reads new_writes mutations new_mutations are there keys decides read written
+      added legal =
       let pushed = sym (program-push ops done) in
       record {
         left_there = λ x. there x ∙ ap (λ (before : Left). left_by x before done.0) (are.left_there x)
             ∙ ap (λ (program : List Op). left_at program x) pushed;
-        are_read = read ∙ ap (add_reads (program ops) done.0) are.are_read ∙ ap read_ranges pushed;
+        legal_keys = keys;
+        are_decided = decides ∙ ap (add_decided done.0) are.are_decided ∙ ap decided_ranges pushed;
+        are_read = read ∙ ap (add_reads (program ops) done.0 done.1) are.are_read
+            ∙ ap₂ read_ranges pushed (sym (replies-push ops done));
         are_written = written ∙ ap (add_writes done.0) are.are_written ∙ ap write_ranges pushed;
         are_mutations = added ∙ ap (add_mutation done.0) are.are_mutations ∙ ap mutations_of pushed;
         legal = legal;
       }
 
-module _ (ops : List (Op × Reply)) (left : Point → Left) (reads writes : List Range) (mutations : List Mutation)
-    (are : AreOf ops left reads writes mutations) (key : Point) where
+module _ (ops : List (Op × Reply)) (own : OwnWrites) (reads writes : List Range) (mutations : List Mutation)
+    (are : AreOf ops own reads writes mutations) (key : Point) where
   -- the writes that are kept decide a key exactly where the operations do
-  pub kept-decides : is_value (left key) ≡ decided (program ops) key
+  pub kept-decides : is_value (kept own key) ≡ decided (program ops) key
   kept-decides = ap is_value (are.left_there key) ∙ decided-left (program ops) key
 
+  -- and where the set of what they decide has it
+  pub kept-decided : in_set own.decided key ≡ is_value (kept own key)
+  kept-decided =
+      ap (λ (set : List Range). in_set set key) are.are_decided ∙ in_decided_ranges (program ops) key ∙ sym kept-decides
+
   -- and make of what a map has there what the operations make of it
-  pub kept-value : (map : Map) → value_over (left key) (get map key) ≡ get (copy map (program ops)) key
+  pub kept-value : (map : Map) → value_over (kept own key) (get map key) ≡ get (copy map (program ops)) key
   kept-value map =
       ap (λ (there : Left). value_over there (get map key)) (are.left_there key) ∙ sym (copy-left map (program ops) key)
 
   -- where nothing is written nothing is left
-  pub kept-unwritten : in_set writes key ≡ false → left key ≡ Changes []
+  pub kept-unwritten : in_set writes key ≡ false → kept own key ≡ Changes []
   kept-unwritten none =
       are.left_there key
       ∙ unwritten-left (program ops) key

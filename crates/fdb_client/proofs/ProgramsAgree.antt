@@ -4,13 +4,18 @@ use Rattle.std.specs.FinMap.{get}
 use Rattle.std.specs.Cmp.Lexicographic.{bytes_decides}
 use Rattle.std.proofs.lemmas.Bool.{cases_Bool, both_ways, or_cases, or_left, or_right, and_parts, and_from, not_from_false, cond-true}
 use Rattle.fdb_keys.specs.Points.{Point, point_eq}
+use Rattle.fdb_keys.specs.Ranges.{Range, in_range}
 use Rattle.fdb_mutations.specs.declared.mutation.Mutation.{Mutation}
 use Rattle.fdb_mutations.specs.Maps.{Map}
 use Rattle.fdb_mutations.specs.Mutations.{names, new_value, is_blind}
+use Rattle.fdb_mutations.specs.Pairs.{scanned}
+use Rattle.fdb_mutations.specs.PairLaws.{given_of, scanned_of}
 use Rattle.fdb_mutations.proofs.Effects.{at_every_point, blind_is_blind}
+use Rattle.fdb_mutations.proofs.ScannedLemmas.{decides_what_is_given}
 use Rattle.fdb_client.specs.declared.program.Op.{Op}
 use Rattle.fdb_client.specs.declared.program.Op.TheVariants.{Get, Write, AddRead, AddWrite}
-use Rattle.fdb_client.specs.declared.program.Reply.TheVariants.{Value}
+use Rattle.fdb_client.specs.declared.program.Op.TheVariants as operation
+use Rattle.fdb_client.specs.declared.program.Reply.TheVariants.{Value, Pairs}
 use Rattle.fdb_client.specs.Programs.{copy, decided, exec, read_set, reads_on, reply_on}
 use Rattle.fdb_client.specs.ProgramLaws.{AgreeOnReads, AgreeWhereOrdinary, ProgramsAgree, is_ordinary}
 
@@ -41,6 +46,8 @@ pub copies-agree : (m n : Map) (ops : List Op) (x : Point) → (decided ops x �
 copies-agree m n [] x (inl decides) = absurd (both_ways false refl decides)
 copies-agree m n [] x (inr same) = same
 copies-agree m n (Get key snapshot ∷ earlier) x either = copies-agree m n earlier x either
+copies-agree m n (operation.Range range limit is_reverse snapshot ∷ earlier) x either =
+    copies-agree m n earlier x either
 copies-agree m n (AddRead range ∷ earlier) x either = copies-agree m n earlier x either
 copies-agree m n (AddWrite range ∷ earlier) x either = copies-agree m n earlier x either
 copies-agree m n (Write mutation ∷ earlier) x (inr same) =
@@ -50,33 +57,57 @@ copies-agree m n (Write mutation ∷ earlier) x (inl decides) = agree-after m n 
     (λ before. ap (value_after_message mutation x) (copies-agree m n earlier x (inl before)))
     (or_cases (is_blind mutation && names mutation x) (decided earlier x) decides))
 
--- at the key of an ordinary read the copies agree, since it is decided or read
-read-agrees : (m n : Map) (earlier : List Op) (key : List ℕ) → AgreeOnReads m n (Get key false ∷ earlier)
+-- at a point that an operation reads unless it is decided the copies agree
+read-agrees : (m n : Map) (op : Op) (earlier : List Op) (x : Point) → AgreeOnReads m n (op ∷ earlier)
+    → (decided earlier x ≡ false → reads_on (copy m earlier) earlier op x ≡ true)
+    → get (copy m earlier) x ≡ get (copy n earlier) x
+read-agrees m n op earlier x agree is_read = ⊎_elim
+    (λ decides. copies-agree m n earlier x (inl decides))
+    (λ undecided. copies-agree m n earlier x (inr (agree x
+    (or_left (reads_on (copy m earlier) earlier op x) (read_set m earlier x) (is_read undecided)))))
+    (cases_Bool (decided earlier x))
+
+-- at the key of an ordinary read
+key-agrees : (m n : Map) (earlier : List Op) (key : Point) → AgreeOnReads m n (Get key false ∷ earlier)
     → get (copy m earlier) key ≡ get (copy n earlier) key
-read-agrees m n earlier key agree = ⊎_elim
-    (λ decides. copies-agree m n earlier key (inl decides))
-    (λ undecided. copies-agree m n earlier key (inr (agree key
-    (or_left _ (read_set m earlier key)
-    (and_from (point_eq key key) (not (decided earlier key)) ((bytes_decides key key).1 refl)
-    (not_from_false _ undecided))))))
-    (cases_Bool (decided earlier key))
+key-agrees m n earlier key agree = read-agrees m n (Get key false) earlier key agree (λ undecided.
+    and_from (point_eq key key) (not (decided earlier key)) ((bytes_decides key key).1 refl)
+    (not_from_false _ undecided))
+
+-- and at each point that an ordinary read of a range scanned, so that both are given the same
+given-agrees : (m n : Map) (earlier : List Op) (range : Range) (limit : ℕ) (is_reverse : Bool)
+    → AgreeOnReads m n (operation.Range range limit is_reverse false ∷ earlier)
+    → given_of (copy m earlier) range limit is_reverse ≡ given_of (copy n earlier) range limit is_reverse
+given-agrees m n earlier range limit is_reverse agree =
+    sym (decides_what_is_given (copy m earlier) (copy n earlier) range limit is_reverse (λ x inside.
+    read-agrees m n (operation.Range range limit is_reverse false) earlier x agree (λ undecided.
+    and_from (in_range (scanned_of (copy m earlier) range limit is_reverse) x) (not (decided earlier x)) inside
+    (not_from_false _ undecided))))
 
 -- an ordinary operation replies the same after the copies
 reply-agrees : (m n : Map) (op : Op) (earlier : List Op) → AgreeOnReads m n (op ∷ earlier) → is_ordinary op ≡ true
     → reply_on (copy m earlier) op ≡ reply_on (copy n earlier) op
 reply-agrees m n (Get key true) earlier agree ordinary = absurd (both_ways false refl ordinary)
-reply-agrees m n (Get key false) earlier agree ordinary = ap Value (read-agrees m n earlier key agree)
+reply-agrees m n (Get key false) earlier agree ordinary = ap Value (key-agrees m n earlier key agree)
+reply-agrees m n (operation.Range range limit is_reverse true) earlier agree ordinary =
+    absurd (both_ways false refl ordinary)
+reply-agrees m n (operation.Range range limit is_reverse false) earlier agree ordinary =
+    ap Pairs (given-agrees m n earlier range limit is_reverse agree)
 reply-agrees m n (Write mutation) earlier agree ordinary = refl
 reply-agrees m n (AddRead range) earlier agree ordinary = refl
 reply-agrees m n (AddWrite range) earlier agree ordinary = refl
 
 -- an operation reads the same points after the copies
-reads-agree : (m n : Map) (op : Op) (earlier : List Op) (x : Point)
+reads-agree : (m n : Map) (op : Op) (earlier : List Op) (x : Point) → AgreeOnReads m n (op ∷ earlier)
     → reads_on (copy m earlier) earlier op x ≡ reads_on (copy n earlier) earlier op x
-reads-agree m n (Get key snapshot) earlier x = refl
-reads-agree m n (Write mutation) earlier x = refl
-reads-agree m n (AddRead range) earlier x = refl
-reads-agree m n (AddWrite range) earlier x = refl
+reads-agree m n (Get key snapshot) earlier x agree = refl
+reads-agree m n (operation.Range range limit is_reverse true) earlier x agree = refl
+reads-agree m n (operation.Range range limit is_reverse false) earlier x agree =
+    ap (λ (given : List (Point × List ℕ)). in_range (scanned range limit is_reverse given) x && not (decided earlier x))
+    (given-agrees m n earlier range limit is_reverse agree)
+reads-agree m n (Write mutation) earlier x agree = refl
+reads-agree m n (AddRead range) earlier x agree = refl
+reads-agree m n (AddWrite range) earlier x agree = refl
 
 -- maps that agree where a program reads agree where its earlier operations do
 agree-earlier : (m n : Map) (op : Op) (earlier : List Op) → AgreeOnReads m n (op ∷ earlier) → AgreeOnReads m n earlier
@@ -92,5 +123,5 @@ programs_agree m n (op ∷ earlier) agree =
     programs_agree m n earlier (agree-earlier m n op earlier agree) in (
       (reply-agrees m n op earlier agree, before.0),
       λ x. ap₂ (λ (now others : Bool). now || others)
-          (reads-agree m n op earlier x) (before.1 x),
+          (reads-agree m n op earlier x agree) (before.1 x),
     )

@@ -4,6 +4,7 @@ use Rattle.std.proofs.lemmas.Bool.{or_cases, or_left, or_right}
 use Rattle.std.proofs.lemmas.List.Folds.{list_any-append}
 use Rattle.fdb_keys.specs.Points.{Point}
 use Rattle.fdb_keys.specs.Ranges.{Range, in_range, in_set}
+use Rattle.fdb_keys.proofs.ApartLemmas.{in_with_range}
 use Rattle.fdb_mutations.proofs.Effects.{in_named_range}
 use Rattle.fdb_mutations.specs.Maps.{Map}
 use Rattle.fdb_mutations.specs.declared.mutation.Mutation.{Mutation}
@@ -11,15 +12,17 @@ use Rattle.fdb_mutations.specs.Mutations.{names, named_range, effect, effects}
 use Rattle.fdb_txn.specs.book.Transactions.{NamesWrites, some_names}
 use Rattle.fdb_client.specs.declared.program.Op.{Op}
 use Rattle.fdb_client.specs.declared.program.Op.TheVariants.{Get, Write, AddRead, AddWrite}
+use Rattle.fdb_client.specs.declared.program.Op.TheVariants as operation
 use Rattle.fdb_client.specs.declared.program.Transcript.{Transcript}
 use Rattle.fdb_client.specs.ProgramLaws.{CommitRequestsAreWhole}
 use Rattle.fdb_client.specs.Programs.{program, copy, mutations_of, write_set, writes_on, add_writes, write_ranges, commit_request_of}
-use Rattle.fdb_client.proofs.ReadSetLemmas.{in_with_range, in_read_ranges}
+use Rattle.fdb_client.proofs.ReadSetLemmas.{in_executed_ranges}
 
 -- one operation more adds what it writes
 in_add_writes : (op : Op) (ranges : List Range) (x : Point)
     → in_set (add_writes op ranges) x ≡ (writes_on op x || in_set ranges x)
 in_add_writes (Get key snapshot) ranges x = refl
+in_add_writes (operation.Range range limit is_reverse snapshot) ranges x = refl
 in_add_writes (Write mutation) ranges x =
     in_with_range (named_range mutation) ranges x
     ∙ ap (λ (here : Bool). here || in_set ranges x) (in_named_range mutation x)
@@ -37,6 +40,7 @@ in_write_ranges (op ∷ earlier) x =
 named-written : (ops : List Op) (x : Point) → some_names (mutations_of ops) x ≡ true → write_set ops x ≡ true
 named-written [] x named = named
 named-written (Get key snapshot ∷ earlier) x named = named-written earlier x named
+named-written (operation.Range range limit is_reverse snapshot ∷ earlier) x named = named-written earlier x named
 named-written (AddRead range ∷ earlier) x named = named-written earlier x named
 named-written (AddWrite range ∷ earlier) x named =
     or_right (in_range range x) (write_set earlier x) (named-written earlier x named)
@@ -59,6 +63,7 @@ commit_request_of-names transcript x named =
 effects-executed : (map : Map) (ops : List Op) → effects map (mutations_of ops) ≡ copy map ops
 effects-executed map [] = refl
 effects-executed map (Get key snapshot ∷ earlier) = effects-executed map earlier
+effects-executed map (operation.Range range limit is_reverse snapshot ∷ earlier) = effects-executed map earlier
 effects-executed map (AddRead range ∷ earlier) = effects-executed map earlier
 effects-executed map (AddWrite range ∷ earlier) = effects-executed map earlier
 effects-executed map (Write mutation ∷ earlier) =
@@ -73,7 +78,7 @@ effects-executed map (Write mutation ∷ earlier) =
 -- what is submitted of a transcript is all that its program reads and writes
 pub commit_requests_are_whole : CommitRequestsAreWhole
 commit_requests_are_whole transcript map = (
-  λ x. in_read_ranges map (program transcript.ops) x,
+  λ executed x. in_executed_ranges map transcript.ops executed x,
   λ x. in_write_ranges (program transcript.ops) x,
   effects-executed map (program transcript.ops),
 )

@@ -1,10 +1,12 @@
 pub mod Finishing
 pub mod Kept
+pub mod Merging
 pub mod OwnWrites
 pub mod Pages
 pub mod Parts
 pub mod ProgramLaws
 pub mod Programs
+pub mod ReadExamples
 pub use Rattle.fdb_keys.specs.Answers
 pub use Rattle.fdb_keys.specs.Insertion
 pub use Rattle.fdb_keys.specs.Points

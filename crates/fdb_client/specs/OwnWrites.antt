@@ -17,6 +17,7 @@ use Rattle.fdb_client.specs.declared.own_writes.Kept.{Kept}
 use Rattle.fdb_client.specs.declared.own_writes.Kept.TheVariants as kept
 use Rattle.fdb_client.specs.declared.program.Op.{Op}
 use Rattle.fdb_client.specs.declared.program.Op.TheVariants.{Get, Write, AddRead, AddWrite}
+use Rattle.fdb_client.specs.declared.program.Op.TheVariants as operation
 
 -- what one more mutation makes of what earlier writes left at a point that it names
 abbrev pub left_after : Left → Mutation → Left
@@ -31,6 +32,7 @@ left_with x left mutation = if names mutation x then left_after left mutation el
 -- what one more operation leaves at a point
 abbrev pub left_by : Point → Left → Op → Left
 left_by x left (Get key snapshot) = left
+left_by x left (operation.Range range limit is_reverse snapshot) = left
 left_by x left (Write mutation) = left_with x left mutation
 left_by x left (AddRead range) = left
 left_by x left (AddWrite range) = left
@@ -56,13 +58,13 @@ abbrev pub as_left : Kept → Left
 as_left (kept.Value value) = Value (option_copied value)
 as_left (kept.Changes mutations) = Changes mutations.now
 
--- what is kept for a point: what is under its own key, else that nothing stands there where it was cleared
+-- what is kept for a point: what is under its own key, else that nothing stands there where it is decided
 abbrev pub kept_of : List Range → Point → Option Left → Left
-kept_of cleared x None = if in_set cleared x then Value None else Changes []
-kept_of cleared x (Some left) = left
+kept_of decided x None = if in_set decided x then Value None else Changes []
+kept_of decided x (Some left) = left
 
 abbrev pub kept_at : List (List ℕ × Left) → List Range → Point → Left
-kept_at entries cleared x = kept_of cleared x (lookup (is_at (slice_cmp nat_cmp x)) entries)
+kept_at entries decided x = kept_of decided x (lookup (is_at (slice_cmp nat_cmp x)) entries)
 
 -- the keys of a range that have an entry
 abbrev pub keys_between : Range → List (List ℕ × Left) → List Point

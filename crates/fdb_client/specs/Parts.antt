@@ -6,13 +6,14 @@ use Rattle.fdb_keys.specs.Ranges.{Range}
 use Rattle.fdb_mutations.specs.declared.mutation.Mutation.{Mutation}
 use Rattle.fdb_mutations.specs.Mutations.{mutation_fault}
 use Rattle.fdb_client.specs.declared.left.Left.{Left}
+use Rattle.fdb_client.specs.declared.own_writes.OwnWrites.{OwnWrites}
 use Rattle.fdb_client.specs.declared.parts.Parts.{Parts}
 use Rattle.fdb_client.specs.declared.program.Op.{Op}
 use Rattle.fdb_client.specs.declared.program.Reply.{Reply}
 use Rattle.fdb_client.specs.declared.program.Transcript.{Transcript}
-use Rattle.fdb_client.specs.Kept.{kept}
+use Rattle.fdb_client.specs.Kept.{kept, HasLegalKeys}
 use Rattle.fdb_client.specs.OwnWrites.{left_at, left_by}
-use Rattle.fdb_client.specs.Programs.{program, add_writes, add_mutation, read_ranges, write_ranges, mutations_of}
+use Rattle.fdb_client.specs.Programs.{program, replies_of, add_decided, add_writes, add_mutation, decided_ranges, read_ranges, write_ranges, mutations_of}
 
 -- the transcript with one operation more, and the reply to it
 abbrev pub with_op : Transcript → Op → Reply → Transcript
@@ -22,18 +23,21 @@ with_op transcript op reply = record transcript { ops = transcript.ops ++ (op, r
 abbrev pub WritesNothing : Op → Type 0
 WritesNothing op =
     ((x : Point) (left : Left) → left_by x left op ≡ left)
+    × ((ranges : List Range) → add_decided op ranges ≡ ranges)
     × ((ranges : List Range) → add_writes op ranges ≡ ranges)
     × ((mutations : List Mutation) → add_mutation op mutations ≡ mutations)
 
--- what is kept of the operations: what the writes leave at each point, the read set and the write set, and the
--- mutations, each of which is a legal one
-pub record AreOf (ops : List (Op × Reply)) (left : Point → Left) (reads writes : List Range)
+-- what is kept of the operations: what the writes leave at each point, under legal keys alone, what they decide, the
+-- read set and the write set, and the mutations, each of which is a legal one
+pub record AreOf (ops : List (Op × Reply)) (own : OwnWrites) (reads writes : List Range)
     (mutations : List Mutation) : Type 0 where
-  pub left_there : (x : Point) → left x ≡ left_at (program ops) x
-  pub are_read : reads ≡ read_ranges (program ops)
+  pub left_there : (x : Point) → kept own x ≡ left_at (program ops) x
+  pub legal_keys : HasLegalKeys own
+  pub are_decided : own.decided ≡ decided_ranges (program ops)
+  pub are_read : reads ≡ read_ranges (program ops) (replies_of ops)
   pub are_written : writes ≡ write_ranges (program ops)
   pub are_mutations : mutations ≡ mutations_of (program ops)
   pub legal : AllByRecursion (λ (mutation : Mutation). mutation_fault mutation ≡ None) mutations
 
 abbrev pub AreKept : Parts → Type 0
-AreKept parts = AreOf parts.transcript.ops (kept parts.own) parts.reads parts.writes parts.mutations
+AreKept parts = AreOf parts.transcript.ops parts.own parts.reads parts.writes parts.mutations

@@ -7,6 +7,7 @@ use Rattle.fdb_mutations.specs.Maps.{Map}
 use Rattle.fdb_mutations.specs.Mutations.{effects}
 use Rattle.fdb_client.specs.declared.program.Op.{Op}
 use Rattle.fdb_client.specs.declared.program.Op.TheVariants.{Get, Write, AddRead, AddWrite}
+use Rattle.fdb_client.specs.declared.program.Op.TheVariants as operation
 use Rattle.fdb_client.specs.declared.program.Reply.{Reply}
 use Rattle.fdb_client.specs.declared.program.Transcript.{Transcript}
 use Rattle.fdb_client.specs.Programs.{program, replies_of, exec, copy, reply_on, read_set, write_set, commit_request_of}
@@ -14,6 +15,7 @@ use Rattle.fdb_client.specs.Programs.{program, replies_of, exec, copy, reply_on,
 -- Every operation is an ordinary one but a snapshot read, which adds nothing to the read set.
 abbrev pub is_ordinary : Op → Bool
 is_ordinary (Get key snapshot) = not snapshot
+is_ordinary (operation.Range range limit is_reverse snapshot) = not snapshot
 is_ordinary (Write mutation) = true
 is_ordinary (AddRead range) = true
 is_ordinary (AddWrite range) = true
@@ -36,20 +38,20 @@ ProgramsAgree =
     (m n : Map) (ops : List Op) → AgreeOnReads m n ops
     → AgreeWhereOrdinary ops (exec m ops) (exec n ops) × ((x : Point) → read_set m ops x ≡ read_set n ops x)
 
--- The sealed ranges hold exactly the points of the program's read set, on whatever map, and of its write set, and the
--- mutations leave a map as executing the program does.
+-- the transcript is the execution of its program on the map
+abbrev pub IsExecuted : Map → List (Op × Reply) → Type 0
+IsExecuted map ops = replies_of ops ≡ exec map (program ops)
+
+-- The sealed ranges hold exactly the points of the program's write set, and of its read set on a map that it was
+-- executed on, and the mutations leave a map as executing the program does.
 abbrev pub CommitRequestsAreWhole : Type 0
 CommitRequestsAreWhole =
     (transcript : Transcript) (map : Map) →
     let ops = program transcript.ops in
     let sealed = commit_request_of transcript in
-    ((x : Point) → in_set sealed.reads x ≡ read_set map ops x)
+    (IsExecuted map transcript.ops → (x : Point) → in_set sealed.reads x ≡ read_set map ops x)
     × ((x : Point) → in_set sealed.writes x ≡ write_set ops x)
     × (effects map sealed.mutations ≡ copy map ops)
-
--- the transcript is the execution of its program on the map
-abbrev pub IsExecuted : Map → List (Op × Reply) → Type 0
-IsExecuted map ops = replies_of ops ≡ exec map (program ops)
 
 -- A transcript that is the execution of its program on a map is so with one operation more, if that replies what the
 -- program replies on the map.

@@ -1,26 +1,43 @@
 // A mutation is buffered: what it leaves is kept, and what it names joins the write set.
-ghost use Rattle.std.specs.Prelude.{◌≡◌, false, [], None, OnErr, if◌then◌else◌};
+ghost use Rattle.std.specs.Prelude.{◌≡◌, false, [], None, OnOk, OnErr, IsTrue, if◌then◌else◌};
 ghost use Rattle.fdb_keys.specs.Answers.{Answers};
 ghost use Rattle.fdb_keys.specs.Insertion.{with_range};
 ghost use Rattle.fdb_keys.specs.Points.{Point, point_eq};
 ghost use Rattle.fdb_keys.specs.Ranges.{single_range, in_range, in_set};
-ghost use Rattle.fdb_mutations.specs.Mutations.{named_range};
-ghost use Rattle.fdb_client.specs.Kept.{kept};
-ghost use Rattle.fdb_client.specs.OwnWrites.{left_after, left_with};
+ghost use Rattle.fdb_mutations.specs.Mutations.{named_range, is_blind};
+ghost use Rattle.fdb_client.specs.Kept.{kept, HasLegalKeys};
+ghost use Rattle.fdb_client.specs.OwnWrites.{left_after, left_with, is_value};
 ghost use Rattle.fdb_client.specs.declared.left.Left.TheVariants.{Value, Changes};
 
+use crate::left::Left;
 use crate::own_writes::OwnWrites;
-use fdb_keys::{Key, KeyRange, Refusal, TreeRangeSet};
+use fdb_keys::{Items, Key, KeyRange, Refusal, TreeRangeSet};
 use fdb_mutations::{Mutation, Named};
 use std::alloc::Global;
 
-// Adds the key alone. Where memory runs out, nothing changes.
-pub(crate) fn add_key(alloc: Global, set: &mut TreeRangeSet, key: &Key) -> Result<(), Refusal>
-    ensures answers { Answers result None (λ _. set.new ≡ with_range (single_range key.now) set.old) }
-    ensures err { OnErr result (set.new ≡ set.old) }
+// Buffers a mutation. Where memory runs out, nothing changes.
+pub(crate) fn buffer(
+    alloc: Global,
+    own: &mut OwnWrites,
+    writes: &mut TreeRangeSet,
+    mutation: &Mutation,
+) -> Result<(), Refusal>
+    requires legal_keys { HasLegalKeys own.old }
+    requires decided { (x : Point) → in_set own.old.decided x ≡ is_value (kept own.old x) }
+    requires written { (x : Point) → in_set writes.old x ≡ false → kept own.old x ≡ Changes [] }
+    ensures kept { Answers result None (λ _. (x : Point) → kept own.new x ≡ left_with x (kept own.old x) mutation.now) }
+    ensures decided { OnOk result (own.new.decided
+        ≡ (if is_blind mutation.now then with_range (named_range mutation.now) own.old.decided else own.old.decided)) }
+    ensures writes { OnOk result (writes.new ≡ with_range (named_range mutation.now) writes.old) }
+    ensures legal_keys { HasLegalKeys own.new }
+    ensures kept_err { OnErr result ((x : Point) → kept own.new x ≡ kept own.old x) }
+    ensures decided_err { OnErr result (own.new.decided ≡ own.old.decided) }
+    ensures writes_err { OnErr result (writes.new ≡ writes.old) }
 {
-    let range = KeyRange::single(alloc, key)?;
-    set.add(&range)
+    match mutation.named() {
+        Named::Key(key) => buffer_at_key(alloc, own, writes, key, mutation),
+        Named::Range(range) => clear_range(alloc, own, writes, range),
+    }
 }
 
 // Buffers a mutation of the key. Where memory runs out, nothing changes.
@@ -31,41 +48,95 @@ fn buffer_at_key(
     key: &Key,
     mutation: &Mutation,
 ) -> Result<(), Refusal>
-    requires { in_set writes.old key.now ≡ false → kept own.old key.now ≡ Changes [] }
+    requires legal_keys { HasLegalKeys own.old }
+    requires decided { in_set own.old.decided key.now ≡ is_value (kept own.old key.now) }
+    requires written { in_set writes.old key.now ≡ false → kept own.old key.now ≡ Changes [] }
     ensures kept { Answers result None (λ _. (x : Point) → kept own.new x
         ≡ (if point_eq x key.now then left_after (kept own.old x) mutation.now else kept own.old x)) }
-    ensures writes { Answers result None (λ _. writes.new ≡ with_range (single_range key.now) writes.old) }
+    ensures decided { OnOk result (own.new.decided
+        ≡ (if is_blind mutation.now then with_range (single_range key.now) own.old.decided else own.old.decided)) }
+    ensures writes { OnOk result (writes.new ≡ with_range (single_range key.now) writes.old) }
+    ensures legal_keys { HasLegalKeys own.new }
+    ensures kept_err { OnErr result ((x : Point) → kept own.new x ≡ kept own.old x) }
+    ensures decided_err { OnErr result (own.new.decided ≡ own.old.decided) }
+    ensures writes_err { OnErr result (writes.new ≡ writes.old) }
+{
+    match own.decided_by(alloc, key, mutation)? {
+        Some(left) => decide(alloc, own, writes, key, left),
+        None => change(alloc, own, writes, key, mutation),
+    }
+}
+
+// Leaves this at the key, which then is decided. Where memory runs out, nothing changes.
+fn decide(
+    alloc: Global,
+    own: &mut OwnWrites,
+    writes: &mut TreeRangeSet,
+    key: &Key,
+    left: Left,
+) -> Result<(), Refusal>
+    requires legal_keys { HasLegalKeys own.old }
+    requires undecided { in_set own.old.decided key.now ≡ false → is_value (kept own.old key.now) ≡ false }
+    requires written { IsTrue (in_set own.old.decided key.now) → IsTrue (in_set writes.old key.now) }
+    ensures kept { Answers result None (λ _. (x : Point)
+        → kept own.new x ≡ (if point_eq x key.now then left else kept own.old x)) }
+    ensures decided { OnOk result (own.new.decided ≡ with_range (single_range key.now) own.old.decided) }
+    ensures held { IsTrue (in_set own.old.decided key.now) → own.new.decided ≡ own.old.decided }
+    ensures writes { OnOk result (writes.new ≡ with_range (single_range key.now) writes.old) }
+    ensures legal_keys { HasLegalKeys own.new }
+    ensures kept_err { OnErr result ((x : Point) → kept own.new x ≡ kept own.old x) }
+    ensures decided_err { OnErr result (own.new.decided ≡ own.old.decided) }
+    ensures writes_err { OnErr result (writes.new ≡ writes.old) }
+{
+    if own.decided.contains(key) && writes.contains(key) {
+        return own.put(key, left);
+    }
+    let range = KeyRange::single(alloc, key)?;
+    // Once the key has an entry, only the sets may lack memory.
+    own.make_entry(alloc, key)?;
+    TreeRangeSet::add_to_both(&mut own.decided, writes, &range)?;
+    own.set(key, left);
+    Ok(())
+}
+
+// Buffers a mutation of the key that decides nothing. Where memory runs out, nothing changes.
+fn change(
+    alloc: Global,
+    own: &mut OwnWrites,
+    writes: &mut TreeRangeSet,
+    key: &Key,
+    mutation: &Mutation,
+) -> Result<(), Refusal>
+    requires blind { is_blind mutation.now ≡ false }
+    requires undecided { is_value (kept own.old key.now) ≡ false }
+    requires legal_keys { HasLegalKeys own.old }
+    requires written { in_set writes.old key.now ≡ false → kept own.old key.now ≡ Changes [] }
+    ensures kept { Answers result None (λ _. (x : Point) → kept own.new x
+        ≡ (if point_eq x key.now then left_after (kept own.old x) mutation.now else kept own.old x)) }
+    ensures decided { own.new.decided ≡ own.old.decided }
+    ensures writes { OnOk result (writes.new ≡ with_range (single_range key.now) writes.old) }
+    ensures legal_keys { HasLegalKeys own.new }
     ensures kept_err { OnErr result ((x : Point) → kept own.new x ≡ kept own.old x) }
     ensures writes_err { OnErr result (writes.new ≡ writes.old) }
 {
-    own.write(alloc, key, mutation)?;
+    own.change(alloc, key, mutation)?;
     if writes.contains(key) {
         return Ok(());
     }
     if let Err(why) = add_key(alloc, writes, key) {
-        own.forget(alloc, key);
+        own.set(key, Left::Changes(Items::new(alloc)));
         return Err(why);
     }
     Ok(())
 }
 
-// Buffers a mutation. Where memory runs out, nothing changes.
-pub(crate) fn buffer(
-    alloc: Global,
-    own: &mut OwnWrites,
-    writes: &mut TreeRangeSet,
-    mutation: &Mutation,
-) -> Result<(), Refusal>
-    requires { (x : Point) → in_set writes.old x ≡ false → kept own.old x ≡ Changes [] }
-    ensures kept { Answers result None (λ _. (x : Point) → kept own.new x ≡ left_with x (kept own.old x) mutation.now) }
-    ensures writes { Answers result None (λ _. writes.new ≡ with_range (named_range mutation.now) writes.old) }
-    ensures kept_err { OnErr result ((x : Point) → kept own.new x ≡ kept own.old x) }
-    ensures writes_err { OnErr result (writes.new ≡ writes.old) }
+// Adds the key alone. Where memory runs out, nothing changes.
+pub(crate) fn add_key(alloc: Global, set: &mut TreeRangeSet, key: &Key) -> Result<(), Refusal>
+    ensures answers { Answers result None (λ _. set.new ≡ with_range (single_range key.now) set.old) }
+    ensures err { OnErr result (set.new ≡ set.old) }
 {
-    match mutation.named() {
-        Named::Key(key) => buffer_at_key(alloc, own, writes, key, mutation),
-        Named::Range(range) => clear_range(alloc, own, writes, range),
-    }
+    let range = KeyRange::single(alloc, key)?;
+    set.add(&range)
 }
 
 // Buffers that the keys of the range are cleared. Where memory runs out, nothing changes.
@@ -75,14 +146,18 @@ fn clear_range(
     writes: &mut TreeRangeSet,
     range: &KeyRange,
 ) -> Result<(), Refusal>
+    requires { HasLegalKeys own.old }
     ensures kept { Answers result None (λ _. (x : Point) → kept own.new x
         ≡ (if in_range range.now x then Value None else kept own.old x)) }
-    ensures writes { Answers result None (λ _. writes.new ≡ with_range range.now writes.old) }
+    ensures decided { OnOk result (own.new.decided ≡ with_range range.now own.old.decided) }
+    ensures writes { OnOk result (writes.new ≡ with_range range.now writes.old) }
+    ensures legal_keys { HasLegalKeys own.new }
     ensures kept_err { OnErr result ((x : Point) → kept own.new x ≡ kept own.old x) }
+    ensures decided_err { OnErr result (own.new.decided ≡ own.old.decided) }
     ensures writes_err { OnErr result (writes.new ≡ writes.old) }
 {
     let keys = own.keys_in(alloc, range)?;
-    TreeRangeSet::add_to_both(&mut own.cleared, writes, range)?;
+    TreeRangeSet::add_to_both(&mut own.decided, writes, range)?;
     own.remove_all(keys.as_slice());
     Ok(())
 }

@@ -1,8 +1,9 @@
 //! What holds of programs, for the proofs of the crates that use transactions.
 ghost use Rattle.fdb_client.specs.ProgramLaws.{CommitRequestsAreWhole, ProgramsAgree, OneMoreIsExecuted};
+ghost use Rattle.fdb_client.specs.ReadExamples.{WorkedRangeReads};
 
-/// What is submitted of a transcript holds just the points that its program reads, on any map, and those that it
-/// writes, and its mutations leave any map as executing the program leaves it.
+/// What is submitted of a transcript holds just the points that its program reads, on a map that it was executed on,
+/// and those that it writes, and its mutations leave any map as executing the program leaves it.
 pub fn commit_requests_have_what_their_programs_read_and_write()
     ensures { CommitRequestsAreWhole }
 {}
@@ -17,4 +18,9 @@ pub fn programs_agree_on_maps_that_agree_where_they_read()
 /// one operation more it stays so, if that replies what the program replies there.
 pub fn transcripts_of_one_map_are_its_executions()
     ensures { OneMoreIsExecuted }
+{}
+
+/// What programs that read some ranges are answered, and read.
+pub fn worked_range_reads()
+    ensures { WorkedRangeReads }
 {}

@@ -10,6 +10,7 @@ mod own_writes;
 mod parts;
 mod plain_snapshot;
 mod program;
+mod range_read;
 mod reading;
 mod snapshot;
 #[cfg(test)]

@@ -1,7 +1,9 @@
-// What a transaction's own writes leave at each key.
-ghost use Rattle.std.specs.Prelude.{◌≡◌, None, IfOk, OnOk, OnErr, IsSome, IfSome, IfNone, ⊤, if◌then◌else◌, false, []};
+// What a transaction's own writes leave at each key, and which keys they decide.
+ghost use Rattle.std.specs.Prelude.{◌≡◌, None, IfOk, OnOk, OnErr, IsSome, IfSome, IfNone, IsTrue, ⊤, if◌then◌else◌, not, true, false, []};
 ghost use Rattle.fdb_keys.specs.Answers.{Answers};
+ghost use Rattle.fdb_keys.specs.Cutting.{range_behind};
 ghost use Rattle.fdb_keys.specs.Points.{Point, point_eq};
+ghost use Rattle.fdb_keys.specs.Ranges.{in_range, is_empty_range};
 ghost use Rattle.fdb_mutations.specs.Mutations.{is_blind, new_value};
 ghost use Rattle.fdb_client.specs.OwnWrites.{left_after, as_left, is_value};
 ghost use Rattle.fdb_client.specs.declared.left.Left.TheVariants.{Value, Changes};
@@ -17,8 +19,8 @@ use std::collections::BTreeMap;
 pub(crate) struct OwnWrites {
     // What is left at a key, under the key's bytes.
     pub(crate) keys: BTreeMap<Bytes, Left>,
-    // What was cleared as a range. A key that was written afterwards is among `keys`.
-    pub(crate) cleared: TreeRangeSet,
+    // The keys that the writes decide. One of them that isn't among `keys` was cleared with a range.
+    pub(crate) decided: TreeRangeSet,
 }
 
 // What is left at a key, lent.
@@ -38,16 +40,18 @@ fn lent(left: &Left) -> Kept<'_>
 }
 
 impl OwnWrites {
-    ghost use Rattle.fdb_client.specs.Kept.{kept, entry_of};
+    ghost use Rattle.fdb_client.specs.Kept.{kept, entry_of, HasLegalKeys, HasNoEntry};
     ghost use Rattle.fdb_client.specs.OwnWrites.{keys_between};
     ghost use Rattle.std.specs.List.{list_any};
 
     pub(crate) fn new(alloc: Global) -> Self
-        ensures { (x : Point) → kept result x ≡ Changes [] }
+        ensures kept { (x : Point) → kept result x ≡ Changes [] }
+        ensures decided { result.decided ≡ [] }
+        ensures legal_keys { HasLegalKeys result }
     {
         OwnWrites {
             keys: BTreeMap::new(alloc),
-            cleared: TreeRangeSet::new(alloc),
+            decided: TreeRangeSet::new(alloc),
         }
     }
 
@@ -57,7 +61,7 @@ impl OwnWrites {
     {
         match self.keys.get(key.text()) {
             Some(left) => lent(left),
-            None if self.cleared.contains(key) => Kept::Value(None),
+            None if self.decided.contains(key) => Kept::Value(None),
             None => Kept::Changes(&[]),
         }
     }
@@ -73,10 +77,13 @@ impl OwnWrites {
     }
 
     // Leaves this at the key. Where memory runs out, nothing changes.
-    fn put(&mut self, key: &Key, left: Left) -> Result<(), Refusal>
+    pub(crate) fn put(&mut self, key: &Key, left: Left) -> Result<(), Refusal>
+        requires { HasLegalKeys self.old }
         ensures answers { Answers result None (λ _. (x : Point)
             → kept self.new x ≡ (if point_eq x key.now then left else kept self.old x)) }
         ensures entry { OnOk result (IsSome (entry_of self.new key.now)) }
+        ensures decided { self.new.decided ≡ self.old.decided }
+        ensures legal_keys { HasLegalKeys self.new }
         ensures err { OnErr result ((x : Point) → kept self.new x ≡ kept self.old x) }
     {
         let text = key.text().clone()?;
@@ -85,12 +92,20 @@ impl OwnWrites {
     }
 
     // One mutation more, which decides nothing, changes what stands at the key. Where memory runs out, nothing changes.
-    fn change(&mut self, alloc: Global, key: &Key, mutation: &Mutation) -> Result<(), Refusal>
+    pub(crate) fn change(
+        &mut self,
+        alloc: Global,
+        key: &Key,
+        mutation: &Mutation,
+    ) -> Result<(), Refusal>
         requires blind { is_blind mutation.now ≡ false }
         requires undecided { is_value (kept self.old key.now) ≡ false }
+        requires legal_keys { HasLegalKeys self.old }
         ensures answers { Answers result None (λ _. (x : Point) → kept self.new x
             ≡ (if point_eq x key.now then left_after (kept self.old x) mutation.now else kept self.old x)) }
         ensures entry { OnOk result (IsSome (entry_of self.new key.now)) }
+        ensures decided { self.new.decided ≡ self.old.decided }
+        ensures legal_keys { HasLegalKeys self.new }
         ensures err { OnErr result ((x : Point) → kept self.new x ≡ kept self.old x) }
     {
         let copy = mutation.clone()?;
@@ -103,18 +118,36 @@ impl OwnWrites {
         self.put(key, Left::Changes(mutations))
     }
 
-    // Leaves the key, which has an entry, as one that nothing was written to. It takes no memory.
-    pub(crate) fn forget(&mut self, alloc: Global, key: &Key)
-        requires { IsSome (entry_of self.old key.now) }
-        ensures { (x : Point) → kept self.new x ≡ (if point_eq x key.now then Changes [] else kept self.old x) }
+    // Leaves this at the key, which has an entry. It takes no memory.
+    pub(crate) fn set(&mut self, key: &Key, left: Left)
+        requires entry { IsSome (entry_of self.old key.now) }
+        requires legal_keys { HasLegalKeys self.old }
+        ensures kept { (x : Point) → kept self.new x ≡ (if point_eq x key.now then left else kept self.old x) }
+        ensures decided { self.new.decided ≡ self.old.decided }
+        ensures legal_keys { HasLegalKeys self.new }
     {
-        if let Some(left) = self.keys.get_mut(key.text()) {
-            *left = Left::Changes(Items::new(alloc));
+        if let Some(place) = self.keys.get_mut(key.text()) {
+            *place = left;
         }
     }
 
+    // Makes an entry for the key, which isn't decided. What is kept stays as it is.
+    pub(crate) fn make_entry(&mut self, alloc: Global, key: &Key) -> Result<(), Refusal>
+        requires undecided { is_value (kept self.old key.now) ≡ false }
+        requires legal_keys { HasLegalKeys self.old }
+        ensures answers { Answers result None (λ _. IsSome (entry_of self.new key.now)) }
+        ensures kept { (x : Point) → kept self.new x ≡ kept self.old x }
+        ensures decided { self.new.decided ≡ self.old.decided }
+        ensures legal_keys { HasLegalKeys self.new }
+    {
+        if self.keys.contains_key(key.text()) {
+            return Ok(());
+        }
+        self.put(key, Left::Changes(Items::new(alloc)))
+    }
+
     // What the mutation leaves at the key, or nothing where that depends on what stands there.
-    fn decided_by(
+    pub(crate) fn decided_by(
         &self,
         alloc: Global,
         key: &Key,
@@ -123,6 +156,8 @@ impl OwnWrites {
         ensures answers { Answers result None (λ _. ⊤) }
         ensures decided { IfOk result (λ left. IfSome left
             (λ value. value ≡ left_after (kept self.now key.now) mutation.now)) }
+        ensures value { IfOk result (λ left. IfSome left
+            (λ _. is_blind mutation.now ≡ false → IsTrue (is_value (kept self.now key.now)))) }
         ensures blind { IfOk result (λ left. IfNone left (is_blind mutation.now ≡ false)) }
         ensures undecided { IfOk result (λ left. IfNone left (is_value (kept self.now key.now) ≡ false)) }
     {
@@ -139,21 +174,52 @@ impl OwnWrites {
         }
     }
 
-    // Buffers a mutation of the key. Where memory runs out, nothing changes.
-    pub(crate) fn write(
-        &mut self,
-        alloc: Global,
-        key: &Key,
-        mutation: &Mutation,
-    ) -> Result<(), Refusal>
-        ensures answers { Answers result None (λ _. (x : Point) → kept self.new x
-            ≡ (if point_eq x key.now then left_after (kept self.old x) mutation.now else kept self.old x)) }
-        ensures entry { OnOk result (IsSome (entry_of self.new key.now)) }
-        ensures err { OnErr result ((x : Point) → kept self.new x ≡ kept self.old x) }
+    // The first key of the range that has an entry, or the last one where the range is read from its end.
+    pub(crate) fn next_in(&self, range: &KeyRange, reverse: bool) -> Option<&Bytes>
+        ensures inside { IfSome result (λ key. IsTrue (in_range range.now key.now)) }
+        ensures entry { IfSome result (λ key. IsSome (entry_of self.now key.now)) }
+        ensures first { IfSome result (λ key. HasNoEntry self.now (range_behind range.now (not reverse) key.now)) }
+        ensures none { IfNone result (HasNoEntry self.now range.now) }
     {
-        match self.decided_by(alloc, key, mutation)? {
-            Some(left) => self.put(key, left),
-            None => self.change(alloc, key, mutation),
+        if range.is_empty() {
+            return None;
+        }
+        if reverse {
+            self.last_in(range)
+        } else {
+            self.first_in(range)
+        }
+    }
+
+    // The first key of the range that has an entry. The range has a point.
+    fn first_in(&self, range: &KeyRange) -> Option<&Bytes>
+        requires { is_empty_range range.now ≡ false }
+        ensures inside { IfSome result (λ key. IsTrue (in_range range.now key.now)) }
+        ensures entry { IfSome result (λ key. IsSome (entry_of self.now key.now)) }
+        ensures first { IfSome result (λ key. HasNoEntry self.now (range_behind range.now true key.now)) }
+        ensures none { IfNone result (HasNoEntry self.now range.now) }
+    {
+        match self.keys.range(range.begin_text()..range.end_text()).next() {
+            Some((key, _left)) => Some(key),
+            None => None,
+        }
+    }
+
+    // The last key of the range that has an entry. The range has a point.
+    fn last_in(&self, range: &KeyRange) -> Option<&Bytes>
+        requires { is_empty_range range.now ≡ false }
+        ensures inside { IfSome result (λ key. IsTrue (in_range range.now key.now)) }
+        ensures entry { IfSome result (λ key. IsSome (entry_of self.now key.now)) }
+        ensures last { IfSome result (λ key. HasNoEntry self.now (range_behind range.now false key.now)) }
+        ensures none { IfNone result (HasNoEntry self.now range.now) }
+    {
+        match self
+            .keys
+            .range(range.begin_text()..range.end_text())
+            .next_back()
+        {
+            Some((key, _left)) => Some(key),
+            None => None,
         }
     }
 
@@ -175,7 +241,8 @@ impl OwnWrites {
     pub(crate) fn remove_all(&mut self, keys: &[Bytes])
         ensures entries { (x : Point)
             → entry_of self.new x ≡ (if list_any (point_eq x) keys.now then None else entry_of self.old x) }
-        ensures cleared { self.new.cleared ≡ self.old.cleared }
+        ensures decided { self.new.decided ≡ self.old.decided }
+        ensures legal_keys { HasLegalKeys self.old → HasLegalKeys self.new }
     {
         for key in keys {
             self.keys.remove(key);

@@ -3,8 +3,10 @@ ghost use Rattle.std.specs.Prelude.{◌≡◌, true, not, ◌&&◌, [], ◌∷�
 ghost use Rattle.std.specs.FinMap.{get};
 ghost use Rattle.std.specs.Option.{option_copied};
 ghost use Rattle.fdb_keys.specs.Answers.{Answers, AnswersOrHandsBack, AnswersExactlyOrHandsBack};
-ghost use Rattle.fdb_keys.specs.Insertion.{with_range};
+ghost use Rattle.fdb_keys.specs.Insertion.{with_range, with_ranges};
+ghost use Rattle.fdb_mutations.specs.Maps.{Map};
 ghost use Rattle.fdb_mutations.specs.Mutations.{mutation_fault};
+ghost use Rattle.fdb_mutations.specs.PairLaws.{given_of};
 ghost use Rattle.fdb_client.specs.Programs.{program, copy, decided, add_reads, is_read_only, commit_request_of};
 ghost use Rattle.fdb_txn.specs.book.Size.{size_fault};
 ghost use Rattle.fdb_client.specs.Finishing.{finish_fault, IsFinished};
@@ -16,7 +18,8 @@ use crate::buffering::buffer;
 use crate::finished::Finished;
 use crate::own_writes::OwnWrites;
 use crate::program::{Op, Reply, Transcript};
-use crate::reading::{copied, value_of};
+use crate::range_read::pairs_of;
+use crate::reading::{copied, pairs_copy, scanned_part, value_of};
 use crate::snapshot::Snapshot;
 use bytes::Bytes;
 use fdb_keys::{Items, Key, KeyRange, RangeSet, Refusal, Refused, TreeRangeSet};
@@ -63,7 +66,7 @@ impl Parts {
     fn note(&mut self, op: Op, reply: Reply) -> Result<(), Refusal>
         requires kept { AreKept self.old }
         requires unwritten { WritesNothing op }
-        requires unread { add_reads (program self.old.transcript.ops) op self.old.reads ≡ self.old.reads }
+        requires unread { add_reads (program self.old.transcript.ops) op reply self.old.reads ≡ self.old.reads }
         ensures answers { Answers result None (λ _. self.new.transcript ≡ with_op self.old.transcript op reply) }
         ensures err { OnErr result (self.new ≡ self.old) }
         ensures kept { OnOk result (AreKept self.new) }
@@ -76,7 +79,7 @@ impl Parts {
     fn note_read(&mut self, op: Op, reply: Reply, range: &KeyRange) -> Result<(), Refusal>
         requires kept { AreKept self.old }
         requires unwritten { WritesNothing op }
-        requires read { add_reads (program self.old.transcript.ops) op self.old.reads
+        requires read { add_reads (program self.old.transcript.ops) op reply self.old.reads
             ≡ with_range range.now self.old.reads }
         ensures answers { Answers result None (λ _. self.new.transcript ≡ with_op self.old.transcript op reply) }
         ensures err { OnErr result (self.new ≡ self.old) }
@@ -85,6 +88,25 @@ impl Parts {
         let count = self.transcript.ops.len();
         self.transcript.ops.push((op, reply))?;
         if let Err(why) = self.reads.add(range) {
+            self.transcript.ops.truncate(count);
+            return Err(why);
+        }
+        Ok(())
+    }
+
+    // Notes an operation that reads several ranges. Where memory runs out, nothing changes.
+    fn note_reads(&mut self, op: Op, reply: Reply, ranges: &RangeSet) -> Result<(), Refusal>
+        requires kept { AreKept self.old }
+        requires unwritten { WritesNothing op }
+        requires read { add_reads (program self.old.transcript.ops) op reply self.old.reads
+            ≡ with_ranges ranges.now self.old.reads }
+        ensures answers { Answers result None (λ _. self.new.transcript ≡ with_op self.old.transcript op reply) }
+        ensures err { OnErr result (self.new ≡ self.old) }
+        ensures kept { OnOk result (AreKept self.new) }
+    {
+        let count = self.transcript.ops.len();
+        self.transcript.ops.push((op, reply))?;
+        if let Err(why) = self.reads.add_all(ranges) {
             self.transcript.ops.truncate(count);
             return Err(why);
         }
@@ -153,6 +175,59 @@ impl Parts {
         let value = self.read(snapshot, key)?;
         self.note_get(key, is_snapshot, value.as_ref())?;
         Ok(value)
+    }
+
+    // Notes what the range was read as. Where memory runs out, nothing changes.
+    fn note_range(
+        &mut self,
+        range: &KeyRange,
+        limit: u32,
+        reverse: bool,
+        is_snapshot: bool,
+        pairs: &Items<(Key, Bytes)>,
+    ) -> Result<(), Refusal>
+        requires kept { AreKept self.old }
+        requires given { (map : Map) × (pairs.now ≡ given_of map range.now limit reverse) }
+        ensures answers { Answers result None (λ _. self.new.transcript ≡ with_op self.old.transcript
+            (operation.Range range.now limit reverse is_snapshot) (answer.Pairs pairs.now)) }
+        ensures err { OnErr result (self.new ≡ self.old) }
+        ensures kept { OnOk result (AreKept self.new) }
+    {
+        let op = Op::Range {
+            range: range.clone()?,
+            limit,
+            reverse,
+            snapshot: is_snapshot,
+        };
+        let reply = Reply::Pairs(pairs_copy(pairs)?);
+        if is_snapshot {
+            return self.note(op, reply);
+        }
+        let part = scanned_part(self.alloc, range, limit, reverse, pairs.as_slice())?;
+        let undecided = self.own.decided.outside(self.alloc, &part)?;
+        self.note_reads(op, reply, &undecided)
+    }
+
+    // Reads the range after its own writes, and notes that. Where it is refused, nothing changes.
+    pub(crate) fn get_range<S: Snapshot>(
+        &mut self,
+        snapshot: &S,
+        range: &KeyRange,
+        limit: u32,
+        reverse: bool,
+        is_snapshot: bool,
+    ) -> Result<Items<(Key, Bytes)>, Refusal>
+        requires { AreKept self.old }
+        ensures answers { Answers result (S.range_fault snapshot.now range.now) (λ pairs. pairs
+            ≡ given_of (copy (S.map snapshot.now) (program self.old.transcript.ops)) range.now limit reverse) }
+        ensures ok { IfOk result (λ pairs. self.new.transcript ≡ with_op self.old.transcript
+            (operation.Range range.now limit reverse is_snapshot) (answer.Pairs pairs)) }
+        ensures err { OnErr result (self.new ≡ self.old) }
+        ensures kept { OnOk result (AreKept self.new) }
+    {
+        let pairs = pairs_of(self.alloc, &self.own, snapshot, range, limit, reverse)?;
+        self.note_range(range, limit, reverse, is_snapshot, &pairs)?;
+        Ok(pairs)
     }
 
     // Adds a range to the read set. Where memory runs out, nothing changes.

@@ -17,7 +17,7 @@ pub struct PlainSnapshot<'a> {
 }
 
 impl<'a> Snapshot for PlainSnapshot<'a> {
-    ghost use Rattle.std.specs.Prelude.{None};
+    ghost use Rattle.std.specs.Prelude.{None, refl};
 
     ghost at = { λ snapshot. snapshot.version };
 
@@ -26,6 +26,8 @@ impl<'a> Snapshot for PlainSnapshot<'a> {
     ghost key_fault = { λ snapshot key. None };
 
     ghost range_fault = { λ snapshot range. None };
+
+    ghost serves_parts = { λ snapshot part range inside served. refl };
 
     fn version(&self) -> u64 {
         self.version

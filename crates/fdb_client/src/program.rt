@@ -7,7 +7,18 @@ use fdb_txn::TxnId;
 #[derive(Clone, Debug, Drop, PartialEq, Eq)]
 pub enum Op {
     /// Reads the value of a key. A snapshot read adds nothing to the read set.
-    Get { key: Key, snapshot: bool },
+    Get {
+        key: Key,
+        snapshot: bool,
+    },
+    /// Reads the first pairs of a range, or the last ones from its end: at most `limit` of them, or all where it is 0.
+    /// A snapshot read adds nothing to the read set.
+    Range {
+        range: KeyRange,
+        limit: u32,
+        reverse: bool,
+        snapshot: bool,
+    },
     /// Buffers a mutation, which adds what it names to the write set.
     Write(Mutation),
     /// Adds a range to the read set, whole.
@@ -21,6 +32,8 @@ pub enum Op {
 pub enum Reply {
     /// The value that a key has, if any.
     Value(Option<Bytes>),
+    /// The pairs of a range, in the order in which they were read.
+    Pairs(Items<(Key, Bytes)>),
     /// The operation gives nothing.
     Done,
 }

@@ -3,14 +3,17 @@ ghost use Rattle.std.specs.Prelude.{◌≡◌, None, IfOk, fold, if◌then◌els
 ghost use Rattle.std.specs.FinMap.{get};
 ghost use Rattle.std.specs.Option.{option_copied};
 ghost use Rattle.fdb_keys.specs.Answers.{Answers};
+ghost use Rattle.fdb_mutations.specs.Maps.{Map};
 ghost use Rattle.fdb_mutations.specs.Mutations.{new_value};
+ghost use Rattle.fdb_mutations.specs.PairLaws.{given_of};
+ghost use Rattle.fdb_mutations.specs.Pairs.{scanned};
 ghost use Rattle.fdb_client.specs.Kept.{kept};
 ghost use Rattle.fdb_client.specs.OwnWrites.{is_value, value_over};
 
 use crate::own_writes::{Kept, OwnWrites};
 use crate::snapshot::Snapshot;
 use bytes::Bytes;
-use fdb_keys::{Key, Refusal};
+use fdb_keys::{Items, Key, KeyRange, Refusal};
 use fdb_mutations::Mutation;
 use std::alloc::{AllocError, Global};
 
@@ -24,6 +27,32 @@ pub(crate) fn copied(value: Option<&Bytes>) -> Result<Option<Bytes>, AllocError>
             let copy = value.clone()?;
             Ok(Some(copy))
         }
+    }
+}
+
+// A copy of the pairs.
+pub(crate) fn pairs_copy(pairs: &Items<(Key, Bytes)>) -> Result<Items<(Key, Bytes)>, AllocError>
+    ensures { IfOk result (λ copy. copy ≡ pairs.now) }
+{
+    pairs.clone()
+}
+
+// What a read of the range scanned, by the pairs that it was given.
+pub(crate) fn scanned_part(
+    alloc: Global,
+    range: &KeyRange,
+    limit: u32,
+    reverse: bool,
+    pairs: &[(Key, Bytes)],
+) -> Result<KeyRange, Refusal>
+    requires { (map : Map) × (pairs.now ≡ given_of map range.now limit reverse) }
+    ensures { Answers result None (λ part. part ≡ scanned range.now limit reverse pairs.now) }
+{
+    match pairs.last() {
+        Some((key, _value)) if limit != 0 && pairs.len() == limit as usize => {
+            range.through(alloc, reverse, key)
+        }
+        _ => Ok(range.clone()?),
     }
 }
 
@@ -41,6 +70,21 @@ fn value_after(
         value = mutation.apply_value(alloc, value.as_ref())?;
     }
     Ok(value)
+}
+
+// What the writes leave at the key, of what stood there.
+pub(crate) fn value_over(
+    alloc: Global,
+    own: &OwnWrites,
+    key: &Key,
+    old: Option<Bytes>,
+) -> Result<Option<Bytes>, Refusal>
+    ensures { Answers result None (λ value. value ≡ value_over (kept own.now key.now) old) }
+{
+    match own.kept(key) {
+        Kept::Value(value) => Ok(copied(value)?),
+        Kept::Changes(mutations) => value_after(alloc, old, mutations),
+    }
 }
 
 // What stands at the key after the writes. The snapshot is asked only where they don't decide the key.

@@ -1,10 +1,11 @@
-ghost use Rattle.std.specs.Prelude.{◌≡◌, ℕ, Option};
+ghost use Rattle.std.specs.Prelude.{◌≡◌, ℕ, Option, None};
 ghost use Rattle.std.specs.FinMap.{get};
 ghost use Rattle.fdb_keys.specs.Answers.{Answers};
 ghost use Rattle.fdb_keys.specs.Points.{Point};
 ghost use Rattle.fdb_keys.specs.Ranges.{Range};
 ghost use Rattle.fdb_keys.specs.declared.refusal.Refusal.{Refusal as Fault};
 ghost use Rattle.fdb_mutations.specs.Maps.{Map};
+ghost use Rattle.fdb_client.specs.Merging.{IsPartOf};
 ghost use Rattle.fdb_client.specs.Pages.{IsPage};
 
 use bytes::Bytes;
@@ -43,4 +44,8 @@ pub trait Snapshot {
     /// number where `limit` is 0. A page may have fewer than there are, but at least one if there is one.
     fn page(&self, range: &KeyRange, limit: u32, reverse: bool) -> Result<Page, Refusal>
         ensures { Answers result (range_fault self.now range.now) (IsPage (map self.now) range.now limit reverse) };
+
+    // A part of a range that isn't refused isn't refused.
+    ghost serves_parts: { (snapshot : Self) (part range : Range) → IsPartOf part range
+        → range_fault snapshot range ≡ None → range_fault snapshot part ≡ None };
 }

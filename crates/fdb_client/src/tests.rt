@@ -1,5 +1,11 @@
 // Calls with known answers. The prover goes over every kind of mutation where one goes out of scope, and over all that
 // a transaction holds at each early exit. So what asks one answers plain data, and no test leaves early.
+mod cut_snapshot;
+mod marks;
+mod programs;
+mod ranges;
+mod steps;
+
 use crate::finished::Finished;
 use crate::plain_snapshot::PlainSnapshot;
 use crate::snapshot::{Page, Snapshot};
@@ -29,6 +35,8 @@ impl Snapshot for FutureSnapshot {
     ghost key_fault = { λ snapshot key. Some FutureVersion };
 
     ghost range_fault = { λ snapshot range. Some FutureVersion };
+
+    ghost serves_parts = { λ snapshot part range inside served. served };
 
     fn version(&self) -> u64 {
         self.version

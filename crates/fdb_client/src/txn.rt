@@ -3,7 +3,7 @@ use crate::parts::Parts;
 use crate::program::Transcript;
 use crate::snapshot::Snapshot;
 use bytes::Bytes;
-use fdb_keys::{Key, KeyRange, Refusal, Refused, TreeRangeSet};
+use fdb_keys::{Items, Key, KeyRange, Refusal, Refused, TreeRangeSet};
 use fdb_mutations::Mutation;
 use fdb_txn::TxnId;
 use std::alloc::Global;
@@ -38,9 +38,11 @@ impl Txn {
     ghost use Rattle.fdb_keys.specs.Ranges.{in_set};
     ghost use Rattle.fdb_mutations.specs.Maps.{Map};
     ghost use Rattle.fdb_mutations.specs.Mutations.{mutation_fault};
+    ghost use Rattle.fdb_mutations.specs.PairLaws.{given_of};
     ghost use Rattle.fdb_client.specs.Finishing.{finish_fault, IsFinished};
     ghost use Rattle.fdb_client.specs.Parts.{with_op};
-    ghost use Rattle.fdb_client.specs.Programs.{program, copy, decided, read_set, write_set, read_ranges, write_ranges, is_read_only};
+    ghost use Rattle.fdb_client.specs.ProgramLaws.{IsExecuted};
+    ghost use Rattle.fdb_client.specs.Programs.{program, replies_of, copy, decided, read_set, write_set, read_ranges, write_ranges, is_read_only};
     ghost use Rattle.fdb_client.specs.declared.program.Op.TheVariants as operation;
     ghost use Rattle.fdb_client.specs.declared.program.Reply.TheVariants as answer;
 
@@ -72,6 +74,33 @@ impl Txn {
         ensures err { OnErr result (self.new ≡ self.old) }
     {
         self.parts.get(snapshot, key, is_snapshot)
+    }
+
+    /// The pairs of the range after the transaction's own writes, from a snapshot at its read version: the first ones in
+    /// the order of keys, or the last ones in the reverse order, at most `limit` of them, or all where it is 0. It
+    /// refuses as the snapshot refuses the range. An ordinary read, which is no snapshot read, adds to the read set what
+    /// it scanned and the own writes don't decide; it scanned the whole range, or, where it gave as many pairs as the
+    /// limit allows, the range up to the last one's key, which is in it. Where it is refused, nothing is noted.
+    ///
+    /// It takes what it gives, what it skips of own writes, and the snapshot's pages, each key with the logarithm of
+    /// what the transaction holds.
+    pub fn get_range<S: Snapshot>(
+        &mut self,
+        snapshot: &S,
+        range: &KeyRange,
+        limit: u32,
+        reverse: bool,
+        is_snapshot: bool,
+    ) -> Result<Items<(Key, Bytes)>, Refusal>
+        requires { S.at snapshot.now ≡ self.old.read_version }
+        ensures answers { Answers result (S.range_fault snapshot.now range.now)
+            (λ pairs. pairs ≡ given_of (copy (S.map snapshot.now) (program self.old.ops)) range.now limit reverse) }
+        ensures ok { IfOk result (λ pairs. self.new
+            ≡ with_op self.old (operation.Range range.now limit reverse is_snapshot) (answer.Pairs pairs)) }
+        ensures err { OnErr result (self.new ≡ self.old) }
+    {
+        self.parts
+            .get_range(snapshot, range, limit, reverse, is_snapshot)
     }
 
     /// Buffers a mutation, whose key or range joins the write set. Refused as `ValueTooLarge` and as `BadOperand` where
@@ -112,10 +141,12 @@ impl Txn {
         &self.parts.transcript
     }
 
-    /// The read set: the keys of its ordinary reads that weren't decided, and the ranges that were added.
+    /// The read set: what its ordinary reads read of what wasn't decided, and the ranges that were added. Where its
+    /// replies are those of the program on a map, these are the points that the program reads on that map.
     pub fn read_conflicts(&self) -> &TreeRangeSet
-        ensures value { result.now ≡ read_ranges (program self.now.ops) }
-        ensures points { (map : Map) (x : Point) → in_set result.now x ≡ read_set map (program self.now.ops) x }
+        ensures value { result.now ≡ read_ranges (program self.now.ops) (replies_of self.now.ops) }
+        ensures points { (map : Map) → IsExecuted map self.now.ops → (x : Point)
+            → in_set result.now x ≡ read_set map (program self.now.ops) x }
     {
         &self.parts.reads
     }

@@ -1,3 +1,4 @@
 pub mod AllLemmas
 pub mod SumLemmas
 pub mod FaultLemmas
+pub mod CloneLemmas

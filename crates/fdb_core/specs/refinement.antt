@@ -1,4 +1,5 @@
 pub mod Cluster
+pub mod RangeFaults
 pub mod Resolving
 pub mod Roles
 pub mod Sessions

@@ -1,4 +1,5 @@
 // A check runs the committed transactions anew, one at a time, and compares.
 pub(crate) mod compare;
 pub(crate) mod maps;
+pub(crate) mod parts;
 pub(crate) mod serial;

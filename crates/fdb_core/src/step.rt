@@ -105,6 +105,8 @@ pub enum Answered {
     Granted(Items<(u32, u64)>),
     /// The value that a key has, if any.
     Value(Option<Bytes>),
+    /// The pairs of a range, in the order in which they were read.
+    Pairs(Items<(Key, Bytes)>),
     /// The transaction wrote nothing and is committed at its read version.
     ReadOnly(u64),
     /// The entry that was added to the book.

@@ -19,6 +19,8 @@ get-after : (map : Map) (earlier : List Op) (ops : List (Op × Reply)) (x : Poin
     → get (copy map (after earlier ops)) x ≡ fold (value_after_op x) (get (copy map earlier) x) ops
 get-after map earlier [] x = refl
 get-after map earlier ((op.Get key snapshot, reply) ∷ ops) x = get-after map (op.Get key snapshot ∷ earlier) ops x
+get-after map earlier ((op.Range range limit is_reverse snapshot, reply) ∷ ops) x =
+    get-after map (op.Range range limit is_reverse snapshot ∷ earlier) ops x
 get-after map earlier ((op.AddRead range, reply) ∷ ops) x = get-after map (op.AddRead range ∷ earlier) ops x
 get-after map earlier ((op.AddWrite range, reply) ∷ ops) x = get-after map (op.AddWrite range ∷ earlier) ops x
 get-after map earlier ((op.Write mutation, reply) ∷ ops) x =

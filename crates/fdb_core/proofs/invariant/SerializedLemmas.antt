@@ -31,7 +31,7 @@ use Rattle.fdb_core.specs.machine.CommitProxySteps.{placed_from}
 use Rattle.fdb_core.specs.invariant.Invariant.{IsReplied, IsSerializedIn, IsReported}
 use Rattle.fdb_core.specs.machine.Verdicts.{moves_through, outcomes_from, outcomes_on}
 use Rattle.fdb_client.proofs.ProgramsAgree.{programs_agree}
-use Rattle.fdb_client.proofs.ReadSetLemmas.{in_read_ranges}
+use Rattle.fdb_client.proofs.ReadSetLemmas.{in_executed_ranges}
 use Rattle.fdb_core.proofs.refinement.RoleTies.{last-push}
 
 -- a transaction is serialized at its spot, which is reported
@@ -189,7 +189,8 @@ answered-there splits transcript version moves earlier history commits answered 
     subst (λ (replies : List Reply). AgreeWhereOrdinary ops replies (exec (serial_map splits earlier) ops))
     (sym answered)
     (programs_agree read (serial_map splits earlier) ops
-    (λ x is_read. reads_stand splits earlier place history commits x (in_read_ranges read ops x ∙ is_read))).0
+    (λ x is_read. reads_stand splits earlier place history commits x
+    (in_executed_ranges read transcript.ops answered x ∙ is_read))).0
   where
     ops : List Op
     ops = program transcript.ops

@@ -5,22 +5,19 @@ use Rattle.std.specs.List.{slice_get, slice_set}
 use Rattle.std.proofs.lemmas.Bool.{le-ltb}
 use Rattle.std.specs.FinMap.{get}
 use Rattle.fdb_keys.specs.declared.refusal.Refusal.{Refusal}
-use Rattle.fdb_mutations.specs.declared.mutation.Mutation.{Mutation}
-use Rattle.fdb_mutations.specs.Mutations.{mutation_fault}
 use Rattle.fdb_txn.specs.declared.entry.Entry.{Entry}
 use Rattle.fdb_txn.specs.book.Book.{seen_of, seen_before}
 use Rattle.fdb_txn.specs.book.Size.{size_fault}
-use Rattle.fdb_txn.specs.declared.spot.Spot.TheVariants as spot
 use Rattle.fdb_txn.specs.rules.SerialMap.{serial_map_at}
 use Rattle.fdb_client.specs.declared.program.Op.TheVariants as op
 use Rattle.fdb_client.specs.declared.program.Reply.TheVariants as reply
 use Rattle.fdb_client.specs.declared.program.Transcript.{Transcript}
 use Rattle.fdb_core.specs.declared.step.Answered.TheVariants as answered
-use Rattle.fdb_core.specs.machine.ClientSteps.{gets, writes, submits, submit_fault, add_operation, read_fault}
+use Rattle.fdb_core.specs.machine.ClientSteps.{gets, submits, submit_fault, add_operation, read_fault}
 use Rattle.fdb_core.specs.machine.RoleSteps.{resolves, pushes}
 use Rattle.fdb_core.specs.machine.Machine.{Machine, Transition, refused_by, is_set}
 use Rattle.fdb_core.specs.machine.Roles.{CommitProxy}
-use Rattle.fdb_core.specs.machine.Sessions.{Idle, Waiting, open_at, with_state}
+use Rattle.fdb_core.specs.machine.Sessions.{Waiting, open_at, with_state}
 use Rattle.fdb_core.specs.machine.Verdicts.{verdicts_on}
 use Rattle.fdb_client.specs.Programs.{program, copy, commit_request_of, is_read_only}
 

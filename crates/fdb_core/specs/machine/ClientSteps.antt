@@ -25,6 +25,7 @@ use Rattle.fdb_core.specs.machine.RoleSteps.{shard_fault}
 -- the answer that gives a reply
 abbrev pub answered_by : Reply → Answered
 answered_by (reply.Value value) = answered.Value value
+answered_by (reply.Pairs pairs) = answered.Pairs pairs
 answered_by reply.Done = answered.Done
 
 -- the machine with one more operation and its reply at the session's open transaction

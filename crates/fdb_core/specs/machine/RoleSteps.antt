@@ -2,6 +2,7 @@
 use Rattle.std.specs.Prelude.{ℕ, ◌+◌, ◌%◌, min, max, not, take, length, Result, Ok, slice_get, slice_set, nat_lt, List, Option, Some, None, if◌then◌else◌}
 use Rattle.fdb_keys.specs.declared.refusal.Refusal.{Refusal}
 use Rattle.fdb_keys.specs.declared.refusal.Refusal.TheVariants.{Unknown, TransactionTooOld, FutureVersion}
+use Rattle.fdb_keys.specs.Ranges.{Range, is_empty_range}
 use Rattle.fdb_txn.specs.declared.entry.Entry.{Entry}
 use Rattle.fdb_core.specs.machine.Roles.{ShardProgress}
 use Rattle.fdb_core.specs.declared.step.Answered.TheVariants as answered
@@ -48,6 +49,11 @@ abbrev pub serving_fault : (version floor greatest : ℕ) → Option Refusal
 serving_fault version floor greatest =
     if nat_lt version floor then Some TransactionTooOld
     else (if nat_lt greatest version then Some FutureVersion else None)
+
+-- why a range is not served at a version; one without a point is not asked for
+abbrev pub serving_range_fault : Range → (version floor greatest : ℕ) → Option Refusal
+serving_range_fault range version floor greatest =
+    if is_empty_range range then None else serving_fault version floor greatest
 
 -- why a shard does not serve a version
 abbrev pub shard_fault : List Entry → ℕ → Option ShardProgress → Option Refusal

@@ -3,16 +3,19 @@ ghost use Rattle.std.specs.Prelude.{◌≡◌, ◌↔◌, ◌⊎◌, fold, IsTru
 ghost use Rattle.std.specs.FinMap.{get};
 ghost use Rattle.std.specs.Option.{option_copied};
 ghost use Rattle.fdb_keys.specs.Answers.{Answers};
+ghost use Rattle.fdb_mutations.specs.PairLaws.{given_of};
+ghost use Rattle.fdb_client.specs.Programs.{program, copy};
 ghost use Rattle.fdb_core.specs.check.Values.{value_after_op};
 ghost use Rattle.fdb_core.specs.check.Comparing.{is_below, is_at, IsAnswered, AnsweredAt, Checks};
 ghost use Rattle.fdb_core.specs.headline.Headline.{AnsweredOn};
 
+use crate::check::parts::part_after;
 use crate::roles::client::Placed;
 use crate::roles::values::{copied, value_after_ops};
 use crate::world::CheckFault;
 use bytes::Bytes;
 use fdb_client::{Op, Reply, Transcript};
-use fdb_keys::{Key, Refusal};
+use fdb_keys::{Items, Key, KeyRange, Refusal};
 use fdb_mutations::PlainMap;
 use fdb_txn::Spot;
 use std::alloc::Global;
@@ -59,7 +62,16 @@ fn is_value(reply: &Reply, value: Option<&Bytes>) -> bool
 {
     match reply {
         Reply::Value(told) => told.as_ref() == value,
-        Reply::Done => false,
+        Reply::Pairs(_) | Reply::Done => false,
+    }
+}
+
+fn is_pairs(reply: &Reply, pairs: &Items<(Key, Bytes)>) -> bool
+    ensures { IsTrue result ↔ (reply.now ≡ Reply.Pairs pairs.now) }
+{
+    match reply {
+        Reply::Pairs(told) => told == pairs,
+        Reply::Value(_) | Reply::Done => false,
     }
 }
 
@@ -77,6 +89,24 @@ fn is_read_answered(
     let there = copied(map.get(key))?;
     let value = value_after_ops(alloc, key, there, earlier)?;
     Ok(is_value(reply, value.as_ref()))
+}
+
+// Whether the read of the range was answered as on the map, after the earlier operations.
+fn is_range_answered(
+    alloc: Global,
+    map: &PlainMap,
+    earlier: &[(Op, Reply)],
+    range: &KeyRange,
+    limit: u32,
+    reverse: bool,
+    reply: &Reply,
+) -> Result<bool, Refusal>
+    ensures { Answers result None (λ answered. IsTrue answered
+        ↔ (reply.now ≡ Reply.Pairs (given_of (copy map.now (program earlier.now)) range.now limit reverse))) }
+{
+    let part = part_after(alloc, map, range, earlier)?;
+    let pairs = part.range(range, limit, reverse)?;
+    Ok(is_pairs(reply, &pairs))
 }
 
 // Whether the operation, if it is an ordinary one, was answered as on the map, after the earlier ones.
@@ -97,7 +127,16 @@ fn is_answered(
             let answered = is_read_answered(alloc, map, earlier, key, reply)?;
             Ok(answered)
         }
-        Op::Get { .. } => Ok(true),
+        Op::Range {
+            range,
+            limit,
+            reverse,
+            snapshot: false,
+        } => {
+            let answered = is_range_answered(alloc, map, earlier, range, *limit, *reverse, reply)?;
+            Ok(answered)
+        }
+        Op::Get { .. } | Op::Range { .. } => Ok(true),
         Op::Write(_) | Op::AddRead(_) | Op::AddWrite(_) => Ok(matches!(reply, Reply::Done)),
     }
 }

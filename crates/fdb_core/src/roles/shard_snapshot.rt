@@ -1,7 +1,7 @@
 // What the shard answers at a version.
 ghost use Rattle.std.specs.Prelude.{⊤};
 ghost use Rattle.fdb_keys.specs.Answers.{AnswersExactly};
-ghost use Rattle.fdb_core.specs.machine.RoleSteps.{serving_fault};
+ghost use Rattle.fdb_core.specs.machine.RoleSteps.{serving_fault, serving_range_fault};
 
 use crate::roles::log::Message;
 use crate::roles::maps::map_of;
@@ -36,11 +36,23 @@ impl<'a> ShardSnapshot<'a> {
         }
         Ok(())
     }
+
+    // Refused where the shard doesn't serve the version, unless the range has no key.
+    fn range_served(&self, range: &KeyRange) -> Result<(), Refusal>
+        ensures { AnswersExactly result
+            (serving_range_fault range.now self.now.version self.now.floor self.now.greatest) (λ _. ⊤) }
+    {
+        if range.is_empty() {
+            return Ok(());
+        }
+        self.served()
+    }
 }
 
 impl<'a> Snapshot for ShardSnapshot<'a> {
-    ghost use Rattle.fdb_core.specs.machine.RoleSteps.{serving_fault};
+    ghost use Rattle.fdb_core.specs.machine.RoleSteps.{serving_fault, serving_range_fault};
     ghost use Rattle.fdb_core.specs.refinement.ShardMaps.{map_in};
+    ghost use Rattle.fdb_core.specs.refinement.RangeFaults.{part_served};
 
     ghost at = { λ shard. shard.version };
 
@@ -48,7 +60,10 @@ impl<'a> Snapshot for ShardSnapshot<'a> {
 
     ghost key_fault = { λ shard key. serving_fault shard.version shard.floor shard.greatest };
 
-    ghost range_fault = { λ shard range. serving_fault shard.version shard.floor shard.greatest };
+    ghost range_fault = { λ shard range. serving_range_fault range shard.version shard.floor shard.greatest };
+
+    ghost serves_parts = { λ shard part range inside served.
+        part_served part range (serving_fault shard.version shard.floor shard.greatest) inside served };
 
     fn version(&self) -> u64 {
         self.version
@@ -60,7 +75,7 @@ impl<'a> Snapshot for ShardSnapshot<'a> {
     }
 
     fn page(&self, range: &KeyRange, limit: u32, reverse: bool) -> Result<Page, Refusal> {
-        self.served()?;
+        self.range_served(range)?;
         let map = map_of(self.alloc, self.messages, self.version)?;
         let snapshot = PlainSnapshot {
             version: self.version,

@@ -1,5 +1,5 @@
 -- What a step prints: what it answered, or why it was refused.
-use Rattle.std.specs.Prelude.{ℕ, List, [], ◌++◌, codes, Option, Some, None, Result, Ok, Err}
+use Rattle.std.specs.Prelude.{ℕ, List, [], ◌++◌, length, codes, Option, Some, None, Result, Ok, Err}
 use Rattle.std.specs.List.{flat_map, enumerate_from}
 use Rattle.std.specs.Fmt.{decimal}
 use Rattle.fdb_keys.specs.declared.refusal.Refusal.{Refusal}
@@ -70,6 +70,14 @@ abbrev pub value_text : Option (List ℕ) → List ℕ
 value_text None = codes "none"
 value_text (Some bytes) = codes "value " ++ text_of bytes
 
+-- a key with its value, as an item of a list
+abbrev pub pair_text : List ℕ × List ℕ → List ℕ
+pair_text (key, value) = codes " " ++ text_of key ++ codes "=" ++ text_of value
+
+-- the pairs of a range: how many there are, and then each
+abbrev pub pairs_text : List (List ℕ × List ℕ) → List ℕ
+pairs_text pairs = codes "pairs " ++ decimal (length pairs) ++ flat_map pair_text pairs
+
 -- an entry that was added to the book
 abbrev pub issued_text : ℕ → ℕ → ℕ → ℕ → List ℕ
 issued_text index version prev places =
@@ -128,6 +136,7 @@ abbrev pub answer_text : Kind → Answered → List ℕ
 answer_text kind answered.Done = codes "ok"
 answer_text kind (answered.Granted served) = granted_text served
 answer_text kind (answered.Value value) = value_text value
+answer_text kind (answered.Pairs pairs) = pairs_text pairs
 answer_text kind (answered.ReadOnly version) = codes "readonly " ++ decimal version
 answer_text kind (answered.Issued index version prev places) = issued_text index version prev places
 answer_text kind (answered.Verdicts verdicts) = verdicts_text verdicts

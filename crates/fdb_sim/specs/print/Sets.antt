@@ -3,7 +3,7 @@ use Rattle.std.specs.Prelude.{ℕ, List, ◌++◌, codes, Result, Ok, Err}
 use Rattle.std.specs.List.{flat_map}
 use Rattle.fdb_keys.specs.Ranges.{Range}
 use Rattle.fdb_keys.specs.declared.refusal.Refusal.{Refusal}
-use Rattle.fdb_client.specs.Programs.{program, read_ranges, write_ranges}
+use Rattle.fdb_client.specs.Programs.{program, replies_of, read_ranges, write_ranges}
 use Rattle.fdb_client.specs.declared.program.Transcript.{Transcript}
 use Rattle.fdb_sim.specs.print.Answers.{refusal_text}
 use Rattle.fdb_sim.specs.print.Texts.{text_of}
@@ -19,8 +19,8 @@ ranges_text ranges = flat_map range_text ranges
 -- the sets that the operations of a transaction make
 abbrev pub sets_text : Transcript → List ℕ
 sets_text transcript =
-    codes "reads" ++ ranges_text (read_ranges (program transcript.ops)) ++ codes " writes"
-    ++ ranges_text (write_ranges (program transcript.ops))
+    codes "reads" ++ ranges_text (read_ranges (program transcript.ops) (replies_of transcript.ops))
+    ++ codes " writes" ++ ranges_text (write_ranges (program transcript.ops))
 
 -- the sets of an open transaction, or why there is none
 abbrev pub shown_text : Result Transcript Refusal → List ℕ

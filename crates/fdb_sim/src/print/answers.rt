@@ -2,7 +2,7 @@
 ghost use Rattle.std.specs.Prelude.{◌≡◌, ◌++◌, OnOk, string_bytes};
 ghost use Rattle.std.specs.Fmt.{decimal};
 ghost use Rattle.fdb_keys.specs.Refusals.{code_of};
-ghost use Rattle.fdb_sim.specs.print.Answers.{granted_text, value_text, verdict_name, verdicts_text, outcome_name, outcomes_text, version_text, told_text, clients_text, answer_text, result_text};
+ghost use Rattle.fdb_sim.specs.print.Answers.{granted_text, value_text, pair_text, pairs_text, verdict_name, verdicts_text, outcome_name, outcomes_text, version_text, told_text, clients_text, answer_text, result_text};
 ghost use Rattle.fdb_sim.specs.play.Scripts.{printed_line, refused_line};
 
 use crate::print::refusals::RefusalLine;
@@ -10,7 +10,7 @@ use crate::print::texts::push_text;
 use crate::script::step_line::Kind;
 use bytes::Bytes;
 use fdb_core::{Answered, Outcome, Verdict};
-use fdb_keys::Refusal;
+use fdb_keys::{Key, Refusal};
 use std::alloc::AllocError;
 
 /// Appends what a step of this kind prints, as a line.
@@ -46,6 +46,7 @@ pub fn push_answer(text: &mut String, kind: Kind, answered: &Answered) -> Result
         Answered::Done => text.push_str("ok"),
         Answered::Granted(served) => push_granted(text, served.as_slice()),
         Answered::Value(value) => push_value(text, value),
+        Answered::Pairs(pairs) => push_pairs(text, pairs.as_slice()),
         Answered::ReadOnly(version) => write!(text, "readonly {version}"),
         Answered::Issued {
             index,
@@ -83,6 +84,26 @@ fn push_value(text: &mut String, value: &Option<Bytes>) -> Result<(), AllocError
             push_text(text, bytes.as_slice())
         }
     }
+}
+
+fn push_pairs(text: &mut String, pairs: &[(Key, Bytes)]) -> Result<(), AllocError>
+    ensures { OnOk result (string_bytes text.new ≡ string_bytes text.old ++ pairs_text pairs.now) }
+{
+    let count = pairs.len();
+    write!(text, "pairs {count}")?;
+    for (key, value) in pairs {
+        push_pair(text, key, value)?;
+    }
+    Ok(())
+}
+
+fn push_pair(text: &mut String, key: &Key, value: &Bytes) -> Result<(), AllocError>
+    ensures { OnOk result (string_bytes text.new ≡ string_bytes text.old ++ pair_text (key.now, value.now)) }
+{
+    text.push(' ')?;
+    push_text(text, key.bytes())?;
+    text.push('=')?;
+    push_text(text, value.as_slice())
 }
 
 fn push_verdicts(text: &mut String, verdicts: &[(u32, Verdict)]) -> Result<(), AllocError>

@@ -1,15 +1,25 @@
-use Rattle.std.proofs.Common.{◌≡◌, ◌∙◌, sym, ap, rules, true}
-use Rattle.std.specs.Cmp.Lexicographic.{bytes_decides}
-use Rattle.fdb_keys.specs.Ranges.{single_range, in_set}
-use Rattle.fdb_keys.proofs.ApartLemmas.{with_range-held}
-use Rattle.fdb_keys.proofs.SingleLemmas.{in_range-single}
+use Rattle.std.proofs.Common.{◌∙◌, rules}
+use Rattle.std.proofs.lemmas.Result.{on_ok_weaker}
+use Rattle.fdb_mutations.specs.Mutations.{is_blind}
+use Rattle.fdb_client.specs.declared.left.Left.{Left}
+use Rattle.fdb_client.specs.Kept.{kept}
+use Rattle.fdb_client.specs.OwnWrites.{left_after}
+use Rattle.fdb_client.proofs.KeptLemmas.{changed-at, where_blind, answers_also}
 use Rattle.fdb_client.proofs.buffering.buffer_at_key.Goals as goal
 
-pub returns-then-contains-clause-writes : goal.returns-then-contains-clause-writes
-returns-then-contains-clause-writes c =
+pub returns-in-Some-clause-kept : goal.returns-in-Some-clause-kept
+returns-in-Some-clause-kept c =
+    let own = c.args.own.now in
     let key = c.args.key.now in
-    let writes = c.args.writes.now in
-    let there : in_set writes key ≡ true = search rules in
-    sym (with_range-held (single_range key) writes c.contains.ensures.apart (λ x inside.
-    let same : x ≡ key = (bytes_decides x key).0 (sym (in_range-single key x) ∙ inside) in
-    ap (in_set writes) same ∙ there))
+    let mutation = c.args.mutation.now in
+    answers_also c.decide.result _ _ (λ put x.
+    changed-at (kept own) key x (kept c.decide.new.own x) _ (λ (left : Left). left_after left mutation) (put x)
+    (search rules)) c.decide.ensures.kept
+
+pub returns-in-Some-clause-decided : goal.returns-in-Some-clause-decided
+returns-in-Some-clause-decided c =
+    let own = c.args.own.now in
+    let key = c.args.key.now in
+    let mutation = c.args.mutation.now in
+    on_ok_weaker c.decide.result (λ joined. where_blind (is_blind mutation) _ _ _ joined (λ not_blind.
+    c.decide.ensures.held (c.requires.decided ∙ (search rules)))) c.decide.ensures.decided

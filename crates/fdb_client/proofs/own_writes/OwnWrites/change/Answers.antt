@@ -1,12 +1,13 @@
-use Rattle.std.proofs.Common.{◌≡◌, ◌∙◌, rules, Some, cond}
+use Rattle.std.proofs.Common.{◌≡◌, ℕ, List, if◌then◌else◌, ◌∙◌, ap, rules, Some, None, [], ◌∷◌, cond}
 use Rattle.std.specs.Ordering.{nat_cmp}
 use Rattle.std.specs.Cmp.Lexicographic.{slice_cmp}
 use Rattle.std.specs.BTreeMap.{is_at}
 use Rattle.fdb_keys.specs.Points.{Point, point_eq}
 use Rattle.fdb_client.specs.declared.left.Left.{Left}
+use Rattle.fdb_client.specs.declared.left.Left.TheVariants.{Changes}
 use Rattle.fdb_client.specs.Kept.{kept}
-use Rattle.fdb_client.specs.OwnWrites.{left_after}
-use Rattle.fdb_client.proofs.KeptLemmas.{found, kept-changed, either_way, on_err}
+use Rattle.fdb_client.specs.OwnWrites.{left_after, kept_at}
+use Rattle.fdb_client.proofs.KeptLemmas.{found, kept-changed, changed-at, first-change, legal-put, either_way, on_err, answers_also}
 use Rattle.fdb_client.proofs.own_writes.OwnWrites.change.Goals as goal
 
 pub returns-in_err-change-clause-err : goal.returns-in_err-change-clause-err
@@ -19,7 +20,7 @@ returns-in_err-change-clause-err c =
     = λ x. let follows = c.get_mut.follows.holds c.change.new.self in search rules in
     let same : c.change.new.self ≡ kept own key = search rules in
     on_err c.from_residual-in_err-change.result _ (λ x.
-    kept-changed own.keys.entries after.entries own.cleared key c.change.new.self (λ (left : Left). left) there same x
+    kept-changed own.keys.entries after.entries own.decided key c.change.new.self (λ (left : Left). left) there same x
     ∙ either_way (point_eq x key) (kept own x))
 
 pub returns-in-Some-clause-answers : goal.returns-in-Some-clause-answers
@@ -32,5 +33,34 @@ returns-in-Some-clause-answers c =
     ≡ cond (is_at (slice_cmp nat_cmp key) x) (Some c.change.new.self) (found own.keys.entries x)
     = λ x. let follows = c.get_mut.follows.holds c.change.new.self in search rules in
     let made : c.change.new.self ≡ left_after (kept own key) mutation = search rules in
-    λ x. kept-changed own.keys.entries after.entries own.cleared key c.change.new.self
+    λ x. kept-changed own.keys.entries after.entries own.decided key c.change.new.self
     (λ (left : Left). left_after left mutation) there made x
+
+pub returns-in_err-change-clause-legal_keys : goal.returns-in_err-change-clause-legal_keys
+returns-in_err-change-clause-legal_keys c =
+    legal-put c.args.self.now.keys.entries (c.get_mut.follows.lender c.change.new.self).entries c.args.key.now
+    c.change.new.self c.text.ensures.legal c.requires.legal_keys
+    (λ x. let follows = c.get_mut.follows.holds c.change.new.self in search rules)
+
+pub returns-in-Some-clause-legal_keys : goal.returns-in-Some-clause-legal_keys
+returns-in-Some-clause-legal_keys c =
+    legal-put c.args.self.now.keys.entries (c.get_mut.follows.lender c.change.new.self).entries c.args.key.now
+    c.change.new.self c.text.ensures.legal c.requires.legal_keys
+    (λ x. let follows = c.get_mut.follows.holds c.change.new.self in search rules)
+
+pub returns-clause-answers : goal.returns-clause-answers
+returns-clause-answers c =
+    let own = c.args.self.now in
+    let key = c.args.key.now in
+    let mutation = c.args.mutation.now in
+    let absent : found own.keys.entries key ≡ None = search rules in
+    let list : c.push.new.self ≡ mutation ∷ [] = search rules in
+    let same : c.get_mut.follows.lender-at-none.entries ≡ own.keys.entries = search rules in
+    answers_also c.put.result _ _ (λ put x.
+    changed-at (kept own) key x (kept c.put.new.self x) (Changes c.push.new.self)
+    (λ (left : Left). left_after left mutation)
+    (put x ∙ ap (λ (entries : List (List ℕ × Left)).
+    if point_eq x key then Changes c.push.new.self else kept_at entries own.decided x) same)
+    (ap Changes list
+    ∙ first-change own.keys.entries own.decided key mutation absent c.requires.undecided c.requires.blind))
+    c.put.ensures.answers

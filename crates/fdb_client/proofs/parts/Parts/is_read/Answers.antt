@@ -1,5 +1,4 @@
 use Rattle.std.proofs.Common.{◌≡◌, ◌∙◌, rules}
-use Rattle.fdb_client.specs.Kept.{kept}
 use Rattle.fdb_client.specs.Programs.{program, decided}
 use Rattle.fdb_client.proofs.PartsLemmas.{kept-decides}
 use Rattle.fdb_client.proofs.parts.Parts.is_read.Goals as goal
@@ -8,6 +7,6 @@ pub returns-then-not-is_snapshot : goal.returns-then-not-is_snapshot
 returns-then-not-is_snapshot c =
     let now = c.args.self.now in
     let decides : c.decides.result ≡ decided (program now.transcript.ops) c.args.key.now =
-    c.decides.ensures ∙ kept-decides now.transcript.ops (kept now.own) now.reads now.writes now.mutations c.requires
+    c.decides.ensures ∙ kept-decides now.transcript.ops now.own now.reads now.writes now.mutations c.requires
     c.args.key.now in
     search rules

@@ -1,5 +1,6 @@
-use Rattle.std.proofs.Common.{◌∙◌, sym, ap, ap₂, refl, List, [], ◌∷◌, ◌++◌}
+use Rattle.std.proofs.Common.{◌≡◌, ◌∙◌, sym, ap, ap₂, refl, subst, List, [], ◌∷◌, ◌++◌}
 use Rattle.fdb_keys.specs.Insertion.{with_range}
+use Rattle.fdb_keys.specs.Points.{Point}
 use Rattle.fdb_keys.specs.Ranges.{Range, in_set}
 use Rattle.fdb_mutations.specs.declared.mutation.Mutation.{Mutation}
 use Rattle.fdb_mutations.specs.Mutations.{named_range}
@@ -7,10 +8,11 @@ use Rattle.fdb_client.specs.declared.own_writes.OwnWrites.{OwnWrites}
 use Rattle.fdb_client.specs.declared.parts.Parts.{Parts}
 use Rattle.fdb_client.specs.declared.program.Op.TheVariants as operation
 use Rattle.fdb_client.specs.declared.program.Reply.TheVariants as answer
-use Rattle.fdb_client.specs.Kept.{kept}
-use Rattle.fdb_client.specs.OwnWrites.{left_with}
+use Rattle.fdb_client.specs.Kept.{kept, HasLegalKeys}
+use Rattle.fdb_client.specs.OwnWrites.{left_with, is_value}
 use Rattle.fdb_client.specs.Parts.{with_op}
-use Rattle.fdb_client.proofs.PartsLemmas.{are-push, kept-unwritten, legal-push}
+use Rattle.fdb_client.specs.Programs.{add_decided}
+use Rattle.fdb_client.proofs.PartsLemmas.{are-push, kept-decided, kept-unwritten, legal-push}
 use Rattle.fdb_client.proofs.parts.Parts.write.Goals as goal
 
 -- with a write listed among the operations and among the mutations
@@ -20,14 +22,26 @@ listed_with old noted mutation = record old {
   mutations = old.mutations ++ mutation ∷ [];
 }
 
-pub buffer-requires : goal.buffer-requires
-buffer-requires c = λ x none.
+pub buffer-requires-clause-legal_keys : goal.buffer-requires-clause-legal_keys
+buffer-requires-clause-legal_keys c =
+    let own = ap (λ (parts : Parts). parts.own) c.in_ok-list_write.ensures.answers in
+    subst HasLegalKeys (sym own) c.requires.kept.legal_keys
+
+pub buffer-requires-clause-decided : goal.buffer-requires-clause-decided
+buffer-requires-clause-decided c =
+    let old = c.args.self.now in
+    let own = ap (λ (parts : Parts). parts.own) c.in_ok-list_write.ensures.answers in
+    subst (λ (there : OwnWrites). (x : Point) → in_set there.decided x ≡ is_value (kept there x)) (sym own)
+    (λ x. kept-decided old.transcript.ops old.own old.reads old.writes old.mutations c.requires.kept x)
+
+pub buffer-requires-clause-written : goal.buffer-requires-clause-written
+buffer-requires-clause-written c = λ x none.
     let old = c.args.self.now in
     let listed = c.in_ok-list_write.ensures.answers in
     let own = ap (λ (parts : Parts). parts.own) listed in
     let writes = ap (λ (parts : Parts). parts.writes) listed in
     ap (λ (there : OwnWrites). kept there x) own
-    ∙ kept-unwritten old.transcript.ops (kept old.own) old.reads old.writes old.mutations c.requires.kept x
+    ∙ kept-unwritten old.transcript.ops old.own old.reads old.writes old.mutations c.requires.kept x
     (sym (ap (λ (set : List Range). in_set set x) writes) ∙ none)
 
 pub returns-clause-kept : goal.returns-clause-kept
@@ -38,10 +52,12 @@ returns-clause-kept c =
     c.in_ok-copy_of.ensures c.in_ok-copy_of-2.ensures in
     let own = ap (λ (parts : Parts). parts.own) listed in
     let writes = ap (λ (parts : Parts). parts.writes) listed in
-    let pushed = are-push old.transcript.ops (operation.Write mutation, answer.Done) (kept old.own)
-    (kept c.buffer.new.own) old.reads old.writes old.reads c.buffer.new.writes old.mutations
-    (old.mutations ++ mutation ∷ []) c.requires.kept
+    let pushed = are-push old.transcript.ops (operation.Write mutation, answer.Done) old.own c.buffer.new.own
+    old.reads old.writes old.reads c.buffer.new.writes old.mutations (old.mutations ++ mutation ∷ []) c.requires.kept
     (λ x. c.in_default.ensures.kept x ∙ ap (λ (there : OwnWrites). left_with x (kept there x) mutation) own)
+    c.in_default.ensures.legal_keys
+    (c.in_default.ensures.decided
+    ∙ ap (λ (there : OwnWrites). add_decided (operation.Write mutation) there.decided) own)
     refl
     (c.in_default.ensures.writes ∙ ap (with_range (named_range mutation)) writes)
     refl
