@@ -5,6 +5,7 @@ pub mod DecideLemmas
 pub mod NoMoves
 pub mod OneResolver
 pub mod ResolvingLemmas
+pub mod ReadSteps
 pub mod RoleTies
 pub mod RunLaws
 pub mod SealLemmas

@@ -1,5 +1,6 @@
 pub mod Cluster
 pub mod RangeFaults
+pub mod Reads
 pub mod Resolving
 pub mod Roles
 pub mod Sessions

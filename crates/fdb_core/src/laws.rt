@@ -1,5 +1,5 @@
 //! What the machine promises, at every step and over every run.
-ghost use Rattle.fdb_core.specs.headline.Promises.{RefusalsChangeNothing, GrantsCommitted, CommittedIsGreatestReported, GetsFromTheRun, GetsRefused};
+ghost use Rattle.fdb_core.specs.headline.Promises.{RefusalsChangeNothing, GrantsCommitted, CommittedIsGreatestReported, GetsFromTheRun, GetsRefused, RangeReadsFromTheRun, RangeReadsRefused};
 ghost use Rattle.fdb_core.specs.headline.Answers.{AnsweredByTheTrace};
 ghost use Rattle.fdb_core.specs.headline.RealTime.{RealTime};
 ghost use Rattle.fdb_core.specs.headline.Examples.{OnlyTheFirstIsSerialized, ReadOnlyAtItsVersion, AfterAVersion, AnEmptyShardDoesNotServe, OnlyOrdinaryReadsCount, BegunByServing, ForgetfulRolesDoNotKeep, ReadOffTheTrace, Traced};
@@ -21,14 +21,16 @@ pub fn grants_are_the_greatest_reported_version()
 {}
 
 /// An accepted read answers what stands at the key after the transaction's own operations, executed on
-/// the map of the run of one transaction at a time at the transaction's read version.
+/// the map of the run of one transaction at a time at the transaction's read version; and a read of a range its first
+/// pairs there, or its last ones, up to the limit.
 pub fn gets_answer_as_the_program_run_on_the_map_at_its_read_version()
-    ensures { GetsFromTheRun }
+    ensures keys { GetsFromTheRun }
+    ensures ranges { RangeReadsFromTheRun }
 {}
 
 /// Over every trace, each accepted step is answered by what the trace told before: a grant gives the greatest version
-/// that was reported; a read what stands at the key after the transaction's own operations, executed on the serial map
-/// at its read version; a transaction that is done when it is submitted wrote nothing; a seal gives the number of the
+/// that was reported; a read what stands at the key, or in the range, after the transaction's own operations, executed
+/// on the serial map at its read version; a transaction that is done when it is submitted wrote nothing; a seal gives the number of the
 /// entry, its version, the previous one and how many places it has; a report the greatest version that was reported;
 /// and an answer tells each client of the batch once, by place, what became of its transaction by the rule.
 pub fn accepted_steps_are_answered_by_what_the_trace_told_before()
@@ -40,6 +42,14 @@ pub fn accepted_steps_are_answered_by_what_the_trace_told_before()
 /// exactly where they don't and that shard no longer serves it. A key that they decide is answered.
 pub fn gets_are_refused_exactly_where_the_shard_does_not_serve()
     ensures { GetsRefused }
+{}
+
+/// A read of a range in an open transaction is refused as `TransactionTooOld` exactly where one of the shards that hold
+/// some of the range no longer serves the read version, and as `FutureVersion` exactly where none has forgotten it, and the
+/// first that doesn't serve it hasn't reached it. The range is looked at whole, whatever the limit, and one without a
+/// key is answered.
+pub fn range_reads_are_refused_exactly_where_a_shard_of_the_range_does_not_serve()
+    ensures { RangeReadsRefused }
 {}
 
 /// A trace determines the machine: a world that stands for a list of steps with their answers shows the machine

@@ -21,6 +21,15 @@ pub enum Step {
         key: Key,
         snapshot: bool,
     },
+    /// The session's transaction reads the first pairs of a range, or the last ones from its end: at most `limit` of
+    /// them, or all where it is 0. A snapshot read adds nothing to the read set.
+    GetRange {
+        session: u32,
+        range: KeyRange,
+        limit: u32,
+        reverse: bool,
+        snapshot: bool,
+    },
     /// The session's transaction buffers a mutation.
     Write {
         session: u32,

@@ -11,6 +11,7 @@ ghost use Rattle.fdb_core.specs.refinement.Cluster.{machine_of, Refines};
 ghost use Rattle.fdb_core.specs.machine.Steps.{Unless, ran_out, next, answer_of, after};
 
 use crate::cluster::Cluster;
+use crate::roles::client::read::Read;
 use crate::roles::commit_proxy::Sender;
 use crate::step::{Answered, Step};
 use fdb_keys::Refusal;
@@ -31,7 +32,22 @@ impl Cluster {
                 session,
                 key,
                 snapshot,
-            } => self.get(*session, key, *snapshot),
+            } => self.read(*session, Read::Key(key), *snapshot),
+            Step::GetRange {
+                session,
+                range,
+                limit,
+                reverse,
+                snapshot,
+            } => {
+                let (limit, reverse) = (*limit, *reverse);
+                let read = Read::Range {
+                    range,
+                    limit,
+                    reverse,
+                };
+                self.read(*session, read, *snapshot)
+            }
             Step::Write { session, mutation } => self.write(*session, mutation),
             Step::AddRead { session, range } => self.add_read(*session, range),
             Step::AddWrite { session, range } => self.add_write(*session, range),

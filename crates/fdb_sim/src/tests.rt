@@ -3,6 +3,7 @@ mod failing;
 mod large;
 mod lines;
 mod playing;
+mod ranges;
 mod rows;
 mod scripts;
 mod sets;

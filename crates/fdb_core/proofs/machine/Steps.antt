@@ -22,7 +22,7 @@ use Rattle.fdb_txn.specs.book.Size.{size_fault}
 use Rattle.fdb_core.specs.declared.step.Step.{Step}
 use Rattle.fdb_core.specs.declared.step.Step.TheVariants as step
 use Rattle.fdb_core.specs.headline.Traces.{after_steps}
-use Rattle.fdb_core.specs.machine.ClientSteps.{gets, writes, adds_read, adds_write, submits, answered_by, add_operation, read_fault}
+use Rattle.fdb_core.specs.machine.ClientSteps.{reads, writes, adds_read, adds_write, submits, answered_by, add_operation, fault_after}
 use Rattle.fdb_core.specs.machine.GrvProxySteps.{asks, grants, has_no_number}
 use Rattle.fdb_core.specs.machine.CommitProxySteps.{seals, taken_by_sender, awaits, with_received, receives, decides, reports, answers, is_idle, is_resolving, is_logging, is_reported, placed_from, replies_from}
 use Rattle.fdb_core.specs.machine.Machine.{Machine, Transition, is_set, first_missing}
@@ -38,6 +38,8 @@ use Rattle.fdb_core.proofs.refinement.SealLemmas.{sealed_machine}
 -- the operation of a client's step, with its session
 abbrev pub operation_of : Step → Option (ℕ × Op)
 operation_of (step.Get session key snapshot) = Some (session, op.Get key snapshot)
+operation_of (step.GetRange session range limit is_reverse snapshot) =
+    Some (session, op.Range range limit is_reverse snapshot)
 operation_of (step.Write session mutation) = Some (session, op.Write mutation)
 operation_of (step.AddRead session range) = Some (session, op.AddRead range)
 operation_of (step.AddWrite session range) = Some (session, op.AddWrite range)
@@ -73,7 +75,7 @@ pub record HoldsOfSteps (R : Machine → Step → Answered → Machine → Type 
         sessions = fold (serve m.committed) m.sessions there;
         grv_proxies = slice_set m.grv_proxies proxy [];
       })
-  -- an operation went to a session's open transaction, with its reply (Get, Write, AddRead, AddWrite)
+  -- an operation went to a session's open transaction, with its reply (Get, GetRange, Write, AddRead, AddWrite)
   pub operated : (m : Machine) (taken : Step) (session : ℕ) (transcript : Transcript) (operation : Op)
       → operation_of taken ≡ Some (session, operation) → open_at m.sessions session ≡ Some transcript
       → let there = serial_map_at m.config.resolver_splits transcript.read_version (seen_of m.book).places in
@@ -168,9 +170,18 @@ module _ (R : Machine → Step → Answered → Machine → Type 0) (holds : Hol
       holds.went_on m taken answered.Done proxy commit_proxy commit_proxy.stage m.decided _ _ quiet at
       (ap is_idle stage) (ap is_idle stage) (ap is_reported stage)
 
+  -- an operation that reads goes to the session's open transaction
+  reads-operated : (m : Machine) (taken : Step) (session : ℕ) (operation : Op)
+      → operation_of taken ≡ Some (session, operation) → IfAccepted (Leads m taken) (reads m session operation)
+  unfolding reads
+  reads-operated m taken session operation is =
+      past-open _ (open_at m.sessions session) _ (λ transcript opened.
+      past-fault _ (fault_after m transcript operation) _
+      (λ _. holds.operated m taken session transcript operation is opened))
+
   -- it holds of every accepted step
   pub holds-next : (m : Machine) (taken : Step) → IfAccepted (Leads m taken) (next m taken)
-  unfolding asks grants gets writes adds_read adds_write submits seals resolves receives decides pushes reports answers
+  unfolding asks grants writes adds_read adds_write submits seals resolves receives decides pushes reports answers
       pulls
   holds-next m (step.Ask session proxy) =
       past-found _ (slice_get m.grv_proxies proxy) _ (λ there at.
@@ -181,9 +192,10 @@ module _ (R : Machine → Step → Answered → Machine → Type 0) (holds : Hol
       past-test _ (list_any (has_no_number m.sessions) there) _ _
       (λ left. holds.granted m proxy there at left))
   holds-next m (step.Get session key snapshot) =
-      past-open _ (open_at m.sessions session) _ (λ transcript opened.
-      past-fault _ (read_fault m (program transcript.ops) transcript.read_version key) _
-      (λ _. holds.operated m (step.Get session key snapshot) session transcript (op.Get key snapshot) refl opened))
+      reads-operated m (step.Get session key snapshot) session (op.Get key snapshot) refl
+  holds-next m (step.GetRange session range limit is_reverse snapshot) =
+      reads-operated m (step.GetRange session range limit is_reverse snapshot) session
+      (op.Range range limit is_reverse snapshot) refl
   holds-next m (step.Write session mutation) =
       past-open _ (open_at m.sessions session) _ (λ transcript opened.
       past-fault _ (mutation_fault mutation) _ (λ _.

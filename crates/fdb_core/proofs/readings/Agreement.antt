@@ -84,6 +84,7 @@ pub quiet-tells : (r : Readings) (taken : Step) (answer : Answered) → is_quiet
 quiet-tells r (step.Ask session proxy) answer quiet = cc
 quiet-tells r (step.Grant proxy) answer quiet = cc
 quiet-tells r (step.Get session key snapshot) answer quiet = cc
+quiet-tells r (step.GetRange session range limit is_reverse snapshot) answer quiet = cc
 quiet-tells r (step.Write session mutation) answer quiet = cc
 quiet-tells r (step.AddRead session range) answer quiet = cc
 quiet-tells r (step.AddWrite session range) answer quiet = cc
@@ -106,6 +107,10 @@ operation-tells r (step.Get own key snapshot) session operation there is =
     subst (λ (done : ℕ × Op). has_done r done.0 done.1 (reply_on there done.1)
     ≡ read r (step.Get own key snapshot) (answered_by (reply_on there done.1)))
     (same_Some (own, op.Get key snapshot) (session, operation) is) refl
+operation-tells r (step.GetRange own range limit is_reverse snapshot) session operation there is =
+    subst (λ (done : ℕ × Op). has_done r done.0 done.1 (reply_on there done.1)
+    ≡ read r (step.GetRange own range limit is_reverse snapshot) (answered_by (reply_on there done.1)))
+    (same_Some (own, op.Range range limit is_reverse snapshot) (session, operation) is) refl
 operation-tells r (step.Write own mutation) session operation there is =
     subst (λ (done : ℕ × Op). has_done r done.0 done.1 (reply_on there done.1)
     ≡ read r (step.Write own mutation) (answered_by (reply_on there done.1)))

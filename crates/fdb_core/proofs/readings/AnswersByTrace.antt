@@ -6,6 +6,7 @@ use Rattle.std.proofs.lemmas.List.{length-map, take-map}
 use Rattle.std.proofs.lemmas.Option.{same_Some}
 use Rattle.fdb_keys.specs.declared.refusal.Refusal.{Refusal}
 use Rattle.fdb_keys.specs.Points.{Point}
+use Rattle.fdb_mutations.specs.PairLaws.{given_of}
 use Rattle.fdb_txn.specs.Limits.{place_limit}
 use Rattle.fdb_txn.specs.declared.entry.Entry.{Entry}
 use Rattle.fdb_txn.specs.book.Book.{seen_of, last_version, seen_before}
@@ -48,6 +49,7 @@ quiet-answered : (splits : List Point) (r : Readings) (taken : Step) (answer : A
 quiet-answered splits r (step.Ask session proxy) answer quiet = cc
 quiet-answered splits r (step.Grant proxy) answer quiet = cc
 quiet-answered splits r (step.Get session key snapshot) answer quiet = cc
+quiet-answered splits r (step.GetRange session range limit is_reverse snapshot) answer quiet = cc
 quiet-answered splits r (step.Write session mutation) answer quiet = cc
 quiet-answered splits r (step.AddRead session range) answer quiet = cc
 quiet-answered splits r (step.AddWrite session range) answer quiet = cc
@@ -84,6 +86,19 @@ operation-answered splits r book (step.Get own key snapshot) session operation t
       ap (λ (b : List Entry). get
           (copy (serial_map_at splits transcript.read_version (seen_of b).places) (program transcript.ops)) key)
           (sym same),
+    )
+operation-answered splits r book (step.GetRange own range limit is_reverse snapshot) session operation transcript same
+    opened is =
+    let done = same_Some (own, op.Range range limit is_reverse snapshot) (session, operation) is in
+    subst (λ (pair : ℕ × Op). IsAnswered splits r (step.GetRange own range limit is_reverse snapshot)
+    (answered_by (reply_on
+    (copy (serial_map_at splits transcript.read_version (seen_of book).places) (program transcript.ops)) pair.1)))
+    done (
+      transcript,
+      subst (λ (s : ℕ). HasOpened r s transcript) (sym (ap (λ (pair : ℕ × Op). pair.0) done)) opened,
+      ap (λ (b : List Entry). given_of
+          (copy (serial_map_at splits transcript.read_version (seen_of b).places) (program transcript.ops)) range limit
+          is_reverse) (sym same),
     )
 operation-answered splits r book (step.Write own mutation) session operation transcript same opened is =
     subst (λ (pair : ℕ × Op). IsAnswered splits r (step.Write own mutation) (answered_by (reply_on

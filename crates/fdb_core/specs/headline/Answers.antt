@@ -1,9 +1,11 @@
 -- What an accepted step answers, by what the trace told before it.
-use Rattle.std.specs.Prelude.{◌≡◌, ℕ, max, ⊤, List, [], ◌∷◌, ◌++◌, length, take, Option, Some, Result, Ok, slice_get}
+use Rattle.std.specs.Prelude.{◌≡◌, ℕ, Bool, max, ⊤, List, [], ◌∷◌, ◌++◌, length, take, Option, Some, Result, Ok, slice_get}
 use Rattle.std.specs.List.{AllByRecursion}
 use Rattle.std.specs.FinMap.{get}
 use Rattle.fdb_keys.specs.declared.refusal.Refusal.{Refusal}
 use Rattle.fdb_keys.specs.Points.{Point}
+use Rattle.fdb_keys.specs.Ranges.{Range}
+use Rattle.fdb_mutations.specs.PairLaws.{given_of}
 use Rattle.fdb_txn.specs.Limits.{place_limit}
 use Rattle.fdb_txn.specs.declared.entry.Entry.{Entry}
 use Rattle.fdb_txn.specs.book.Book.{seen_of, last_version, seen_before}
@@ -36,6 +38,14 @@ module _ (splits : List Point) (r : Readings) where
       (transcript : Transcript) × HasOpened r session transcript × (value ≡ get
       (copy (serial_map_at splits transcript.read_version (seen_of r.book).places) (program transcript.ops)) key)
 
+  -- A read of a range answers its pairs after the transaction's own operations, executed on the serial map at its read
+  -- version.
+  abbrev pub IsReadRange : ℕ → Range → ℕ → Bool → List (Point × List ℕ) → Type 0
+  IsReadRange session range limit is_reverse pairs =
+      (transcript : Transcript) × HasOpened r session transcript × (pairs ≡ given_of
+      (copy (serial_map_at splits transcript.read_version (seen_of r.book).places) (program transcript.ops)) range limit
+      is_reverse)
+
   -- a transaction that is done when it is submitted wrote nothing, and is told its read version
   abbrev pub IsReadOnly : ℕ → ℕ → Type 0
   IsReadOnly session version =
@@ -64,6 +74,9 @@ module _ (splits : List Point) (r : Readings) where
   IsAnswered (step.Grant proxy) answer = ⊥
   IsAnswered (step.Get session key snapshot) (answered.Value value) = IsRead session key value
   IsAnswered (step.Get session key snapshot) answer = ⊥
+  IsAnswered (step.GetRange session range limit is_reverse snapshot) (answered.Pairs pairs) =
+      IsReadRange session range limit is_reverse pairs
+  IsAnswered (step.GetRange session range limit is_reverse snapshot) answer = ⊥
   IsAnswered (step.Write session mutation) answer = answer ≡ answered.Done
   IsAnswered (step.AddRead session range) answer = answer ≡ answered.Done
   IsAnswered (step.AddWrite session range) answer = answer ≡ answered.Done

@@ -1,8 +1,11 @@
 -- What holds of the machine at every step and over every run.
-use Rattle.std.specs.Prelude.{◌≡◌, ◌↔◌, ℕ, Bool, true, false, nat_lt, List, map, Some, Result, Ok, Err, slice_get}
+use Rattle.std.specs.Prelude.{◌≡◌, ◌↔◌, ◌⊎◌, ℕ, Bool, true, false, nat_lt, List, [], ◌∷◌, map, Some, None, Result, Ok, Err, slice_get}
 use Rattle.std.specs.FinMap.{get}
 use Rattle.fdb_keys.specs.declared.refusal.Refusal.{Refusal}
 use Rattle.fdb_keys.specs.declared.refusal.Refusal.TheVariants.{FutureVersion, TransactionTooOld}
+use Rattle.fdb_keys.specs.Points.{Point}
+use Rattle.fdb_keys.specs.Ranges.{Range, is_empty_range}
+use Rattle.fdb_mutations.specs.PairLaws.{given_of}
 use Rattle.fdb_txn.specs.book.Book.{seen_of}
 use Rattle.fdb_txn.specs.rules.Owners.{first_owner}
 use Rattle.fdb_txn.specs.rules.SerialMap.{serial_map_at}
@@ -15,6 +18,7 @@ use Rattle.fdb_core.specs.declared.config.Config.{Config}
 use Rattle.fdb_core.specs.declared.step.Answered.{Answered}
 use Rattle.fdb_core.specs.headline.Readings.{readings_of}
 use Rattle.fdb_core.specs.headline.Traces.{IsTraceOf}
+use Rattle.fdb_core.specs.machine.ClientSteps.{point_fault, shard_begins}
 use Rattle.fdb_core.specs.machine.RoleSteps.{version_of_shard}
 use Rattle.fdb_core.specs.machine.Machine.{Machine, Transition}
 use Rattle.fdb_core.specs.machine.Sessions.{open_at}
@@ -49,21 +53,39 @@ GetsFromTheRun =
     (get (copy (serial_map_at m.config.resolver_splits transcript.read_version (seen_of m.book).places)
     (program transcript.ops)) key))
 
+-- a read of a range answers its pairs, as the transaction's own operations, executed on that map, leave them
+abbrev pub RangeReadsFromTheRun : Type 0
+RangeReadsFromTheRun =
+    (m : Machine) (session : ℕ) (range : Range) (limit : ℕ) (is_reverse snapshot : Bool) (transition : Transition)
+    → next m (step.GetRange session range limit is_reverse snapshot) ≡ Ok transition
+    → (transcript : Transcript) × (open_at m.sessions session ≡ Some transcript)
+    × (transition.answer ≡ answered.Pairs
+    (given_of (copy (serial_map_at m.config.resolver_splits transcript.read_version (seen_of m.book).places)
+    (program transcript.ops)) range limit is_reverse))
+
+-- the shard that holds the point still serves the version but hasn't reached it
+abbrev pub Lags : Machine → ℕ → Point → Type 0
+Lags m version point =
+    (progress : ShardProgress) × (slice_get m.shards (first_owner m.config.shard_splits point) ≡ Some progress)
+    × (nat_lt version progress.floor ≡ false)
+    × (nat_lt (version_of_shard m.book progress) version ≡ true)
+
+-- it no longer serves the version
+abbrev pub Forgot : Machine → ℕ → Point → Type 0
+Forgot m version point =
+    (progress : ShardProgress) × (slice_get m.shards (first_owner m.config.shard_splits point) ≡ Some progress)
+    × (nat_lt version progress.floor ≡ true)
+
 -- the transaction's own operations don't decide the key, and the shard that holds it still serves the read
 -- version but hasn't reached it
 abbrev pub IsLagging : Machine → Transcript → List ℕ → Type 0
 IsLagging m transcript key =
-    (decided (program transcript.ops) key ≡ false)
-    × ((progress : ShardProgress) × (slice_get m.shards (first_owner m.config.shard_splits key) ≡ Some progress)
-    × (nat_lt transcript.read_version progress.floor ≡ false)
-    × (nat_lt (version_of_shard m.book progress) transcript.read_version ≡ true))
+    (decided (program transcript.ops) key ≡ false) × Lags m transcript.read_version key
 
 -- the transaction's own operations don't decide the key, and the shard that holds it no longer serves the read version
 abbrev pub HasForgotten : Machine → Transcript → List ℕ → Type 0
 HasForgotten m transcript key =
-    (decided (program transcript.ops) key ≡ false)
-    × ((progress : ShardProgress) × (slice_get m.shards (first_owner m.config.shard_splits key) ≡ Some progress)
-    × (nat_lt transcript.read_version progress.floor ≡ true))
+    (decided (program transcript.ops) key ≡ false) × Forgot m transcript.read_version key
 
 -- A read of an open transaction is refused as in the future where the key's shard lags, as too old where it has
 -- forgotten the read version, and as either only there; a key that the transaction's own operations decide is answered.
@@ -75,3 +97,29 @@ GetsRefused =
     × ((next m (step.Get session key snapshot) ≡ Err TransactionTooOld) ↔ HasForgotten m transcript key)
     × (decided (program transcript.ops) key ≡ true
     → (transition : Transition) × (next m (step.Get session key snapshot) ≡ Ok transition))
+
+-- the first of the points whose shard doesn't serve the version has the property
+abbrev pub FirstUnserved : Machine → ℕ → (Point → Type 0) → List Point → Type 0
+FirstUnserved m version P [] = ⊥
+FirstUnserved m version P (point ∷ points) =
+    P point ⊎ ((point_fault m version point ≡ None) × FirstUnserved m version P points)
+
+-- one of the points has the property
+abbrev pub HasOne : (Point → Type 0) → List Point → Type 0
+HasOne P [] = ⊥
+HasOne P (point ∷ points) = P point ⊎ HasOne P points
+
+-- A read of a range in an open transaction is refused as too old where one of the range's shards has forgotten the read
+-- version, as in the future where none has and the first that doesn't serve it lags, and as either only there, whatever
+-- its limit; a read of a range without a point is answered.
+abbrev pub RangeReadsRefused : Type 0
+RangeReadsRefused =
+    (m : Machine) (session : ℕ) (range : Range) (limit : ℕ) (is_reverse snapshot : Bool) (transcript : Transcript)
+    → open_at m.sessions session ≡ Some transcript
+    → let taken = step.GetRange session range limit is_reverse snapshot in
+    let version = transcript.read_version in
+    let begins = shard_begins m.config.shard_splits range in
+    ((next m taken ≡ Err TransactionTooOld) ↔ HasOne (Forgot m version) begins)
+    × ((next m taken ≡ Err FutureVersion)
+    ↔ ((¬ HasOne (Forgot m version) begins) × FirstUnserved m version (Lags m version) begins))
+    × (is_empty_range range ≡ true → (transition : Transition) × (next m taken ≡ Ok transition))

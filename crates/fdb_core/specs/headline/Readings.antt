@@ -153,6 +153,9 @@ read r (step.Grant proxy) answer = r
 read r (step.Get session key snapshot) (answered.Value value) =
     has_done r session (op.Get key snapshot) (reply.Value value)
 read r (step.Get session key snapshot) answer = r
+read r (step.GetRange session range limit is_reverse snapshot) (answered.Pairs pairs) =
+    has_done r session (op.Range range limit is_reverse snapshot) (reply.Pairs pairs)
+read r (step.GetRange session range limit is_reverse snapshot) answer = r
 read r (step.Write session mutation) answer = has_done r session (op.Write mutation) reply.Done
 read r (step.AddRead session range) answer = has_done r session (op.AddRead range) reply.Done
 read r (step.AddWrite session range) answer = has_done r session (op.AddWrite range) reply.Done

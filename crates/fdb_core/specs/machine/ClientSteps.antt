@@ -1,7 +1,11 @@
 -- The steps of clients.
-use Rattle.std.specs.Prelude.{ℕ, Bool, List, [], ◌∷◌, ◌++◌, Option, None, Result, Ok, slice_get, slice_set, if◌then◌else◌}
+use Rattle.std.specs.Prelude.{ℕ, Bool, true, false, List, [], ◌∷◌, ◌++◌, filter, Option, Some, None, Result, Ok, slice_get, slice_set, if◌then◌else◌}
+use Rattle.std.specs.List.{list_any}
+use Rattle.std.specs.Option.{option_or}
 use Rattle.fdb_keys.specs.declared.refusal.Refusal.{Refusal}
-use Rattle.fdb_keys.specs.Ranges.{Range}
+use Rattle.fdb_keys.specs.declared.refusal.Refusal.TheVariants.{TransactionTooOld}
+use Rattle.fdb_keys.specs.Points.{Point}
+use Rattle.fdb_keys.specs.Ranges.{Range, in_range}
 use Rattle.fdb_mutations.specs.declared.mutation.Mutation.{Mutation}
 use Rattle.fdb_mutations.specs.Mutations.{mutation_fault}
 use Rattle.fdb_txn.specs.declared.spot.Spot.TheVariants as spot
@@ -34,20 +38,58 @@ add_operation m session transcript op reply = record m {
   sessions = with_state m.sessions session (Open (with_op transcript op reply));
 }
 
--- why a key is not read after the earlier operations; a decided key asks no shard
-abbrev pub read_fault : Machine → List Op → ℕ → List ℕ → Option Refusal
-read_fault m earlier version key =
-    if decided earlier key then None
-    else shard_fault m.book version (slice_get m.shards (first_owner m.config.shard_splits key))
+-- why the shard that holds a point doesn't serve a version
+abbrev pub point_fault : Machine → ℕ → Point → Option Refusal
+point_fault m version point =
+    shard_fault m.book version (slice_get m.shards (first_owner m.config.shard_splits point))
 
--- Get: the reply of the program run on the map at its read version.
-unfoldable pub gets : Machine → ℕ → List ℕ → Bool → Result Transition Refusal
-gets m session key snapshot = with_open (open_at m.sessions session) (λ transcript.
-    let earlier = program transcript.ops in
+-- the first fault that some of the points has
+abbrev pub first_fault : (Point → Option Refusal) → List Point → Option Refusal
+first_fault fault [] = None
+first_fault fault (point ∷ points) = option_or (fault point) (first_fault fault points)
+
+-- the points of a range from which on a shard holds it: its begin, if it has a point, and the splits in it
+abbrev pub shard_begins : List Point → Range → List Point
+shard_begins splits range = filter (λ point. in_range range point) (range.begin ∷ splits)
+
+-- the fault is that the version is no longer served, which goes before that it isn't served yet
+abbrev pub is_too_old : Option Refusal → Bool
+is_too_old (Some TransactionTooOld) = true
+is_too_old fault = false
+
+-- why some points are not served: one of them is no longer served, or else the first fault that one has
+abbrev pub fault_among : (Point → Option Refusal) → List Point → Option Refusal
+fault_among fault points =
+    if list_any (λ point. is_too_old (fault point)) points then Some TransactionTooOld else first_fault fault points
+
+-- why a range is not served: the first refusal, in the order of refusals, of the shards that hold some of it
+abbrev pub range_fault : Machine → ℕ → Range → Option Refusal
+range_fault m version range = fault_among (point_fault m version) (shard_begins m.config.shard_splits range)
+
+-- why an operation is not executed after the earlier ones: a read of a key that these don't decide is refused as the
+-- key is, and a read of a range as the range is, whatever its limit
+abbrev pub read_fault : (Point → Option Refusal) → (Range → Option Refusal) → List Op → Op → Option Refusal
+read_fault key_fault range_fault earlier (op.Get key snapshot) = if decided earlier key then None else key_fault key
+read_fault key_fault range_fault earlier (op.Range range limit is_reverse snapshot) = range_fault range
+read_fault key_fault range_fault earlier operation = None
+
+-- why the operation is refused after those of the transaction
+abbrev pub fault_after : Machine → Transcript → Op → Option Refusal
+fault_after m transcript operation =
+    let version = transcript.read_version in
+    read_fault (point_fault m version) (range_fault m version) (program transcript.ops) operation
+
+-- what the operation is replied after those of the transaction, on the map at its read version
+abbrev pub reply_after : Machine → Transcript → Op → Reply
+reply_after m transcript operation =
     let there = serial_map_at m.config.resolver_splits transcript.read_version (seen_of m.book).places in
-    let operation = op.Get key snapshot in
-    let reply = reply_on (copy there earlier) operation in
-    refused_by (read_fault m earlier transcript.read_version key)
+    reply_on (copy there (program transcript.ops)) operation
+
+-- Get and GetRange: the reply of the program run on the map at its read version.
+unfoldable pub reads : Machine → ℕ → Op → Result Transition Refusal
+reads m session operation = with_open (open_at m.sessions session) (λ transcript.
+    let reply = reply_after m transcript operation in
+    refused_by (fault_after m transcript operation)
     (Ok (record { answer = answered_by reply; next = add_operation m session transcript operation reply })))
 
 -- the session's open transaction notes an operation that gives nothing

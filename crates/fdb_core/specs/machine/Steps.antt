@@ -5,8 +5,9 @@ use Rattle.fdb_keys.specs.declared.refusal.Refusal.TheVariants.{NoMemory}
 use Rattle.fdb_core.specs.declared.step.Step.{Step}
 use Rattle.fdb_core.specs.declared.step.Step.TheVariants as step
 use Rattle.fdb_core.specs.declared.step.Answered.{Answered}
+use Rattle.fdb_client.specs.declared.program.Op.TheVariants as op
 use Rattle.fdb_core.specs.machine.Machine.{Machine, Transition}
-use Rattle.fdb_core.specs.machine.ClientSteps.{gets, writes, adds_read, adds_write, submits}
+use Rattle.fdb_core.specs.machine.ClientSteps.{reads, writes, adds_read, adds_write, submits}
 use Rattle.fdb_core.specs.machine.GrvProxySteps.{asks, grants}
 use Rattle.fdb_core.specs.machine.CommitProxySteps.{seals, receives, decides, reports, answers}
 use Rattle.fdb_core.specs.machine.Roles.{FromResolver, FromLog}
@@ -15,7 +16,9 @@ use Rattle.fdb_core.specs.machine.RoleSteps.{resolves, pushes, pulls}
 abbrev pub next : Machine → Step → Result Transition Refusal
 next m (step.Ask session proxy) = asks m session proxy
 next m (step.Grant proxy) = grants m proxy
-next m (step.Get session key snapshot) = gets m session key snapshot
+next m (step.Get session key snapshot) = reads m session (op.Get key snapshot)
+next m (step.GetRange session range limit is_reverse snapshot) =
+    reads m session (op.Range range limit is_reverse snapshot)
 next m (step.Write session mutation) = writes m session mutation
 next m (step.AddRead session range) = adds_read m session range
 next m (step.AddWrite session range) = adds_write m session range

@@ -8,8 +8,8 @@ use Rattle.fdb_keys.proofs.InsertionLemmas.{in_range-empty}
 use Rattle.fdb_keys.proofs.PointOrder.{lt-itself}
 use Rattle.fdb_keys.proofs.RangesLemmas.{in_range_from}
 
--- what a range is refused as, if nobody is asked for one without a point
-abbrev unless_empty : Range → Option Refusal → Option Refusal
+-- what a range is refused as: nobody is asked for one without a point
+abbrev pub unless_empty : Range → Option Refusal → Option Refusal
 unless_empty range fault = if is_empty_range range then None else fault
 
 -- a range with a point has its begin

@@ -1,4 +1,5 @@
 // What a session keeps of its transactions.
+pub(crate) mod read;
 pub(crate) mod session;
 pub(crate) mod sessions;
 

@@ -2,33 +2,35 @@
 ghost use Rattle.std.specs.Prelude.{◌≡◌, Ok, [], ◌∷◌, ◌++◌};
 ghost use Rattle.fdb_txn.specs.declared.spot.Spot.TheVariants as spot;
 ghost use Rattle.fdb_core.specs.declared.step.Answered.TheVariants.{ReadOnly};
-ghost use Rattle.fdb_core.specs.machine.ClientSteps.{gets, writes, adds_read, adds_write, submits};
+ghost use Rattle.fdb_core.specs.machine.ClientSteps.{reads, writes, adds_read, adds_write, submits};
 ghost use Rattle.fdb_core.specs.machine.Steps.{Unless, ran_out, answer_of, after};
 ghost use Rattle.fdb_core.specs.refinement.Cluster.{machine_of, Refines};
+ghost use Rattle.fdb_core.specs.refinement.Reads.{operation_of};
 
 use crate::book::last_version;
 use crate::cluster::Cluster;
+use crate::roles::client::read::Read;
 use crate::roles::client::{Placed, Submission};
 use crate::roles::shard_snapshot::ShardSnapshot;
 use crate::step::Answered;
 use fdb_client::{Finished, Transcript};
-use fdb_keys::{Key, KeyRange, Refusal};
+use fdb_keys::{KeyRange, Refusal};
 use fdb_mutations::Mutation;
 use fdb_txn::Spot;
 
 impl Cluster {
-    #[tactic(auto, unfolding(crate::specs::machine::ClientSteps::gets))]
-    pub(crate) fn get(
+    #[tactic(auto, unfolding(crate::specs::machine::ClientSteps::reads))]
+    pub(crate) fn read(
         &mut self,
         session: u32,
-        key: &Key,
+        read: Read<'_>,
         snapshot: bool,
     ) -> Result<Answered, Refusal>
         requires { Refines self.old }
         ensures answer { Unless (ran_out result)
-            (result ≡ answer_of (gets (machine_of self.old) session key.now snapshot)) }
-        ensures after { Unless (ran_out result)
-            (machine_of self.new ≡ after (machine_of self.old) (gets (machine_of self.old) session key.now snapshot)) }
+            (result ≡ answer_of (reads (machine_of self.old) session (operation_of read.entry snapshot))) }
+        ensures after { Unless (ran_out result) (machine_of self.new
+            ≡ after (machine_of self.old) (reads (machine_of self.old) session (operation_of read.entry snapshot))) }
         ensures refines { Unless (ran_out result) (Refines self.new) }
     {
         let Some(txn) = self.sessions.open(session) else {
@@ -45,8 +47,7 @@ impl Cluster {
             greatest: last_version(&self.book, progress.applied() as usize),
             messages: &self.shard,
         };
-        let value = self.sessions.get(session, &shard, key, snapshot)?;
-        Ok(Answered::Value(value))
+        self.sessions.read(session, &shard, read, snapshot)
     }
 
     #[tactic(auto, unfolding(crate::specs::machine::ClientSteps::writes))]

@@ -12,7 +12,7 @@ use Rattle.fdb_sim.specs.declared.script.fault.Fault.{Fault}
 use Rattle.fdb_sim.specs.declared.script.line.Line.{Line}
 use Rattle.fdb_sim.specs.declared.script.line.Line.TheVariants as given
 use Rattle.fdb_sim.specs.declared.script.step_line.Kind.{Kind}
-use Rattle.fdb_sim.specs.declared.script.step_line.Kind.TheVariants.{Ask, Grant, Get, SnapshotGet, Write, AddRead, AddWrite, Submit, Seal, Resolve, Verdict, Decide, Push, Logged, Report, Answer, Pull}
+use Rattle.fdb_sim.specs.declared.script.step_line.Kind.TheVariants.{Ask, Grant, Get, SnapshotGet, Range, SnapshotRange, Write, AddRead, AddWrite, Submit, Seal, Resolve, Verdict, Decide, Push, Logged, Report, Answer, Pull}
 use Rattle.fdb_sim.proofs.lemmas.Faults.{Reads-whole}
 use Rattle.fdb_sim.proofs.lemmas.Words.{after_first, first_of}
 
@@ -42,6 +42,8 @@ kind_of_letters n =
     (if n == 1735549294 then Grant else
     (if n == 1734702080 then Get else
     (if n == 1936156020 then SnapshotGet else
+    (if n == 1918987879 then Range else
+    (if n == 1936875886 then SnapshotRange else
     (if n == 2003986804 then Write else
     (if n == 1633969266 then AddRead else
     (if n == 1633969271 then AddWrite else
@@ -54,7 +56,7 @@ kind_of_letters n =
     (if n == 1819240295 then Logged else
     (if n == 1919250543 then Report else
     (if n == 1634628471 then Answer else
-    Pull))))))))))))))))
+    Pull))))))))))))))))))
 
 kind_of_name : (kind : Kind) → kind_of_letters (letters_of (name_of kind)) ≡ kind
 unfolding letters_of
@@ -62,6 +64,8 @@ kind_of_name Ask = refl
 kind_of_name Grant = refl
 kind_of_name Get = refl
 kind_of_name SnapshotGet = refl
+kind_of_name Range = refl
+kind_of_name SnapshotRange = refl
 kind_of_name Write = refl
 kind_of_name AddRead = refl
 kind_of_name AddWrite = refl

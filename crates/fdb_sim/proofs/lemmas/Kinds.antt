@@ -1,30 +1,32 @@
--- Each kind is one of seventeen.
+-- Each kind is one of nineteen.
 use Rattle.std.proofs.Common.{◌≢◌, ℕ, ◌<◌, List, [], ◌∷◌, get_or, arith}
 use Rattle.fdb_sim.specs.declared.script.step_line.Kind.{Kind}
-use Rattle.fdb_sim.specs.declared.script.step_line.Kind.TheVariants.{Ask, Grant, Get, SnapshotGet, Write, AddRead, AddWrite, Submit, Seal, Resolve, Verdict, Decide, Push, Logged, Report, Answer, Pull}
+use Rattle.fdb_sim.specs.declared.script.step_line.Kind.TheVariants.{Ask, Grant, Get, SnapshotGet, Range, SnapshotRange, Write, AddRead, AddWrite, Submit, Seal, Resolve, Verdict, Decide, Push, Logged, Report, Answer, Pull}
 use Rattle.fdb_sim.specs.script.Kinds.{name_of}
 
 abbrev kinds : List Kind
-kinds = Ask ∷ Grant ∷ Get ∷ SnapshotGet ∷ Write ∷ AddRead ∷ AddWrite ∷ Submit ∷ Seal ∷ Resolve ∷ Verdict ∷ Decide
-    ∷ Push ∷ Logged ∷ Report ∷ Answer ∷ Pull ∷ []
+kinds = Ask ∷ Grant ∷ Get ∷ SnapshotGet ∷ Range ∷ SnapshotRange ∷ Write ∷ AddRead ∷ AddWrite ∷ Submit ∷ Seal
+    ∷ Resolve ∷ Verdict ∷ Decide ∷ Push ∷ Logged ∷ Report ∷ Answer ∷ Pull ∷ []
 
--- a word that names none of the seventeen names no kind
-pub names_none : (word : List ℕ) → ((k : ℕ) → k < 17 → word ≢ name_of (get_or kinds k Ask)) → (kind : Kind)
+-- a word that names none of the nineteen names no kind
+pub names_none : (word : List ℕ) → ((k : ℕ) → k < 19 → word ≢ name_of (get_or kinds k Ask)) → (kind : Kind)
     → word ≢ name_of kind
 names_none word none Ask = none 0 (omega arith)
 names_none word none Grant = none 1 (omega arith)
 names_none word none Get = none 2 (omega arith)
 names_none word none SnapshotGet = none 3 (omega arith)
-names_none word none Write = none 4 (omega arith)
-names_none word none AddRead = none 5 (omega arith)
-names_none word none AddWrite = none 6 (omega arith)
-names_none word none Submit = none 7 (omega arith)
-names_none word none Seal = none 8 (omega arith)
-names_none word none Resolve = none 9 (omega arith)
-names_none word none Verdict = none 10 (omega arith)
-names_none word none Decide = none 11 (omega arith)
-names_none word none Push = none 12 (omega arith)
-names_none word none Logged = none 13 (omega arith)
-names_none word none Report = none 14 (omega arith)
-names_none word none Answer = none 15 (omega arith)
-names_none word none Pull = none 16 (omega arith)
+names_none word none Range = none 4 (omega arith)
+names_none word none SnapshotRange = none 5 (omega arith)
+names_none word none Write = none 6 (omega arith)
+names_none word none AddRead = none 7 (omega arith)
+names_none word none AddWrite = none 8 (omega arith)
+names_none word none Submit = none 9 (omega arith)
+names_none word none Seal = none 10 (omega arith)
+names_none word none Resolve = none 11 (omega arith)
+names_none word none Verdict = none 12 (omega arith)
+names_none word none Decide = none 13 (omega arith)
+names_none word none Push = none 14 (omega arith)
+names_none word none Logged = none 15 (omega arith)
+names_none word none Report = none 16 (omega arith)
+names_none word none Answer = none 17 (omega arith)
+names_none word none Pull = none 18 (omega arith)

@@ -13,7 +13,9 @@ use Rattle.fdb_mutations.specs.Naming.{NamedKeys, OneKey, KeysIn}
 use Rattle.fdb_sim.specs.declared.script.line.Line.{Line}
 use Rattle.fdb_sim.specs.declared.script.line.Line.TheVariants as given
 use Rattle.fdb_sim.specs.declared.script.step_line.Kind.{Kind}
-use Rattle.fdb_sim.specs.declared.script.step_line.Kind.TheVariants.{Ask, Grant, Get, SnapshotGet, Write, AddRead, AddWrite, Submit, Seal, Resolve, Verdict, Decide, Push, Logged, Report, Answer, Pull}
+use Rattle.fdb_sim.specs.declared.script.step_line.Kind.TheVariants.{Ask, Grant, Get, SnapshotGet, SnapshotRange, Write, AddRead, AddWrite, Submit, Seal, Resolve, Verdict, Decide, Push, Logged, Report, Answer, Pull}
+use Rattle.fdb_sim.specs.declared.script.step_line.Kind.TheVariants as line_kind
+use Rattle.fdb_sim.specs.declared.script.keys.RangeRead.{RangeRead}
 use Rattle.fdb_sim.specs.script.Kinds.{name_of}
 use Rattle.fdb_sim.specs.script.Texts.{value_of}
 use Rattle.fdb_sim.specs.script.Words.{words_of}
@@ -51,6 +53,18 @@ abbrev pub WritesBounds : List (List ℕ) → Range → Type 0
 WritesBounds words range =
     (x : List ℕ) × (y : List ℕ) × (words ≡ x ∷ y ∷ []) × WritesText x range.begin × WritesText y range.end
 
+-- the words are the word 'reverse', or none
+abbrev pub WritesOrder : List (List ℕ) → Bool → Type 0
+WritesOrder words false = words ≡ []
+WritesOrder words true = words ≡ codes "reverse" ∷ []
+
+-- the words are the bounds of a range, a limit, and which end it is read from
+abbrev pub WritesRangeRead : List (List ℕ) → RangeRead → Type 0
+WritesRangeRead words read =
+    (x : List ℕ) × (y : List ℕ) × (z : List ℕ) × (rest : List (List ℕ)) × (words ≡ x ∷ y ∷ z ∷ rest)
+    × WritesText x read.range.begin × WritesText y read.range.end × WritesSmall z read.limit
+    × WritesOrder rest read.reverse
+
 -- the words are a number below 2^32, and then words that write more
 abbrev pub WritesNumberAnd : (List (List ℕ) → Type 0) → List (List ℕ) → ℕ → Type 0
 WritesNumberAnd Rest words a =
@@ -82,6 +96,12 @@ WritesGet snapshot words step =
     (session : ℕ) × (key : List ℕ) × WritesNumberAnd (λ rest. WritesOneText rest key) words session
     × (step ≡ made.Get session key snapshot)
 
+-- the words are a session's number and what the step reads of a range
+abbrev pub WritesRange : Bool → List (List ℕ) → Step → Type 0
+WritesRange snapshot words step =
+    (session : ℕ) × (read : RangeRead) × WritesNumberAnd (λ rest. WritesRangeRead rest read) words session
+    × (step ≡ made.GetRange session read.range read.limit read.reverse snapshot)
+
 -- the words after the first one of such a line write the step
 abbrev pub WritesRest : Kind → List (List ℕ) → Step → Type 0
 WritesRest Ask words step = (session : ℕ) × (proxy : ℕ) × WritesTwo words session proxy
@@ -89,6 +109,8 @@ WritesRest Ask words step = (session : ℕ) × (proxy : ℕ) × WritesTwo words 
 WritesRest Grant words step = (proxy : ℕ) × WritesOne words proxy × (step ≡ made.Grant proxy)
 WritesRest Get words step = WritesGet false words step
 WritesRest SnapshotGet words step = WritesGet true words step
+WritesRest line_kind.Range words step = WritesRange false words step
+WritesRest SnapshotRange words step = WritesRange true words step
 WritesRest Write words step =
     (session : ℕ) × (mutation : Mutation) × WritesNumberAnd (λ rest. WritesMutation rest mutation) words session
     × (step ≡ made.Write session mutation)
@@ -148,6 +170,7 @@ abbrev pub step_fault : Step → Option Refusal
 step_fault (made.Ask session proxy) = None
 step_fault (made.Grant proxy) = None
 step_fault (made.Get session key snapshot) = key_fault key
+step_fault (made.GetRange session range limit is_reverse snapshot) = bounds_fault range
 step_fault (made.Write session mutation) = mutation_fault mutation
 step_fault (made.AddRead session range) = bounds_fault range
 step_fault (made.AddWrite session range) = bounds_fault range

@@ -1,7 +1,7 @@
 -- The first words of lines.
 use Rattle.std.specs.Prelude.{ℕ, List, codes}
 use Rattle.fdb_sim.specs.declared.script.step_line.Kind.{Kind}
-use Rattle.fdb_sim.specs.declared.script.step_line.Kind.TheVariants.{Ask, Grant, Get, SnapshotGet, Write, AddRead, AddWrite, Submit, Seal, Resolve, Verdict, Decide, Push, Logged, Report, Answer, Pull}
+use Rattle.fdb_sim.specs.declared.script.step_line.Kind.TheVariants.{Ask, Grant, Get, SnapshotGet, Range, SnapshotRange, Write, AddRead, AddWrite, Submit, Seal, Resolve, Verdict, Decide, Push, Logged, Report, Answer, Pull}
 
 -- the word that names the kind
 abbrev pub name_of : Kind → List ℕ
@@ -9,6 +9,8 @@ name_of Ask = codes "ask"
 name_of Grant = codes "grant"
 name_of Get = codes "get"
 name_of SnapshotGet = codes "sget"
+name_of Range = codes "range"
+name_of SnapshotRange = codes "srange"
 name_of Write = codes "write"
 name_of AddRead = codes "addread"
 name_of AddWrite = codes "addwrite"

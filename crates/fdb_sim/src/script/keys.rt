@@ -1,13 +1,21 @@
 // Keys and ranges that are the last words of a line. All words are read before a key or a range is made.
 ghost use Rattle.fdb_keys.specs.Texts.{key_fault};
 ghost use Rattle.fdb_sim.specs.script.Faults.{Reads};
-ghost use Rattle.fdb_sim.specs.script.Grammar.{WritesBounds, WritesOneText, bounds_fault};
+ghost use Rattle.fdb_sim.specs.script.Grammar.{WritesBounds, WritesOneText, WritesRangeRead, bounds_fault};
 
 use crate::script::fault::Fault;
 use crate::script::texts::{make_key, make_range};
 use crate::script::words::Words;
 use fdb_keys::{Key, KeyRange};
 use std::alloc::Global;
+
+/// How a range is read: which pairs, how many of them at most, where 0 is no limit, and from which end.
+#[derive(Drop)]
+pub struct RangeRead {
+    pub range: KeyRange,
+    pub limit: u32,
+    pub reverse: bool,
+}
 
 /// The key that the last word gives. Bad where it is no byte text, and where words are left. Refused as `make_key`
 /// refuses it.
@@ -28,4 +36,21 @@ pub fn last_range(alloc: Global, words: &mut Words<'_>) -> Result<KeyRange, Faul
     let end = words.last_text(alloc)?;
     let range = make_range(alloc, begin.as_slice(), end.as_slice())?;
     Ok(range)
+}
+
+/// The read of a range that the last words give: its bounds, the limit, and `reverse` where it is read from its end.
+/// Bad where they give none, and where words are left. Refused as `make_range` refuses the range.
+pub fn last_range_read(alloc: Global, words: &mut Words<'_>) -> Result<RangeRead, Fault>
+    ensures { Reads result (WritesRangeRead words.old) (λ read. bounds_fault read.range) }
+{
+    let begin = words.text(alloc)?;
+    let end = words.text(alloc)?;
+    let limit = words.small_number()?;
+    let reverse = words.last_order()?;
+    let range = make_range(alloc, begin.as_slice(), end.as_slice())?;
+    Ok(RangeRead {
+        range,
+        limit,
+        reverse,
+    })
 }

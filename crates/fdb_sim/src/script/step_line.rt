@@ -1,22 +1,25 @@
 ghost use Rattle.std.specs.Prelude.{◌≡◌, ◌≢◌, ◌∷◌, MatchResult};
 ghost use Rattle.fdb_sim.specs.script.Faults.{Reads};
-ghost use Rattle.fdb_sim.specs.script.Grammar.{WritesGet, WritesRest, WritesStep, step_fault};
+ghost use Rattle.fdb_sim.specs.script.Grammar.{WritesGet, WritesRange, WritesRest, WritesStep, step_fault};
 ghost use Rattle.fdb_sim.specs.script.Kinds.{name_of};
 
 use crate::script::fault::Fault;
-use crate::script::keys::{last_key, last_range};
+use crate::script::keys::{RangeRead, last_key, last_range, last_range_read};
 use crate::script::words::Words;
 use crate::script::write_line::read_mutation;
 use fdb_core::Step;
 use std::alloc::Global;
 
-/// The kinds of lines that give a step. A read of a key is of one of two kinds, by whether it is a snapshot read.
+/// The kinds of lines that give a step. A read of a key, or of a range, is of one of two kinds, by whether it is a
+/// snapshot read.
 #[derive(Clone, Copy)]
 pub enum Kind {
     Ask,
     Grant,
     Get,
     SnapshotGet,
+    Range,
+    SnapshotRange,
     Write,
     AddRead,
     AddWrite,
@@ -33,11 +36,13 @@ pub enum Kind {
 }
 
 /// All kinds of lines.
-const KINDS: [Kind; 17] = [
+const KINDS: [Kind; 19] = [
     Kind::Ask,
     Kind::Grant,
     Kind::Get,
     Kind::SnapshotGet,
+    Kind::Range,
+    Kind::SnapshotRange,
     Kind::Write,
     Kind::AddRead,
     Kind::AddWrite,
@@ -63,6 +68,8 @@ impl Kind {
             Kind::Grant => b"grant",
             Kind::Get => b"get",
             Kind::SnapshotGet => b"sget",
+            Kind::Range => b"range",
+            Kind::SnapshotRange => b"srange",
             Kind::Write => b"write",
             Kind::AddRead => b"addread",
             Kind::AddWrite => b"addwrite",
@@ -112,6 +119,8 @@ fn read_words(alloc: Global, kind: Kind, words: &mut Words<'_>) -> Result<Step, 
         Kind::Grant => read_grant(words),
         Kind::Get => read_get(alloc, false, words),
         Kind::SnapshotGet => read_get(alloc, true, words),
+        Kind::Range => read_range(alloc, false, words),
+        Kind::SnapshotRange => read_range(alloc, true, words),
         Kind::Write => read_write(alloc, words),
         Kind::AddRead => read_add_read(alloc, words),
         Kind::AddWrite => read_add_write(alloc, words),
@@ -150,6 +159,24 @@ fn read_get(alloc: Global, snapshot: bool, words: &mut Words<'_>) -> Result<Step
     Ok(Step::Get {
         session,
         key,
+        snapshot,
+    })
+}
+
+fn read_range(alloc: Global, snapshot: bool, words: &mut Words<'_>) -> Result<Step, Fault>
+    ensures { Reads result (WritesRange snapshot words.old) step_fault }
+{
+    let session = words.small_number()?;
+    let RangeRead {
+        range,
+        limit,
+        reverse,
+    } = last_range_read(alloc, words)?;
+    Ok(Step::GetRange {
+        session,
+        range,
+        limit,
+        reverse,
         snapshot,
     })
 }

@@ -24,10 +24,10 @@ impl<'a> Model for Words<'a> {
 }
 
 impl<'a> Words<'a> {
-    ghost use Rattle.std.specs.Prelude.{◌≡◌, ◌≢◌, List, ℕ, [], ◌∷◌, IfOk, IfErr, MatchResult};
+    ghost use Rattle.std.specs.Prelude.{◌≡◌, ◌≢◌, Bool, List, ℕ, [], ◌∷◌, IfOk, IfErr, MatchResult};
     ghost use Rattle.fdb_sim.specs.script.Faults.{MatchFault};
     ghost use Rattle.fdb_sim.specs.script.Words.{words_of};
-    ghost use Rattle.fdb_sim.specs.script.Grammar.{WritesNumber, WritesSmall, WritesText, WritesOne, WritesTwo};
+    ghost use Rattle.fdb_sim.specs.script.Grammar.{WritesNumber, WritesSmall, WritesText, WritesOne, WritesTwo, WritesOrder};
 
     /// All words of the line.
     pub fn new(line: &'a [u8]) -> Words<'a>
@@ -135,6 +135,21 @@ impl<'a> Words<'a> {
         let text = self.text(alloc)?;
         self.end()?;
         Ok(text)
+    }
+
+    /// Whether the last word is `reverse`, where no word is left otherwise. Refused as bad where another word comes, and
+    /// where words are left after it.
+    pub fn last_order(&mut self) -> Result<bool, Fault>
+        ensures ok { IfOk result (λ is_reverse. WritesOrder self.old is_reverse) }
+        ensures bad { IfErr result
+            (λ fault. (fault ≡ Fault.Bad) × ((is_reverse : Bool) → ¬ WritesOrder self.old is_reverse)) }
+    {
+        if first_word(self.rest).is_none() {
+            return Ok(false);
+        }
+        self.keyword(b"reverse")?;
+        self.end()?;
+        Ok(true)
     }
 
     /// Refused as bad where there is a word left.

@@ -81,8 +81,10 @@ const NO_WORDS: &[u8] = b"wri\n\
     Ask 0 0\n\
     ask\t0 0\n\
     \x20# 0\n\
-    range 0 a b 1\n\
-    srange 0 a b 1\n\
+    ranges 0 a b 1\n\
+    range 0 a b\n\
+    range 0 a b 1 forward\n\
+    srange 0 a b 1 reverse 2\n\
     write 0 clearranges a b\n\
     write 0 append a b\n\
     addreads 0 a b\n\

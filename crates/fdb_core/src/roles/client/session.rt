@@ -5,9 +5,10 @@ ghost use Rattle.fdb_client.specs.Parts.{with_op};
 ghost use Rattle.fdb_client.specs.declared.program.Op.TheVariants as operation;
 ghost use Rattle.fdb_client.specs.declared.program.Reply.TheVariants as answer;
 
-use bytes::Bytes;
+use crate::roles::client::read::{Read, read_by};
+use crate::step::Answered;
 use fdb_client::{Finished, Snapshot, Txn};
-use fdb_keys::{Key, KeyRange, Refusal};
+use fdb_keys::{KeyRange, Refusal};
 use fdb_mutations::Mutation;
 use std::marker::Model;
 use std::mem;
@@ -40,16 +41,17 @@ impl Model for Session {
 
 impl Session {
     ghost use Rattle.std.specs.Prelude.{◌≡◌, None, Some, IfSome, OnOk, OnErr, if◌then◌else◌};
-    ghost use Rattle.std.specs.FinMap.{get};
     ghost use Rattle.std.specs.Option.{option_copied};
     ghost use Rattle.fdb_keys.specs.Answers.{Answers};
     ghost use Rattle.fdb_mutations.specs.Mutations.{mutation_fault};
     ghost use Rattle.fdb_client.specs.Parts.{with_op};
-    ghost use Rattle.fdb_client.specs.Programs.{program, copy, decided};
+    ghost use Rattle.fdb_client.specs.Programs.{program, copy, reply_on};
     ghost use Rattle.fdb_client.specs.declared.program.Op.TheVariants as operation;
     ghost use Rattle.fdb_client.specs.declared.program.Reply.TheVariants as answer;
     ghost use Rattle.fdb_client.specs.declared.program.Transcript.{Transcript};
+    ghost use Rattle.fdb_core.specs.machine.ClientSteps.{answered_by, read_fault};
     ghost use Rattle.fdb_core.specs.machine.Sessions.{Idle, Open, open_of, is_busy, at_state};
+    ghost use Rattle.fdb_core.specs.refinement.Reads.{operation_of};
     ghost use Rattle.fdb_core.specs.refinement.Sessions.{OfOpen, Finishes};
     ghost use Rattle.fdb_core.specs.refinement.Views.{state_of};
 
@@ -84,23 +86,24 @@ impl Session {
         }
     }
 
-    /// Its open transaction reads a key.
-    pub(crate) fn get<S: Snapshot>(
+    /// Its open transaction reads.
+    pub(crate) fn read<S: Snapshot>(
         &mut self,
         snapshot: &S,
-        key: &Key,
+        read: Read<'_>,
         is_snapshot: bool,
-    ) -> Result<Option<Bytes>, Refusal>
+    ) -> Result<Answered, Refusal>
         requires { IfSome (open_of self.old.state) (λ transcript. S.at snapshot.now ≡ transcript.read_version) }
-        ensures answers { OfOpen (open_of self.old.state) result (λ transcript. Answers result
-            (if decided (program transcript.ops) key.now then None else S.key_fault snapshot.now key.now)
-            (λ value. (value ≡ get (copy (S.map snapshot.now) (program transcript.ops)) key.now)
-            × (self.new ≡ at_state self.old
-            (Open (with_op transcript (operation.Get key.now is_snapshot) (answer.Value value)))))) }
+        ensures answers { OfOpen (open_of self.old.state) result (λ transcript.
+            let earlier = program transcript.ops in let done = operation_of read.entry is_snapshot in
+            let reply = reply_on (copy (S.map snapshot.now) earlier) done in
+            Answers result (read_fault (S.key_fault snapshot.now) (S.range_fault snapshot.now) earlier done)
+            (λ given. (given ≡ answered_by reply)
+            × (self.new ≡ at_state self.old (Open (with_op transcript done reply))))) }
         ensures err { OnErr result (self.new ≡ self.old) }
     {
         match &mut self.state {
-            SessionState::Open(txn) => txn.get(snapshot, key, is_snapshot),
+            SessionState::Open(txn) => read_by(txn, snapshot, read, is_snapshot),
             _ => Err(Refusal::NoTransaction),
         }
     }

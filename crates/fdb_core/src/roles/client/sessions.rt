@@ -1,7 +1,8 @@
+use crate::roles::client::read::Read;
 use crate::roles::client::session::{Session, SessionState};
-use bytes::Bytes;
+use crate::step::Answered;
 use fdb_client::{Finished, Snapshot, Transcript, Txn};
-use fdb_keys::{Key, KeyRange, Refusal};
+use fdb_keys::{KeyRange, Refusal};
 use fdb_mutations::Mutation;
 use fdb_txn::TxnId;
 use std::alloc::{AllocError, Global};
@@ -33,9 +34,11 @@ impl Sessions {
     ghost use Rattle.fdb_keys.specs.Answers.{Answers};
     ghost use Rattle.fdb_mutations.specs.Mutations.{mutation_fault};
     ghost use Rattle.fdb_client.specs.Parts.{with_op};
-    ghost use Rattle.fdb_client.specs.Programs.{program, copy, decided};
+    ghost use Rattle.fdb_client.specs.Programs.{program, copy, reply_on};
     ghost use Rattle.fdb_client.specs.declared.program.Op.TheVariants as operation;
     ghost use Rattle.fdb_client.specs.declared.program.Reply.TheVariants as answer;
+    ghost use Rattle.fdb_core.specs.machine.ClientSteps.{answered_by, read_fault};
+    ghost use Rattle.fdb_core.specs.refinement.Reads.{operation_of};
     ghost use Rattle.fdb_core.specs.refinement.Sessions.{OfOpen, Finishes};
     ghost use Rattle.fdb_core.specs.machine.GrvProxySteps.{has_no_number};
     ghost use Rattle.fdb_core.specs.machine.Sessions.{Idle, Asking, Open, Waiting, session_of, open_at, with_state, is_busy, next_number, serve, tell};
@@ -147,26 +150,28 @@ impl Sessions {
         Ok(())
     }
 
-    /// The session's open transaction reads a key, as `Txn::get` does. Refused as `NoTransaction` where there is none.
-    pub(crate) fn get<S: Snapshot>(
+    /// The session's open transaction reads, as `Txn::get` and `Txn::get_range` do. Refused as `NoTransaction` where
+    /// there is none.
+    pub(crate) fn read<S: Snapshot>(
         &mut self,
         session: u32,
         snapshot: &S,
-        key: &Key,
+        read: Read<'_>,
         is_snapshot: bool,
-    ) -> Result<Option<Bytes>, Refusal>
+    ) -> Result<Answered, Refusal>
         requires { IfSome (open_at self.old session) (λ transcript. S.at snapshot.now ≡ transcript.read_version) }
-        ensures answers { OfOpen (open_at self.old session) result (λ transcript. Answers result
-            (if decided (program transcript.ops) key.now then None else S.key_fault snapshot.now key.now)
-            (λ value. (value ≡ get (copy (S.map snapshot.now) (program transcript.ops)) key.now)
-            × (self.new ≡ with_state self.old session
-            (Open (with_op transcript (operation.Get key.now is_snapshot) (answer.Value value)))))) }
+        ensures answers { OfOpen (open_at self.old session) result (λ transcript.
+            let earlier = program transcript.ops in let done = operation_of read.entry is_snapshot in
+            let reply = reply_on (copy (S.map snapshot.now) earlier) done in
+            Answers result (read_fault (S.key_fault snapshot.now) (S.range_fault snapshot.now) earlier done)
+            (λ given. (given ≡ answered_by reply)
+            × (self.new ≡ with_state self.old session (Open (with_op transcript done reply))))) }
         ensures err { OnErr result (self.new ≡ self.old) }
     {
         let Some(known) = self.by_number.get_mut(&session) else {
             return Err(Refusal::NoTransaction);
         };
-        known.get(snapshot, key, is_snapshot)
+        known.read(snapshot, read, is_snapshot)
     }
 
     /// The session's open transaction buffers a copy of the mutation, as `Txn::write` does. Refused as `NoTransaction`

@@ -1,9 +1,9 @@
 use Rattle.std.proofs.Common.{refl, rules}
 use Rattle.fdb_core.proofs.machine.OpenLemmas.{of-open, answers-follow, refused-follows, some-follows, open-none, open-known, state-put, state-kept}
-use Rattle.fdb_core.proofs.roles.client.sessions.Sessions.get.Goals as goal
+use Rattle.fdb_core.proofs.roles.client.sessions.Sessions.read.Goals as goal
 
-pub get-requires : goal.get-requires
-get-requires g c = some-follows _ _ _
+pub read-requires : goal.read-requires
+read-requires g c = some-follows _ _ _
     (open-known c.self.inside.by_number.entries c.args.self.now c.args.session c.self.view_is c.in-Some.known.now
     c.in-Some.ensures.value) c.requires
 
@@ -15,20 +15,20 @@ pub returns-clause-answers : goal.returns-clause-answers
 returns-clause-answers g c =
     let pairs = c.self.inside.by_number.entries in
     let known = c.in-Some.known.now in
-    let new = c.get.new.self in
-    of-open _ _ c.get.result _ _
+    let new = c.read.new.self in
+    of-open _ _ c.read.result _ _
     (open-known pairs c.args.self.now c.args.session c.self.view_is known c.in-Some.ensures.value)
-    (λ transcript. answers-follow c.get.result _ _ _ (λ given changed. (
+    (λ transcript. answers-follow c.read.result _ _ _ (λ given changed. (
       changed.0,
       state-put pairs c.args.self.now c.args.session c.self.view_is known c.in-Some.ensures.value
           (c.get_mut.follows.lender new).entries new _ ((c.get_mut.follows.holds new).3 (search rules)).0 changed.1,
     )))
-    c.get.ensures.answers
+    c.read.ensures.answers
 
 pub returns-clause-err : goal.returns-clause-err
 returns-clause-err g c =
-    let new = c.get.new.self in
-    refused-follows c.get.result _ _ (state-kept c.self.inside.by_number.entries c.args.self.now c.args.session
+    let new = c.read.new.self in
+    refused-follows c.read.result _ _ (state-kept c.self.inside.by_number.entries c.args.self.now c.args.session
     c.self.view_is c.in-Some.known.now c.in-Some.ensures.value (c.get_mut.follows.lender new).entries new
     (c.get_mut.follows.holds new).0)
-    c.get.ensures.err
+    c.read.ensures.err
