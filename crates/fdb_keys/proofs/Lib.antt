@@ -16,3 +16,4 @@ pub mod SingleLemmas
 pub mod SwallowedLemmas
 pub mod TextsLemmas
 pub mod TouchedLemmas
+pub mod WithinLemmas

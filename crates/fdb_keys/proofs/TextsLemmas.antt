@@ -1,5 +1,5 @@
 -- A key, and the text right after it, are legal bounds.
-use Rattle.std.proofs.Common.{◌≡◌, ap, sym, refl, ℕ, ◌≤◌, true, false, not, nat_le, List, [], ◌∷◌, ◌++◌, length, Greater, arith}
+use Rattle.std.proofs.Common.{◌≡◌, ap, sym, refl, ℕ, ◌≤◌, true, false, not, nat_le, List, [], ◌∷◌, ◌++◌, length, Greater, Less, arith}
 use Rattle.std.specs.Ordering.{nat_cmp, is_lt, ordering_then}
 use Rattle.std.specs.Cmp.{nat_cmp_is}
 use Rattle.std.specs.Cmp.Lexicographic.{slice_cmp}
@@ -38,3 +38,15 @@ is_bound-after text legal =
     let short : length text ≤ 10000 = leb-true _ _ parts.0 in
     and_from _ _ (le-leb (length (text ++ 0 ∷ [])) 10001 (omega (arith, short, length-append text (0 ∷ []))))
     (not_from_false _ (after_ff-append text (not-true _ parts.1)))
+
+-- a key comes before the one byte FF
+before_ff-text : (text : Point) → begins_with_ff text ≡ false → point_lt text (255 ∷ []) ≡ true
+unfolding point_lt
+before_ff-text [] first = refl
+before_ff-text (byte ∷ bytes) first =
+    ap (λ order. is_lt (ordering_then order (slice_cmp nat_cmp bytes [])))
+    (sym (nat_cmp_is byte 255 Less (leb-false _ _ first)))
+
+pub before_ff-key : (text : Point) → is_key text ≡ true → point_lt text (255 ∷ []) ≡ true
+before_ff-key text legal =
+    before_ff-text text (not-true _ (and_parts (nat_le (length text) 10000) (not (begins_with_ff text)) legal).1)

@@ -1,5 +1,5 @@
 -- Ranges and sets of ranges, as tests of a point.
-use Rattle.std.specs.Prelude.{ℕ, Bool, true, not, ◌&&◌, List, [], ◌∷◌, ◌++◌}
+use Rattle.std.specs.Prelude.{ℕ, Bool, true, not, ◌&&◌, ◌||◌, List, [], ◌∷◌, ◌++◌}
 use Rattle.std.specs.List.{list_any}
 use Rattle.fdb_keys.specs.Points.{Point, point_lt}
 
@@ -23,6 +23,11 @@ single_range key = record { begin = key; end = key ++ 0 ∷ [] }
 -- the range has no point
 abbrev pub is_empty_range : Range → Bool
 is_empty_range range = not (point_lt range.begin range.end)
+
+-- every point of the range lies in the other one
+abbrev pub is_within : Range → Range → Bool
+is_within range whole =
+    is_empty_range range || (not (point_lt range.begin whole.begin) && not (point_lt whole.end range.end))
 
 -- the two ranges have a point in common: the greater of their begins lies before both ends
 abbrev pub ranges_meet : Range → Range → Bool

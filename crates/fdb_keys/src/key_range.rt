@@ -4,7 +4,9 @@ ghost use Rattle.fdb_keys.specs.Removal.{range_between};
 ghost use Rattle.fdb_keys.specs.Texts.{is_bound};
 
 use crate::key::Key;
-use crate::order::{greater_bound, have_common_point, is_after_ff, is_before, lesser_bound};
+use crate::order::{
+    greater_bound, have_common_point, is_after_ff, is_before, lesser_bound, lies_within,
+};
 use crate::range_set::RangeSet;
 use crate::refusal::Refusal;
 use bytes::Bytes;
@@ -45,7 +47,7 @@ impl KeyRange {
     ghost use Rattle.fdb_keys.specs.Cutting.{range_through, range_behind};
     ghost use Rattle.fdb_keys.specs.Insertion.{joined_range};
     ghost use Rattle.fdb_keys.specs.Points.{Point, point_eq, point_lt};
-    ghost use Rattle.fdb_keys.specs.Ranges.{in_range, in_set, single_range, is_apart, is_empty_range, ranges_meet};
+    ghost use Rattle.fdb_keys.specs.Ranges.{in_range, in_set, single_range, is_apart, is_empty_range, is_within, ranges_meet};
     ghost use Rattle.fdb_keys.specs.Removal.{range_between, range_minus};
     ghost use Rattle.fdb_keys.specs.Texts.{is_bound, range_fault};
     ghost use Rattle.fdb_keys.specs.Touching.{begin_past};
@@ -142,6 +144,14 @@ impl KeyRange {
         ensures { result ≡ is_empty_range self.now }
     {
         !is_before(self.begin(), self.end())
+    }
+
+    /// Whether every point of the range lies in the other one, as it does where the range has no point.
+    pub fn is_within(&self, whole: &KeyRange) -> bool
+        ensures value { result ≡ is_within self.now whole.now }
+        ensures points { IsTrue result ↔ ((x : Point) → in_range self.now x ≡ true → in_range whole.now x ≡ true) }
+    {
+        lies_within(self.begin(), self.end(), whole.begin(), whole.end())
     }
 
     /// The points that lie in both ranges, from the greater begin up to but not including the lesser end: `None`

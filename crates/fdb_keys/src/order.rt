@@ -2,7 +2,7 @@
 ghost use Rattle.std.specs.Prelude.{◌≡◌, IfOk};
 ghost use Rattle.fdb_keys.specs.Insertion.{lesser_point, greater_point};
 ghost use Rattle.fdb_keys.specs.Points.{point_lt};
-ghost use Rattle.fdb_keys.specs.Ranges.{Range, ranges_meet};
+ghost use Rattle.fdb_keys.specs.Ranges.{Range, is_within, ranges_meet};
 ghost use Rattle.fdb_keys.specs.Texts.{begins_with_ff, is_after_ff};
 
 use bytes::Bytes;
@@ -39,6 +39,14 @@ pub(crate) fn have_common_point(a_begin: &[u8], a_end: &[u8], b_begin: &[u8], b_
         && is_before(a_begin, b_end)
         && is_before(b_begin, a_end)
         && is_before(b_begin, b_end)
+}
+
+// Whether every point from a begin to an end lies in the range from another begin to another end.
+pub(crate) fn lies_within(begin: &[u8], end: &[u8], whole_begin: &[u8], whole_end: &[u8]) -> bool
+    ensures { result ≡ is_within (record { begin = begin.now; end = end.now })
+        (record { begin = whole_begin.now; end = whole_end.now }) }
+{
+    !is_before(begin, end) || !is_before(begin, whole_begin) && !is_before(whole_end, end)
 }
 
 pub(crate) fn lesser_bound(a: &Bytes, b: &Bytes) -> Result<Bytes, AllocError>

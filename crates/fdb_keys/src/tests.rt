@@ -54,6 +54,14 @@ fn meets(alloc: Global, range: &KeyRange, begin: &[u8], end: &[u8]) -> Option<bo
     }
 }
 
+// Whether the range lies in that of the two texts.
+fn lies_within(alloc: Global, range: &KeyRange, begin: &[u8], end: &[u8]) -> Option<bool> {
+    match KeyRange::new(alloc, begin, end) {
+        Ok(whole) => Some(range.is_within(&whole)),
+        Err(_why) => None,
+    }
+}
+
 // Whether the range of the key alone is the one from the key to the end.
 fn ends_at(alloc: Global, key: &Key, end: &[u8]) -> bool {
     match KeyRange::single(alloc, key) {
@@ -247,6 +255,8 @@ fn touching_ranges_do_not_meet(rt: HostRuntime) -> Result<(), Fail> {
     let range = KeyRange::new(rt.alloc(), b"a", b"c")?;
     assert_eq!(rt; meets(rt.alloc(), &range, b"c", b"d"), Some(false));
     assert_eq!(rt; meets(rt.alloc(), &range, b"b", b"d"), Some(true));
+    assert_eq!(rt; lies_within(rt.alloc(), &range, b"", b"c"), Some(true));
+    assert_eq!(rt; lies_within(rt.alloc(), &range, b"a", b"b"), Some(false));
     Ok(())
 }
 
