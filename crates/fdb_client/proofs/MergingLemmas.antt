@@ -94,16 +94,19 @@ module _ (own : OwnWrites) (map copy : Map) (is_copy : IsCopyOf (kept own) map c
         ≡ pair_of key (value_over (kept own key) None) ++ pairs_in copy (range_behind left is_reverse key) is_reverse
     own-copy =
         pairs_from_a_key_on copy left is_reverse key own-inside
-        (no_values copy (range_behind left (not is_reverse) key) is_reverse (no-value (range_behind left (not is_reverse) key)
+        (no_values copy (range_behind left (not is_reverse) key) is_reverse
+        (no-value (range_behind left (not is_reverse) key)
         (subst (HasNoEntry own) (before-ahead left is_reverse next key) first) none_before))
-        ∙ ap (λ (value : Option (List ℕ)). pair_of key value ++ pairs_in copy (range_behind left is_reverse key) is_reverse)
+        ∙ ap (λ (value : Option (List ℕ)).
+        pair_of key value ++ pairs_in copy (range_behind left is_reverse key) is_reverse)
         (is_copy key ∙ ap (value_over (kept own key)) (none key inside))
 
     -- and the map's pairs are those behind it
     pub own-map : pairs_in map (range_behind left is_reverse key) is_reverse ≡ pairs_in map left is_reverse
     own-map = sym (pairs_from_a_key_on map left is_reverse key own-inside
         (no_values map (range_behind left (not is_reverse) key) is_reverse none_before)
-        ∙ ap (λ (value : Option (List ℕ)). pair_of key value ++ pairs_in map (range_behind left is_reverse key) is_reverse)
+        ∙ ap (λ (value : Option (List ℕ)).
+        pair_of key value ++ pairs_in map (range_behind left is_reverse key) is_reverse)
         (none key inside))
 
     pub own-lies : LiesIn (range_behind left is_reverse key) next
@@ -132,7 +135,8 @@ module _ (own : OwnWrites) (map copy : Map) (is_copy : IsCopyOf (kept own) map c
     pair-copy none =
         pairs_from_a_key_on copy left is_reverse key pair-inside
         (no_values copy (range_behind left (not is_reverse) key) is_reverse none)
-        ∙ ap (λ (there : Option (List ℕ)). pair_of key there ++ pairs_in copy (range_behind left is_reverse key) is_reverse)
+        ∙ ap (λ (there : Option (List ℕ)).
+        pair_of key there ++ pairs_in copy (range_behind left is_reverse key) is_reverse)
         (is_copy key ∙ ap (value_over (kept own key)) (first-is map left key value rest is_reverse first).0)
 
 -- ---- a read goes on
@@ -140,7 +144,8 @@ pub goes_on-start : (copy : Map) (is_reverse : Bool) (before : List (Point × Li
     → GoesOn copy is_reverse before range before range
 goes_on-start copy is_reverse before range = record { pairs = refl; part = λ x inside. inside }
 
-pub goes_on-take : (copy : Map) (is_reverse : Bool) (before given more : List (Point × List ℕ)) (range left part : Range)
+pub goes_on-take : (copy : Map) (is_reverse : Bool) (before given more : List (Point × List ℕ))
+    (range left part : Range)
     → GoesOn copy is_reverse before range given left → IsPartOf part left
     → pairs_in copy left is_reverse ≡ more ++ pairs_in copy part is_reverse
     → GoesOn copy is_reverse before range (given ++ more) part
@@ -150,7 +155,8 @@ goes_on-take copy is_reverse before given more range left part goes inside taken
   part = part-part part left range inside goes.part;
 }
 
-pub goes_on-both : (copy : Map) (is_reverse : Bool) (before given after : List (Point × List ℕ)) (range left last : Range)
+pub goes_on-both : (copy : Map) (is_reverse : Bool) (before given after : List (Point × List ℕ))
+    (range left last : Range)
     → GoesOn copy is_reverse before range given left → GoesOn copy is_reverse given left after last
     → GoesOn copy is_reverse before range after last
 goes_on-both copy is_reverse before given after range left last first second = record {

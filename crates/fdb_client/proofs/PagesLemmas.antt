@@ -85,8 +85,8 @@ module _ (own : OwnWrites) (page : Page) (is_reverse : Bool) (limit count : ℕ)
     pub next-full : (more : Bool) (length : ℕ) → is_limit_reached limit since ≡ true
         → TookPage map copy is_reverse limit length more before range since part
     next-full more length full = record {
-      goes_on = goes_on-both copy is_reverse before given since range left part (so_far.1 map copy is_copy first).goes_on
-          took.goes_on;
+      goes_on = goes_on-both copy is_reverse before given since range left part
+          (so_far.1 map copy is_copy first).goes_on took.goes_on;
       rest = λ some. absurd (both_ways _ some full);
       ended = λ some. absurd (both_ways _ some full);
     }
@@ -97,8 +97,8 @@ module _ (own : OwnWrites) (page : Page) (is_reverse : Bool) (limit count : ℕ)
     next-taken room =
         let is = took.same ∙ next-is in
         record {
-          goes_on = goes_on-take copy is_reverse before since (pair_of key (value_over (kept own key) (Some value))) range
-              part (range_behind part is_reverse key)
+          goes_on = goes_on-take copy is_reverse before since
+              (pair_of key (value_over (kept own key) (Some value))) range part (range_behind part is_reverse key)
               (goes_on-both copy is_reverse before given since range left part
               (so_far.1 map copy is_copy first).goes_on took.goes_on)
               (behind-inside part is_reverse key took.lies_in)
@@ -112,7 +112,8 @@ module _ (own : OwnWrites) (page : Page) (is_reverse : Bool) (limit : ℕ)
     (so_far : PagesSoFar own page is_reverse limit (length page.pairs) before range given left)
     (map copy : Map) (is_copy : IsCopyOf (kept own) map copy) (first : HasFirst map range is_reverse page) where
   -- and further ones follow
-  pub page-more : page.more ≡ true → TookPage map copy is_reverse limit (length page.pairs) page.more before range given left
+  pub page-more : page.more ≡ true
+      → TookPage map copy is_reverse limit (length page.pairs) page.more before range given left
   page-more more = record {
     goes_on = (so_far.1 map copy is_copy first).goes_on;
     rest = λ _. (so_far.1 map copy is_copy first).rest;

@@ -1,13 +1,9 @@
 -- What a page of a range has.
-use Rattle.std.specs.Prelude.{◌≡◌, ◌<◌, ◌≤◌, ℕ, Bool, true, false, nat_eq, nat_lt, ◌+◌, ◌-◌, ◌^◌, ◌||◌, take, length, if◌then◌else◌}
+use Rattle.std.specs.Prelude.{◌≡◌, ◌<◌, ◌≤◌, ℕ, Bool, true, false, nat_eq, nat_lt, take, length}
 use Rattle.fdb_keys.specs.Ranges.{Range}
 use Rattle.fdb_mutations.specs.Maps.{Map}
 use Rattle.fdb_mutations.specs.Pairs.{pairs_in}
 use Rattle.fdb_client.specs.declared.snapshot.Page.{Page}
-
--- how many pairs to ask for to tell whether there are more than the limit says: all of them where 0
-abbrev pub wanted : ℕ → ℕ
-wanted limit = if nat_eq limit 0 || nat_eq limit (2 ^ 32 - 1) then 0 else limit + 1
 
 -- A page has the first pairs of the range on the map, no more than the limit says, if it isn't 0. There is more
 -- exactly where the range has a further pair, and then the page has one at least.

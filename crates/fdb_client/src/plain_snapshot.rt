@@ -1,6 +1,3 @@
-ghost use Rattle.std.specs.Prelude.{◌≡◌};
-ghost use Rattle.fdb_client.specs.Pages.{wanted};
-
 use crate::reading::copied;
 use crate::snapshot::{Page, Snapshot};
 use bytes::Bytes;
@@ -39,21 +36,7 @@ impl<'a> Snapshot for PlainSnapshot<'a> {
     }
 
     fn page(&self, range: &KeyRange, limit: u32, reverse: bool) -> Result<Page, Refusal> {
-        let mut pairs = self.map.range(range, one_more(limit), reverse)?;
-        let more = limit != 0 && pairs.len() > limit as usize;
-        if more {
-            pairs.truncate(limit as usize);
-        }
+        let (pairs, more) = self.map.page(range, limit, reverse)?;
         Ok(Page { pairs, more })
-    }
-}
-
-// One more than the limit, where that is a limit, and else none.
-fn one_more(limit: u32) -> u32
-    ensures { result ≡ wanted limit }
-{
-    match limit {
-        0 => 0,
-        limit => limit.checked_add(1).unwrap_or(0),
     }
 }

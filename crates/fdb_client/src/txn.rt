@@ -76,11 +76,11 @@ impl Txn {
         self.parts.get(snapshot, key, is_snapshot)
     }
 
-    /// The pairs of the range after the transaction's own writes, from a snapshot at its read version: the first ones in
-    /// the order of keys, or the last ones in the reverse order, at most `limit` of them, or all where it is 0. It
-    /// refuses as the snapshot refuses the range. An ordinary read, which is no snapshot read, adds to the read set what
-    /// it scanned and the own writes don't decide; it scanned the whole range, or, where it gave as many pairs as the
-    /// limit allows, the range up to the last one's key, which is in it. Where it is refused, nothing is noted.
+    /// The pairs of the range after the transaction's own writes, from a snapshot at its read version: the first ones
+    /// in the order of keys, or the last ones in the reverse order, at most `limit` of them, or all where it is 0. It
+    /// refuses as the snapshot refuses the range. An ordinary read, which is no snapshot read, adds to the read set
+    /// what it scanned and the own writes don't decide; it scanned the whole range, or, where it gave as many pairs as
+    /// the limit allows, the range up to the last one's key, which is in it. Where it is refused, nothing is noted.
     ///
     /// It takes what it gives, what it skips of own writes, and the snapshot's pages, each key with the logarithm of
     /// what the transaction holds.

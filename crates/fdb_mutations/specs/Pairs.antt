@@ -1,5 +1,5 @@
 -- The pairs of a map, in a range.
-use Rattle.std.specs.Prelude.{ℕ, ◌-◌, Bool, nat_eq, not, ◌&&◌, List, length, filter, take, reverse, if◌then◌else◌, Option, Some, None}
+use Rattle.std.specs.Prelude.{ℕ, ◌+◌, ◌-◌, ◌^◌, ◌||◌, Bool, nat_eq, not, ◌&&◌, List, length, filter, take, reverse, if◌then◌else◌, Option, Some, None}
 use Rattle.std.specs.List.{slice_get}
 use Rattle.std.specs.FinMap.{entries}
 use Rattle.fdb_keys.specs.Points.{Point}
@@ -19,6 +19,10 @@ pairs_in map range is_reverse =
 -- the first of the items, or all of them where the limit is 0
 abbrev pub first_of : {T : Type 0} → ℕ → List T → List T
 first_of limit items = if nat_eq limit 0 then items else take limit items
+
+-- how many items to ask for to tell whether there are more than the limit says: all of them where 0
+abbrev pub wanted : ℕ → ℕ
+wanted limit = if nat_eq limit 0 || nat_eq limit (2 ^ 32 - 1) then 0 else limit + 1
 
 -- there is a limit, and that many pairs were given, so more may follow
 abbrev pub is_limit_reached : ℕ → List (Point × List ℕ) → Bool

@@ -1,3 +1,6 @@
+ghost use Rattle.std.specs.Prelude.{◌≡◌};
+ghost use Rattle.fdb_mutations.specs.Pairs.{wanted};
+
 use crate::mutation::{Mutation, Named};
 use crate::pairs::{backward, copies, forward};
 use bytes::Bytes;
@@ -28,7 +31,7 @@ impl Model for PlainMap {
 }
 
 impl PlainMap {
-    ghost use Rattle.std.specs.Prelude.{◌≡◌, ◌↔◌, None, OnErr, IsOk, IsTrue, not};
+    ghost use Rattle.std.specs.Prelude.{◌≡◌, ◌↔◌, None, OnErr, IsOk, IsTrue, not, nat_lt, length};
     ghost use Rattle.std.specs.Option.{option_copied};
     ghost use Rattle.std.specs.FinMap as finite;
     ghost use Rattle.fdb_keys.specs.Answers.{Answers};
@@ -95,6 +98,24 @@ impl PlainMap {
         copies(self.alloc, found.as_slice())
     }
 
+    /// The same pairs, and whether the range has a further one. Refused only as `NoMemory`.
+    pub fn page(
+        &self,
+        range: &KeyRange,
+        limit: u32,
+        reverse: bool,
+    ) -> Result<(Items<(Key, Bytes)>, bool), Refusal>
+        ensures { Answers result None (λ page. (page.0 ≡ first_of limit (pairs_in self.now range.now reverse))
+            × (page.1 ≡ nat_lt (length page.0) (length (pairs_in self.now range.now reverse)))) }
+    {
+        let mut pairs = self.range(range, one_more(limit), reverse)?;
+        let more = limit != 0 && pairs.len() > limit as usize;
+        if more {
+            pairs.truncate(limit as usize);
+        }
+        Ok((pairs, more))
+    }
+
     /// Whether the same keys have the same values in both maps.
     pub fn is_same(&self, other: &PlainMap) -> bool
         ensures { IsTrue result ↔ (self.now ≡ other.now) }
@@ -143,5 +164,15 @@ impl PlainMap {
     {
         self.pairs
             .retain(|key, _| !range.contains_text(key.as_slice()));
+    }
+}
+
+// One more than the limit, where that is a limit, and else none.
+fn one_more(limit: u32) -> u32
+    ensures { result ≡ wanted limit }
+{
+    match limit {
+        0 => 0,
+        limit => limit.checked_add(1).unwrap_or(0),
     }
 }

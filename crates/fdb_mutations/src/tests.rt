@@ -365,6 +365,26 @@ fn ranges_are_read_in_both_orders(rt: HostRuntime) -> Result<(), Fail> {
     Ok(())
 }
 
+// How many pairs before c a page has, and whether there is a further one.
+fn page_before_c(map: &PlainMap, alloc: Global, limit: u32) -> Option<(usize, bool)> {
+    let Ok(range) = KeyRange::new(alloc, b"", b"c") else {
+        return None;
+    };
+    match map.page(&range, limit, false) {
+        Ok((pairs, more)) => Some((pairs.len(), more)),
+        Err(_why) => None,
+    }
+}
+
+#[test]
+fn pages_tell_whether_there_is_more(rt: HostRuntime) {
+    let mut map = PlainMap::new(rt.alloc());
+    assert!(rt; fill(&mut map, rt.alloc()));
+    assert_eq!(rt; page_before_c(&map, rt.alloc(), 1), Some((1, true)));
+    assert_eq!(rt; page_before_c(&map, rt.alloc(), 2), Some((2, false)));
+    assert_eq!(rt; page_before_c(&map, rt.alloc(), 0), Some((2, false)));
+}
+
 #[test]
 fn other_keys_keep_their_values(rt: HostRuntime) -> Result<(), Fail> {
     let mut map = PlainMap::new(rt.alloc());

@@ -37,8 +37,8 @@ returns-in_err-more-2 g c =
     let range = c.args.range.now in
     let left = c.loop-more.progress.left in
     let fault = g.S.Snapshot.range_fault c.args.snapshot.now in
-    let none : fault range ≡ None = (given c.in_ok-page.page (fault range) (IsPage map range c.args.limit c.args.reverse)
-    c.in_ok-page.ensures).0 in
+    let none : fault range ≡ None = (given c.in_ok-page.page (fault range)
+    (IsPage map range c.args.limit c.args.reverse) c.in_ok-page.ensures).0 in
     let is_more : c.loop-more.more ≡ true = c.loop-more-test.true in
     let on : ReadsOn (kept c.args.own.now) map range c.args.reverse c.args.limit c.loop-more.progress.given left =
     rw is_more at c.loop-more.invariant in

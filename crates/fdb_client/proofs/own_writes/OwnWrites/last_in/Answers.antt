@@ -14,7 +14,8 @@ returns-in-Some-clause-inside c =
     let last : List ℕ × Left = (c.in-Some.key.now, c.in-Some._left.now) in
     last-inside range own last c.next_back.new.self
     (same_part own range c.begin_text.result.now c.end_text.result.now c.range.result
-    (c.next_back.new.self ++ last ∷ []) c.begin_text.ensures c.end_text.ensures.value c.in-Some.ensures.steps (c.range.ensures.in_range tt))
+    (c.next_back.new.self ++ last ∷ []) c.begin_text.ensures c.end_text.ensures.value c.in-Some.ensures.steps
+    (c.range.ensures.in_range tt))
 
 pub returns-in-Some-clause-last : goal.returns-in-Some-clause-last
 returns-in-Some-clause-last c =
@@ -23,7 +24,8 @@ returns-in-Some-clause-last c =
     let last : List ℕ × Left = (c.in-Some.key.now, c.in-Some._left.now) in
     none_after-last range own last c.next_back.new.self
     (same_part own range c.begin_text.result.now c.end_text.result.now c.range.result
-    (c.next_back.new.self ++ last ∷ []) c.begin_text.ensures c.end_text.ensures.value c.in-Some.ensures.steps (c.range.ensures.in_range tt))
+    (c.next_back.new.self ++ last ∷ []) c.begin_text.ensures c.end_text.ensures.value c.in-Some.ensures.steps
+    (c.range.ensures.in_range tt))
 
 pub returns-in-None-clause-none : goal.returns-in-None-clause-none
 returns-in-None-clause-none c =

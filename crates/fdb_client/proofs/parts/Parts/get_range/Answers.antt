@@ -21,7 +21,8 @@ note_range-requires-clause-given g c =
     let read = given c.in_ok-pairs.pairs (g.S.Snapshot.range_fault c.args.snapshot.now c.args.range.now) _
     c.in_ok-pairs.ensures in (
       after,
-      read.1 after (λ x. sym (kept-value now.transcript.ops now.own now.reads now.writes now.mutations c.requires x map)),
+      read.1 after (λ x. sym (kept-value now.transcript.ops now.own now.reads now.writes now.mutations
+          c.requires x map)),
     )
 
 pub returns-clause-answers : goal.returns-clause-answers

@@ -27,7 +27,8 @@ pub loop-progress-preserved-in_ok-take : goal.loop-progress-preserved-in_ok-take
 loop-progress-preserved-in_ok-take c =
     let is : c.in_ok-key.field-0 ≡ Some c.in-Some.key = search rules in
     let first = rw is at c.in_ok-key.ensures in
-    let taken = own-take c.args.self.now.own.now _ _ _ _ _ _ _ c.loop-progress.invariant c.in-Some.key first (search rules) in
+    let taken = own-take c.args.self.now.own.now _ _ _ _ _ _ _ c.loop-progress.invariant c.in-Some.key first
+    (search rules) in
     rw (c.in_ok-take.ensures.given, c.in_ok-take.ensures.left) taken
 
 pub loop-progress-smaller : goal.loop-progress-smaller
@@ -42,7 +43,8 @@ pub loop-progress-preserved : goal.loop-progress-preserved
 loop-progress-preserved c =
     let is : c.in_ok-key.field-0 ≡ Some c.in-Some.key = search rules in
     let first = rw is at c.in_ok-key.ensures in
-    let taken = own-take c.args.self.now.own.now _ _ _ _ _ _ _ c.loop-progress.invariant c.in-Some.key first (search rules) in
+    let taken = own-take c.args.self.now.own.now _ _ _ _ _ _ _ c.loop-progress.invariant c.in-Some.key first
+    (search rules) in
     rw (c.in_ok-take.ensures.given, c.in_ok-take.ensures.left) taken
 
 pub returns-clause-answers : goal.returns-clause-answers
