@@ -3,3 +3,4 @@ pub mod SumLemmas
 pub mod FaultLemmas
 pub mod CloneLemmas
 pub mod RangeLemmas
+pub mod BeginLemmas

@@ -1,4 +1,5 @@
 pub mod Cluster
+pub mod Messages
 pub mod RangeFaults
 pub mod Reads
 pub mod Resolving

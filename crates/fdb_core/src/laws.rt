@@ -44,10 +44,12 @@ pub fn gets_are_refused_exactly_where_the_shard_does_not_serve()
     ensures { GetsRefused }
 {}
 
-/// A read of a range in an open transaction is refused as `TransactionTooOld` exactly where one of the shards that hold
-/// some of the range no longer serves the read version, and as `FutureVersion` exactly where none has forgotten it, and the
-/// first that doesn't serve it hasn't reached it. The range is looked at whole, whatever the limit, and one without a
-/// key is answered.
+/// A read of a range in an open transaction is refused as `TransactionTooOld` exactly where some point of the range is
+/// held by a shard that no longer serves the read version. Where there is a shard for each piece between the splits, as
+/// in every world, it is refused as `FutureVersion` exactly where no point is held by one of those, and some point is
+/// held by a shard that still serves the version but hasn't reached it. It is answered exactly where each point of the
+/// range is held by a shard that serves the version, so where the range has no point too. The range is looked at whole,
+/// whatever the limit.
 pub fn range_reads_are_refused_exactly_where_a_shard_of_the_range_does_not_serve()
     ensures { RangeReadsRefused }
 {}

@@ -5,3 +5,4 @@ pub mod ExamplesLemmas
 pub mod MessagesLemmas
 pub mod ResolverLemmas
 pub mod SerialMapLemmas
+pub mod SplitsLemmas

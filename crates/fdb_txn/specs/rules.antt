@@ -3,3 +3,4 @@ pub mod Messages
 pub mod Owners
 pub mod Resolvers
 pub mod SerialMap
+pub mod Splits

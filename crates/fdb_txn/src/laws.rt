@@ -8,6 +8,7 @@ ghost use Rattle.fdb_txn.specs.Limits.{place_limit};
 ghost use Rattle.fdb_txn.specs.laws.Examples.{OneBatch, WriteSkew, FalseConflict, FormerOwner, ThereAndBack, EqualIsNotNewer, Window, OldReading, TwoMoves, Spans, AtBounds, ShardMessages, Entries, Books};
 ghost use Rattle.fdb_txn.specs.laws.AdmissionLaws.{OverlapsAtSomePoint, AskedAtSomePoint, OwnedAtSomeVersion, AdmitsWithoutConflict, CommittedByTheAsked, OldIsAsked};
 ghost use Rattle.fdb_txn.specs.laws.ResolverLaws.{AskedWhereItHasAPart, LastVersionsDecide, OnePlaceMore, StateDecides, StateTakesPlace, StateForgets, ForgottenAgree};
+ghost use Rattle.fdb_txn.specs.rules.Splits.{PiecesPartTheKeys};
 ghost use Rattle.fdb_txn.specs.rules.Messages.{MeetsAtSomePoint, MessagesAreForTheRange, ShardsHoldTheRun};
 ghost use Rattle.fdb_txn.specs.laws.SerialMapLaws.{BooksAreEntries, PlacesAreHistory, PlacesAreFoundInTheBook, ReadsStand, EarlierPlacesStay, EarlierMapsStay, EntriesGoOn};
 
@@ -59,6 +60,11 @@ pub fn corners_suffice()
     ensures overlaps { OverlapsAtSomePoint }
     ensures asked { AskedAtSomePoint }
     ensures owned { OwnedAtSomeVersion }
+{}
+
+/// Each key lies in the piece of its first owner, and in no other.
+pub fn pieces_part_the_keys()
+    ensures { PiecesPartTheKeys }
 {}
 
 /// A resolver is asked about a place, be it old or fresh, exactly where it has a part of it.

@@ -7,7 +7,9 @@ mod entry;
 pub mod laws;
 mod sealed;
 mod size;
+mod splits;
 mod spot;
+mod tag_msg;
 #[cfg(test)]
 mod tests;
 mod txn_id;
@@ -17,5 +19,7 @@ pub use batch::{Batch, PLACE_LIMIT};
 pub use entry::{Entry, Move};
 pub use sealed::{Sealed, Unsealed};
 pub use size::SIZE_LIMIT;
+pub use splits::Splits;
 pub use spot::Spot;
+pub use tag_msg::TagMsg;
 pub use txn_id::TxnId;

@@ -5,6 +5,7 @@ ghost use Rattle.fdb_mutations.specs.Mutations.{mutation_fault};
 use crate::batch::{Batch, PLACE_LIMIT};
 use crate::entry::{Entry, Move};
 use crate::sealed::Sealed;
+use crate::splits::Splits;
 use crate::spot::Spot;
 use crate::txn_id::TxnId;
 use bytes::Bytes;
@@ -225,5 +226,70 @@ fn transactions_have_at_most_10_000_000_bytes(rt: HostRuntime) -> Result<(), Fai
     let too_large = hundred_sets(rt.alloc(), 99_997)?;
     assert_eq!(rt; size_of(rt.alloc(), largest), Ok(10_000_000));
     assert_eq!(rt; size_of(rt.alloc(), too_large), Err((2101, 100)));
+    Ok(())
+}
+
+fn add_key(alloc: Global, keys: &mut Items<Key>, text: &[u8]) -> Result<(), Refusal> {
+    keys.push(Key::new(alloc, text)?)?;
+    Ok(())
+}
+
+fn two_keys(alloc: Global, first: &[u8], second: &[u8]) -> Result<Items<Key>, Refusal> {
+    let mut keys = Items::new(alloc);
+    add_key(alloc, &mut keys, first)?;
+    add_key(alloc, &mut keys, second)?;
+    Ok(keys)
+}
+
+// The splits at the two keys, of which there may be as many pieces.
+fn split_at(alloc: Global, first: &[u8], second: &[u8], most: usize) -> Result<Splits, Refusal> {
+    let keys = two_keys(alloc, first, second)?;
+    Splits::new(alloc, keys.as_slice(), most)
+}
+
+// The code of the refusal of splits at the two keys, or 0.
+fn split_code(alloc: Global, first: &[u8], second: &[u8], most: usize) -> u32 {
+    match split_at(alloc, first, second, most) {
+        Ok(_splits) => 0,
+        Err(why) => why.code(),
+    }
+}
+
+// The number of the piece of the key.
+fn piece_of(alloc: Global, splits: &Splits, key: &[u8]) -> Option<usize> {
+    match Key::new(alloc, key) {
+        Ok(key) => Some(splits.piece_of(&key)),
+        Err(_why) => None,
+    }
+}
+
+// Whether the piece goes from the one text up to the other; none where it is refused.
+fn goes(alloc: Global, splits: &Splits, piece: usize, begin: &[u8], end: &[u8]) -> Option<bool> {
+    match splits.piece(alloc, piece) {
+        Ok(range) => Some(range.begin() == begin && range.end() == end),
+        Err(_why) => None,
+    }
+}
+
+#[test]
+fn splits_rise_and_none_is_empty(rt: HostRuntime) {
+    assert_eq!(rt; split_code(rt.alloc(), b"b", b"m", 3), 0);
+    assert_eq!(rt; split_code(rt.alloc(), b"b", b"m", 2), 9009);
+    assert_eq!(rt; split_code(rt.alloc(), b"", b"m", 3), 9009);
+    assert_eq!(rt; split_code(rt.alloc(), b"m", b"b", 3), 9009);
+    assert_eq!(rt; split_code(rt.alloc(), b"m", b"m", 3), 9009);
+}
+
+#[test]
+fn splits_part_the_keys(rt: HostRuntime) -> Result<(), Fail> {
+    let splits = split_at(rt.alloc(), b"b", b"m", 3)?;
+    assert_eq!(rt; splits.as_slice().len(), 2);
+    assert_eq!(rt; piece_of(rt.alloc(), &splits, b"a"), Some(0));
+    assert_eq!(rt; piece_of(rt.alloc(), &splits, b"b"), Some(1));
+    assert_eq!(rt; piece_of(rt.alloc(), &splits, b"z"), Some(2));
+    assert_eq!(rt; goes(rt.alloc(), &splits, 0, b"", b"b"), Some(true));
+    assert_eq!(rt; goes(rt.alloc(), &splits, 1, b"b", b"m"), Some(true));
+    assert_eq!(rt; goes(rt.alloc(), &splits, 2, b"m", &[0xff]), Some(true));
+    assert_eq!(rt; goes(rt.alloc(), &splits, 3, b"m", &[0xff]), None);
     Ok(())
 }

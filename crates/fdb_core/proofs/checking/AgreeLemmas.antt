@@ -121,7 +121,7 @@ module _ (book : List Entry) (plain : IsPlainBook book) (n : ℕ) where
         (take_all (length entry.batch) entry.batch (le_refl (length entry.batch)))
         (take_all (length entry.batch) decided (omega (arith, as_many)))
         ∙ ap (effects after) (body-committed [] before entry)
-        ∙ sym (serial_map-add_places [] entry.version (moves_through before entry) entry.batch before.places)
+        ∙ sym (serial_map-add_places [] entry.version (moves_through before entry) 0 entry.batch before.places)
         ∙ ap (λ (seen : Seen). serial_map [] seen.places) (sym next-seen)
 
     -- places of the book in this entry

@@ -6,7 +6,7 @@ use Rattle.fdb_keys.specs.Points.{Point}
 use Rattle.fdb_mutations.specs.Maps.{Map}
 use Rattle.fdb_txn.specs.declared.entry.Entry.{Entry}
 use Rattle.fdb_txn.specs.book.Book.{seen_of, last_version, seen_before}
-use Rattle.fdb_txn.specs.rules.Messages.{Message, value_in}
+use Rattle.fdb_core.specs.refinement.Messages.{Message, value_in}
 use Rattle.fdb_txn.specs.rules.SerialMap.{serial_map, serial_map_at}
 use Rattle.fdb_core.specs.check.Checking.{IsPlainBook}
 use Rattle.fdb_core.specs.check.Holding.{HoldsTheRun}

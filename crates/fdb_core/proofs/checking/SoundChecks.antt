@@ -8,7 +8,7 @@ use Rattle.fdb_txn.specs.declared.spot.Spot.TheVariants as spot
 use Rattle.fdb_txn.specs.book.Book.{Place, seen_of, last_version}
 use Rattle.fdb_txn.specs.rules.SerialMap.{serial_map, serial_map_at}
 use Rattle.fdb_core.specs.declared.cluster.Cluster.{Cluster}
-use Rattle.fdb_txn.specs.rules.Messages.{Message, value_in}
+use Rattle.fdb_core.specs.refinement.Messages.{Message, value_in}
 use Rattle.fdb_client.specs.declared.program.Transcript.{Transcript}
 use Rattle.fdb_core.specs.declared.world.CheckFault.{CheckFault}
 use Rattle.fdb_core.specs.declared.world.CheckFault.TheVariants.{NoMemory}

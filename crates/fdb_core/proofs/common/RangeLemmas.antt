@@ -1,6 +1,5 @@
 -- The points at which a range comes to its shards.
-use Rattle.std.proofs.Common.{◌≡◌, ◌∙◌, sym, ⊎_elim, refl, Bool, true, false, not, List, [], ◌∷◌, Option, Some, None, if◌then◌else◌}
-use Rattle.std.specs.List.{filter}
+use Rattle.std.proofs.Common.{◌≡◌, ◌∙◌, sym, ⊎_elim, refl, Bool, true, false, not, [], ◌∷◌, Option, Some, None, if◌then◌else◌}
 use Rattle.std.proofs.lemmas.Bool.{cases_Bool, both_ways, cond-false}
 use Rattle.fdb_keys.specs.Points.{Point, point_lt}
 use Rattle.fdb_keys.specs.Ranges.{Range, in_range, is_empty_range}
@@ -10,12 +9,6 @@ use Rattle.fdb_keys.proofs.InsertionLemmas.{in_range-empty}
 use Rattle.fdb_keys.proofs.PointOrder.{lt-itself}
 use Rattle.fdb_core.specs.machine.ClientSteps.{fault_among, shard_begins}
 use Rattle.fdb_core.specs.refinement.RangeFaults.{unless_empty}
-
--- a range without a point has none of some points
-pub none-inside : (range : Range) → is_empty_range range ≡ true → (points : List Point)
-    → filter (λ point. in_range range point) points ≡ []
-none-inside range empty [] = refl
-none-inside range empty (point ∷ points) = rw (in_range-empty range point empty) (none-inside range empty points)
 
 -- where nothing is split, a range is asked at its begin alone, unless it has no point
 pub asked-unsplit : (fault : Point → Option Refusal) (range : Range)

@@ -9,7 +9,7 @@ use Rattle.fdb_keys.specs.Points.{point_lt}
 use Rattle.fdb_keys.specs.Insertion as insertion
 use Rattle.fdb_mutations.specs.Mutations.{effects}
 use Rattle.fdb_mutations.specs.declared.mutation.Mutation.{Mutation}
-use Rattle.fdb_txn.specs.rules.Messages.{Message}
+use Rattle.fdb_core.specs.refinement.Messages.{Message}
 use Rattle.fdb_txn.specs.book.Transactions.{Transaction}
 use Rattle.fdb_txn.specs.book.Book.{Place, placed}
 use Rattle.fdb_txn.specs.rules.SerialMap.{serial_map}

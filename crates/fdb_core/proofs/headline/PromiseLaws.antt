@@ -1,27 +1,30 @@
 -- What follows from the answer of one step.
-use Rattle.std.proofs.Common.{◌≡◌, ◌∙◌, ◌⊎◌, inl, inr, ⊎_elim, sym, ap, refl, ℕ, Bool, true, false, List, [], ◌∷◌, Option, Some, None, Ok, Err, map, if◌then◌else◌}
+use Rattle.std.proofs.Common.{◌≡◌, ◌<◌, ◌∙◌, ⊎_elim, sym, ap, refl, arith, ℕ, suc, Bool, true, false, List, [], length, Option, Some, None, Ok, Err, map, if◌then◌else◌}
 use Rattle.std.specs.Prelude.{◌↔◌, nat_lt}
 use Rattle.std.specs.List.{slice_get, list_any}
-use Rattle.std.specs.Option.{option_or}
-use Rattle.std.proofs.lemmas.Bool.{both_ways, or_cases, or_left, or_right}
+use Rattle.std.proofs.lemmas.Bool.{both_ways}
+use Rattle.std.proofs.lemmas.Option.{slice_get_cases}
 use Rattle.fdb_keys.specs.declared.refusal.Refusal.{Refusal}
 use Rattle.fdb_keys.specs.declared.refusal.Refusal.TheVariants.{TransactionTooOld, FutureVersion, Exhausted}
 use Rattle.fdb_keys.specs.Points.{Point}
+use Rattle.fdb_keys.specs.Ranges.{Range}
+use Rattle.fdb_keys.proofs.InsertionLemmas.{in_range-empty}
 use Rattle.fdb_txn.specs.rules.Owners.{first_owner}
+use Rattle.fdb_txn.proofs.rules.AskedLemmas.{owner-exists}
 use Rattle.fdb_core.specs.machine.Roles.{ShardProgress}
 use Rattle.fdb_client.specs.declared.program.Op.{Op}
 use Rattle.fdb_client.specs.declared.program.Op.TheVariants as op
 use Rattle.fdb_client.specs.declared.program.Transcript.{Transcript}
 use Rattle.fdb_core.specs.declared.step.Answered.TheVariants as answered
-use Rattle.fdb_core.specs.machine.ClientSteps.{reads, answered_by, point_fault, first_fault, is_too_old, fault_among, shard_begins, fault_after, reply_after}
+use Rattle.fdb_core.specs.machine.ClientSteps.{reads, answered_by, point_fault, range_fault, fault_after, reply_after}
 use Rattle.fdb_core.specs.machine.GrvProxySteps.{grants, has_no_number}
 use Rattle.fdb_core.specs.machine.RoleSteps.{shard_fault, version_of_shard}
 use Rattle.fdb_core.specs.machine.Machine.{Machine, Transition}
 use Rattle.fdb_core.specs.machine.Sessions.{open_at}
 use Rattle.fdb_client.specs.Programs.{program, decided}
-use Rattle.fdb_core.specs.headline.Promises.{RefusalsChangeNothing, GrantsCommitted, GetsFromTheRun, GetsRefused, RangeReadsFromTheRun, RangeReadsRefused, Lags, Forgot, FirstUnserved, HasOne}
+use Rattle.fdb_core.specs.headline.Promises.{RefusalsChangeNothing, GrantsCommitted, GetsFromTheRun, GetsRefused, RangeReadsFromTheRun, RangeReadsRefused, Lags, Forgot, Serves, AtSomePoint, AtEachPoint}
 use Rattle.fdb_core.specs.machine.Steps.{after}
-use Rattle.fdb_core.proofs.common.RangeLemmas.{none-inside}
+use Rattle.fdb_core.proofs.common.BeginLemmas.{of-range, too-old-range, served-range}
 use Rattle.fdb_core.proofs.machine.Transitions.{reads-transition, reads-refused}
 use Rattle.fdb_core.proofs.machine.AcceptedTransitions.{of-accepted, past-found, past-test, past-fault, past-open}
 
@@ -107,6 +110,56 @@ shard-forgot m version (Some progress) = (
     by_tests false true = ((λ faulty. cc), (λ test. cc))
     by_tests false false = ((λ faulty. cc), (λ test. cc))
 
+-- and serves a version exactly where it has it and is there
+shard-serves : (m : Machine) (version : ℕ) (there : Option ShardProgress)
+    → (shard_fault m.book version there ≡ None)
+    ↔ ((progress : ShardProgress) × (there ≡ Some progress) × (nat_lt version progress.floor ≡ false)
+    × (nat_lt (version_of_shard m.book progress) version ≡ false))
+shard-serves m version None = ((λ faultless. cc), (λ serves. let h = serves.1 in cc))
+shard-serves m version (Some progress) = (
+  (λ faultless. let tests = (by_tests _ _).0 faultless in (progress, refl, tests.0, tests.1)),
+  (λ serves. let same : serves.0 ≡ progress = cc (serves.1) in
+      (by_tests _ _).1 (
+        ap (λ (r : ShardProgress). nat_lt version r.floor) (sym same)
+            ∙ serves.2,
+        ap (λ (r : ShardProgress). nat_lt (version_of_shard m.book r) version) (sym same) ∙ serves.3,
+      )),
+)
+  where
+    by_tests : (old late : Bool)
+        → ((if old then Some TransactionTooOld else (if late then Some FutureVersion else None)) ≡ None) ↔
+        ((old ≡ false) × (late ≡ false))
+    by_tests true late = ((λ faultless. cc), (λ tests. let h = tests.0 in cc))
+    by_tests false true = ((λ faultless. cc), (λ tests. let h = tests.1 in cc))
+    by_tests false false = ((λ faultless. (refl, refl)), (λ tests. refl))
+
+-- a shard that is there, and has not forgotten the version, has no fault but that it isn't there yet
+only-after : (m : Machine) (version : ℕ) (there : Option ShardProgress) (progress : ShardProgress)
+    → there ≡ Some progress → (why : Refusal) → shard_fault m.book version there ≡ Some why
+    → (¬ (shard_fault m.book version there ≡ Some TransactionTooOld)) → Some why ≡ Some FutureVersion
+only-after m version None progress at why faulty not_old = cc
+only-after m version (Some shard) progress at why faulty not_old = by_tests _ _ faulty not_old
+  where
+    by_tests : (old late : Bool)
+        → (if old then Some TransactionTooOld else (if late then Some FutureVersion else None)) ≡ Some why
+        → (¬ ((if old then Some TransactionTooOld else (if late then Some FutureVersion else None))
+        ≡ Some TransactionTooOld))
+        → Some why ≡ Some FutureVersion
+    by_tests true late faulty not_old = absurd (not_old refl)
+    by_tests false true faulty not_old = sym faulty
+    by_tests false false faulty not_old = cc
+
+-- where there is a shard for each piece between the splits, the one that holds a point is there
+holder-there : (m : Machine) → length m.shards ≡ suc (length m.config.shard_splits) → (x : Point)
+    → (progress : ShardProgress) × (slice_get m.shards (first_owner m.config.shard_splits x) ≡ Some progress)
+holder-there m whole x = ⊎_elim
+    (λ found. (found.0, found.2))
+    (λ past. absurd (omega (arith, past.0, whole, inside)))
+    (slice_get_cases m.shards (first_owner m.config.shard_splits x)).1
+  where
+    inside : first_owner m.config.shard_splits x < suc (length m.config.shard_splits)
+    inside = owner-exists m.config.shard_splits 0 [] x 0 tt
+
 -- a fault that a test may take away
 unless-own : (own : Bool) (fault : Option Refusal) (why : Refusal) (P : Type 0) → (fault ≡ Some why) ↔ P
     → ((if own then None else fault) ≡ Some why) ↔ ((own ≡ false) × P)
@@ -140,114 +193,101 @@ gets_refused m session key snapshot transcript opened = (
     as_the_shard why P same = both-ways _ _ _ (reads-refused m session operation transcript opened why)
         (unless-own (decided (program transcript.ops) key) (shard_fault m.book version there) why P same)
 
--- the first of some faults is the one of the first of some points that has one
-or-later : (here later : Option Refusal) (why : Refusal) (P Q : Type 0) → (here ≡ Some why) ↔ P
-    → (later ≡ Some why) ↔ Q
-    → (option_or here later ≡ Some why) ↔ (P ⊎ ((here ≡ None) × Q))
-or-later None later why P Q same others = (
-  (λ faulty. inr (refl, others.0 faulty)),
-  (λ either. ⊎_elim (λ own. let h = same.1 own in cc) (λ rest. others.1 rest.1) either),
-)
-or-later (Some fault) later why P Q same others = (
-  (λ faulty. inl (same.0 faulty)),
-  (λ either. ⊎_elim (λ own. same.1 own) (λ rest. let h = rest.0 in cc) either),
-)
+-- two points that one shard holds have one fault
+held-alike : (m : Machine) (version : ℕ) (x y : Point)
+    → first_owner m.config.shard_splits x ≡ first_owner m.config.shard_splits y
+    → point_fault m version x ≡ point_fault m version y
+held-alike m version x y same = ap (λ (owner : ℕ). shard_fault m.book version (slice_get m.shards owner)) same
 
-first-unserved : (m : Machine) (version : ℕ) (why : Refusal) (P : Point → Type 0)
-    → ((point : Point) → (point_fault m version point ≡ Some why) ↔ P point) → (points : List Point)
-    → (first_fault (point_fault m version) points ≡ Some why) ↔ FirstUnserved m version P points
-first-unserved m version why P same [] = ((λ faulty. cc), (λ none. absurd none))
-first-unserved m version why P same (point ∷ points) =
-    or-later (point_fault m version point) (first_fault (point_fault m version) points) why (P point)
-    (FirstUnserved m version P points) (same point) (first-unserved m version why P same points)
+-- Why a range is refused, by its points.
+module _ (m : Machine) (version : ℕ) (range : Range) where
+  -- the shard that holds a point, if it is there
+  abbrev holder : Point → Option ShardProgress
+  holder x = slice_get m.shards (first_owner m.config.shard_splits x)
 
--- what the first of some points has one of them has
-first-one : (m : Machine) (version : ℕ) (P : Point → Type 0) (points : List Point) → FirstUnserved m version P points
-    → HasOne P points
-first-one m version P [] none = absurd none
-first-one m version P (point ∷ points) (inl own) = inl own
-first-one m version P (point ∷ points) (inr rest) = inr (first-one m version P points rest.1)
+  -- what it is refused as, one of its points is
+  faulty-point : (why : Refusal) → range_fault m version range ≡ Some why
+      → AtSomePoint range (λ x. point_fault m version x ≡ Some why)
+  faulty-point = of-range m.config.shard_splits range (point_fault m version) (held-alike m version)
 
--- a test of points passes one exactly where one has what it tests
-any-one : (test : Point → Bool) (P : Point → Type 0) → ((point : Point) → (test point ≡ true) ↔ P point)
-    → (points : List Point) → (list_any test points ≡ true) ↔ HasOne P points
-any-one test P same [] = ((λ passes. cc), (λ none. absurd none))
-any-one test P same (point ∷ points) = (
-  (λ passes. ⊎_elim (λ here. inl ((same point).0 here)) (λ later. inr ((any-one test P same points).0 later))
-      (or_cases (test point) (list_any test points) passes)),
-  (λ one. ⊎_elim (λ here. or_left (test point) (list_any test points) ((same point).1 here))
-      (λ later. or_right (test point) (list_any test points) ((any-one test P same points).1 later)) one),
-)
+  -- and none of them is where it isn't
+  served-point : AtEachPoint range (λ x. range_fault m version range ≡ None → point_fault m version x ≡ None)
+  served-point = served-range m.config.shard_splits range (point_fault m version) (held-alike m version)
 
--- a fault is that the version is too old exactly where the test says so
-too-old-is : (fault : Option Refusal) → (is_too_old fault ≡ true) ↔ (fault ≡ Some TransactionTooOld)
-too-old-is None = ((λ is. cc), (λ is. cc))
-too-old-is (Some why) = ((λ is. of_why why is), (λ is. ap is_too_old is))
-  where
-    of_why : (why : Refusal) → is_too_old (Some why) ≡ true → Some why ≡ Some TransactionTooOld
-    of_why TransactionTooOld is = refl
-    of_why why is = cc
+  range-forgot : (range_fault m version range ≡ Some TransactionTooOld) ↔ AtSomePoint range (Forgot m version)
+  range-forgot = (
+    (λ refused. let one = faulty-point TransactionTooOld refused in
+        (one.0, one.1, (shard-forgot m version (holder one.0)).0 one.2)),
+    (λ some. too-old-range m.config.shard_splits range (point_fault m version) (held-alike m version) some.0 some.1
+        ((shard-forgot m version (holder some.0)).1 some.2)),
+  )
 
--- the faults of some points: one is too old, or none is and the first is the one
-module _ (m : Machine) (version : ℕ) (points : List Point) where
-  forgot-tested : (list_any (λ point. is_too_old (point_fault m version point)) points ≡ true)
-      ↔ HasOne (Forgot m version) points
-  forgot-tested = any-one (λ point. is_too_old (point_fault m version point)) (Forgot m version)
-      (λ point. both-ways _ _ _ (too-old-is (point_fault m version point))
-      (shard-forgot m version (slice_get m.shards (first_owner m.config.shard_splits point)))) points
-
-  first-forgot : (first_fault (point_fault m version) points ≡ Some TransactionTooOld)
-      ↔ FirstUnserved m version (Forgot m version) points
-  first-forgot = first-unserved m version TransactionTooOld (Forgot m version)
-      (λ point. shard-forgot m version (slice_get m.shards (first_owner m.config.shard_splits point))) points
-
-  first-lags : (first_fault (point_fault m version) points ≡ Some FutureVersion)
-      ↔ FirstUnserved m version (Lags m version) points
-  first-lags = first-unserved m version FutureVersion (Lags m version)
-      (λ point. shard-after m version (slice_get m.shards (first_owner m.config.shard_splits point))) points
-
-  among-forgot : (fault_among (point_fault m version) points ≡ Some TransactionTooOld)
-      ↔ HasOne (Forgot m version) points
-  among-forgot = by_test _ refl
+  range-serves : (range_fault m version range ≡ None) ↔ AtEachPoint range (Serves m version)
+  range-serves = (
+    (λ faultless x inside. (shard-serves m version (holder x)).0 (served-point x inside faultless)),
+    (λ each. by_fault each (range_fault m version range) refl),
+  )
     where
-      by_test : (test : Bool) → list_any (λ point. is_too_old (point_fault m version point)) points ≡ test
-          → ((if test then Some TransactionTooOld else first_fault (point_fault m version) points)
-          ≡ Some TransactionTooOld) ↔ HasOne (Forgot m version) points
-      by_test true is = ((λ faulty. forgot-tested.0 is), (λ one. refl))
-      by_test false is = (
-        (λ faulty. first-one m version (Forgot m version) points (first-forgot.0 faulty)),
-        (λ one. absurd (both_ways _ is (forgot-tested.1 one))),
-      )
+      by_fault : AtEachPoint range (Serves m version) → (fault : Option Refusal) → range_fault m version range ≡ fault
+          → fault ≡ None
+      by_fault each None is = refl
+      by_fault each (Some why) is =
+          let one = faulty-point why is in
+          let faulty = one.2 in
+          let faultless = (shard-serves m version (holder one.0)).1 (each one.0 one.1) in
+          cc
 
-  among-lags : (fault_among (point_fault m version) points ≡ Some FutureVersion)
-      ↔ ((¬ HasOne (Forgot m version) points) × FirstUnserved m version (Lags m version) points)
-  among-lags = by_test _ refl
+  range-lags : length m.shards ≡ suc (length m.config.shard_splits)
+      → (range_fault m version range ≡ Some FutureVersion)
+      ↔ ((¬ AtSomePoint range (Forgot m version)) × AtSomePoint range (Lags m version))
+  range-lags whole = (
+    (λ refused.
+        let one = faulty-point FutureVersion refused in (
+          (λ some. let too_old = range-forgot.1 some in cc),
+          (one.0, one.1, (shard-after m version (holder one.0)).0 one.2),
+        )),
+    (λ both. by_fault both (range_fault m version range) refl),
+  )
     where
-      by_test : (test : Bool) → list_any (λ point. is_too_old (point_fault m version point)) points ≡ test
-          → ((if test then Some TransactionTooOld else first_fault (point_fault m version) points)
-          ≡ Some FutureVersion)
-          ↔ ((¬ HasOne (Forgot m version) points) × FirstUnserved m version (Lags m version) points)
-      by_test true is = ((λ faulty. cc), (λ both. absurd (both.0 (forgot-tested.0 is))))
-      by_test false is = (
-        (λ faulty. ((λ one. both_ways _ is (forgot-tested.1 one)), first-lags.0 faulty)),
-        (λ both. first-lags.1 both.1),
-      )
+      by_fault : (¬ AtSomePoint range (Forgot m version)) × AtSomePoint range (Lags m version)
+          → (fault : Option Refusal) → range_fault m version range ≡ fault → fault ≡ Some FutureVersion
+      by_fault both None is =
+          let late = both.1 in
+          let faulty = (shard-after m version (holder late.0)).1 late.2 in
+          let faultless = served-point late.0 late.1 is in
+          cc
+      by_fault both (Some why) is =
+          let one = faulty-point why is in
+          let there = holder-there m whole one.0 in
+          only-after m version (holder one.0) there.0 there.1 why one.2
+          (λ too_old. both.0 (one.0, one.1, (shard-forgot m version (holder one.0)).0 too_old))
 
--- A read of a range is refused as too old where one of its shards has forgotten the version, as in the future where none
--- has and the first that doesn't serve it lags, and not at all where it has no point.
+-- A read of a range is refused as too old where one of its points is forgotten, as in the future where none is and one
+-- lags, and not at all where each of them is served.
 pub range_reads_refused : RangeReadsRefused
 range_reads_refused m session range limit is_reverse snapshot transcript opened = (
   both-ways _ _ _ (reads-refused m session operation transcript opened TransactionTooOld)
-      (among-forgot m transcript.read_version (shard_begins m.config.shard_splits range)),
-  both-ways _ _ _ (reads-refused m session operation transcript opened FutureVersion)
-      (among-lags m transcript.read_version (shard_begins m.config.shard_splits range)),
-  λ empty. (
-    _,
-    reads-transition m session operation transcript opened
-        (ap (fault_among (point_fault m transcript.read_version))
-        (none-inside range empty (range.begin ∷ m.config.shard_splits))),
-  ),
+      (range-forgot m transcript.read_version range),
+  λ whole. both-ways _ _ _ (reads-refused m session operation transcript opened FutureVersion)
+      (range-lags m transcript.read_version range whole),
+  both-ways _ _ _ answered_where (range-serves m transcript.read_version range),
+  λ empty. answered_where.1 ((range-serves m transcript.read_version range).1
+      (λ x inside. absurd (both_ways _ (in_range-empty range x empty) inside))),
 )
   where
     operation : Op
     operation = op.Range range limit is_reverse snapshot
+
+    answered_where : ((transition : Transition) × (reads m session operation ≡ Ok transition))
+        ↔ (range_fault m transcript.read_version range ≡ None)
+    answered_where = (
+      (λ accepted. by_fault accepted (range_fault m transcript.read_version range) refl),
+      (λ faultless. (_, reads-transition m session operation transcript opened faultless)),
+    )
+      where
+        by_fault : (transition : Transition) × (reads m session operation ≡ Ok transition)
+            → (fault : Option Refusal) → range_fault m transcript.read_version range ≡ fault → fault ≡ None
+        by_fault accepted None is = refl
+        by_fault accepted (Some why) is =
+            let refused = (reads-refused m session operation transcript opened why).1 is in
+            let ok = accepted.1 in cc

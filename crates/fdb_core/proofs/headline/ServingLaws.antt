@@ -9,7 +9,7 @@ use Rattle.fdb_txn.specs.rules.Owners.{window}
 use Rattle.fdb_txn.specs.rules.Resolvers.{IsStateOf}
 use Rattle.fdb_txn.specs.rules.SerialMap.{serial_map_at}
 use Rattle.fdb_core.specs.declared.cluster.Cluster.{Cluster}
-use Rattle.fdb_txn.specs.rules.Messages.{Message, value_in}
+use Rattle.fdb_core.specs.refinement.Messages.{Message, value_in}
 use Rattle.fdb_core.specs.machine.Roles.{ShardProgress}
 use Rattle.fdb_core.specs.refinement.Cluster.{machine_of, shard_of, system_of, Refines}
 use Rattle.fdb_core.specs.machine.Machine.{Machine}

@@ -10,7 +10,7 @@ use Rattle.fdb_txn.specs.book.Book.{add_entry, seen_of, last_version, seen_befor
 use Rattle.fdb_txn.specs.book.History.{AreEntries}
 use Rattle.fdb_resolver.specs.Resolvers.{Resolver}
 use Rattle.fdb_core.specs.machine.Roles.{CommitProxy, ShardProgress}
-use Rattle.fdb_txn.specs.rules.Messages.{Message}
+use Rattle.fdb_core.specs.refinement.Messages.{Message}
 use Rattle.fdb_core.specs.declared.roles.resolver.ResolverRole.{ResolverRole}
 use Rattle.fdb_core.specs.declared.step.Outcome.{Outcome}
 use Rattle.fdb_resolver.specs.declared.verdict.Verdict.{Verdict}

@@ -16,7 +16,8 @@ use Rattle.fdb_txn.specs.rules.SerialMap.{serial_map, up_to, serial_map_at}
 use Rattle.fdb_txn.specs.book.History.{AreEntries, ReadsBelow}
 use Rattle.fdb_txn.proofs.book.HistoryLemmas.{all-weaken, AtMost, add_places-newer, up_to-above, up_to-all}
 use Rattle.fdb_txn.proofs.rules.MessagesLemmas.{at_most-more, get-effects, serial_map-add_places}
-use Rattle.fdb_txn.specs.rules.Messages.{Message, value_in, committed_from, value_after, value_with}
+use Rattle.fdb_txn.specs.rules.Messages.{mutations_in, committed_in, value_after}
+use Rattle.fdb_core.specs.refinement.Messages.{Message, value_in, value_with}
 use Rattle.fdb_core.specs.machine.Verdicts.{moves_through}
 use Rattle.fdb_core.specs.refinement.Cluster.{IsRising}
 use Rattle.fdb_core.specs.refinement.Roles.{along, message_on}
@@ -211,7 +212,7 @@ value-message splits v x seen entry at_most = ⊎_elim
     cond-true _ _ _ reached
     ∙ ap (λ (now : List Place). fold (value_after x) (get (serial_map splits now) x) body) older
     ∙ sym (get-effects (serial_map splits seen.places) body x)
-    ∙ ap (λ (map : Map). get map x) (sym (serial_map-add_places splits entry.version moves entry.batch seen.places))
+    ∙ ap (λ (map : Map). get map x) (sym (serial_map-add_places splits entry.version moves 0 entry.batch seen.places))
     ∙ ap (λ (now : List Place). get (serial_map splits now) x) (sym all))
     (λ above. cond-false _ _ _ above
     ∙ ap (λ (now : List Place). get (serial_map splits now) x)
@@ -225,7 +226,7 @@ value-message splits v x seen entry at_most = ⊎_elim
     places = add_places entry.version moves entry.batch seen.places
 
     body : List Mutation
-    body = committed_from splits entry.version moves entry.batch seen.places
+    body = mutations_in (committed_in splits seen entry)
 
 -- so do the messages of a rising book
 value-messages : (splits : List Point) (v : ℕ) (x : Point) (least : ℕ) (seen : Seen) (book : List Entry)

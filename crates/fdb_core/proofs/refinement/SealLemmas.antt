@@ -12,7 +12,7 @@ use Rattle.fdb_txn.proofs.book.HistoryLemmas.{entries_go_on}
 use Rattle.fdb_sequencer.specs.Limits.{version_limit}
 use Rattle.fdb_sequencer.specs.Sequencer.{next_version}
 use Rattle.fdb_core.specs.machine.Roles.{CommitProxy, ShardProgress, Resolving, Submission}
-use Rattle.fdb_txn.specs.rules.Messages.{Message}
+use Rattle.fdb_core.specs.refinement.Messages.{Message}
 use Rattle.fdb_core.specs.declared.roles.resolver.ResolverRole.{ResolverRole}
 use Rattle.fdb_client.specs.declared.program.Transcript.{Transcript}
 use Rattle.fdb_core.specs.declared.step.Answered.TheVariants as answered

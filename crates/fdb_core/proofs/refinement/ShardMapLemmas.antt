@@ -7,7 +7,8 @@ use Rattle.std.specs.Cmp.Lexicographic.{slice_cmp}
 use Rattle.fdb_keys.specs.Points.{Point}
 use Rattle.fdb_mutations.specs.Maps.{Map}
 use Rattle.fdb_mutations.specs.Mutations.{effects}
-use Rattle.fdb_txn.specs.rules.Messages.{Message, value_in, value_with, value_after}
+use Rattle.fdb_txn.specs.rules.Messages.{value_after}
+use Rattle.fdb_core.specs.refinement.Messages.{Message, value_in, value_with}
 use Rattle.fdb_txn.proofs.rules.MessagesLemmas.{get-effects}
 use Rattle.fdb_core.specs.refinement.ShardMaps.{map_with, map_in}
 

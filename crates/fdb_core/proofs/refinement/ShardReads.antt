@@ -9,7 +9,7 @@ use Rattle.fdb_keys.specs.declared.refusal.Refusal.{Refusal}
 use Rattle.fdb_keys.specs.declared.refusal.Refusal.TheVariants.{FutureVersion, TransactionTooOld}
 use Rattle.fdb_mutations.specs.Maps.{Map}
 use Rattle.fdb_txn.specs.book.Book.{seen_of}
-use Rattle.fdb_txn.specs.rules.Messages.{Message, value_in}
+use Rattle.fdb_core.specs.refinement.Messages.{Message, value_in}
 use Rattle.fdb_txn.specs.rules.Owners.{first_owner}
 use Rattle.fdb_txn.specs.rules.SerialMap.{serial_map_at}
 use Rattle.fdb_client.specs.declared.program.Op.{Op}

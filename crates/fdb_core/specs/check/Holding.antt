@@ -5,7 +5,7 @@ use Rattle.fdb_keys.specs.Points.{Point}
 use Rattle.fdb_txn.specs.declared.entry.Entry.{Entry}
 use Rattle.fdb_txn.specs.book.Book.{seen_of, last_version}
 use Rattle.fdb_txn.specs.rules.SerialMap.{serial_map_at}
-use Rattle.fdb_txn.specs.rules.Messages.{Message, value_in}
+use Rattle.fdb_core.specs.refinement.Messages.{Message, value_in}
 
 -- at its version the shard has the run's map
 abbrev pub HoldsTheRun : List Entry → List Message → Type 0

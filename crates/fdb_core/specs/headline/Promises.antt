@@ -1,10 +1,10 @@
 -- What holds of the machine at every step and over every run.
-use Rattle.std.specs.Prelude.{◌≡◌, ◌↔◌, ◌⊎◌, ℕ, Bool, true, false, nat_lt, List, [], ◌∷◌, map, Some, None, Result, Ok, Err, slice_get}
+use Rattle.std.specs.Prelude.{◌≡◌, ◌↔◌, ℕ, suc, Bool, true, false, nat_lt, List, length, map, Some, Result, Ok, Err, slice_get}
 use Rattle.std.specs.FinMap.{get}
 use Rattle.fdb_keys.specs.declared.refusal.Refusal.{Refusal}
 use Rattle.fdb_keys.specs.declared.refusal.Refusal.TheVariants.{FutureVersion, TransactionTooOld}
 use Rattle.fdb_keys.specs.Points.{Point}
-use Rattle.fdb_keys.specs.Ranges.{Range, is_empty_range}
+use Rattle.fdb_keys.specs.Ranges.{Range, in_range, is_empty_range}
 use Rattle.fdb_mutations.specs.PairLaws.{given_of}
 use Rattle.fdb_txn.specs.book.Book.{seen_of}
 use Rattle.fdb_txn.specs.rules.Owners.{first_owner}
@@ -18,7 +18,6 @@ use Rattle.fdb_core.specs.declared.config.Config.{Config}
 use Rattle.fdb_core.specs.declared.step.Answered.{Answered}
 use Rattle.fdb_core.specs.headline.Readings.{readings_of}
 use Rattle.fdb_core.specs.headline.Traces.{IsTraceOf}
-use Rattle.fdb_core.specs.machine.ClientSteps.{point_fault, shard_begins}
 use Rattle.fdb_core.specs.machine.RoleSteps.{version_of_shard}
 use Rattle.fdb_core.specs.machine.Machine.{Machine, Transition}
 use Rattle.fdb_core.specs.machine.Sessions.{open_at}
@@ -98,28 +97,35 @@ GetsRefused =
     × (decided (program transcript.ops) key ≡ true
     → (transition : Transition) × (next m (step.Get session key snapshot) ≡ Ok transition))
 
--- the first of the points whose shard doesn't serve the version has the property
-abbrev pub FirstUnserved : Machine → ℕ → (Point → Type 0) → List Point → Type 0
-FirstUnserved m version P [] = ⊥
-FirstUnserved m version P (point ∷ points) =
-    P point ⊎ ((point_fault m version point ≡ None) × FirstUnserved m version P points)
+-- the shard that holds the point serves the version
+abbrev pub Serves : Machine → ℕ → Point → Type 0
+Serves m version point =
+    (progress : ShardProgress) × (slice_get m.shards (first_owner m.config.shard_splits point) ≡ Some progress)
+    × (nat_lt version progress.floor ≡ false)
+    × (nat_lt (version_of_shard m.book progress) version ≡ false)
 
--- one of the points has the property
-abbrev pub HasOne : (Point → Type 0) → List Point → Type 0
-HasOne P [] = ⊥
-HasOne P (point ∷ points) = P point ⊎ HasOne P points
+-- some point of the range has the property
+abbrev pub AtSomePoint : Range → (Point → Type 0) → Type 0
+AtSomePoint range P = (x : Point) × (in_range range x ≡ true) × P x
 
--- A read of a range in an open transaction is refused as too old where one of the range's shards has forgotten the read
--- version, as in the future where none has and the first that doesn't serve it lags, and as either only there, whatever
--- its limit; a read of a range without a point is answered.
+-- each point of the range has it
+abbrev pub AtEachPoint : Range → (Point → Type 0) → Type 0
+AtEachPoint range P = (x : Point) → in_range range x ≡ true → P x
+
+-- A read of a range in an open transaction is refused as too old exactly where some point of the range is held by a
+-- shard that has forgotten the read version. Where there is a shard for each piece between the splits, as in every
+-- world, it is refused as in the future exactly where no point is held by one that has forgotten it, and some point by
+-- one that lags. It is answered exactly where each point of the range is held by a shard that serves the version, so
+-- where the range has no point too. The limit changes none of it.
 abbrev pub RangeReadsRefused : Type 0
 RangeReadsRefused =
     (m : Machine) (session : ℕ) (range : Range) (limit : ℕ) (is_reverse snapshot : Bool) (transcript : Transcript)
     → open_at m.sessions session ≡ Some transcript
     → let taken = step.GetRange session range limit is_reverse snapshot in
     let version = transcript.read_version in
-    let begins = shard_begins m.config.shard_splits range in
-    ((next m taken ≡ Err TransactionTooOld) ↔ HasOne (Forgot m version) begins)
-    × ((next m taken ≡ Err FutureVersion)
-    ↔ ((¬ HasOne (Forgot m version) begins) × FirstUnserved m version (Lags m version) begins))
+    ((next m taken ≡ Err TransactionTooOld) ↔ AtSomePoint range (Forgot m version))
+    × (length m.shards ≡ suc (length m.config.shard_splits)
+    → (next m taken ≡ Err FutureVersion)
+    ↔ ((¬ AtSomePoint range (Forgot m version)) × AtSomePoint range (Lags m version)))
+    × (((transition : Transition) × (next m taken ≡ Ok transition)) ↔ AtEachPoint range (Serves m version))
     × (is_empty_range range ≡ true → (transition : Transition) × (next m taken ≡ Ok transition))

@@ -5,12 +5,12 @@ use Rattle.fdb_mutations.specs.declared.mutation.Mutation.{Mutation}
 use Rattle.fdb_txn.specs.declared.entry.Entry.{Entry}
 use Rattle.fdb_txn.specs.book.Transactions.{Transaction}
 use Rattle.fdb_txn.specs.book.Book.{Seen, nothing, add_entry}
-use Rattle.fdb_txn.specs.rules.Messages.{committed_from, Message}
+use Rattle.fdb_txn.specs.rules.Messages.{mutations_in, committed_in}
+use Rattle.fdb_core.specs.refinement.Messages.{Message}
 use Rattle.fdb_resolver.specs.declared.verdict.Verdict.{Verdict}
 use Rattle.fdb_resolver.specs.declared.verdict.Verdict.TheVariants as verdict
 use Rattle.fdb_core.specs.declared.step.Outcome.{Outcome}
 use Rattle.fdb_core.specs.declared.step.Outcome.TheVariants as outcome
-use Rattle.fdb_core.specs.machine.Verdicts.{moves_through}
 
 -- for each entry of a book what a function makes of it and of what was seen before it
 abbrev pub along : {A : Type 0} → (Seen → Entry → A) → List Entry → List A
@@ -25,11 +25,7 @@ along {A} f book = after.1
 -- what logs get of an entry
 abbrev pub message_on : List Point → Seen → Entry → Message
 message_on splits before entry =
-    record {
-      version = entry.version;
-      body = committed_from splits entry.version (moves_through before entry)
-          entry.batch before.places;
-    }
+    record { version = entry.version; body = mutations_in (committed_in splits before entry) }
 
 -- what is made of a verdict on a place; without a verdict nothing stands against it
 abbrev pub outcome_by : ℕ → ℕ → Verdict → Outcome

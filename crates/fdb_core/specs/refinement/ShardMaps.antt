@@ -3,7 +3,7 @@ use Rattle.std.specs.Prelude.{ℕ, nat_le, List, fold, if◌then◌else◌}
 use Rattle.std.specs.FinMap.{empty}
 use Rattle.fdb_mutations.specs.Maps.{Map}
 use Rattle.fdb_mutations.specs.Mutations.{effects}
-use Rattle.fdb_txn.specs.rules.Messages.{Message}
+use Rattle.fdb_core.specs.refinement.Messages.{Message}
 
 -- the map after a message, if it is of version at most v
 abbrev pub map_with : ℕ → Map → Message → Map

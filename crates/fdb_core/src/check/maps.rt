@@ -2,7 +2,7 @@
 ghost use Rattle.std.specs.Prelude.{◌≡◌, ◌↔◌, IsTrue, IfOk, IfErr};
 ghost use Rattle.std.specs.FinMap.{get};
 ghost use Rattle.fdb_keys.specs.Points.{Point};
-ghost use Rattle.fdb_txn.specs.rules.Messages.{value_in};
+ghost use Rattle.fdb_core.specs.refinement.Messages.{value_in};
 
 use crate::roles::log::Message;
 use crate::roles::maps::map_of;

@@ -5,7 +5,7 @@ ghost use Rattle.fdb_keys.specs.Points.{Point};
 ghost use Rattle.fdb_mutations.specs.Mutations.{effects};
 ghost use Rattle.fdb_txn.specs.declared.entry.Entry.{Entry};
 ghost use Rattle.fdb_txn.specs.book.Book.{seen_of, last_version};
-ghost use Rattle.fdb_txn.specs.rules.Messages.{value_in};
+ghost use Rattle.fdb_core.specs.refinement.Messages.{value_in};
 ghost use Rattle.fdb_core.specs.check.Checking.{AnsweredIn, map_after, IsPlainBook, HasCome, ComesTo, Finds};
 ghost use Rattle.fdb_core.specs.check.Comparing.{AnsweredAt, Checks};
 ghost use Rattle.fdb_core.specs.refinement.Resolving.{ResolverAt, IsNext};

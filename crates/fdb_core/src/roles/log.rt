@@ -1,6 +1,6 @@
 // The messages of entries, on their way from the pool to a log and from there to a shard.
 ghost use Rattle.std.specs.Prelude.{◌≡◌, ◌+◌, ◌-◌, ◌<◌, ◌≤◌, ◌++◌, take, drop, length, Some, slice_get, vec_len, IfOk, OnOk};
-ghost use Rattle.fdb_txn.specs.rules.Messages.{Message};
+ghost use Rattle.fdb_core.specs.refinement.Messages.{Message};
 
 use fdb_keys::Items;
 use fdb_mutations::Mutation;
@@ -15,7 +15,7 @@ pub(crate) struct Message {
 }
 
 impl Model for Message {
-    ghost use Rattle.fdb_txn.specs.rules.Messages.{Message};
+    ghost use Rattle.fdb_core.specs.refinement.Messages.{Message};
 
     ghost Value = { Message };
 

@@ -3,7 +3,8 @@ ghost use Rattle.std.specs.Prelude.{◌≡◌, fold, None};
 ghost use Rattle.std.specs.Option.{option_copied};
 ghost use Rattle.fdb_keys.specs.Answers.{Answers};
 ghost use Rattle.fdb_core.specs.check.Values.{value_after_op};
-ghost use Rattle.fdb_txn.specs.rules.Messages.{value_in, value_after};
+ghost use Rattle.fdb_txn.specs.rules.Messages.{value_after};
+ghost use Rattle.fdb_core.specs.refinement.Messages.{value_in};
 
 use crate::roles::log::Message;
 use bytes::Bytes;

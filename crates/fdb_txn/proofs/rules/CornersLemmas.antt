@@ -78,7 +78,7 @@ module _ {A : Type 0} (lt : A → A → Bool) (order : IsStrictWeakOrder lt) whe
       (cases_Bool (lt x item))
 
 -- no point comes before the empty one
-empty_is_first : (x : Point) → point_lt x [] ≡ false
+pub empty_is_first : (x : Point) → point_lt x [] ≡ false
 unfolding point_lt
 empty_is_first [] = refl
 empty_is_first (n ∷ x) = refl

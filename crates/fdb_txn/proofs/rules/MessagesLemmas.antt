@@ -1,10 +1,11 @@
 -- A shard's messages, and the run.
-use Rattle.std.proofs.Common.{◌≡◌, ◌∙◌, sym, ap, refl, ℕ, ◌≤◌, le_trans, le_of_lt, subst, Bool, true, false, if◌then◌else◌, nat_le, List, [], ◌∷◌, fold, Option, ⊎_elim, arith}
+use Rattle.std.proofs.Common.{◌≡◌, ◌∙◌, sym, ap, refl, ℕ, suc, ◌≤◌, le_trans, le_of_lt, subst, Bool, true, false, if◌then◌else◌, nat_le, List, [], ◌∷◌, ◌++◌, map, fold, Option, ⊎_elim, arith}
 use Rattle.std.specs.List.{AllByRecursion, filter}
 use Rattle.std.specs.Ordering.{nat_cmp}
 use Rattle.std.specs.Cmp.Lexicographic.{slice_cmp}
 use Rattle.std.specs.FinMap.{get, get-empty}
 use Rattle.std.proofs.lemmas.Bool.{cases_Bool, both_ways, cond-true, cond-false, leb-true, leb-false, false_from_ne_true}
+use Rattle.std.proofs.lemmas.List.{map-append}
 use Rattle.std.proofs.lemmas.List.Sums.{fold-append}
 use Rattle.fdb_keys.specs.Points.{Point}
 use Rattle.fdb_keys.specs.Ranges.{Range, in_range}
@@ -18,7 +19,7 @@ use Rattle.fdb_txn.specs.book.Transactions.{Transaction}
 use Rattle.fdb_txn.specs.book.Book.{Stamped, Place, Seen, nothing, add_moves, placed, add_places, add_entry}
 use Rattle.fdb_txn.specs.rules.Admission.{committed}
 use Rattle.fdb_txn.specs.book.History.{AreEntries}
-use Rattle.fdb_txn.specs.rules.Messages.{meets_range, committed_from, message_for, messages_after, value_after, value_with, MeetsAtSomePoint, IsForRange, MessagesAreForTheRange, ShardsHoldTheRun}
+use Rattle.fdb_txn.specs.rules.Messages.{meets_range, Body, mutations_in, at_place, committed_from, committed_in, message_for, messages_after, value_after, value_with, MeetsAtSomePoint, IsForRange, MessagesAreForTheRange, ShardsHoldTheRun}
 use Rattle.fdb_txn.specs.rules.SerialMap.{serial_map, up_to, serial_map_at}
 use Rattle.fdb_txn.proofs.book.HistoryLemmas.{AtMost, all-append, all-weaken, add_places-newer, up_to-all, up_to-above}
 
@@ -30,6 +31,36 @@ meets_at_some_point range mutation = (
       (shared.0, shared.1, sym (in_named_range mutation shared.0) ∙ shared.2),
   λ named. meet_from_common range (named_range mutation) named.0 named.1 (in_named_range mutation named.0 ∙ named.2),
 )
+
+-- of a body the mutations that pass a test, without their places, are those of its mutations that do
+mutations-filter : (keep : Mutation → Bool) (body : Body)
+    → mutations_in (filter (λ (sent : ℕ × Mutation). keep sent.1) body) ≡ filter keep (mutations_in body)
+mutations-filter keep [] = refl
+mutations-filter keep (sent ∷ body) = ⊎_elim
+    (λ stays. ap mutations_in (cond-true (keep sent.1) (sent ∷ kept) kept stays)
+    ∙ ap (λ (mutations : List Mutation). sent.1 ∷ mutations) (mutations-filter keep body)
+    ∙ sym (cond-true (keep sent.1) (sent.1 ∷ filter keep others) (filter keep others) stays))
+    (λ goes. ap mutations_in (cond-false (keep sent.1) (sent ∷ kept) kept goes) ∙ mutations-filter keep body
+    ∙ sym (cond-false (keep sent.1) (sent.1 ∷ filter keep others) (filter keep others) goes))
+    (cases_Bool (keep sent.1))
+  where
+    kept : Body
+    kept = filter (λ (other : ℕ × Mutation). keep other.1) body
+
+    others : List Mutation
+    others = mutations_in body
+
+-- the mutations at a place are the transaction's
+mutations-at_place : (p : ℕ) (mutations : List Mutation) → mutations_in (at_place p mutations) ≡ mutations
+mutations-at_place p [] = refl
+mutations-at_place p (mutation ∷ mutations) =
+    ap (λ (others : List Mutation). mutation ∷ others) (mutations-at_place p mutations)
+
+-- and they are there where the transaction is committed
+pub mutations-if : (p : ℕ) (is_committed : Bool) (mutations : List Mutation)
+    → mutations_in (if is_committed then at_place p mutations else []) ≡ (if is_committed then mutations else [])
+mutations-if p true mutations = mutations-at_place p mutations
+mutations-if p false mutations = refl
 
 -- what passes a filter by a test has what follows of the test
 all-filter : (keep : Mutation → Bool) (P : Mutation → Type 0)
@@ -50,9 +81,14 @@ messages-for_range : (splits : List Point) (range : Range) (seen : Seen) (book :
     → AllByRecursion (IsForRange range) (messages_after splits range seen book)
 messages-for_range splits range seen [] = tt
 messages-for_range splits range seen (entry ∷ book) = (
-  all-filter (meets_range range) _ (λ mutation meets. (meets_at_some_point range mutation).0 meets) _,
+  subst (AllByRecursion named_there) (sym (mutations-filter (meets_range range) (committed_in splits seen entry)))
+      (all-filter (meets_range range) named_there (λ mutation meets. (meets_at_some_point range mutation).0 meets)
+      (mutations_in (committed_in splits seen entry))),
   messages-for_range splits range (add_entry seen entry) book,
 )
+  where
+    named_there : Mutation → Type 0
+    named_there mutation = (x : Point) × (in_range range x ≡ true) × (names mutation x ≡ true)
 
 pub messages_are_for_the_range : MessagesAreForTheRange
 messages_are_for_the_range splits range book = messages-for_range splits range nothing book
@@ -90,23 +126,30 @@ effects-if map true mutations = refl
 effects-if map false mutations = refl
 
 -- the run goes on through a batch by the mutations of its committed transactions
-pub serial_map-add_places : (splits : List Point) (version : ℕ) (moves : List Stamped) (batch : List Transaction)
-    (earlier : List Place)
+pub serial_map-add_places : (splits : List Point) (version : ℕ) (moves : List Stamped) (p : ℕ)
+    (batch : List Transaction) (earlier : List Place)
     → serial_map splits (add_places version moves batch earlier) ≡ effects (serial_map splits earlier)
-    (committed_from splits version moves batch earlier)
-serial_map-add_places splits version moves [] earlier = refl
-serial_map-add_places splits version moves (t ∷ ts) earlier =
-    serial_map-add_places splits version moves ts (place ∷ earlier)
-    ∙ ap (λ (map : Map). effects map others)
-    (effects-if (serial_map splits earlier) (committed splits earlier place) t.mutations)
-    ∙ sym (fold-append effect (serial_map splits earlier) (if committed splits earlier place then t.mutations else [])
-    others)
+    (mutations_in (committed_from splits version moves p batch earlier))
+serial_map-add_places splits version moves p [] earlier = refl
+serial_map-add_places splits version moves p (t ∷ ts) earlier =
+    serial_map-add_places splits version moves (suc p) ts (place ∷ earlier)
+    ∙ ap (λ (map : Map). effects map (mutations_in others))
+    (effects-if (serial_map splits earlier) is_committed t.mutations)
+    ∙ sym (fold-append effect (serial_map splits earlier) (if is_committed then t.mutations else [])
+    (mutations_in others))
+    ∙ ap (λ (here : List Mutation). effects (serial_map splits earlier) (here ++ mutations_in others))
+    (sym (mutations-if p is_committed t.mutations))
+    ∙ ap (effects (serial_map splits earlier))
+    (sym (map-append (λ (sent : ℕ × Mutation). sent.1) (if is_committed then at_place p t.mutations else []) others))
   where
     place : Place
     place = placed version moves t
 
-    others : List Mutation
-    others = committed_from splits version moves ts (place ∷ earlier)
+    is_committed : Bool
+    is_committed = committed splits earlier place
+
+    others : Body
+    others = committed_from splits version moves (suc p) ts (place ∷ earlier)
 
 -- with an entry's places no place has a version above the entry's
 pub at_most-add_places : (version : ℕ) (moves : List Stamped) (batch : List Transaction) (earlier : List Place)
@@ -134,12 +177,14 @@ value-message : (splits : List Point) (range : Range) (v : ℕ) (x : Point) → 
 value-message splits range v x inside seen entry at_most = ⊎_elim
     (λ reached. let up : entry.version ≤ v = leb-true entry.version v reached in
     cond-true _ _ _ reached
+    ∙ ap (fold (value_after x) (get (serial_map_at splits v seen.places) x))
+    (mutations-filter (meets_range range) (committed_in splits seen entry))
     ∙ value-kept (meets_range range) x (λ mutation named. (meets_at_some_point range mutation).1 (x, inside, named)) _
     body
     ∙ ap (λ (now : List Place). fold (value_after x) (get (serial_map splits now) x) body)
     (up_to-all v seen.places (at_most-more entry.version v seen.places up at_most))
     ∙ sym (get-effects (serial_map splits seen.places) body x)
-    ∙ ap (λ (map : Map). get map x) (sym (serial_map-add_places splits entry.version moves entry.batch seen.places))
+    ∙ ap (λ (map : Map). get map x) (sym (serial_map-add_places splits entry.version moves 0 entry.batch seen.places))
     ∙ ap (λ (now : List Place). get (serial_map splits now) x)
     (sym (up_to-all v places
     (at_most-more entry.version v places up
@@ -158,7 +203,7 @@ value-message splits range v x inside seen entry at_most = ⊎_elim
     places = add_places entry.version moves entry.batch seen.places
 
     body : List Mutation
-    body = committed_from splits entry.version moves entry.batch seen.places
+    body = mutations_in (committed_in splits seen entry)
 
 -- and so do the messages of entries, after what was seen before
 value-messages : (splits : List Point) (range : Range) (v : ℕ) (x : Point) → in_range range x ≡ true

@@ -9,6 +9,7 @@ use Rattle.fdb_mutations.specs.Maps.{Map}
 use Rattle.fdb_mutations.specs.Mutations.{effects}
 use Rattle.fdb_txn.specs.declared.entry.Move.{Move}
 use Rattle.fdb_txn.specs.declared.entry.Entry.{Entry}
+use Rattle.fdb_txn.specs.declared.tag_msg.TagMsg.{TagMsg}
 use Rattle.fdb_txn.specs.book.Transactions.{Transaction}
 use Rattle.fdb_txn.specs.book.Book.{Place, seen_of}
 use Rattle.fdb_txn.specs.book.History.{AreEntries, IsBook}
@@ -16,7 +17,7 @@ use Rattle.fdb_txn.specs.rules.Owners.{is_asked}
 use Rattle.fdb_txn.specs.rules.Admission.{is_fresh, admits, committed}
 use Rattle.fdb_txn.specs.book.Places.{place_at}
 use Rattle.fdb_txn.specs.rules.SerialMap.{serial_map_at}
-use Rattle.fdb_txn.specs.rules.Messages.{Message, messages_for}
+use Rattle.fdb_txn.specs.rules.Messages.{messages_for}
 
 -- the setting of keys
 abbrev pub sets : List Point → List Mutation
@@ -292,22 +293,29 @@ AtBounds =
     × (ruling at_m at_bounds 0 2 ≡ Some
     (record { fresh = true; asked = 1 ∷ []; admitting = 0 ∷ 1 ∷ []; commits = true }))
 
--- the message of a version that sets the keys, one after the other
-abbrev pub message_of : ℕ → List Point → Message
-message_of version keys = record { version = version; body = sets keys }
+-- what sets the keys, one after the other, each at the place beside it
+abbrev pub sent_of : List (ℕ × Point) → List (ℕ × Mutation)
+sent_of keys = map (λ (sent : ℕ × Point). (sent.0, Set sent.1 (codes "1"))) keys
+
+-- the message of an entry that sets the keys, one after the other, each at the place beside it
+abbrev pub message_of : (version prev : ℕ) → List (ℕ × Point) → TagMsg
+message_of version prev keys = record { version = version; prev = prev; body = sent_of keys }
 
 -- the messages of a book for the shard of the keys from one up to another
-abbrev pub messages_from : Point → Point → List Entry → List Message
+abbrev pub messages_from : Point → Point → List Entry → List TagMsg
 messages_from begin end book = messages_for at_m (record { begin = begin; end = end }) book
 
 -- Messages: a shard has one for each entry, with what committed transactions set in its range, in order. That of the
 -- keys from a up to d has neither c, which conflicts, nor d; that from d on has d alone. That of the keys from m up to
--- t has m and n, and t is another's.
+-- t has m and n at their places, and t is another's.
 abbrev pub ShardMessages : Type 0
 ShardMessages =
-    (messages_from (codes "a") (codes "d") one_batch ≡ message_of 100 (codes "a" ∷ []) ∷ message_of 200 [] ∷ [])
-    × (messages_from (codes "d") (codes "e") one_batch ≡ message_of 100 [] ∷ message_of 200 (codes "d" ∷ []) ∷ [])
-    × (messages_from (codes "m") (codes "t") at_bounds ≡ message_of 100 (codes "m" ∷ codes "n" ∷ []) ∷ [])
+    (messages_from (codes "a") (codes "d") one_batch
+    ≡ message_of 100 0 ((0, codes "a") ∷ []) ∷ message_of 200 100 [] ∷ [])
+    × (messages_from (codes "d") (codes "e") one_batch
+    ≡ message_of 100 0 [] ∷ message_of 200 100 ((0, codes "d") ∷ []) ∷ [])
+    × (messages_from (codes "m") (codes "t") at_bounds
+    ≡ message_of 100 0 ((0, codes "m") ∷ (1, codes "n") ∷ []) ∷ [])
 
 -- What entries of two resolvers after version 0 are. The first two are, with a read version right below the entry's,
 -- versions that rise by one, and a move to the last resolver.

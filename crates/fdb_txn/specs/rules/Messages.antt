@@ -1,5 +1,5 @@
 -- What logs send a shard of each entry, and what the messages leave at a point.
-use Rattle.std.specs.Prelude.{◌≡◌, ◌↔◌, ℕ, Bool, true, nat_le, List, [], ◌∷◌, ◌++◌, fold, filter, Option, None, if◌then◌else◌}
+use Rattle.std.specs.Prelude.{◌≡◌, ◌↔◌, ℕ, suc, Bool, true, nat_le, List, [], ◌∷◌, ◌++◌, fold, filter, map, Option, None, if◌then◌else◌}
 use Rattle.std.specs.List.{AllByRecursion}
 use Rattle.std.specs.FinMap.{get}
 use Rattle.fdb_keys.specs.Points.{Point}
@@ -7,6 +7,7 @@ use Rattle.fdb_keys.specs.Ranges.{Range, in_range, ranges_meet}
 use Rattle.fdb_mutations.specs.declared.mutation.Mutation.{Mutation}
 use Rattle.fdb_mutations.specs.Mutations.{names, named_range, new_value}
 use Rattle.fdb_txn.specs.declared.entry.Entry.{Entry}
+use Rattle.fdb_txn.specs.declared.tag_msg.TagMsg.{TagMsg}
 use Rattle.fdb_txn.specs.book.Transactions.{Transaction}
 use Rattle.fdb_txn.specs.book.Book.{Stamped, Place, Seen, nothing, add_moves, placed, add_entry, seen_of}
 use Rattle.fdb_txn.specs.rules.Admission.{committed}
@@ -17,36 +18,49 @@ use Rattle.fdb_txn.specs.rules.SerialMap.{serial_map_at}
 abbrev pub meets_range : Range → Mutation → Bool
 meets_range range mutation = ranges_meet range (named_range mutation)
 
--- mutations under the version of their entry
-pub record Message : Type 0 where
-  pub version : ℕ
-  pub body : List Mutation
+-- mutations, each with the number of its transaction's place
+abbrev pub Body : Type 0
+Body = List (ℕ × Mutation)
 
--- the mutations of those transactions of a batch that are committed, in order
-abbrev pub committed_from : List Point → ℕ → List Stamped → List Transaction → List Place → List Mutation
-committed_from splits version moves [] earlier = []
-committed_from splits version moves (t ∷ ts) earlier =
-    (if committed splits earlier (placed version moves t) then t.mutations else [])
-    ++ committed_from splits version moves ts (placed version moves t ∷ earlier)
+-- the mutations alone
+abbrev pub mutations_in : Body → List Mutation
+mutations_in body = map (λ (sent : ℕ × Mutation). sent.1) body
+
+-- a transaction's mutations at its place
+abbrev pub at_place : ℕ → List Mutation → Body
+at_place p mutations = map (λ (mutation : Mutation). (p, mutation)) mutations
+
+-- the mutations of those transactions of a batch, from place p on, that are committed: by place, and then in the
+-- transaction's order
+abbrev pub committed_from : List Point → ℕ → List Stamped → ℕ → List Transaction → List Place → Body
+committed_from splits version moves p [] earlier = []
+committed_from splits version moves p (t ∷ ts) earlier =
+    (if committed splits earlier (placed version moves t) then at_place p t.mutations else [])
+    ++ committed_from splits version moves (suc p) ts (placed version moves t ∷ earlier)
+
+-- the mutations of an entry's committed transactions
+abbrev pub committed_in : List Point → Seen → Entry → Body
+committed_in splits before entry =
+    committed_from splits entry.version (add_moves entry.version entry.moves before.moves) 0 entry.batch before.places
 
 -- the message of an entry for the shard that holds the range: the mutations of the entry's committed
 -- transactions that meet the range, in order
-abbrev pub message_for : List Point → Range → Seen → Entry → Message
+abbrev pub message_for : List Point → Range → Seen → Entry → TagMsg
 message_for splits range before entry =
-    let moves = add_moves entry.version entry.moves before.moves in
     record {
       version = entry.version;
-      body = filter (meets_range range) (committed_from splits entry.version moves entry.batch before.places);
+      prev = entry.prev;
+      body = filter (λ (sent : ℕ × Mutation). meets_range range sent.1) (committed_in splits before entry);
     }
 
 -- the messages of entries after what was seen before them, the first one first
-abbrev pub messages_after : List Point → Range → Seen → List Entry → List Message
+abbrev pub messages_after : List Point → Range → Seen → List Entry → List TagMsg
 messages_after splits range before [] = []
 messages_after splits range before (entry ∷ book) =
     message_for splits range before entry ∷ messages_after splits range (add_entry before entry) book
 
 -- the messages of a book
-abbrev pub messages_for : List Point → Range → List Entry → List Message
+abbrev pub messages_for : List Point → Range → List Entry → List TagMsg
 messages_for splits range book = messages_after splits range nothing book
 
 -- what stands at a point after a mutation, by what stood there
@@ -54,11 +68,12 @@ abbrev pub value_after : Point → Option (List ℕ) → Mutation → Option (Li
 value_after x value mutation = if names mutation x then new_value mutation value else value
 
 -- what stands at a point after a message, if it is of version at most v
-abbrev pub value_with : ℕ → Point → Option (List ℕ) → Message → Option (List ℕ)
-value_with v x value message = if nat_le message.version v then fold (value_after x) value message.body else value
+abbrev pub value_with : ℕ → Point → Option (List ℕ) → TagMsg → Option (List ℕ)
+value_with v x value message =
+    if nat_le message.version v then fold (value_after x) value (mutations_in message.body) else value
 
 -- what stands at a point after the messages of version at most v, from nothing
-abbrev pub value_in : ℕ → Point → List Message → Option (List ℕ)
+abbrev pub value_in : ℕ → Point → List TagMsg → Option (List ℕ)
 value_in v x messages = fold (value_with v x) None messages
 
 -- a mutation meets a range exactly where it names some point of it
@@ -68,9 +83,10 @@ MeetsAtSomePoint =
     → (meets_range range mutation ≡ true) ↔ ((x : Point) × (in_range range x ≡ true) × (names mutation x ≡ true))
 
 -- the message has nothing for others: each of its mutations names some point of the range
-abbrev pub IsForRange : Range → Message → Type 0
+abbrev pub IsForRange : Range → TagMsg → Type 0
 IsForRange range message = AllByRecursion
-    (λ (mutation : Mutation). (x : Point) × (in_range range x ≡ true) × (names mutation x ≡ true)) message.body
+    (λ (mutation : Mutation). (x : Point) × (in_range range x ≡ true) × (names mutation x ≡ true))
+    (mutations_in message.body)
 
 -- a shard's messages have nothing for other shards
 abbrev pub MessagesAreForTheRange : Type 0

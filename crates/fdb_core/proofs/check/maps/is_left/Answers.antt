@@ -2,7 +2,7 @@ use Rattle.std.proofs.Common.{◌≡◌, ◌∙◌, sym, ap}
 use Rattle.std.specs.FinMap.{get}
 use Rattle.fdb_keys.specs.Points.{Point}
 use Rattle.fdb_mutations.specs.Maps.{Map}
-use Rattle.fdb_txn.specs.rules.Messages.{value_in}
+use Rattle.fdb_core.specs.refinement.Messages.{value_in}
 use Rattle.fdb_mutations.proofs.MapsLemmas.{same_points}
 use Rattle.fdb_core.proofs.refinement.ShardMapLemmas.{get-map_in}
 use Rattle.fdb_core.proofs.check.maps.is_left.Goals as goal

@@ -1,5 +1,5 @@
 use Rattle.std.proofs.Common.{◌≡◌, take}
-use Rattle.fdb_txn.specs.rules.Messages.{value_in}
+use Rattle.fdb_core.specs.refinement.Messages.{value_in}
 use Rattle.fdb_core.proofs.roles.values.value_in.Given as goal
 
 abbrev pub invariant-loop-message : goal.invariant-loop-message

@@ -1,0 +1,141 @@
+ghost use Rattle.std.specs.Prelude.{◌≡◌, ◌≤◌, ℕ, length, None, IsTrue, IfOk};
+ghost use Rattle.fdb_keys.specs.Answers.{Answers};
+ghost use Rattle.fdb_keys.specs.Points.{point_lt};
+ghost use Rattle.fdb_keys.specs.Ranges.{in_range};
+ghost use Rattle.fdb_keys.specs.Texts.{is_bound};
+ghost use Rattle.fdb_txn.specs.rules.Splits.{rise_after, splits_fault, piece_fault, piece, piece_after};
+ghost use Rattle.fdb_txn.specs.rules.Owners.{first_owner};
+
+use fdb_keys::{Items, Key, KeyRange, Refusal};
+use std::alloc::{AllocError, Global};
+use std::marker::Model;
+
+/// Splits of the keys into pieces: non-empty keys that rise. Each key that is a split begins a piece.
+#[derive(Debug, Drop)]
+pub struct Splits {
+    keys: Items<Key>,
+}
+
+impl Model for Splits {
+    ghost use Rattle.std.specs.Prelude.{List, IsTrue};
+    ghost use Rattle.fdb_keys.specs.Points.{Point};
+    ghost use Rattle.fdb_txn.specs.rules.Splits.{are_splits};
+
+    ghost Value = { List Point };
+
+    ghost view = { λ splits. splits.keys };
+
+    ghost invariant = { λ splits. IsTrue (are_splits splits.keys) };
+}
+
+impl Splits {
+    /// The splits into one piece more than there are keys. Refused as `BadConfig` where that is more than `most`
+    /// pieces, where a key is empty and where one doesn't come after the one before it, and as `NoMemory`.
+    pub fn new(alloc: Global, keys: &[Key], most: usize) -> Result<Self, Refusal>
+        ensures { Answers result (splits_fault most keys.now) (λ splits. splits ≡ keys.now) }
+    {
+        if keys.len() >= most || !rise_after(&[], keys) {
+            return Err(Refusal::BadConfig);
+        }
+        let keys = copies(alloc, keys)?;
+        Ok(Splits { keys })
+    }
+
+    /// The keys, in their order.
+    pub fn as_slice(&self) -> &[Key]
+        ensures { result.now ≡ self.now }
+    {
+        self.keys.as_slice()
+    }
+
+    /// The number of the piece that the key lies in, counted from 0.
+    pub fn piece_of(&self, key: &Key) -> usize
+        ensures number { result ≡ first_owner self.now key.now }
+        ensures within { result ≤ length self.now }
+        ensures held { IsTrue (in_range (piece self.now result) key.now) }
+        ensures alone { (other : ℕ) → other ≤ length self.now → IsTrue (in_range (piece self.now other) key.now)
+            → other ≡ result }
+    {
+        first_owner(self.keys.as_slice(), key.bytes())
+    }
+
+    /// The range of a piece. Refused as `BadConfig` where there is no piece with the number, and as `NoMemory`.
+    pub fn piece(&self, alloc: Global, number: usize) -> Result<KeyRange, Refusal>
+        ensures { Answers result (piece_fault self.now number) (λ range. range ≡ piece self.now number) }
+    {
+        let keys = self.keys.as_slice();
+        if number > keys.len() {
+            return Err(Refusal::BadConfig);
+        }
+        piece_after(alloc, &[], keys, number)
+    }
+}
+
+// How many of the splits don't come after the text.
+fn first_owner(splits: &[Key], text: &[u8]) -> usize
+    ensures number { result ≡ first_owner splits.now text.now }
+    ensures within { result ≤ length splits.now }
+{
+    match splits {
+        [] => 0,
+        [split, others @ ..] => {
+            if is_before(text, split.bytes()) {
+                0
+            } else {
+                1 + first_owner(others, text)
+            }
+        }
+    }
+}
+
+// The piece with the number of the keys from a begin on.
+fn piece_after(
+    alloc: Global,
+    begin: &[u8],
+    splits: &[Key],
+    number: usize,
+) -> Result<KeyRange, Refusal>
+    requires legal { IsTrue (is_bound begin.now) }
+    requires rising { IsTrue (rise_after begin.now splits.now) }
+    ensures { Answers result None (λ range. range ≡ piece_after begin.now splits.now number) }
+{
+    match splits {
+        [] => KeyRange::new(alloc, begin, &[0xff]),
+        [split, others @ ..] => {
+            if number == 0 {
+                KeyRange::new(alloc, begin, split.bytes())
+            } else {
+                piece_after(alloc, split.bytes(), others, number - 1)
+            }
+        }
+    }
+}
+
+// Whether each key comes after the one before it, and the first after the text.
+fn rise_after(before: &[u8], keys: &[Key]) -> bool
+    ensures { result ≡ rise_after before.now keys.now }
+{
+    match keys {
+        [] => true,
+        [first, others @ ..] => {
+            is_before(before, first.bytes()) && rise_after(first.bytes(), others)
+        }
+    }
+}
+
+#[tactic(auto, unfolding(fdb_keys::specs::Points::point_lt))]
+fn is_before(a: &[u8], b: &[u8]) -> bool
+    ensures { result ≡ point_lt a.now b.now }
+{
+    a.cmp(&b).is_lt()
+}
+
+fn copies(alloc: Global, keys: &[Key]) -> Result<Items<Key>, AllocError>
+    ensures { IfOk result (λ copies. copies ≡ keys.now) }
+{
+    let mut copies = Items::new(alloc);
+    for key in keys {
+        copies.push(key.clone()?)?;
+    }
+    Ok(copies)
+}
