@@ -1,0 +1,4 @@
+pub mod Limits
+pub mod Logs
+pub mod Messages
+pub mod Peeks

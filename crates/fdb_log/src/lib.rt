@@ -1,0 +1,15 @@
+//! A log: it takes the message of each entry once, in order, and gives each tag its part of them.
+#![tactic(auto)]
+
+mod copying;
+mod log_core;
+mod message;
+mod peek;
+mod telling;
+#[cfg(test)]
+mod tests;
+
+pub use fdb_txn::TagMsg;
+pub use log_core::{LOG_LIMIT, LogCore, TAG_LIMIT};
+pub use message::{LogAck, LogMsg, Tagged};
+pub use peek::Peek;
