@@ -1,0 +1,4 @@
+pub mod AppliedLemmas
+pub mod CutLemmas
+pub mod FaultLemmas
+pub mod TagLemmas

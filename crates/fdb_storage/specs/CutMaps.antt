@@ -1,0 +1,17 @@
+-- What messages change in a range.
+use Rattle.std.specs.Prelude.{ℕ, nat_le, List, fold, if◌then◌else◌}
+use Rattle.fdb_keys.specs.Ranges.{Range}
+use Rattle.fdb_mutations.specs.declared.mutation.Mutation.{Mutation}
+use Rattle.fdb_mutations.specs.Maps.{Map}
+use Rattle.fdb_mutations.specs.Mutations.{clipped_mutation, effect_of}
+use Rattle.fdb_txn.specs.declared.tag_msg.TagMsg.{TagMsg}
+use Rattle.fdb_txn.specs.rules.Messages.{mutations_in}
+
+-- the map after what the mutation changes in the range
+abbrev pub cut_effect : Range → Map → Mutation → Map
+cut_effect range map mutation = effect_of map (clipped_mutation range mutation)
+
+-- the map after what a message changes in the range, if it is of version at most v
+abbrev pub cut_with : Range → ℕ → Map → TagMsg → Map
+cut_with range v map message =
+    if nat_le message.version v then fold (cut_effect range) map (mutations_in message.body) else map

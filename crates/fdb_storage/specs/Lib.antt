@@ -1,0 +1,5 @@
+pub mod CutMaps
+pub mod Limits
+pub mod Replays
+pub mod ShardMaps
+pub mod Shards

@@ -1,0 +1,45 @@
+// The map that messages leave, cut to a range.
+ghost use Rattle.std.specs.Prelude.{◌≡◌, None, fold};
+ghost use Rattle.fdb_keys.specs.Answers.{Answers};
+ghost use Rattle.fdb_mutations.specs.Mutations.{clipped_mutation, effect_of};
+ghost use Rattle.fdb_txn.specs.rules.Messages.{mutations_in};
+ghost use Rattle.fdb_storage.specs.CutMaps.{cut_effect, cut_with};
+
+use fdb_keys::{KeyRange, Refusal};
+use fdb_log::TagMsg;
+use fdb_mutations::{Mutation, PlainMap};
+
+fn apply_cut(map: &mut PlainMap, range: &KeyRange, mutation: &Mutation) -> Result<(), Refusal>
+    ensures { Answers result None (λ _. map.new ≡ cut_effect range.now map.old mutation.now) }
+{
+    match mutation.clip(range)? {
+        Some(mutation) => map.apply(&mutation),
+        None => Ok(()),
+    }
+}
+
+fn apply_body(map: &mut PlainMap, range: &KeyRange, body: &[(u32, Mutation)]) -> Result<(), Refusal>
+    ensures { Answers result None (λ _. map.new ≡ fold (cut_effect range.now) map.old (mutations_in body.now)) }
+{
+    for (_place, mutation) in body {
+        apply_cut(map, range, mutation)?;
+    }
+    Ok(())
+}
+
+/// Applies what the messages of version at most `version` change in the range to the map. Refused only as `NoMemory`.
+pub(crate) fn apply_messages(
+    map: &mut PlainMap,
+    range: &KeyRange,
+    version: u64,
+    messages: &[TagMsg],
+) -> Result<(), Refusal>
+    ensures { Answers result None (λ _. map.new ≡ fold (cut_with range.now version) map.old messages.now) }
+{
+    for message in messages {
+        if message.version <= version {
+            apply_body(map, range, message.body.as_slice())?;
+        }
+    }
+    Ok(())
+}

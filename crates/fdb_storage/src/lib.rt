@@ -1,0 +1,18 @@
+//! Storage: which shard holds which key, and what a shard answers at a version from the messages of its tag.
+#![tactic(auto)]
+
+mod copying;
+mod cut_map;
+pub mod laws;
+mod page;
+mod replaying;
+mod shard;
+mod shard_map;
+#[cfg(test)]
+mod tests;
+mod values;
+
+pub use page::Page;
+pub use replaying::replay;
+pub use shard::Shard;
+pub use shard_map::{SHARD_LIMIT, ShardMap};

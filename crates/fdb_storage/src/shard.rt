@@ -1,0 +1,180 @@
+use crate::copying::push_copies;
+use crate::cut_map::apply_messages;
+use crate::page::Page;
+use crate::values::value_in;
+use bytes::Bytes;
+use fdb_keys::{Key, KeyRange, Refusal};
+use fdb_log::{Peek, TagMsg};
+use fdb_mutations::PlainMap;
+use std::alloc::Global;
+use std::marker::Model;
+
+/// A shard: it holds a range of keys, and answers at each version from its floor through its version.
+#[derive(Debug, Drop)]
+pub struct Shard {
+    alloc: Global,
+    tag: u32,
+    range: KeyRange,
+    version: u64,
+    floor: u64,
+    is_failed: bool,
+    messages: Vec<TagMsg>,
+}
+
+impl Model for Shard {
+    ghost use Rattle.fdb_storage.specs.Shards.{Shard as ShardValue, IsShard};
+
+    ghost Value = { ShardValue };
+
+    ghost view = { λ shard. record {
+      tag = shard.tag;
+      range = shard.range;
+      version = shard.version;
+      floor = shard.floor;
+      is_failed = shard.is_failed;
+      messages = shard.messages.items;
+    } };
+
+    ghost invariant = { λ shard. IsShard shard.version shard.floor shard.is_failed shard.messages.items };
+}
+
+impl Shard {
+    ghost use Rattle.std.specs.Prelude.{◌≡◌, ⊤, IsSome, IsNone, IfOk, OnErr};
+    ghost use Rattle.fdb_keys.specs.Answers.{Answers, AnswersExactly};
+    ghost use Rattle.fdb_log.specs.Peeks.{IsPeek};
+    ghost use Rattle.fdb_storage.specs.Shards.{IsNewShard, apply_fault, key_fault, range_fault, forget_fault, read_fault, value_at, IsPage, HasApplied, HasFailed, HasForgotten};
+
+    /// The shard with the tag and the range, which has applied nothing and serves version 0 alone. It takes no memory.
+    pub fn new(alloc: Global, tag: u32, range: KeyRange) -> Self
+        ensures { IsNewShard tag range result }
+    {
+        Shard {
+            alloc,
+            tag,
+            range,
+            version: 0,
+            floor: 0,
+            is_failed: false,
+            messages: Vec::new(alloc),
+        }
+    }
+
+    /// Applies the messages of the shard's tag after its version. Refused as `Unknown` where they are another tag's, as
+    /// `Failed` once memory ran out in an earlier call, as `Stale` where they begin after an earlier version than the
+    /// shard's, as `NotYet` with the version after which they begin where that is a later one, and as `NoMemory`. The
+    /// shard stays as it was where it is refused, but for `NoMemory`, after which it has failed.
+    pub fn apply(&mut self, peek: &Peek) -> Result<(), Refusal>
+        requires { IsPeek peek.now }
+        ensures answers { Answers result (apply_fault self.old peek.now) (λ _. HasApplied self.old peek.now self.new) }
+        ensures refused { IsSome (apply_fault self.old peek.now) → self.new ≡ self.old }
+        ensures failed { IsNone (apply_fault self.old peek.now) → OnErr result (HasFailed self.old self.new) }
+    {
+        self.check_peek(peek)?;
+        match push_copies(self.alloc, &mut self.messages, peek.messages.as_slice()) {
+            Ok(()) => {
+                self.version = peek.through;
+                Ok(())
+            }
+            Err(_) => {
+                self.is_failed = true;
+                Err(Refusal::NoMemory)
+            }
+        }
+    }
+
+    /// The value of the key at the version, if it has one there. Refused as `Failed` once memory ran out in `apply`, as
+    /// `KeyOutsideLegalRange` where the shard doesn't hold the key, as `TransactionTooOld` where the version is below
+    /// the floor, as `FutureVersion` where it is above the shard's, and as `NoMemory`.
+    pub fn get(&self, key: &Key, version: u64) -> Result<Option<Bytes>, Refusal>
+        ensures { Answers result (key_fault self.now key.now version) (λ value. value ≡ value_at self.now version key.now) }
+    {
+        self.check(self.range.contains(key), version)?;
+        value_in(self.alloc, &self.messages, version, key)
+    }
+
+    /// The first pairs of the range at the version: in the order of keys or in the reverse order, and at most `limit`
+    /// of them unless that is 0. Refused as `get` is, where the shard doesn't hold all of the range, and as `NoMemory`.
+    pub fn page(
+        &self,
+        range: &KeyRange,
+        version: u64,
+        limit: u32,
+        reverse: bool,
+    ) -> Result<Page, Refusal>
+        ensures { Answers result (range_fault self.now range.now version) (IsPage self.now range.now version limit reverse) }
+    {
+        self.check(range.is_within(&self.range), version)?;
+        let mut map = PlainMap::new(self.alloc);
+        apply_messages(&mut map, range, version, &self.messages)?;
+        let (pairs, more) = map.page(range, limit, reverse)?;
+        Ok(Page { pairs, more })
+    }
+
+    /// Raises the floor to the version, if it isn't above it already: earlier versions are no longer served. It takes
+    /// no memory. Refused as `Failed` once memory ran out in `apply`, and as `FutureVersion` where the version is above
+    /// the shard's.
+    pub fn forget(&mut self, version: u64) -> Result<(), Refusal>
+        ensures answers { AnswersExactly result (forget_fault self.old version) (λ _. HasForgotten self.old version self.new) }
+        ensures refused { OnErr result (self.new ≡ self.old) }
+    {
+        if self.is_failed {
+            return Err(Refusal::Failed);
+        }
+        if self.version < version {
+            return Err(Refusal::FutureVersion);
+        }
+        self.floor = self.floor.max(version);
+        Ok(())
+    }
+
+    /// The greatest version that the shard serves.
+    pub fn version(&self) -> u64
+        ensures { result ≡ self.now.version }
+    {
+        self.version
+    }
+
+    /// The least version that the shard serves.
+    pub fn floor(&self) -> u64
+        ensures { result ≡ self.now.floor }
+    {
+        self.floor
+    }
+
+    fn check_peek(&self, peek: &Peek) -> Result<(), Refusal>
+        ensures { AnswersExactly result (apply_fault self.now peek.now) (λ _. ⊤) }
+    {
+        if peek.tag != self.tag {
+            return Err(Refusal::Unknown);
+        }
+        if self.is_failed {
+            return Err(Refusal::Failed);
+        }
+        if peek.after < self.version {
+            return Err(Refusal::Stale);
+        }
+        if self.version < peek.after {
+            return Err(Refusal::NotYet(peek.after));
+        }
+        Ok(())
+    }
+
+    // Refused where what is read isn't all held here, and where the version isn't served.
+    fn check(&self, is_held: bool, version: u64) -> Result<(), Refusal>
+        ensures { AnswersExactly result (read_fault self.now is_held version) (λ _. ⊤) }
+    {
+        if self.is_failed {
+            return Err(Refusal::Failed);
+        }
+        if !is_held {
+            return Err(Refusal::KeyOutsideLegalRange);
+        }
+        if version < self.floor {
+            return Err(Refusal::TransactionTooOld);
+        }
+        if self.version < version {
+            return Err(Refusal::FutureVersion);
+        }
+        Ok(())
+    }
+}
