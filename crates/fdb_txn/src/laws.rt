@@ -9,7 +9,7 @@ ghost use Rattle.fdb_txn.specs.laws.Examples.{OneBatch, WriteSkew, FalseConflict
 ghost use Rattle.fdb_txn.specs.laws.AdmissionLaws.{OverlapsAtSomePoint, AskedAtSomePoint, OwnedAtSomeVersion, AdmitsWithoutConflict, CommittedByTheAsked, OldIsAsked};
 ghost use Rattle.fdb_txn.specs.laws.ResolverLaws.{AskedWhereItHasAPart, LastVersionsDecide, OnePlaceMore, StateDecides, StateTakesPlace, StateForgets, ForgottenAgree};
 ghost use Rattle.fdb_txn.specs.rules.Splits.{PiecesPartTheKeys};
-ghost use Rattle.fdb_txn.specs.rules.Messages.{MeetsAtSomePoint, MessagesAreForTheRange, ShardsHoldTheRun};
+ghost use Rattle.fdb_txn.specs.rules.Messages.{MeetsAtSomePoint, MessagesAreForTheRange, ShardsHoldTheRun, MessagesGoOn, ShardsGoOn};
 ghost use Rattle.fdb_txn.specs.laws.SerialMapLaws.{BooksAreEntries, PlacesAreHistory, PlacesAreFoundInTheBook, ReadsStand, EarlierPlacesStay, EarlierMapsStay, EntriesGoOn};
 
 use crate::batch::Batch;
@@ -146,6 +146,8 @@ pub fn messages_of_a_shard_leave_the_serial_map_on_its_range()
     ensures meets { MeetsAtSomePoint }
     ensures for_range { MessagesAreForTheRange }
     ensures holds { ShardsHoldTheRun }
+    ensures go_on { MessagesGoOn }
+    ensures shards_go_on { ShardsGoOn }
 {}
 
 /// What the rules say of each transaction of some small books: which resolvers are asked about it, which

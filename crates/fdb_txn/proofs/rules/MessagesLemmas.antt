@@ -16,11 +16,13 @@ use Rattle.fdb_mutations.specs.Mutations.{names, named_range, new_value, effect,
 use Rattle.fdb_mutations.proofs.Effects.{at_every_point, in_named_range}
 use Rattle.fdb_txn.specs.declared.entry.Entry.{Entry}
 use Rattle.fdb_txn.specs.book.Transactions.{Transaction}
-use Rattle.fdb_txn.specs.book.Book.{Stamped, Place, Seen, nothing, add_moves, placed, add_places, add_entry}
+use Rattle.fdb_txn.specs.book.Book.{Stamped, Place, Seen, nothing, add_moves, placed, add_places, add_entry, seen_of, last_version}
 use Rattle.fdb_txn.specs.rules.Admission.{committed}
 use Rattle.fdb_txn.specs.book.History.{AreEntries}
-use Rattle.fdb_txn.specs.rules.Messages.{meets_range, Body, mutations_in, at_place, committed_from, committed_in, message_for, messages_after, value_after, value_with, MeetsAtSomePoint, IsForRange, MessagesAreForTheRange, ShardsHoldTheRun}
+use Rattle.fdb_txn.specs.rules.Messages.{meets_range, Body, mutations_in, at_place, committed_from, committed_in, message_for, messages_after, value_after, value_with, MeetsAtSomePoint, IsForRange, MessagesAreForTheRange, ShardsHoldTheRun, MessagesGoOn, ShardsGoOn}
 use Rattle.fdb_txn.specs.rules.SerialMap.{serial_map, up_to, serial_map_at}
+use Rattle.fdb_txn.specs.laws.SerialMapLaws.{version_after}
+use Rattle.fdb_txn.specs.declared.tag_msg.TagMsg.{TagMsg}
 use Rattle.fdb_txn.proofs.book.HistoryLemmas.{AtMost, all-append, all-weaken, add_places-newer, up_to-all, up_to-above}
 
 -- a mutation meets a range exactly where it names some point of it
@@ -227,3 +229,50 @@ shards_hold_the_run resolvers splits range book entries v x inside =
     ap (λ (value : Option (List ℕ)). fold (value_with v x) value (messages_after splits range nothing book))
     (sym (get-empty {X = List ℕ} (slice_cmp nat_cmp) x))
     ∙ value-messages splits range v x inside resolvers 0 nothing book tt entries
+
+-- the messages of entries after others
+messages-append : (splits : List Point) (range : Range) (seen : Seen) (before more : List Entry)
+    → messages_after splits range seen (before ++ more)
+    ≡ messages_after splits range seen before ++ messages_after splits range (fold add_entry seen before) more
+messages-append splits range seen [] more = refl
+messages-append splits range seen (entry ∷ before) more =
+    ap (λ (others : List TagMsg). message_for splits range seen entry ∷ others)
+    (messages-append splits range (add_entry seen entry) before more)
+
+pub messages_go_on : MessagesGoOn
+messages_go_on splits range before more = messages-append splits range nothing before more
+
+-- entries are some of them, and then others after the version of the last one
+pub entries-split : (resolvers last : ℕ) (before more : List Entry) → AreEntries resolvers last (before ++ more)
+    → AreEntries resolvers last before × AreEntries resolvers (version_after last before) more
+entries-split resolvers last [] more entries = (tt, entries)
+entries-split resolvers last (entry ∷ before) more entries =
+    let others = entries-split resolvers entry.version before more entries.4 in
+    ((entries.0, entries.1, entries.2, entries.3, others.0), others.1)
+
+-- no place of entries has a version above the last one's
+at_most-entries : (resolvers last : ℕ) (seen : Seen) (book : List Entry) → AtMost last seen.places
+    → AreEntries resolvers last book → AtMost (version_after last book) (fold add_entry seen book).places
+at_most-entries resolvers last seen [] at_most entries = at_most
+at_most-entries resolvers last seen (entry ∷ book) at_most entries =
+    at_most-entries resolvers entry.version (add_entry seen entry) book
+    (at_most-add_places entry.version (add_moves entry.version entry.moves seen.moves) entry.batch seen.places
+    (at_most-more last entry.version seen.places (le_of_lt entries.0) at_most)) entries.4
+
+-- a shard goes on from the run's map at its version
+pub shards_go_on : ShardsGoOn
+shards_go_on resolvers splits range before more entries v x inside later =
+    ap (λ (places : List Place). fold (value_with v x) (get (serial_map splits places) x)
+    (messages_after splits range (seen_of before) more))
+    (up_to-all (last_version before) (seen_of before).places at_most
+    ∙ sym (up_to-all v (seen_of before).places (at_most-more (last_version before) v (seen_of before).places later
+    at_most)))
+    ∙ value-messages splits range v x inside resolvers (last_version before) (seen_of before) more at_most parts.1
+    ∙ ap (λ (seen : Seen). get (serial_map_at splits v seen.places) x)
+    (sym (fold-append add_entry nothing before more))
+  where
+    parts : AreEntries resolvers 0 before × AreEntries resolvers (last_version before) more
+    parts = entries-split resolvers 0 before more entries
+
+    at_most : AtMost (last_version before) (seen_of before).places
+    at_most = at_most-entries resolvers 0 nothing before tt parts.0

@@ -1,5 +1,5 @@
 -- What logs send a shard of each entry, and what the messages leave at a point.
-use Rattle.std.specs.Prelude.{◌≡◌, ◌↔◌, ℕ, suc, Bool, true, nat_le, List, [], ◌∷◌, ◌++◌, fold, filter, map, Option, None, if◌then◌else◌}
+use Rattle.std.specs.Prelude.{◌≡◌, ◌≤◌, ◌↔◌, ℕ, suc, Bool, true, nat_le, List, [], ◌∷◌, ◌++◌, fold, filter, map, Option, None, if◌then◌else◌}
 use Rattle.std.specs.List.{AllByRecursion}
 use Rattle.std.specs.FinMap.{get}
 use Rattle.fdb_keys.specs.Points.{Point}
@@ -9,7 +9,7 @@ use Rattle.fdb_mutations.specs.Mutations.{names, named_range, new_value}
 use Rattle.fdb_txn.specs.declared.entry.Entry.{Entry}
 use Rattle.fdb_txn.specs.declared.tag_msg.TagMsg.{TagMsg}
 use Rattle.fdb_txn.specs.book.Transactions.{Transaction}
-use Rattle.fdb_txn.specs.book.Book.{Stamped, Place, Seen, nothing, add_moves, placed, add_entry, seen_of}
+use Rattle.fdb_txn.specs.book.Book.{Stamped, Place, Seen, nothing, add_moves, placed, add_entry, seen_of, last_version}
 use Rattle.fdb_txn.specs.rules.Admission.{committed}
 use Rattle.fdb_txn.specs.book.History.{AreEntries}
 use Rattle.fdb_txn.specs.rules.SerialMap.{serial_map_at}
@@ -101,3 +101,21 @@ ShardsHoldTheRun =
     (resolvers : ℕ) (splits : List Point) (range : Range) (book : List Entry) → AreEntries resolvers 0 book
     → (v : ℕ) (x : Point) → in_range range x ≡ true
     → value_in v x (messages_for splits range book) ≡ get (serial_map_at splits v (seen_of book).places) x
+
+-- the messages of a book are those of its first entries and then those of the others, after what was seen of the first
+abbrev pub MessagesGoOn : Type 0
+MessagesGoOn =
+    (splits : List Point) (range : Range) (before more : List Entry)
+    → messages_for splits range (before ++ more)
+    ≡ messages_for splits range before ++ messages_after splits range (seen_of before) more
+
+-- And so a shard goes on: what stands on the run's map at the version of the last of some entries, changed by the
+-- messages of the entries after these, is what stands there on the run's map of all of them at any later version.
+abbrev pub ShardsGoOn : Type 0
+ShardsGoOn =
+    (resolvers : ℕ) (splits : List Point) (range : Range) (before more : List Entry)
+    → AreEntries resolvers 0 (before ++ more)
+    → (v : ℕ) (x : Point) → in_range range x ≡ true → last_version before ≤ v
+    → fold (value_with v x) (get (serial_map_at splits (last_version before) (seen_of before).places) x)
+    (messages_after splits range (seen_of before) more)
+    ≡ get (serial_map_at splits v (seen_of (before ++ more)).places) x
