@@ -5,16 +5,22 @@ use crate::message::{LogMsg, Tagged};
 use fdb_keys::Items;
 use std::alloc::{AllocError, Global};
 
-fn copy_of(alloc: Global, sent: &Tagged) -> Result<Tagged, AllocError>
-    ensures { IfOk result (λ copy. copy ≡ sent.now) }
-{
-    let mutation = sent.mutation.clone()?;
-    let tags = Items::from_vec(Vec::from_slice(alloc, sent.tags.as_slice())?);
-    Ok(Tagged {
-        place: sent.place,
-        mutation,
-        tags,
-    })
+impl Tagged {
+    ghost use Rattle.std.specs.Prelude.{◌≡◌, IfOk};
+
+    /// A copy of the mutation with its place and its tags: the tags lie in memory of the allocator, and the mutation's
+    /// bytes are shared. Refused only for want of memory.
+    pub fn copy(&self, alloc: Global) -> Result<Tagged, AllocError>
+        ensures { IfOk result (λ copy. copy ≡ self.now) }
+    {
+        let mutation = self.mutation.clone()?;
+        let tags = Items::from_vec(Vec::from_slice(alloc, self.tags.as_slice())?);
+        Ok(Tagged {
+            place: self.place,
+            mutation,
+            tags,
+        })
+    }
 }
 
 fn body_of(alloc: Global, body: &[Tagged]) -> Result<Items<Tagged>, AllocError>
@@ -22,7 +28,7 @@ fn body_of(alloc: Global, body: &[Tagged]) -> Result<Items<Tagged>, AllocError>
 {
     let mut copy = Items::new(alloc);
     for sent in body {
-        copy.push(copy_of(alloc, sent)?)?;
+        copy.push(sent.copy(alloc)?)?;
     }
     Ok(copy)
 }

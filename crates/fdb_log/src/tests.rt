@@ -6,7 +6,7 @@ use crate::message::{LogAck, LogMsg, Tagged};
 use fdb_keys::{Items, Key, Refusal};
 use fdb_mutations::Mutation;
 use fdb_txn::TagMsg;
-use std::alloc::Global;
+use std::alloc::{AllocError, Global};
 use std::test::Fail;
 
 // The code of the refusal, or 0.
@@ -126,6 +126,44 @@ fn gives_two_clears(core: &LogCore, tag: u32, places: [u32; 2], keys: [&[u8]; 2]
         Ok(peek) => has_two_clears(peek.messages.as_slice(), places, keys),
         Err(_why) => false,
     }
+}
+
+fn is_clear_with_tags(sent: &Tagged, place: u32, wanted: &[u8], tags: &[u32]) -> bool {
+    match &sent.mutation {
+        Mutation::Clear { key } => {
+            sent.place == place && key.bytes() == wanted && sent.tags.as_slice() == tags
+        }
+        _ => false,
+    }
+}
+
+// Whether the copy clears b at place 3, with the tags 0 and 2.
+fn is_whole_copy(copy: Result<Tagged, AllocError>) -> bool {
+    match copy {
+        Ok(copy) => {
+            let holds = is_clear_with_tags(&copy, 3, b"b", &[0, 2]);
+            drop(copy);
+            holds
+        }
+        Err(_why) => false,
+    }
+}
+
+fn is_copied(alloc: Global, made: Result<Tagged, Refusal>) -> bool {
+    match made {
+        Ok(sent) => {
+            let holds = is_whole_copy(sent.copy(alloc));
+            drop(sent);
+            holds
+        }
+        Err(_why) => false,
+    }
+}
+
+#[test]
+fn a_copy_has_the_place_the_mutation_and_the_tags(rt: HostRuntime) {
+    let alloc = rt.alloc();
+    assert!(rt; is_copied(alloc, clear(alloc, 3, b"b", &[0, 2])));
 }
 
 #[test]
