@@ -1,6 +1,6 @@
 -- What follows where a shard finds no fault.
 use Rattle.std.proofs.Common.{◌≡◌, refl, ℕ, ◌≤◌, Bool, true, false, not, Option, Some, None, Ok, if◌then◌else◌, arith}
-use Rattle.std.specs.Prelude.{nat_lt, ◌==◌, ⊤}
+use Rattle.std.specs.Prelude.{nat_lt, ◌==◌}
 use Rattle.std.proofs.lemmas.Bool.{ltb-false}
 use Rattle.fdb_keys.specs.Answers.{Answers, AnswersExactly}
 use Rattle.fdb_keys.specs.declared.refusal.Refusal.{Refusal}

@@ -1,4 +1,5 @@
 pub mod AppliedLemmas
 pub mod CutLemmas
 pub mod FaultLemmas
+pub mod LogMessagesLemmas
 pub mod TagLemmas

@@ -1,14 +1,14 @@
 -- The tags of mutations.
-use Rattle.std.proofs.Common.{◌≡◌, ◌∙◌, sym, ap, refl, subst, ℕ, zero, suc, ◌+◌, ◌<◌, ◌≤◌, Bool, true, false, ◌&&◌, if◌then◌else◌, List, [], ◌∷◌, ◌++◌, map, filter, length, ⊎_elim, arith}
+use Rattle.std.proofs.Common.{◌≡◌, ◌∙◌, sym, ap, refl, subst, ℕ, zero, suc, ◌+◌, ◌<◌, ◌≤◌, Bool, true, false, ◌&&◌, if◌then◌else◌, List, [], ◌∷◌, ◌++◌, filter, length, ⊎_elim, arith}
 use Rattle.std.specs.List.{range_with_len, list_any}
 use Rattle.std.specs.Prelude.{◌==◌, nat_lt}
-use Rattle.std.proofs.lemmas.Bool.{cases_Bool, both_ways, cond-true, cond-false, eqb-true, eqb-false, eq-eqb, ltb-true, ltb-false, false_from_ne_true, or_left, or_right}
+use Rattle.std.proofs.lemmas.Bool.{cases_Bool, cond-true, cond-false, eqb-true, eqb-false, eq-eqb, ltb-true, ltb-false, false_from_ne_true, or_left, or_right}
 use Rattle.std.proofs.Math.Bool.{and-true}
 use Rattle.std.proofs.lemmas.List.{map-id}
 use Rattle.std.proofs.lemmas.List.FromFn.{filter_of_map_range_with_len_more}
 use Rattle.std.proofs.lemmas.Map.Views.{any-filter_same}
 use Rattle.fdb_keys.specs.Points.{Point}
-use Rattle.fdb_keys.specs.Ranges.{Range, in_range}
+use Rattle.fdb_keys.specs.Ranges.{in_range}
 use Rattle.fdb_mutations.specs.declared.mutation.Mutation.{Mutation}
 use Rattle.fdb_mutations.specs.Mutations.{names}
 use Rattle.fdb_txn.specs.rules.Messages.{meets_range}
@@ -43,22 +43,25 @@ any-number a (suc n) tag above below = ⊎_elim
     (any-number (a + 1) n tag (omega (arith, later a tag above further)) (omega (arith, below))))
     (cases_Bool (a == tag))
 
--- a mutation has the tag of a shard exactly where it names a point of the shard's range
-pub tags_are_the_shards : TagsAreTheShards
-tags_are_the_shards splits mutation tag within = (
-  λ has. (meets_at_some_point (piece splits tag) mutation).0 (sym same ∙ has),
-  λ named. same ∙ (meets_at_some_point (piece splits tag) mutation).1 named,
-)
+-- a mutation has the tag of a shard exactly where it meets the shard's range
+pub has-tag : (splits : List Point) (mutation : Mutation) (tag : ℕ) → tag < suc (length splits)
+    → list_any (λ (other : ℕ). other == tag) (tags_of splits mutation) ≡ meets_range (piece splits tag) mutation
+has-tag splits mutation tag within =
+    any-filter_same (λ (other : ℕ). other == tag) meets (meets tag)
+    (λ other is. ap meets (eqb-true other tag is)) (shards_of splits)
+    ∙ ap (λ (found : Bool). meets tag && found)
+    (any-number 0 (suc (length splits)) tag (omega arith) (omega (arith, within)))
+    ∙ and-true (meets tag)
   where
     meets : ℕ → Bool
     meets other = meets_range (piece splits other) mutation
 
-    same : list_any (λ (other : ℕ). other == tag) (tags_of splits mutation) ≡ meets tag
-    same =
-        any-filter_same (λ (other : ℕ). other == tag) meets (meets tag)
-        (λ other is. ap meets (eqb-true other tag is)) (shards_of splits)
-        ∙ ap (λ (found : Bool). meets tag && found) (any-number 0 (suc (length splits)) tag (omega arith) (omega (arith, within)))
-        ∙ and-true (meets tag)
+-- so where it names a point of that range
+pub tags_are_the_shards : TagsAreTheShards
+tags_are_the_shards splits mutation tag within = (
+  λ has. (meets_at_some_point (piece splits tag) mutation).0 (sym (has-tag splits mutation tag within) ∙ has),
+  λ named. has-tag splits mutation tag within ∙ (meets_at_some_point (piece splits tag) mutation).1 named,
+)
 
 -- numbers from above o on are none of them o
 none-of : (a n o : ℕ) → o < a → filter (λ (tag : ℕ). o == tag) (range_with_len a n) ≡ []

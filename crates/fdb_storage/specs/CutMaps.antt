@@ -1,5 +1,5 @@
 -- What messages change in a range.
-use Rattle.std.specs.Prelude.{ℕ, nat_le, List, fold, if◌then◌else◌}
+use Rattle.std.specs.Prelude.{ℕ, nat_le, fold, if◌then◌else◌}
 use Rattle.fdb_keys.specs.Ranges.{Range}
 use Rattle.fdb_mutations.specs.declared.mutation.Mutation.{Mutation}
 use Rattle.fdb_mutations.specs.Maps.{Map}

@@ -1,5 +1,6 @@
 pub mod CutMaps
 pub mod Limits
+pub mod LogMessages
 pub mod Replays
 pub mod ShardMaps
 pub mod Shards

@@ -1,11 +1,11 @@
 -- What a shard keeps, why it refuses, and what its calls leave.
-use Rattle.std.specs.Prelude.{◌≡◌, ◌≤◌, ℕ, max, Bool, true, false, not, ◌==◌, nat_lt, List, fold, length, Option, Some, None, if◌then◌else◌}
+use Rattle.std.specs.Prelude.{◌≡◌, ◌≤◌, ℕ, max, Bool, true, false, not, ◌&&◌, ◌==◌, nat_lt, List, fold, length, Option, Some, None, if◌then◌else◌}
 use Rattle.std.specs.List.{AllByRecursion}
 use Rattle.std.specs.FinMap.{get}
 use Rattle.fdb_keys.specs.declared.refusal.Refusal.{Refusal}
 use Rattle.fdb_keys.specs.declared.refusal.Refusal.TheVariants.{NotYet, Stale, Failed, Unknown, KeyOutsideLegalRange, TransactionTooOld, FutureVersion}
 use Rattle.fdb_keys.specs.Points.{Point}
-use Rattle.fdb_keys.specs.Ranges.{Range, in_range, is_within}
+use Rattle.fdb_keys.specs.Ranges.{Range, in_range, is_within, ranges_meet}
 use Rattle.fdb_mutations.specs.Maps.{Map}
 use Rattle.fdb_mutations.specs.Pairs.{pairs_in, first_of}
 use Rattle.fdb_txn.specs.declared.tag_msg.TagMsg.{TagMsg}
@@ -51,6 +51,12 @@ key_fault shard key version = read_fault shard (in_range shard.range key) versio
 abbrev pub range_fault : Shard → Range → ℕ → Option Refusal
 range_fault shard range version = read_fault shard (is_within range shard.range) version
 
+-- why it refuses to give its part of a range at a version
+abbrev pub part_fault : Shard → Range → ℕ → Option Refusal
+part_fault shard range version =
+    if shard.is_failed then Some Failed
+    else (if ranges_meet range shard.range then serving_fault version shard.floor shard.version else None)
+
 -- why it refuses messages
 abbrev pub apply_fault : Shard → Peek → Option Refusal
 apply_fault shard peek =
@@ -77,6 +83,13 @@ IsPage shard range v limit is_reverse page =
     (map : Map) → HasValuesOf shard v range map
     → (page.pairs ≡ first_of limit (pairs_in map range is_reverse))
     × (page.more ≡ nat_lt (length page.pairs) (length (pairs_in map range is_reverse)))
+
+-- The map has in the shard's part of the range what the shard has there at the version, if it had nothing there before,
+-- and elsewhere what it had.
+pub record HasCopied (shard : Shard) (range : Range) (v : ℕ) (old new : Map) : Type 0 where
+  pub inside : (x : Point) → in_range range x ≡ true → in_range shard.range x ≡ true → get old x ≡ None
+      → get new x ≡ value_at shard v x
+  pub outside : (x : Point) → (in_range range x && in_range shard.range x) ≡ false → get new x ≡ get old x
 
 -- it has applied nothing, and has no value
 pub record IsNewShard (number : ℕ) (keys : Range) (shard : Shard) : Type 0 where
@@ -110,7 +123,10 @@ pub record HasForgotten (old : Shard) (v : ℕ) (new : Shard) : Type 0 where
   pub values : (w : ℕ) (x : Point) → new.floor ≤ w → w ≤ old.version → in_range old.range x ≡ true
       → value_at new w x ≡ value_at old w x
 
--- it is the same shard, and refuses every further call
+-- it is the same shard with the same versions, and refuses every further call
 pub record HasFailed (old new : Shard) : Type 0 where
   pub tag : new.tag ≡ old.tag
+  pub range : new.range ≡ old.range
+  pub version : new.version ≡ old.version
+  pub floor : new.floor ≡ old.floor
   pub fails : new.is_failed ≡ true

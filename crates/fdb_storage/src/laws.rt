@@ -1,7 +1,16 @@
 //! Which shards a mutation concerns, and what messages leave, for the proofs of the crates that use these types.
+ghost use Rattle.fdb_storage.specs.LogMessages.{LogsAreSentTheMessages, MessagesAboveAVersion};
 ghost use Rattle.fdb_storage.specs.ShardMaps.{TagsAreTheShards};
 
 /// A mutation has the tag of a shard exactly where it names a point of the shard's range.
 pub fn tags_are_the_shards_that_a_mutation_concerns()
     ensures { TagsAreTheShards }
+{}
+
+/// The message of an entry for a log has, for each tag that the log keeps, the mutations of the entry's committed
+/// transactions that meet the range of the tag's shard: it is the message of the entry for that shard. Of a shard's
+/// messages, those above the version of an entry are those of the entries after it.
+pub fn logs_are_sent_the_messages_of_their_tags()
+    ensures sent { LogsAreSentTheMessages }
+    ensures above { MessagesAboveAVersion }
 {}

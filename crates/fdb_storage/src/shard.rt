@@ -42,7 +42,7 @@ impl Shard {
     ghost use Rattle.std.specs.Prelude.{◌≡◌, ⊤, IsSome, IsNone, IfOk, OnErr};
     ghost use Rattle.fdb_keys.specs.Answers.{Answers, AnswersExactly};
     ghost use Rattle.fdb_log.specs.Peeks.{IsPeek};
-    ghost use Rattle.fdb_storage.specs.Shards.{IsNewShard, apply_fault, key_fault, range_fault, forget_fault, read_fault, value_at, IsPage, HasApplied, HasFailed, HasForgotten};
+    ghost use Rattle.fdb_storage.specs.Shards.{IsNewShard, apply_fault, key_fault, range_fault, forget_fault, part_fault, read_fault, serving_fault, value_at, IsPage, HasApplied, HasCopied, HasFailed, HasForgotten};
 
     /// The shard with the tag and the range, which has applied nothing and serves version 0 alone. It takes no memory.
     pub fn new(alloc: Global, tag: u32, range: KeyRange) -> Self
@@ -86,7 +86,8 @@ impl Shard {
     /// `KeyOutsideLegalRange` where the shard doesn't hold the key, as `TransactionTooOld` where the version is below
     /// the floor, as `FutureVersion` where it is above the shard's, and as `NoMemory`.
     pub fn get(&self, key: &Key, version: u64) -> Result<Option<Bytes>, Refusal>
-        ensures { Answers result (key_fault self.now key.now version) (λ value. value ≡ value_at self.now version key.now) }
+        ensures { Answers result (key_fault self.now key.now version)
+            (λ value. value ≡ value_at self.now version key.now) }
     {
         self.check(self.range.contains(key), version)?;
         value_in(self.alloc, &self.messages, version, key)
@@ -101,7 +102,8 @@ impl Shard {
         limit: u32,
         reverse: bool,
     ) -> Result<Page, Refusal>
-        ensures { Answers result (range_fault self.now range.now version) (IsPage self.now range.now version limit reverse) }
+        ensures { Answers result (range_fault self.now range.now version)
+            (IsPage self.now range.now version limit reverse) }
     {
         self.check(range.is_within(&self.range), version)?;
         let mut map = PlainMap::new(self.alloc);
@@ -110,11 +112,33 @@ impl Shard {
         Ok(Page { pairs, more })
     }
 
+    /// Gives the map, which has no value there yet, the values that the shard has at the version in its part of the
+    /// range. It changes nothing elsewhere, nor where the shard holds nothing of the range: then no version is refused.
+    /// Refused as `Failed` once memory ran out in `apply`, else, where it holds some of the range, as
+    /// `TransactionTooOld` where the version is below the floor and as `FutureVersion` where it is above the shard's,
+    /// and as `NoMemory`.
+    pub fn copy_into(
+        &self,
+        map: &mut PlainMap,
+        range: &KeyRange,
+        version: u64,
+    ) -> Result<(), Refusal>
+        ensures { Answers result (part_fault self.now range.now version)
+            (λ _. HasCopied self.now range.now version map.old map.new) }
+    {
+        self.check_part(range, version)?;
+        if let Some(part) = range.clip(&self.range)? {
+            apply_messages(map, &part, version, &self.messages)?;
+        }
+        Ok(())
+    }
+
     /// Raises the floor to the version, if it isn't above it already: earlier versions are no longer served. It takes
     /// no memory. Refused as `Failed` once memory ran out in `apply`, and as `FutureVersion` where the version is above
     /// the shard's.
     pub fn forget(&mut self, version: u64) -> Result<(), Refusal>
-        ensures answers { AnswersExactly result (forget_fault self.old version) (λ _. HasForgotten self.old version self.new) }
+        ensures answers { AnswersExactly result (forget_fault self.old version)
+            (λ _. HasForgotten self.old version self.new) }
         ensures refused { OnErr result (self.new ≡ self.old) }
     {
         if self.is_failed {
@@ -125,6 +149,13 @@ impl Shard {
         }
         self.floor = self.floor.max(version);
         Ok(())
+    }
+
+    /// The range of keys that the shard holds.
+    pub fn range(&self) -> &KeyRange
+        ensures { result.now ≡ self.now.range }
+    {
+        &self.range
     }
 
     /// The greatest version that the shard serves.
@@ -169,6 +200,26 @@ impl Shard {
         if !is_held {
             return Err(Refusal::KeyOutsideLegalRange);
         }
+        self.check_version(version)
+    }
+
+    // Refused where the shard holds some of the range and the version isn't served.
+    fn check_part(&self, range: &KeyRange, version: u64) -> Result<(), Refusal>
+        ensures { AnswersExactly result (part_fault self.now range.now version) (λ _. ⊤) }
+    {
+        if self.is_failed {
+            return Err(Refusal::Failed);
+        }
+        if range.meets(&self.range) {
+            return self.check_version(version);
+        }
+        Ok(())
+    }
+
+    // Refused where the version isn't served.
+    fn check_version(&self, version: u64) -> Result<(), Refusal>
+        ensures { AnswersExactly result (serving_fault version self.now.floor self.now.version) (λ _. ⊤) }
+    {
         if version < self.floor {
             return Err(Refusal::TransactionTooOld);
         }

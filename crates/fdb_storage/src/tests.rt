@@ -223,10 +223,14 @@ fn shard_of(shards: &ShardMap, alloc: Global, key: &[u8]) -> Option<u32> {
     }
 }
 
+fn is_range(range: &KeyRange, begin: &[u8], end: &[u8]) -> bool {
+    range.begin() == begin && range.end() == end
+}
+
 // Whether the shard with the tag has just this range.
 fn has_range(shards: &ShardMap, tag: u32, begin: &[u8], end: &[u8]) -> bool {
     match shards.range(tag) {
-        Ok(range) => range.begin() == begin && range.end() == end,
+        Ok(range) => is_range(&range, begin, end),
         Err(_why) => false,
     }
 }
@@ -235,6 +239,7 @@ fn has_range(shards: &ShardMap, tag: u32, begin: &[u8], end: &[u8]) -> bool {
 fn only_the_shards_own_keys_are_read(rt: HostRuntime) -> Result<(), Fail> {
     let alloc = rt.alloc();
     let shard = first_shard(alloc)?;
+    assert!(rt; is_range(shard.range(), b"", b"m"));
     assert_eq!(rt; get(&shard, alloc, b"a", 0), (0, None));
     assert_eq!(rt; get(&shard, alloc, b"z", 0), (2004, None));
     assert_eq!(rt; code_of(page(&shard, alloc, b"z", 0, 0, false)), 2004);
@@ -331,6 +336,47 @@ fn value_in(map: &PlainMap, alloc: Global, key: &[u8]) -> Option<u8> {
         return None;
     };
     only_byte(map.get(&key))
+}
+
+// The shard of the keys from the begin up to the end, which has applied the two messages.
+fn shard_of_two(alloc: Global, begin: &[u8], end: &[u8]) -> Result<Shard, Refusal> {
+    let range = KeyRange::new(alloc, begin, end)?;
+    let mut shard = Shard::new(alloc, 0, range);
+    apply_two(&mut shard, alloc)?;
+    Ok(shard)
+}
+
+fn copy_below_m(
+    shard: &Shard,
+    map: &mut PlainMap,
+    alloc: Global,
+    version: u64,
+) -> Result<(), Refusal> {
+    let range = KeyRange::new(alloc, b"a", b"m")?;
+    shard.copy_into(map, &range, version)
+}
+
+// The code of the refusal, or 0, where the shard of the keys from the begin up to the end gives the map its part of
+// the keys from a up to m.
+fn copy_part(map: &mut PlainMap, alloc: Global, begin: &[u8], end: &[u8], version: u64) -> u32 {
+    match shard_of_two(alloc, begin, end) {
+        Ok(shard) => code_of(copy_below_m(&shard, map, alloc, version)),
+        Err(why) => why.code(),
+    }
+}
+
+#[test]
+fn shards_fill_one_map_each_with_its_part(rt: HostRuntime) {
+    let alloc = rt.alloc();
+    let mut map = PlainMap::new(alloc);
+    assert_eq!(rt; copy_part(&mut map, alloc, b"", b"k", 100), 0);
+    assert_eq!(rt; value_in(&map, alloc, b"a"), Some(b'1'));
+    assert_eq!(rt; value_in(&map, alloc, b"l"), None);
+    assert_eq!(rt; copy_part(&mut map, alloc, b"k", b"z", 100), 0);
+    assert_eq!(rt; value_in(&map, alloc, b"a"), Some(b'1'));
+    assert_eq!(rt; value_in(&map, alloc, b"l"), Some(b'7'));
+    assert_eq!(rt; copy_part(&mut map, alloc, b"k", b"z", 201), 1009);
+    assert_eq!(rt; copy_part(&mut map, alloc, b"m", b"z", 201), 0);
 }
 
 // The version that the replay wants first, if it wants one.

@@ -1,4 +1,4 @@
-use Rattle.std.proofs.Common.{◌≡◌, ◌∙◌, sym, ap, refl, subst, ℕ, ◌+◌, ◌≤◌, List, [], ◌∷◌, ◌++◌, take, fold, length, None, arith, rules}
+use Rattle.std.proofs.Common.{◌≡◌, ◌∙◌, sym, ap, subst, ℕ, ◌+◌, ◌≤◌, List, [], ◌∷◌, ◌++◌, take, fold, None, arith}
 use Rattle.std.specs.FinMap.{get, empty}
 use Rattle.std.specs.Prelude.{nat_lt}
 use Rattle.std.proofs.lemmas.Bool.{cond-false, false_from_ne_true, ltb-true}
@@ -40,7 +40,8 @@ loop-peek-preserved c =
 pub returns : goal.returns
 returns c =
     let peeks = c.args.peeks.now in
-    let all : take c.loop-peek.peek-index peeks ≡ peeks = take_all c.loop-peek.peek-index peeks c.loop-peek-test.false in
+    let all : take c.loop-peek.peek-index peeks ≡ peeks =
+    take_all c.loop-peek.peek-index peeks c.loop-peek-test.false in
     let reached : c.args.version ≤ covered peeks =
     subst (λ (n : ℕ). c.args.version ≤ n) c.covered-through.ensures c.if-through-version.false in
     given c.loop-peek.map (replay_fault peeks c.args.version) _

@@ -4,7 +4,6 @@ use Rattle.fdb_keys.specs.Points.{Point}
 use Rattle.fdb_mutations.specs.Maps.{Map}
 use Rattle.fdb_mutations.specs.Pairs.{pairs_in, first_of}
 use Rattle.fdb_mutations.proofs.PairsLemmas.{same_values}
-use Rattle.fdb_txn.specs.declared.tag_msg.TagMsg.{TagMsg}
 use Rattle.fdb_storage.specs.CutMaps.{cut_with}
 use Rattle.fdb_keys.specs.Ranges.{is_within}
 use Rattle.fdb_storage.specs.declared.page.Page.{Page}

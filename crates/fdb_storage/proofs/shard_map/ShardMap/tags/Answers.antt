@@ -1,4 +1,4 @@
-use Rattle.std.proofs.Common.{◌≡◌, ◌∙◌, sym, ap, refl, ℕ, List, [], ◌∷◌, ◌++◌, true}
+use Rattle.std.proofs.Common.{◌≡◌, ◌∙◌, sym, ap, refl, ℕ, List, [], ◌∷◌, ◌++◌}
 use Rattle.std.specs.Cmp.Lexicographic.{bytes_decides}
 use Rattle.fdb_keys.specs.Points.{Point, point_eq}
 use Rattle.fdb_mutations.specs.Mutations.{names, named}
