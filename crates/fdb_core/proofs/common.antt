@@ -2,5 +2,3 @@ pub mod AllLemmas
 pub mod SumLemmas
 pub mod FaultLemmas
 pub mod CloneLemmas
-pub mod RangeLemmas
-pub mod BeginLemmas

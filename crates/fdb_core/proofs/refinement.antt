@@ -1,5 +1,6 @@
 pub mod AnswerLemmas
 pub mod BatchLaws
+pub mod BodyLemmas
 pub mod CommitProxyTies
 pub mod DecideLemmas
 pub mod NoMoves
@@ -10,6 +11,9 @@ pub mod RoleTies
 pub mod RunLaws
 pub mod SealLemmas
 pub mod TicketTies
-pub mod ShardMapLemmas
+pub mod LogTies
+pub mod PushSteps
+pub mod ShardSteps
+pub mod StartLemmas
 pub mod ShardReads
 pub mod Ties

@@ -1,9 +1,10 @@
 pub mod Cluster
-pub mod Messages
+pub mod Logs
 pub mod RangeFaults
 pub mod Reads
 pub mod Resolving
 pub mod Roles
 pub mod Sessions
-pub mod ShardMaps
+pub mod ShardReads
 pub mod Views
+pub mod Starts

@@ -1,20 +1,22 @@
 // The parts of a world: the machine's bookkeeping, and what the roles keep for themselves.
-ghost use Rattle.std.specs.Prelude.{◌≡◌, ◌≤◌, [], ◌∷◌, IfOk};
-ghost use Rattle.fdb_core.specs.machine.Limits.{entry_limit};
-ghost use Rattle.fdb_core.specs.machine.Worlds.{start};
+ghost use Rattle.std.specs.Prelude.{◌≡◌, None, [], ◌∷◌, IfOk};
+ghost use Rattle.fdb_keys.specs.Answers.{Answers};
+ghost use Rattle.fdb_core.specs.machine.Worlds.{config_fault, start};
 ghost use Rattle.fdb_core.specs.refinement.Cluster.{machine_of, Refines};
 
 use crate::config::Config;
 use crate::roles::client::Placed;
 use crate::roles::client::sessions::Sessions;
 use crate::roles::commit_proxy::CommitProxy;
-use crate::roles::log::Message;
+use crate::roles::log::{LogRole, new_logs};
 use crate::roles::resolver::ResolverRole;
 use crate::roles::sequencer::first_sequencer;
-use crate::roles::shard::ShardProgress;
+use crate::roles::shard::{ShardRole, new_shards};
 use crate::step::Outcome;
-use fdb_keys::Items;
+use fdb_keys::{Items, Refusal};
+use fdb_log::LogMsg;
 use fdb_sequencer::SequencerCore;
+use fdb_storage::ShardMap;
 use fdb_txn::Entry;
 use std::alloc::{AllocError, Global};
 
@@ -28,38 +30,33 @@ pub(crate) struct Cluster {
     pub(crate) decided: Vec<bool>,
     pub(crate) commit_proxies: Vec<CommitProxy>,
     pub(crate) resolvers: Vec<ResolverRole>,
-    // How many entries each log took.
-    pub(crate) logs: Vec<u32>,
-    pub(crate) shards: Vec<ShardProgress>,
+    pub(crate) logs: Vec<LogRole>,
+    pub(crate) shard_map: ShardMap,
+    pub(crate) shards: Vec<ShardRole>,
     pub(crate) grv_proxies: Vec<Items<u32>>,
     // What each session is at.
     pub(crate) sessions: Sessions,
     pub(crate) acknowledged: Vec<Placed>,
     // It gives the versions, and keeps the greatest one that was reported.
     pub(crate) sequencer: SequencerCore,
-    // What the one commit proxy decided of its batch, and the message of each entry once it is decided.
+    // What the one commit proxy decided of its batch, and for each entry its messages for the logs, once it is decided.
     pub(crate) outcomes: Items<Outcome>,
-    pub(crate) messages: Vec<Option<Message>>,
-    // What the one log took, and what the one shard applied.
-    pub(crate) log: Vec<Message>,
-    pub(crate) shard: Vec<Message>,
+    pub(crate) messages: Vec<Option<Items<LogMsg>>>,
 }
 
 impl Cluster {
-    /// The parts before the first step, with one of each role.
-    pub(crate) fn new(alloc: Global, config: Config) -> Result<Self, AllocError>
-        requires proxies { config.proxies ≡ 1 }
-        requires logs { config.logs ≡ 1 }
-        requires resolver_splits { config.resolver_splits ≡ [] }
-        requires shard_splits { config.shard_splits ≡ [] }
-        requires book { config.book ≤ entry_limit }
-        ensures machine { IfOk result (λ cluster. machine_of cluster ≡ start config) }
+    /// The parts before the first step, with the shards of the map. Refused only as `NoMemory`.
+    pub(crate) fn new(alloc: Global, config: Config, shard_map: ShardMap) -> Result<Self, Refusal>
+        requires served { config_fault config ≡ None }
+        requires shard_map { shard_map ≡ config.shard_splits }
+        ensures machine { Answers result None (λ cluster. machine_of cluster ≡ start config) }
         ensures refines { IfOk result Refines }
     {
+        let count = config.shard_splits.len() as u32 + 1;
         let commit_proxies = one(alloc, CommitProxy::new(alloc))?;
         let resolvers = one(alloc, ResolverRole::new(alloc))?;
-        let logs = one(alloc, 0)?;
-        let shards = one(alloc, ShardProgress::new())?;
+        let logs = new_logs(alloc, config.logs, count)?;
+        let shards = new_shards(alloc, &shard_map, count)?;
         let grv_proxies = one(alloc, Items::new(alloc))?;
         Ok(Cluster {
             alloc,
@@ -70,6 +67,7 @@ impl Cluster {
             commit_proxies,
             resolvers,
             logs,
+            shard_map,
             shards,
             grv_proxies,
             sessions: Sessions::new(alloc),
@@ -77,8 +75,6 @@ impl Cluster {
             acknowledged: Vec::new(alloc),
             outcomes: Items::new(alloc),
             messages: Vec::new(alloc),
-            log: Vec::new(alloc),
-            shard: Vec::new(alloc),
         })
     }
 }

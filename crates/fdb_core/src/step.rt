@@ -92,6 +92,15 @@ pub enum Step {
         shard: u32,
         limit: u32,
     },
+    /// The shard no longer serves what lies below the version.
+    Forget {
+        shard: u32,
+        version: u64,
+    },
+    /// The shard's log drops its messages through the shard's version.
+    Pop {
+        shard: u32,
+    },
 }
 
 /// What became of a submitted transaction.
@@ -129,7 +138,7 @@ pub enum Answered {
     Verdicts(Items<(u32, Verdict)>),
     /// What became of each place of a batch.
     Decided(Items<Outcome>),
-    /// The committed version after a report, or a shard's version after a pull.
+    /// The committed version after a report, a shard's version after a pull or a pop, or its floor after a forget.
     Version(u64),
     /// What each client of a batch is told, by place, with its session.
     Answers(Items<(u32, Outcome)>),

@@ -61,6 +61,8 @@ impl Cluster {
             Step::Report { proxy } => self.report(*proxy),
             Step::Answer { proxy } => self.answer(*proxy),
             Step::Pull { shard, limit } => self.pull(*shard, *limit),
+            Step::Forget { shard, version } => self.forget(*shard, *version),
+            Step::Pop { shard } => self.pop(*shard),
         }
     }
 }

@@ -7,6 +7,7 @@ mod ranges;
 mod rows;
 mod scripts;
 mod sets;
+mod shards;
 mod words;
 mod worlds;
 mod writes;

@@ -15,6 +15,7 @@ use Rattle.fdb_txn.specs.declared.spot.Spot.TheVariants as spot
 use Rattle.fdb_txn.specs.book.Transactions.{Transaction}
 use Rattle.fdb_txn.specs.book.Book.{Seen, add_entry, seen_of, last_version, seen_before}
 use Rattle.fdb_txn.specs.book.Places.{place_of, place_at}
+use Rattle.fdb_txn.specs.rules.Messages.{Body, mutations_in}
 use Rattle.fdb_txn.specs.rules.SerialMap.{serial_map, serial_map_at}
 use Rattle.fdb_txn.proofs.rules.MessagesLemmas.{serial_map-add_places}
 use Rattle.fdb_core.specs.declared.check.serial.Replay.{Replay}
@@ -74,7 +75,7 @@ module _ (book : List Entry) (plain : IsPlainBook book) (n : ℕ) where
   after = serial_map [] (seen_before book n).places
 
   -- it is the map at each version from that of the last one of them up to the next one's
-  map-here : (until : Option ℕ) (v : ℕ) → IsUntil book n until
+  pub map-here : (until : Option ℕ) (v : ℕ) → IsUntil book n until
       → nat_le (last_version (take n book)) v && is_below v until ≡ true
       → serial_map_at [] v (seen_of book).places ≡ after
   map-here until v next between =
@@ -105,6 +106,14 @@ module _ (book : List Entry) (plain : IsPlainBook book) (n : ℕ) where
     abbrev before : Seen
     before = seen_before book n
 
+    -- its version is the last one after it, and the next one before it
+    pub last-next : last_version (take (n + 1) book) ≡ entry.version
+    last-next = ap (λ (k : ℕ). last_version (take k book)) (add-one n) ∙ ap last_version (take-next book n entry there)
+        ∙ last-push (take n book) entry
+
+    pub until-next : IsUntil book n (Some entry.version)
+    until-next other at = ap (λ (e : Entry). Some e.version) (same_Some entry other (sym there ∙ at))
+
     next-seen : seen_before book (n + 1) ≡ add_entry before entry
     next-seen = ap (seen_before book) (add-one n) ∙ seen_before-next book n entry there
 
@@ -117,10 +126,11 @@ module _ (book : List Entry) (plain : IsPlainBook book) (n : ℕ) where
         (seen_before book (n + 1)).places
     map-after =
         let as_many = length-outcomes_on [] before entry in
-        ap₂ (λ (batch : List Transaction) (outcomes : List Outcome). effects after (body_by batch outcomes))
+        ap₂ (λ (batch : List Transaction) (outcomes : List Outcome). effects after
+        (mutations_in (body_by 0 batch outcomes)))
         (take_all (length entry.batch) entry.batch (le_refl (length entry.batch)))
         (take_all (length entry.batch) decided (omega (arith, as_many)))
-        ∙ ap (effects after) (body-committed [] before entry)
+        ∙ ap (λ (body : Body). effects after (mutations_in body)) (body-committed [] before entry)
         ∙ sym (serial_map-add_places [] entry.version (moves_through before entry) 0 entry.batch before.places)
         ∙ ap (λ (seen : Seen). serial_map [] seen.places) (sym next-seen)
 
@@ -159,16 +169,11 @@ module _ (book : List Entry) (plain : IsPlainBook book) (n : ℕ) where
         (cases_Bool (nat_lt i n))
     agrees-next transcript (spot.ReadOnly version) earlier between inside is_earlier = ⊎_elim earlier
         (λ (later : nat_lt version (last_version (take n book)) ≡ false).
-        let last : last_version (take (n + 1) book) ≡ entry.version =
-        ap (λ (k : ℕ). last_version (take k book)) (add-one n) ∙ ap last_version (take-next book n entry there)
-        ∙ last-push (take n book) entry in
         let below = ltb-true version (last_version (take (n + 1) book)) is_earlier in
         let above = ltb-false version (last_version (take n book)) later in
-        between-agrees (Some entry.version)
-        (λ other at. ap (λ (e : Entry). Some e.version) (same_Some entry other (sym there ∙ at))) transcript version
-        between
+        between-agrees (Some entry.version) until-next transcript version between
         (and_from _ _ (le-leb (last_version (take n book)) version above)
-        (lt-ltb version entry.version (omega (arith, below, last)))))
+        (lt-ltb version entry.version (omega (arith, below, last-next)))))
         (cases_Bool (nat_lt version (last_version (take n book))))
 
     -- a check that has come to the entry and finds no fault between it and the one before, and none in it, comes to the
@@ -235,6 +240,10 @@ module _ (book : List Entry) (plain : IsPlainBook book) (n : ℕ) where
       (agrees-between until next placed.transcript placed.spot agrees)))
       acknowledged fault stops
 
+  -- no entry follows the last one
+  pub until-end : length book ≤ n → IsUntil book n None
+  until-end all entry there = let gone = sym there ∙ nothing-after book n all in cc
+
   -- who agrees where he stands before the end of the book, and at its last version or above, agrees
   agrees-last : length book ≤ n → (transcript : Transcript) (at : Spot)
       → (is_before book n at ≡ true → AgreesAt book transcript at)
@@ -248,8 +257,7 @@ module _ (book : List Entry) (plain : IsPlainBook book) (n : ℕ) where
       (cases_Bool (nat_lt i n))
   agrees-last all transcript (spot.ReadOnly version) earlier between = ⊎_elim earlier
       (λ (later : nat_lt version (last_version (take n book)) ≡ false).
-      between-agrees None (λ entry there. let gone = sym there ∙ nothing-after book n all in cc) transcript version
-      between
+      between-agrees None (until-end all) transcript version between
       (and_from _ _ (le-leb (last_version (take n book)) version (ltb-false version (last_version (take n book)) later))
       refl))
       (cases_Bool (nat_lt version (last_version (take n book))))
@@ -271,8 +279,7 @@ module _ (book : List Entry) (plain : IsPlainBook book) (n : ℕ) where
       → from ≡ last_version (take n book) → StopsBy (AnsweredAt (Between from None) old.map) acknowledged fault
       → StopsBy (Agrees book) acknowledged fault
   stops-last all acknowledged old from fault come is_last =
-      stops-between acknowledged old from None fault come is_last
-      (λ entry there. let gone = sym there ∙ nothing-after book n all in cc)
+      stops-between acknowledged old from None fault come is_last (until-end all)
 
 -- before the first entry there is nothing to compare
 comes-first : (book : List Entry) (acknowledged : List Placed)

@@ -1,10 +1,10 @@
 -- The part of a map that a read of a range sees.
-use Rattle.std.proofs.Common.{◌≡◌, ◌∙◌, refl, ap, ℕ, Bool, true, List, [], ◌∷◌, fold, reverse, inr, ◌&&◌}
+use Rattle.std.proofs.Common.{◌≡◌, ◌∙◌, sym, refl, ap, ℕ, Bool, true, false, List, [], ◌∷◌, fold, reverse, inr, ◌&&◌}
 use Rattle.std.specs.Ordering.{nat_cmp}
 use Rattle.std.specs.Prelude.{nat_eq}
 use Rattle.std.specs.Bool.{Decides}
 use Rattle.std.specs.Cmp.Lexicographic.{slice_cmp, pointwise, bytes_decides}
-use Rattle.std.specs.FinMap.{get, insert, empty, entries, from_entries, get-from_entries}
+use Rattle.std.specs.FinMap.{get, insert, empty, entries, find, from_entries, get-from_entries}
 use Rattle.std.proofs.lemmas.Bool.{cond-true}
 use Rattle.std.proofs.lemmas.Bool.Decides.{Decides-and}
 use Rattle.std.proofs.lemmas.Cmp.{nat_list_cmp_total}
@@ -63,6 +63,14 @@ copies-agree_in range part map ops agree x inside = copies-agree part map ops x 
 pub given-agrees : (range : Range) (part map : Map) (limit : ℕ) (is_reverse : Bool) → AgreeIn range part map
     → given_of part range limit is_reverse ≡ given_of map range limit is_reverse
 given-agrees range part map limit is_reverse agree = ap (first_of limit) (same_values part map range is_reverse agree)
+
+-- maps with the same pairs in a range have the same values there
+pub same_pairs : (map other : Map) (range : Range) → pairs_in map range false ≡ pairs_in other range false
+    → AgreeIn range map other
+same_pairs map other range same x inside =
+    sym (cond-true _ _ _ inside) ∙ sym (find-within map range x)
+    ∙ ap (λ (pairs : List (Point × List ℕ)). find (slice_cmp nat_cmp) x pairs) same
+    ∙ find-within other range x ∙ cond-true _ _ _ inside
 
 -- `==` of two pairs
 abbrev pub pair_eq : Point × List ℕ → Point × List ℕ → Bool

@@ -1,6 +1,7 @@
 -- A batch that is run anew by its outcomes, beside the run of the book.
 use Rattle.std.proofs.Common.{◌≡◌, ◌∙◌, sym, ap, ap₂, refl, ℕ, zero, suc, ◌+◌, ◌<◌, add-one, arith, Bool, true, false, List, [], ◌∷◌, ◌++◌, take, length, get_or, if◌then◌else◌, append_assoc, append-nil, Some}
 use Rattle.std.specs.List.{slice_get}
+use Rattle.std.proofs.lemmas.List.{map-append}
 use Rattle.std.proofs.lemmas.List.Sums.{fold-append}
 use Rattle.std.proofs.lemmas.Option.{slice_get-get_or}
 use Rattle.fdb_mutations.specs.declared.mutation.Mutation.{Mutation}
@@ -10,7 +11,9 @@ use Rattle.fdb_txn.specs.book.Transactions.{Transaction}
 use Rattle.fdb_txn.specs.book.Book.{Stamped, Place, placed}
 use Rattle.fdb_txn.specs.book.Places.{place_in}
 use Rattle.fdb_txn.specs.rules.Admission.{committed}
+use Rattle.fdb_txn.specs.rules.Messages.{mutations_in, at_place}
 use Rattle.fdb_txn.specs.rules.SerialMap.{serial_map}
+use Rattle.fdb_txn.proofs.rules.MessagesLemmas.{mutations-if}
 use Rattle.fdb_core.specs.declared.step.Outcome.{Outcome}
 use Rattle.fdb_core.specs.check.Checking.{map_after}
 use Rattle.fdb_core.specs.refinement.Roles.{body_by, is_commit}
@@ -31,22 +34,44 @@ effects-next map mutations i mutation there =
     ap (effects map) (ap (λ (n : ℕ). take n mutations) (add-one i) ∙ take-next mutations i mutation there)
     ∙ fold-append effect map (take i mutations) (mutation ∷ [])
 
+-- the mutations of a batch by its outcomes, which are the same whatever number its first place has
+writes_by : List Transaction → List Outcome → List Mutation
+writes_by [] outcomes = []
+writes_by (t ∷ ts) [] = []
+writes_by (t ∷ ts) (outcome ∷ outcomes) = (if is_commit outcome then t.mutations else []) ++ writes_by ts outcomes
+
+body-writes : (p : ℕ) (batch : List Transaction) (outcomes : List Outcome)
+    → mutations_in (body_by p batch outcomes) ≡ writes_by batch outcomes
+unfolding writes_by
+body-writes p [] outcomes = refl
+body-writes p (t ∷ ts) [] = refl
+body-writes p (t ∷ ts) (outcome ∷ outcomes) =
+    map-append (λ (sent : ℕ × Mutation). sent.1) (if is_commit outcome then at_place p t.mutations else [])
+    (body_by (suc p) ts outcomes)
+    ∙ ap₂ (λ (here others : List Mutation). here ++ others) (mutations-if p (is_commit outcome) t.mutations)
+    (body-writes (suc p) ts outcomes)
+
+after-writes : (map : Map) (batch : List Transaction) (outcomes : List Outcome) (count : ℕ)
+    → map_after map batch outcomes count ≡ effects map (writes_by (take count batch) (take count outcomes))
+after-writes map batch outcomes count = ap (effects map) (body-writes 0 (take count batch) (take count outcomes))
+
 -- the mutations of one place more of a batch
-body-next : (batch : List Transaction) (outcomes : List Outcome) (p : ℕ) (t : Transaction) (outcome : Outcome)
+writes-next : (batch : List Transaction) (outcomes : List Outcome) (p : ℕ) (t : Transaction) (outcome : Outcome)
     → slice_get batch p ≡ Some t → slice_get outcomes p ≡ Some outcome
-    → body_by (take (suc p) batch) (take (suc p) outcomes)
-    ≡ body_by (take p batch) (take p outcomes) ++ (if is_commit outcome then t.mutations else [])
-body-next [] outcomes p t outcome there at = cc
-body-next (first ∷ batch) [] p t outcome there at = cc
-body-next (first ∷ batch) (o ∷ outcomes) zero t outcome there at =
+    → writes_by (take (suc p) batch) (take (suc p) outcomes)
+    ≡ writes_by (take p batch) (take p outcomes) ++ (if is_commit outcome then t.mutations else [])
+unfolding writes_by
+writes-next [] outcomes p t outcome there at = cc
+writes-next (first ∷ batch) [] p t outcome there at = cc
+writes-next (first ∷ batch) (o ∷ outcomes) zero t outcome there at =
     let same : first ≡ t = cc in
     let same_outcome : o ≡ outcome = cc in
     append-nil (if is_commit o then first.mutations else [])
     ∙ ap₂ (λ (one : Outcome) (of : Transaction). if is_commit one then of.mutations else []) same_outcome same
-body-next (first ∷ batch) (o ∷ outcomes) (suc p) t outcome there at =
+writes-next (first ∷ batch) (o ∷ outcomes) (suc p) t outcome there at =
     ap (λ others. (if is_commit o then first.mutations else []) ++ others)
-    (body-next batch outcomes p t outcome there at)
-    ∙ sym (append_assoc (if is_commit o then first.mutations else []) (body_by (take p batch) (take p outcomes))
+    (writes-next batch outcomes p t outcome there at)
+    ∙ sym (append_assoc (if is_commit o then first.mutations else []) (writes_by (take p batch) (take p outcomes))
     (if is_commit outcome then t.mutations else []))
 
 -- the map after one place more
@@ -58,10 +83,12 @@ pub after-next : (map old new : Map) (batch : List Transaction) (outcomes : List
 after-next map old new batch outcomes p t other there within before after =
     let outcome = get_or outcomes p other in
     after
-    ∙ ap (λ (at : Map). effects at (if is_commit outcome then t.mutations else [])) before
-    ∙ sym (effects-append map (body_by (take p batch) (take p outcomes))
+    ∙ ap (λ (at : Map). effects at (if is_commit outcome then t.mutations else []))
+    (before ∙ after-writes map batch outcomes p)
+    ∙ sym (effects-append map (writes_by (take p batch) (take p outcomes))
     (if is_commit outcome then t.mutations else []))
-    ∙ ap (effects map) (sym (body-next batch outcomes p t outcome there (slice_get-get_or outcomes p other within)))
+    ∙ ap (effects map) (sym (writes-next batch outcomes p t outcome there (slice_get-get_or outcomes p other within)))
+    ∙ sym (after-writes map batch outcomes (suc p))
     ∙ ap (map_after map batch outcomes) (sym (add-one p))
 
 -- the run goes on by a place just as by its outcome
@@ -84,20 +111,23 @@ pub place-map : (version : ℕ) (moves : List Stamped) (batch : List Transaction
     (there : Place × List Place)
     → place_in version moves batch earlier p ≡ Some there
     → serial_map [] there.1 ≡ map_after (serial_map [] earlier) batch (outcomes_from [] version moves batch earlier n) p
+unfolding writes_by
 place-map version moves [] earlier n p there at = cc
 place-map version moves (t ∷ ts) earlier n zero there at = let same : there ≡ (placed version moves t, earlier) = cc in
     ap (λ (one : Place × List Place). serial_map [] one.1) same
 place-map version moves (t ∷ ts) earlier n (suc p) there at =
     place-map version moves ts (place ∷ earlier) (suc n) p there at
+    ∙ after-writes (serial_map [] (place ∷ earlier)) ts (outcomes_from [] version moves ts (place ∷ earlier) (suc n)) p
     ∙ ap (λ (map : Map). effects map others) (serial_map-place earlier place n)
     ∙ sym (effects-append (serial_map [] earlier)
     (if is_commit (outcome_at [] earlier place n) then t.mutations else []) others)
+    ∙ sym (after-writes (serial_map [] earlier) (t ∷ ts) (outcomes_from [] version moves (t ∷ ts) earlier n) (suc p))
   where
     place : Place
     place = placed version moves t
 
     others : List Mutation
-    others = body_by (take p ts) (take p (outcomes_from [] version moves ts (place ∷ earlier) (suc n)))
+    others = writes_by (take p ts) (take p (outcomes_from [] version moves ts (place ∷ earlier) (suc n)))
 
 -- there is a place for each transaction of a batch, and no other
 pub place-there : (version : ℕ) (moves : List Stamped) (batch : List Transaction) (earlier : List Place) (p : ℕ)

@@ -1,27 +1,30 @@
 -- A check of a sound world finds no difference.
-use Rattle.std.proofs.Common.{◌≡◌, ◌∙◌, sym, ap, subst, refl, length, take, ℕ, ◌≤◌, le_refl, arith, Bool, true, false, not, if◌then◌else◌, List, [], Option, Some, None, ⊎_elim, Result, Ok, Err, MatchResult, length-take-le}
+use Rattle.std.proofs.Common.{◌≡◌, ◌∙◌, sym, ap, subst, refl, length, take, ℕ, ◌≤◌, le_refl, arith, Bool, true, false, not, if◌then◌else◌, List, [], Option, Some, None, ⊎_elim, Result, Ok, Err, MatchResult, slice_get}
 use Rattle.std.specs.Prelude.{IfSome}
 use Rattle.std.proofs.lemmas.Option.{same_Some, slice_get_read}
+use Rattle.std.specs.FinMap.{get}
 use Rattle.fdb_keys.specs.Points.{Point}
+use Rattle.fdb_keys.specs.Ranges.{Range, in_range}
+use Rattle.fdb_mutations.specs.Maps.{Map}
+use Rattle.fdb_storage.specs.Limits.{shard_limit}
 use Rattle.fdb_txn.specs.declared.spot.Spot.{Spot}
 use Rattle.fdb_txn.specs.declared.spot.Spot.TheVariants as spot
-use Rattle.fdb_txn.specs.book.Book.{Place, seen_of, last_version}
+use Rattle.fdb_txn.specs.book.Book.{Place, seen_of, seen_before, last_version}
 use Rattle.fdb_txn.specs.rules.SerialMap.{serial_map, serial_map_at}
 use Rattle.fdb_core.specs.declared.cluster.Cluster.{Cluster}
-use Rattle.fdb_core.specs.refinement.Messages.{Message, value_in}
+use Rattle.fdb_core.specs.declared.roles.shard.ShardRole.{ShardRole}
 use Rattle.fdb_client.specs.declared.program.Transcript.{Transcript}
 use Rattle.fdb_core.specs.declared.world.CheckFault.{CheckFault}
 use Rattle.fdb_core.specs.declared.world.CheckFault.TheVariants.{NoMemory}
 use Rattle.fdb_core.specs.check.Checking.{IsPlainBook, AgreesAt, Agrees, Finds}
 use Rattle.fdb_core.specs.check.Comparing.{Differs}
-use Rattle.fdb_core.specs.check.Holding.{HoldsTheRun}
+use Rattle.fdb_core.specs.check.Holding.{HoldsTheRun, ShardDiffers}
 use Rattle.fdb_core.specs.headline.Headline.{AnsweredOn, IsSerializedAtSpot}
 use Rattle.fdb_core.specs.refinement.Cluster.{machine_of, Refines}
 use Rattle.fdb_core.specs.machine.Machine.{Machine}
-use Rattle.fdb_core.specs.refinement.Roles.{along, message_on}
 use Rattle.fdb_core.specs.invariant.Invariant.{Invariant, IsSerializedIn}
 use Rattle.fdb_core.proofs.common.AllLemmas.{all-at}
-use Rattle.fdb_core.proofs.refinement.RunLaws.{entries-rising, length-along, value-of-serial_map}
+use Rattle.fdb_core.proofs.refinement.RunLaws.{entries-rising, serial-front}
 
 module _ (k : Cluster) (refines : Refines k) where
   -- its book is one that a check runs anew
@@ -41,26 +44,28 @@ module _ (k : Cluster) (refines : Refines k) where
       subst (λ (splits : List Point). AnsweredOn (serial_map_at splits version (seen_of k.book.items).places)
       transcript) refines.plain.resolver_splits stands.3
 
-  -- its shard has the run's map
-  shard-holds : HoldsTheRun k.book.items k.shard.items
-  shard-holds x =
-      let log = refines.log in
-      let messages = along (message_on []) k.book.items in
-      let each : length messages ≡ length k.book.items = length-along (message_on []) k.book.items in
-      let all : length k.shard.items ≡ log.applied =
-      ap (λ (ms : List Message). length ms) log.kept
-      ∙ length-take-le log.applied messages (omega (arith, each, log.after, log.within)) in
-      let reached : last_version (take (length k.shard.items) k.book.items) ≤ last_version
-      (take log.applied k.book.items) =
-      subst (λ (n : ℕ). last_version (take n k.book.items) ≤ last_version (take log.applied k.book.items)) (sym all)
-      (le_refl (last_version (take log.applied k.book.items))) in
-      ap (λ (ms : List Message). value_in (last_version (take (length k.shard.items) k.book.items)) x ms) log.kept
-      ∙ value-of-serial_map [] k.book.items (entries-rising 1 k.book.items refines.book.entries) log.applied
-      (last_version (take (length k.shard.items) k.book.items)) reached x
+  -- each of its shards has the run's map
+  shard-holds : (i : ℕ) (role : ShardRole) → slice_get k.shards.items i ≡ Some role → HoldsTheRun k.book.items role
+  shard-holds i role there x inside =
+      let its = refines.logs.each_shard i role there in
+      let reached : role.core.version ≤ last_version (take role.applied k.book.items) =
+      subst (λ (v : ℕ). role.core.version ≤ v) its.version (le_refl role.core.version) in
+      its.serves role.core.version x its.serving (le_refl role.core.version)
+      (subst (λ (range : Range). in_range range x ≡ true) its.range inside)
+      ∙ ap (λ (splits : List Point).
+      get (serial_map_at splits role.core.version (seen_before k.book.items role.applied).places) x)
+      refines.plain.resolver_splits
+      ∙ sym (ap (λ (map : Map). get map x)
+      (serial-front [] k.book.items (entries-rising 1 k.book.items refines.book.entries) role.applied role.core.version
+      reached))
+
+  -- there are few
+  few-shards : length k.shards.items ≤ shard_limit
+  few-shards = omega (arith, refines.logs.shard_count, refines.plain.few_shards)
 
   -- so whatever is found is the number of acknowledged transactions, or want of memory
   sound-finds : Invariant (machine_of k) → (result : Result ℕ CheckFault)
-      → Finds result k.book.items k.acknowledged.items true k.shard.items
+      → Finds result k.book.items k.acknowledged.items k.shards.items
       → MatchResult result (λ count. count ≡ length k.acknowledged.items) (λ fault. fault ≡ NoMemory)
   sound-finds sound (Ok count) finds = finds.0
   sound-finds sound (Err fault) finds = ⊎_elim
@@ -70,14 +75,22 @@ module _ (k : Cluster) (refines : Refines k) where
       let stands = all-at (IsSerializedIn (machine_of k)) k.acknowledged.items differs.0 differs.1 sound.acknowledged
       there in
       absurd (differs.4.1 (agrees-where-stands differs.1.transcript differs.1.spot stands))))
-      (λ unlike. absurd (unlike.2 shard-holds))
+      (λ (differs : ShardDiffers (HoldsTheRun k.book.items) k.shards.items fault).
+      absurd (differs.4 (shard-holds differs.0 differs.1 differs.2)))
       finds
+
+-- the shards that are compared are few
+pub few-compared : (k : Cluster) (failed : Bool) → (failed ≡ false → Refines k × Invariant (machine_of k))
+    → not failed ≡ true → length k.shards.items ≤ shard_limit
+few-compared k true holds compared = cc
+few-compared k false holds compared = few-shards k (holds refl).0
 
 -- and so of a world, unless memory ran out in a step
 pub world-finds : (k : Cluster) (failed : Bool) (world : Option Machine) (result : Result ℕ CheckFault)
     → (if failed then None else Some (machine_of k)) ≡ world
     → (failed ≡ false → Refines k × Invariant (machine_of k))
-    → (IsPlainBook k.book.items → Finds result k.book.items k.acknowledged.items (not failed) k.shard.items)
+    → (IsPlainBook k.book.items
+    → Finds result k.book.items k.acknowledged.items (if not failed then k.shards.items else []))
     → IfSome world
     (λ machine. MatchResult result (λ count. count ≡ length machine.acknowledged) (λ fault. fault ≡ NoMemory))
 world-finds k true world result is holds finds =

@@ -8,8 +8,7 @@ use Rattle.fdb_keys.specs.declared.refusal.Refusal.{Refusal}
 use Rattle.fdb_keys.specs.Points.{point_lt}
 use Rattle.fdb_keys.specs.Insertion as insertion
 use Rattle.fdb_mutations.specs.Mutations.{effects}
-use Rattle.fdb_mutations.specs.declared.mutation.Mutation.{Mutation}
-use Rattle.fdb_core.specs.refinement.Messages.{Message}
+use Rattle.fdb_txn.specs.declared.tag_msg.TagMsg.{TagMsg}
 use Rattle.fdb_txn.specs.book.Transactions.{Transaction}
 use Rattle.fdb_txn.specs.book.Book.{Place, placed}
 use Rattle.fdb_txn.specs.rules.SerialMap.{serial_map}
@@ -96,12 +95,12 @@ pub forgetful_roles_do_not_keep : ForgetfulRolesDoNotKeep
 unfolding point_lt insertion.inserted
 forgetful_roles_do_not_keep = (
   (λ state. let never : false ≡ true = state (codes "a") 0 (omega arith) in cc),
-  (λ kept. let wrong : [] ≡ (commit_request_of (reads_and_sets 0 None)).mutations = ap body_of kept in cc),
+  (λ keeps. let wrong : 0 ≡ 1 = ap sent_of (keeps.kept 0 refl) in omega (arith, wrong)),
 )
   where
-    body_of : List Message → List Mutation
-    body_of [] = []
-    body_of (message ∷ messages) = message.body
+    sent_of : List TagMsg → ℕ
+    sent_of [] = 0
+    sent_of (message ∷ messages) = length message.body
 
 pub read_off_the_trace : ReadOffTheTrace
 read_off_the_trace = (refl, refl, refl, refl, refl, refl)

@@ -24,7 +24,7 @@ use Rattle.fdb_core.specs.machine.Sessions.{open_at}
 use Rattle.fdb_client.specs.Programs.{program, decided}
 use Rattle.fdb_core.specs.headline.Promises.{RefusalsChangeNothing, GrantsCommitted, GetsFromTheRun, GetsRefused, RangeReadsFromTheRun, RangeReadsRefused, Lags, Forgot, Serves, AtSomePoint, AtEachPoint}
 use Rattle.fdb_core.specs.machine.Steps.{after}
-use Rattle.fdb_core.proofs.common.BeginLemmas.{of-range, too-old-range, served-range}
+use Rattle.fdb_core.specs.refinement.RangeFaults.{of-range, too-old-range, served-range}
 use Rattle.fdb_core.proofs.machine.Transitions.{reads-transition, reads-refused}
 use Rattle.fdb_core.proofs.machine.AcceptedTransitions.{of-accepted, past-found, past-test, past-fault, past-open}
 

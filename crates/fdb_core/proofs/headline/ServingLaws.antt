@@ -1,21 +1,27 @@
--- What the one resolver, the log and the shard keep is what the book says of them.
-use Rattle.std.proofs.Common.{◌≡◌, ◌∙◌, sym, ap, refl, subst, arith, ℕ, zero, suc, ◌-◌, false, List, [], ◌∷◌, map, take, length, slice_get, Some}
+-- What the roles keep is what the book says of them.
+use Rattle.std.proofs.Common.{◌≡◌, ◌∙◌, sym, ap, refl, subst, arith, ℕ, zero, suc, ◌-◌, ◌≤◌, false, List, [], ◌∷◌, map, take, length, slice_get, Some}
 use Rattle.std.specs.FinMap.{get}
+use Rattle.std.proofs.lemmas.List.{length-map}
+use Rattle.std.proofs.lemmas.Option.{same_Some}
 use Rattle.fdb_sequencer.proofs.TicketLemmas.{passed_is_stale}
 use Rattle.fdb_keys.specs.Points.{Point}
 use Rattle.fdb_interval.specs.Versions.{version_at}
-use Rattle.fdb_txn.specs.book.Book.{seen_of, last_version, seen_before}
+use Rattle.fdb_txn.specs.book.Book.{last_version, seen_before}
 use Rattle.fdb_txn.specs.rules.Owners.{window}
 use Rattle.fdb_txn.specs.rules.Resolvers.{IsStateOf}
-use Rattle.fdb_txn.specs.rules.SerialMap.{serial_map_at}
 use Rattle.fdb_core.specs.declared.cluster.Cluster.{Cluster}
-use Rattle.fdb_core.specs.refinement.Messages.{Message, value_in}
+use Rattle.fdb_mutations.specs.Maps.{Map}
+use Rattle.fdb_log.specs.Messages.{log_of}
+use Rattle.fdb_storage.specs.Shards.{Shard, value_at}
+use Rattle.fdb_core.specs.declared.roles.log.LogRole.{LogRole}
+use Rattle.fdb_core.specs.declared.roles.shard.ShardRole.{ShardRole}
+use Rattle.fdb_core.specs.refinement.Logs.{progress_of}
 use Rattle.fdb_core.specs.machine.Roles.{ShardProgress}
-use Rattle.fdb_core.specs.refinement.Cluster.{machine_of, shard_of, system_of, Refines}
+use Rattle.fdb_core.specs.refinement.Cluster.{machine_of, system_of, Refines}
 use Rattle.fdb_core.specs.machine.Machine.{Machine}
-use Rattle.fdb_core.specs.refinement.Roles.{along, message_on}
-use Rattle.fdb_core.specs.headline.Serving.{Shard, EachKeeps, SequencerKeeps, ResolverKeeps, LogKeeps, ShardReaches, ShardServes, RolesKeep}
-use Rattle.fdb_core.proofs.refinement.RunLaws.{entries-rising, take-along, value-of-serial_map}
+use Rattle.fdb_core.specs.headline.Serving.{EachKeeps, SequencerKeeps, ResolverKeeps, MessagesKeep, LogKeeps, ShardReaches, ShardServes, RolesKeep}
+use Rattle.fdb_core.proofs.refinement.LogTies.{kept-tag}
+use Rattle.fdb_core.proofs.refinement.RunLaws.{entries-rising, serial-front}
 use Rattle.fdb_core.specs.declared.roles.resolver.ResolverRole.{ResolverRole}
 use Rattle.fdb_core.specs.refinement.Resolving.{taken_by}
 
@@ -31,9 +37,27 @@ each-one {A} {B} P a b keeps = (refl, at)
         subst (λ (x : A). P 0 x kept) same_far (subst (λ (y : B). P 0 a y) same_kept keeps)
     at (suc i) far kept at_far at_kept = cc
 
+-- what is seen of a list is seen of one of its items
+seen-at : {A B : Type 0} (f : A → B) (xs : List A) (i : ℕ) (y : B) → slice_get (map f xs) i ≡ Some y
+    → (x : A) × (slice_get xs i ≡ Some x) × (f x ≡ y)
+seen-at f [] i y there = cc
+seen-at f (x ∷ xs) zero y there = let same : f x ≡ y = cc in (x, refl, same)
+seen-at f (x ∷ xs) (suc i) y there = seen-at f xs i y there
+
+-- what holds of each item as it is seen in two ways
+each-seen : {A B C : Type 0} (f : A → B) (g : A → C) (P : ℕ → B → C → Type 0) (xs : List A)
+    → ((i : ℕ) (x : A) → slice_get xs i ≡ Some x → P i (f x) (g x))
+    → (i : ℕ) (b : B) (c : C) → slice_get (map f xs) i ≡ Some b → slice_get (map g xs) i ≡ Some c → P i b c
+each-seen {A} {B} {C} f g P xs all i b c at also =
+    let found = seen-at f xs i b at in
+    let other = seen-at g xs i c also in
+    let same : other.0 ≡ found.0 = same_Some other.0 found.0 (sym other.1 ∙ found.1) in
+    subst (λ (y : B). P i y c) found.2
+    (subst (λ (z : C). P i (f found.0) z) (ap g (sym same) ∙ other.2) (all i found.0 found.1))
+
 -- each role of the world keeps what the book says of it
 pub roles_keep : (k : Cluster) → Refines k → RolesKeep (system_of false k)
-roles_keep k refines = (sequencer, resolver, log, reaches, (count, serves))
+roles_keep k refines = (sequencer, resolver, messages, logs, reaches, (count, serves))
   where
     m : Machine
     m = machine_of k
@@ -64,50 +88,66 @@ roles_keep k refines = (sequencer, resolver, log, reaches, (count, serves))
         (map (λ (one : ResolverRole). one.core) roles)) (sym refines.resolvers.one)
         (each-one (ResolverKeeps m) role.taken role.core keeps)
 
-    log : EachKeeps (LogKeeps m) m.logs (k.log.items ∷ [])
-    log =
-        let ok = refines.log in
-        let keeps : LogKeeps m 0 ok.taken k.log.items =
-        ok.logged ∙ ap (λ splits. take ok.taken (along (message_on splits) k.book.items))
-        (sym refines.plain.resolver_splits)
-        ∙ take-along (message_on k.config.resolver_splits) ok.taken k.book.items in
-        subst (λ (far : List ℕ). EachKeeps (LogKeeps m) far (k.log.items ∷ [])) (sym ok.one_log)
-        (each-one (LogKeeps m) ok.taken k.log.items keeps)
+    messages : MessagesKeep m k.messages.items
+    messages = (refines.book.each_pooled, λ i entry there. refines.book.made i entry there)
 
-    progress : ShardProgress
-    progress = record { applied = refines.log.applied; floor = 0 }
-
-    one : Shard
-    one = shard_of k.book.items k.shard.items progress
-
-    shards : map (shard_of k.book.items k.shard.items) k.shards.items ≡ one ∷ []
-    shards = ap (map (shard_of k.book.items k.shard.items)) refines.log.one_shard
-
-    reaches : EachKeeps (ShardReaches m) m.shards (map (shard_of k.book.items k.shard.items) k.shards.items)
-    reaches = subst (λ (far : List ShardProgress). EachKeeps (ShardReaches m) far
-        (map (shard_of k.book.items k.shard.items) far)) (sym refines.log.one_shard)
-        (each-one (ShardReaches m) progress one (refl, refl))
-
-    count : length (map (shard_of k.book.items k.shard.items) k.shards.items) ≡ suc (length k.config.shard_splits)
-    count = ap (λ (all : List Shard). length all) shards
-        ∙ ap (λ (splits : List Point). suc (length splits)) (sym refines.plain.shard_splits)
-
-    serves_one : ShardServes m.config m.book 0 one
-    serves_one = λ v x above reached held.
-        subst (λ (messages : List Message). value_in v x messages ≡ get
-        (serial_map_at k.config.resolver_splits v (seen_of k.book.items).places) x)
-        (sym (refines.log.kept
-        ∙ ap (λ splits. take refines.log.applied (along (message_on splits) k.book.items))
-        (sym refines.plain.resolver_splits)))
-        (value-of-serial_map k.config.resolver_splits k.book.items (entries-rising 1 k.book.items refines.book.entries)
-        refines.log.applied v reached x)
-
-    serves : (i : ℕ) (shard : Shard)
-        → slice_get (map (shard_of k.book.items k.shard.items) k.shards.items) i ≡ Some shard
-        → ShardServes m.config m.book i shard
-    serves i shard there =
-        only i shard (ap (λ (all : List Shard). slice_get all i) (sym shards) ∙ there)
+    logs : EachKeeps (LogKeeps m) m.logs (map (λ (role : LogRole). role.core) k.logs.items)
+    logs = (
+      length-map k.logs.items (λ (role : LogRole). role.core) ∙ sym (length-map k.logs.items (λ (role : LogRole). role.taken)),
+      each-seen (λ (role : LogRole). role.taken) (λ (role : LogRole). role.core) (LogKeeps m) k.logs.items keeps-log,
+    )
       where
-        only : (i : ℕ) (shard : Shard) → slice_get (one ∷ []) i ≡ Some shard → ShardServes m.config m.book i shard
-        only zero shard there = let same : one ≡ shard = cc in subst (ShardServes m.config m.book 0) same serves_one
-        only (suc i) shard there = cc
+        keeps-log : (i : ℕ) (role : LogRole) → slice_get k.logs.items i ≡ Some role → LogKeeps m i role.taken role.core
+        keeps-log i role there =
+            let its = refines.logs.each_log i role there in
+            record {
+              number = its.number;
+              logs = its.logs ∙ sym refines.logs.log_count
+                  ∙ sym (length-map k.logs.items (λ (one : LogRole). one.taken));
+              tags = its.tags ∙ sym refines.logs.shard_count ∙ sym (length-map k.shards.items progress_of);
+              works = its.works;
+              last = its.last;
+              popped = λ tag progress keeps_it at.
+                  let found = seen-at progress_of k.shards.items tag progress at in
+                  let own = kept-tag role.core tag keeps_it in
+                  let number : log_of (length k.logs.items) tag ≡ i =
+                  ap (λ (n : ℕ). log_of n tag) (refines.logs.log_count ∙ sym its.logs) ∙ own.1 ∙ its.number in
+                  (refines.logs.each_tag tag found.0 found.1 role
+                  (ap (slice_get k.logs.items) number ∙ there)).1
+                  ∙ ap (λ (it : ShardProgress). it.popped) found.2;
+              kept = its.kept;
+            }
+
+    reaches : EachKeeps (ShardReaches m) m.shards (map (λ (role : ShardRole). role.core) k.shards.items)
+    reaches = (
+      length-map k.shards.items (λ (role : ShardRole). role.core) ∙ sym (length-map k.shards.items progress_of),
+      each-seen progress_of (λ (role : ShardRole). role.core) (ShardReaches m) k.shards.items
+          (λ i role there.
+          let its = refines.logs.each_shard i role there in
+          record {
+            tag = its.tag;
+            range = its.range;
+            works = its.works;
+            floor = refl;
+            version = its.version;
+            popped = its.popped;
+          }),
+    )
+
+    count : length (map (λ (role : ShardRole). role.core) k.shards.items) ≡ suc (length k.config.shard_splits)
+    count = length-map k.shards.items (λ (role : ShardRole). role.core) ∙ refines.logs.shard_count
+
+    serves : (i : ℕ) (shard : Shard) → slice_get (map (λ (role : ShardRole). role.core) k.shards.items) i ≡ Some shard
+        → ShardServes m.config m.book i shard
+    serves i shard there v x from until inside =
+        let found = seen-at (λ (role : ShardRole). role.core) k.shards.items i shard there in
+        let role = found.0 in
+        let its = refines.logs.each_shard i role found.1 in
+        let from_there : role.core.floor ≤ v = subst (λ (it : Shard). it.floor ≤ v) (sym found.2) from in
+        let until_there : v ≤ role.core.version = subst (λ (it : Shard). v ≤ it.version) (sym found.2) until in
+        ap (λ (it : Shard). value_at it v x) (sym found.2)
+        ∙ its.serves v x from_there until_there inside
+        ∙ ap (λ (map : Map). get map x)
+        (sym (serial-front k.config.resolver_splits k.book.items
+        (entries-rising 1 k.book.items refines.book.entries) role.applied v
+        (subst (λ (version : ℕ). v ≤ version) its.version until_there)))

@@ -1,5 +1,5 @@
 -- The walk over the steps of all kinds: what accepted steps change, and what they keep.
-use Rattle.std.proofs.Common.{◌≡◌, ◌<◌, ◌≤◌, refl, ap, ℕ, ◌+◌, ◌%◌, min, max, Bool, true, false, not, List, [], ◌∷◌, ◌++◌, take, map, length, fold, Option, Some, None, Result, Ok, Err}
+use Rattle.std.proofs.Common.{◌≡◌, ◌<◌, ◌≤◌, refl, ap, ℕ, ◌+◌, min, max, Bool, true, false, not, List, [], ◌∷◌, ◌++◌, take, map, length, fold, Option, Some, None, Result, Ok, Err}
 use Rattle.std.specs.Prelude.{nat_lt, nat_le}
 use Rattle.std.specs.List.{slice_get, slice_set, list_any}
 use Rattle.std.proofs.lemmas.Bool.{and_parts, not-false, ltb-false, leb-false}
@@ -10,6 +10,7 @@ use Rattle.fdb_txn.specs.declared.entry.Entry.{Entry}
 use Rattle.fdb_txn.specs.declared.spot.Spot.TheVariants as spot
 use Rattle.fdb_txn.specs.book.Book.{seen_of, last_version, seen_before}
 use Rattle.fdb_txn.specs.rules.SerialMap.{serial_map_at}
+use Rattle.fdb_log.specs.Messages.{log_of}
 use Rattle.fdb_sequencer.specs.Limits.{version_limit}
 use Rattle.fdb_sequencer.specs.Sequencer.{next_version}
 use Rattle.fdb_core.specs.machine.Roles.{CommitProxy, Stage, Idle, Resolving, Logging, Reported, ShardProgress, Submission, Sender, FromResolver, FromLog}
@@ -26,7 +27,7 @@ use Rattle.fdb_core.specs.machine.ClientSteps.{reads, writes, adds_read, adds_wr
 use Rattle.fdb_core.specs.machine.GrvProxySteps.{asks, grants, has_no_number}
 use Rattle.fdb_core.specs.machine.CommitProxySteps.{seals, taken_by_sender, awaits, with_received, receives, decides, reports, answers, is_idle, is_resolving, is_logging, is_reported, placed_from, replies_from}
 use Rattle.fdb_core.specs.machine.Machine.{Machine, Transition, is_set, first_missing}
-use Rattle.fdb_core.specs.machine.RoleSteps.{resolves, pushes, pulls}
+use Rattle.fdb_core.specs.machine.RoleSteps.{version_of_shard, resolves, pushes, pulls, forgets, pops}
 use Rattle.fdb_core.specs.machine.Sessions.{Idle as Free, Asking, Waiting, session_of, open_at, with_state, is_busy, serve, tell_all}
 use Rattle.fdb_core.specs.machine.Steps.{next, after}
 use Rattle.fdb_core.specs.machine.Verdicts.{is_needed, outcomes_on}
@@ -53,12 +54,14 @@ is_quiet (step.Decide proxy) = true
 is_quiet (step.Push i log) = true
 is_quiet (step.Logged i log) = true
 is_quiet (step.Pull shard limit) = true
+is_quiet (step.Forget shard version) = true
+is_quiet (step.Pop shard) = true
 is_quiet taken = false
 
 -- What accepted steps do, by the fields that they change. The relation is between the machine, the step with its
 -- answer, and the machine after the step.
 pub record HoldsOfSteps (R : Machine → Step → Answered → Machine → Type 0) : Type 0 where
-  -- resolvers, logs and shards went on (Resolve, Push, Pull)
+  -- resolvers, logs and shards went on (Resolve, Push, Pull, Forget, Pop)
   pub roles : (m : Machine) (taken : Step) (answer : Answered) (resolvers logs : List ℕ) (shards : List ShardProgress)
       → is_quiet taken ≡ true → R m taken answer (record m { resolvers = resolvers; logs = logs; shards = shards })
   -- a session that neither asks nor waits asks (Ask)
@@ -182,7 +185,7 @@ module _ (R : Machine → Step → Answered → Machine → Type 0) (holds : Hol
   -- it holds of every accepted step
   pub holds-next : (m : Machine) (taken : Step) → IfAccepted (Leads m taken) (next m taken)
   unfolding asks grants writes adds_read adds_write submits seals resolves receives decides pushes reports answers
-      pulls
+      pulls forgets pops
   holds-next m (step.Ask session proxy) =
       past-found _ (slice_get m.grv_proxies proxy) _ (λ there at.
       past-test _ (is_busy (session_of m.sessions session).state) _ _
@@ -265,10 +268,19 @@ module _ (R : Machine → Step → Answered → Machine → Type 0) (holds : Hol
       holds.told m proxy commit_proxy entry at ((stage-is commit_proxy.stage).3 (not-false _ is_reported)) there))))
   holds-next m (step.Pull shard limit) =
       past-found _ (slice_get m.shards shard) _
-      (λ progress _. past-found _ (slice_get m.logs (shard % length m.logs)) _ (λ has _.
+      (λ progress _. past-found _ (slice_get m.logs (log_of (length m.logs) shard)) _ (λ has _.
       holds.roles m (step.Pull shard limit) _ m.resolvers m.logs
       (slice_set m.shards shard
       (record progress { applied = max progress.applied (min has (progress.applied + limit)) })) refl))
+  holds-next m (step.Forget shard version) =
+      past-found _ (slice_get m.shards shard) _ (λ progress _.
+      past-test _ (nat_lt (version_of_shard m.book progress) version) _ _ (λ _.
+      holds.roles m (step.Forget shard version) _ m.resolvers m.logs
+      (slice_set m.shards shard (record progress { floor = max progress.floor version })) refl))
+  holds-next m (step.Pop shard) =
+      past-found _ (slice_get m.shards shard) _ (λ progress _.
+      holds.roles m (step.Pop shard) _ m.resolvers m.logs
+      (slice_set m.shards shard (record progress { popped = version_of_shard m.book progress })) refl)
 
 -- What steps keep.
 abbrev pub KeptBySteps : (Machine → Type 0) → Type 0

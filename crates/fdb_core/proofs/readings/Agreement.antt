@@ -98,6 +98,8 @@ quiet-tells r (step.Logged i log) answer quiet = refl
 quiet-tells r (step.Report proxy) answer quiet = cc
 quiet-tells r (step.Answer proxy) answer quiet = cc
 quiet-tells r (step.Pull shard limit) answer quiet = refl
+quiet-tells r (step.Forget shard version) answer quiet = refl
+quiet-tells r (step.Pop shard) answer quiet = refl
 
 -- an operation tells itself, with its reply
 pub operation-tells : (r : Readings) (taken : Step) (session : ℕ) (operation : Op) (there : Map)
@@ -135,6 +137,8 @@ operation-tells r (step.Logged i log) session operation there is = cc
 operation-tells r (step.Report proxy) session operation there is = cc
 operation-tells r (step.Answer proxy) session operation there is = cc
 operation-tells r (step.Pull shard limit) session operation there is = cc
+operation-tells r (step.Forget shard version) session operation there is = cc
+operation-tells r (step.Pop shard) session operation there is = cc
 
 -- the value by number, after a change at one of them
 pub changed-there : {A : Type 0} (proxy : ℕ) (value : A) (values : ℕ → A) → with_at proxy value values proxy ≡ value

@@ -63,6 +63,8 @@ quiet-answered splits r (step.Logged i log) answer quiet = tt
 quiet-answered splits r (step.Report proxy) answer quiet = cc
 quiet-answered splits r (step.Answer proxy) answer quiet = cc
 quiet-answered splits r (step.Pull shard limit) answer quiet = tt
+quiet-answered splits r (step.Forget shard version) answer quiet = tt
+quiet-answered splits r (step.Pop shard) answer quiet = tt
 
 -- all who ask are told the same version
 all-granted : (version reported : ℕ) (sessions : List ℕ) → version ≡ reported
@@ -124,6 +126,8 @@ operation-answered splits r book (step.Logged i log) session operation transcrip
 operation-answered splits r book (step.Report proxy) session operation transcript same opened is = cc
 operation-answered splits r book (step.Answer proxy) session operation transcript same opened is = cc
 operation-answered splits r book (step.Pull shard limit) session operation transcript same opened is = cc
+operation-answered splits r book (step.Forget shard version) session operation transcript same opened is = cc
+operation-answered splits r book (step.Pop shard) session operation transcript same opened is = cc
 
 answered_steps : HoldsOfSteps AnswersTold
 answered_steps = record {

@@ -2,9 +2,7 @@
 use Rattle.std.proofs.Common.{◌≡◌, ◌∙◌, sym, ap, refl, ℕ, suc, ◌+◌, ◌<◌, ◌≤◌, Bool, true, false, ◌&&◌, ◌||◌, List, [], ◌∷◌, if◌then◌else◌, ◌++◌, length, append_assoc, append-nil, add-zero, zero-add, ne_of_lt, le_of_lt, le_refl, subst, ap₂, ⊎_elim, arith}
 use Rattle.std.specs.List.{AllByRecursion, list_any}
 use Rattle.std.proofs.lemmas.Bool.{cases_Bool, or_parts, cond-true, cond-false, eq-eqb, ne_eqb}
-use Rattle.std.proofs.lemmas.List.{map-append}
 use Rattle.fdb_keys.specs.Points.{Point}
-use Rattle.fdb_mutations.specs.declared.mutation.Mutation.{Mutation}
 use Rattle.fdb_txn.specs.declared.entry.Entry.{Entry}
 use Rattle.fdb_txn.specs.book.Transactions.{Transaction}
 use Rattle.fdb_txn.specs.book.Book.{Stamped, Place, Seen, placed}
@@ -16,8 +14,7 @@ use Rattle.fdb_core.specs.declared.step.Outcome.TheVariants as outcome
 use Rattle.fdb_core.specs.machine.Verdicts.{verdict_at, outcome_at, verdicts_from, asks_about, outcomes_from, moves_through, verdicts_on, is_needed, outcomes_on}
 use Rattle.fdb_txn.specs.book.History.{ReadsBelow}
 use Rattle.fdb_core.specs.refinement.Roles.{outcome_by, verdict_for, outcomes_by, is_commit, body_by}
-use Rattle.fdb_txn.specs.rules.Messages.{Body, mutations_in, at_place, committed_from, committed_in}
-use Rattle.fdb_txn.proofs.rules.MessagesLemmas.{mutations-if}
+use Rattle.fdb_txn.specs.rules.Messages.{Body, at_place, committed_from, committed_in}
 use Rattle.fdb_core.specs.refinement.Resolving.{is_judged}
 use Rattle.fdb_core.proofs.refinement.NoMoves.{no_moves-through}
 use Rattle.fdb_core.proofs.refinement.OneResolver.{asked-points, unasked-admits, outcome-by}
@@ -145,27 +142,17 @@ commit-at splits earlier place p =
 -- the same as `body-committed`, from place p on
 body-from : (splits : List Point) (version : ℕ) (moves : List Stamped) (batch : List Transaction) (earlier : List Place)
     (p : ℕ)
-    → body_by batch (outcomes_from splits version moves batch earlier p) ≡ mutations_in
-    (committed_from splits version moves p batch earlier)
+    → body_by p batch (outcomes_from splits version moves batch earlier p)
+    ≡ committed_from splits version moves p batch earlier
 body-from splits version moves [] earlier p = refl
 body-from splits version moves (t ∷ ts) earlier p =
-    ap₂ (λ (commits : Bool) (others : List Mutation). (if commits then t.mutations else []) ++ others)
-    (commit-at splits earlier place p) (body-from splits version moves ts (place ∷ earlier) (suc p))
-    ∙ ap (λ (here : List Mutation). here ++ mutations_in later) (sym (mutations-if p is_committed t.mutations))
-    ∙ sym (map-append (λ (sent : ℕ × Mutation). sent.1) (if is_committed then at_place p t.mutations else []) later)
-  where
-    place : Place
-    place = placed version moves t
-
-    is_committed : Bool
-    is_committed = committed splits earlier place
-
-    later : Body
-    later = committed_from splits version moves (suc p) ts (place ∷ earlier)
+    ap₂ (λ (commits : Bool) (others : Body). (if commits then at_place p t.mutations else []) ++ others)
+    (commit-at splits earlier (placed version moves t) p)
+    (body-from splits version moves ts (placed version moves t ∷ earlier) (suc p))
 
 -- the mutations by outcomes are those of the committed transactions
 pub body-committed : (splits : List Point) (before : Seen) (entry : Entry)
-    → body_by entry.batch (outcomes_on splits before entry) ≡ mutations_in (committed_in splits before entry)
+    → body_by 0 entry.batch (outcomes_on splits before entry) ≡ committed_in splits before entry
 body-committed splits before entry = body-from splits entry.version (moves_through before entry) entry.batch
     before.places 0
 

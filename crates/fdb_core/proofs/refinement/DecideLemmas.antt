@@ -1,25 +1,28 @@
 -- What the machine does where a commit proxy decides its batch, and what stays tied then.
-use Rattle.std.proofs.Common.{◌≡◌, ◌∙◌, sym, ap, ap₂, refl, subst, ◌<◌, ◌≤◌, ⊎_elim, ℕ, zero, suc, Bool, true, false, ◌&&◌, not, List, [], ◌∷◌, take, length, get_or, unwrap_or, Option, Some, None, Ok, Err, if◌then◌else◌, arith, length-take-le, length-append}
-use Rattle.std.specs.List.{AllZip, list_any, slice_get, slice_set}
+use Rattle.std.proofs.Common.{◌≡◌, ◌∙◌, sym, ap, ap₂, refl, subst, ◌<◌, ◌≤◌, ⊎_elim, ℕ, zero, suc, Bool, true, false, ◌&&◌, not, List, [], ◌∷◌, take, map, filter, length, get_or, unwrap_or, Option, Some, None, Ok, Err, if◌then◌else◌, arith, length-take-le, length-append}
+use Rattle.std.specs.List.{AllZip, list_any, range_with_len, slice_get, slice_set}
 use Rattle.std.specs.Vec.{with_item}
 use Rattle.std.proofs.lemmas.Bool.{cases_eq, true≢false}
 use Rattle.std.proofs.lemmas.Option.{same_Some, slice_get_read, slice_get_within}
 use Rattle.std.proofs.lemmas.List.{length-set}
 use Rattle.fdb_keys.specs.declared.refusal.Refusal.TheVariants.{NotYet}
-use Rattle.fdb_mutations.specs.declared.mutation.Mutation.{Mutation}
 use Rattle.fdb_txn.specs.declared.entry.Entry.{Entry}
 use Rattle.fdb_txn.specs.book.Book.{Seen, seen_before}
 use Rattle.fdb_core.specs.declared.cluster.Cluster.{Cluster}
 use Rattle.fdb_core.specs.machine.Roles.{CommitProxy, Stage, Idle, Resolving, Logging, Reported}
-use Rattle.fdb_core.specs.refinement.Messages.{Message}
+use Rattle.fdb_keys.specs.Points.{Point}
+use Rattle.fdb_log.specs.declared.message.LogMsg.{LogMsg}
+use Rattle.fdb_storage.specs.LogMessages.{tagged, is_for_log}
+use Rattle.fdb_txn.specs.rules.Messages.{Body, committed_in}
+use Rattle.fdb_core.specs.declared.config.Config.{Config}
 use Rattle.fdb_resolver.specs.declared.verdict.Verdict.{Verdict}
 use Rattle.fdb_core.specs.declared.step.Outcome.{Outcome}
 use Rattle.fdb_core.specs.declared.step.Answered.TheVariants as answered
 use Rattle.fdb_txn.specs.book.History.{ReadsBelow}
-use Rattle.fdb_core.specs.refinement.Cluster.{machine_of, Refines, CommitProxyRefines, IsDecision}
+use Rattle.fdb_core.specs.refinement.Cluster.{machine_of, messages_on, Refines, CommitProxyRefines, IsDecision}
 use Rattle.fdb_core.specs.machine.Machine.{is_set, first_missing}
 use Rattle.fdb_core.specs.machine.CommitProxySteps.{decides, is_idle, is_resolving}
-use Rattle.fdb_core.specs.refinement.Roles.{along, message_on, outcomes_by, body_by}
+use Rattle.fdb_core.specs.refinement.Roles.{along, outcomes_by, message_by}
 use Rattle.fdb_core.specs.machine.Verdicts.{verdicts_on, is_needed, outcomes_on}
 use Rattle.fdb_core.proofs.common.AllLemmas.{all-at, within-item}
 use Rattle.fdb_core.proofs.refinement.BatchLaws.{needed-points, not_needed-verdicts, outcomes-decided, body-committed}
@@ -114,21 +117,29 @@ unjudged : (judged : Bool) → (judged && true) ≡ false → judged ≡ false
 unjudged true none = none
 unjudged false none = refl
 
--- a message more, for an entry that is decided
-made-set : (decided : List Bool) (made : List Message) (messages : List (Option Message)) (i : ℕ) (new : Message)
-    → slice_get made i ≡ Some new → i < length messages
-    → ((j : ℕ) (message : Message) → is_set decided j ≡ true → slice_get made j ≡ Some message
-    → slice_get messages j ≡ Some (Some message))
-    → (j : ℕ) (message : Message) → is_set (slice_set decided i true) j ≡ true → slice_get made j ≡ Some message
-    → slice_get (slice_set messages i (Some new)) j ≡ Some (Some message)
-made-set decided made messages i new there within before j message is at = ⊎_elim
-    (λ same. let same_message : new ≡ message = same_Some new message
-    (sym there ∙ ap (slice_get made) (sym same) ∙ at) in
+-- the messages of an entry more, which is decided
+made-set : (config : Config) (book : List Entry) (decided : List Bool) (messages : List (Option (List LogMsg))) (i : ℕ)
+    (entry : Entry) (new : List LogMsg)
+    → slice_get book i ≡ Some entry → new ≡ messages_on config i (seen_before book i) entry
+    → i < length messages → i < length decided
+    → ((j : ℕ) (other : Entry) → slice_get book j ≡ Some other → slice_get messages j
+    ≡ Some (if is_set decided j then Some (messages_on config j (seen_before book j) other) else None))
+    → (j : ℕ) (other : Entry) → slice_get book j ≡ Some other → slice_get (slice_set messages i (Some new)) j
+    ≡ Some (if is_set (slice_set decided i true) j then Some (messages_on config j (seen_before book j) other) else None)
+made-set config book decided messages i entry new there is within flagged before j other at = ⊎_elim
+    (λ same.
+    let it : entry ≡ other = same_Some entry other (sym there ∙ ap (slice_get book) (sym same) ∙ at) in
+    let set_now : is_set (slice_set decided i true) j ≡ true = ap (is_set (slice_set decided i true)) same
+    ∙ ap (λ (flag : Option Bool). unwrap_or flag false) (set-here decided i true flagged) in
     ap (slice_get (slice_set messages i (Some new))) same ∙ set-here messages i (Some new) within
-    ∙ ap (λ (m : Message). Some (Some m)) same_message)
-    (λ other. set-other messages i j (Some new) other
-    ∙ before j message (ap (λ (flag : Option Bool). unwrap_or flag false) (sym (set-other decided i j true other)) ∙ is)
-    at)
+    ∙ ap (λ (all : List LogMsg). Some (Some all)) (is ∙ ap (λ (n : ℕ). messages_on config n (seen_before book n) entry)
+    (sym same) ∙ ap (messages_on config j (seen_before book j)) it)
+    ∙ ap (λ (flag : Bool). Some (if flag then Some (messages_on config j (seen_before book j) other) else None))
+    (sym set_now))
+    (λ differs. set-other messages i j (Some new) differs
+    ∙ before j other at
+    ∙ ap (λ (flag : Option Bool). Some (if unwrap_or flag false
+    then Some (messages_on config j (seen_before book j) other) else None)) (sym (set-other decided i j true differs)))
     (cases_eq j i)
 
 -- the entry that is decided, without moves and of a version above its read versions
@@ -228,9 +239,10 @@ module _ (k : Cluster) (proxy : ℕ) (commit_proxy : CommitProxy) (entry : Entry
       ∙ slice_get-along (verdicts_on [] 0) k.book.items commit_proxy.entry entry found.entry_there
 
   -- what is decided is what becomes of the places
-  pub decision-outcomes : (is_received : Bool) (decision : List Outcome × Message)
+  pub decision-outcomes : (is_received : Bool) (decision : List Outcome × List LogMsg)
       → is_set commit_proxy.verdicts_received 0 ≡ is_received → (is_any_judged entry && not is_received) ≡ false
-      → IsDecision k.book.items (sent_by k.resolvers.items) commit_proxy.entry is_received decision
+      → IsDecision k.config.shard_splits k.config.logs k.book.items (sent_by k.resolvers.items) commit_proxy.entry
+      is_received decision
       → decision.0 ≡ outcomes_on [] (seen_before k.book.items commit_proxy.entry) entry
   decision-outcomes true decision is none made =
       (made entry (verdicts_on [] 0 (seen_before k.book.items commit_proxy.entry) entry) found.entry_there
@@ -245,22 +257,38 @@ module _ (k : Cluster) (proxy : ℕ) (commit_proxy : CommitProxy) (entry : Entry
       (sym (not_needed-verdicts [] 0 before entry unneeded))
       ∙ outcomes-decided before entry still moveless below
 
-  -- and its message is what the log gets
-  pub decision-message : (is_received : Bool) (decision : List Outcome × Message)
+  -- and its messages are what the logs get
+  pub decision-messages : (is_received : Bool) (decision : List Outcome × List LogMsg)
       → is_set commit_proxy.verdicts_received 0 ≡ is_received → (is_any_judged entry && not is_received) ≡ false
-      → IsDecision k.book.items (sent_by k.resolvers.items) commit_proxy.entry is_received decision
-      → decision.1 ≡ message_on [] (seen_before k.book.items commit_proxy.entry) entry
-  decision-message is_received decision is none made = by_heard is_received is made
-      ∙ ap (λ (outcomes : List Outcome). message_by outcomes) (decision-outcomes is_received decision is none made)
-      ∙ ap (λ (body : List Mutation). record { version = entry.version; body = body })
-      (body-committed [] (seen_before k.book.items commit_proxy.entry) entry)
+      → IsDecision k.config.shard_splits k.config.logs k.book.items (sent_by k.resolvers.items) commit_proxy.entry
+      is_received decision
+      → decision.1 ≡ messages_on k.config commit_proxy.entry (seen_before k.book.items commit_proxy.entry) entry
+  decision-messages is_received decision is none made = by_heard is_received is made
+      ∙ ap messages_by (decision-outcomes is_received decision is none made)
+      ∙ ap (λ (body : Body). map (message_with body) (range_with_len 0 k.config.logs))
+      (body-committed [] (seen_before k.book.items commit_proxy.entry) entry
+      ∙ ap (λ (splits : List Point). committed_in splits (seen_before k.book.items commit_proxy.entry) entry)
+      (sym refines.plain.resolver_splits))
     where
-      message_by : List Outcome → Message
-      message_by outcomes = record { version = entry.version; body = body_by entry.batch outcomes }
+      message_with : Body → ℕ → LogMsg
+      message_with body log =
+          record {
+            log = log;
+            index = commit_proxy.entry;
+            version = entry.version;
+            prev = entry.prev;
+            body = filter (is_for_log k.config.logs log) (map (tagged k.config.shard_splits) body);
+          }
+
+      messages_by : List Outcome → List LogMsg
+      messages_by outcomes =
+          map (λ (log : ℕ). message_by k.config.shard_splits k.config.logs log commit_proxy.entry entry outcomes)
+          (range_with_len 0 k.config.logs)
 
       by_heard : (verdicts_received : Bool) → is_set commit_proxy.verdicts_received 0 ≡ verdicts_received
-          → IsDecision k.book.items (sent_by k.resolvers.items) commit_proxy.entry verdicts_received decision
-          → decision.1 ≡ message_by decision.0
+          → IsDecision k.config.shard_splits k.config.logs k.book.items (sent_by k.resolvers.items) commit_proxy.entry
+          verdicts_received decision
+          → decision.1 ≡ messages_by decision.0
       by_heard true is made =
           (made entry (verdicts_on [] 0 (seen_before k.book.items commit_proxy.entry) entry) found.entry_there
           (λ verdicts_received. sent is)).1
@@ -285,22 +313,20 @@ module _ (k : Cluster) (proxy : ℕ) (commit_proxy : CommitProxy) (entry : Entry
   }
 
   -- what stays tied
-  pub decided-refines : (outcomes : List Outcome) (message : Message)
+  pub decided-refines : (outcomes : List Outcome) (messages : List LogMsg)
       → outcomes ≡ outcomes_on [] (seen_before k.book.items commit_proxy.entry) entry
-      → message ≡ message_on [] (seen_before k.book.items commit_proxy.entry) entry
+      → messages ≡ messages_on k.config commit_proxy.entry (seen_before k.book.items commit_proxy.entry) entry
       → Refines (record k {
         decided = with_item k.decided commit_proxy.entry true;
         commit_proxies = with_item k.commit_proxies proxy (record commit_proxy { stage = Logging });
         outcomes = outcomes;
-        messages = with_item k.messages commit_proxy.entry (Some message);
+        messages = with_item k.messages commit_proxy.entry (Some messages);
       })
-  decided-refines outcomes message are is =
+  decided-refines outcomes messages are is =
       let book = refines.book in
-      let made : slice_get (along (message_on []) k.book.items) commit_proxy.entry ≡ Some message =
-      slice_get-along (message_on []) k.book.items commit_proxy.entry entry found.entry_there
-      ∙ ap (λ (m : Message). Some m) (sym is) in
-      let within : commit_proxy.entry < length k.messages.items = omega
-      (arith, book.each_pooled, slice_get_within k.book.items commit_proxy.entry entry found.entry_there) in
+      let inside = slice_get_within k.book.items commit_proxy.entry entry found.entry_there in
+      let within : commit_proxy.entry < length k.messages.items = omega (arith, book.each_pooled, inside) in
+      let flagged : commit_proxy.entry < length k.decided.items = omega (arith, book.each_flagged, inside) in
       record {
         plain = refines.plain;
         room = refines.room;
@@ -310,12 +336,13 @@ module _ (k : Cluster) (proxy : ℕ) (commit_proxy : CommitProxy) (entry : Entry
           entries = book.entries;
           each_has_proxy = book.each_has_proxy;
           each_flagged = length-set k.decided.items commit_proxy.entry true ∙ book.each_flagged;
-          each_pooled = length-set k.messages.items commit_proxy.entry (Some message) ∙ book.each_pooled;
-          made = made-set k.decided.items (along (message_on []) k.book.items) k.messages.items commit_proxy.entry
-              message made within book.made;
+          each_pooled = length-set k.messages.items commit_proxy.entry (Some messages) ∙ book.each_pooled;
+          made = made-set k.config k.book.items k.decided.items k.messages.items commit_proxy.entry entry messages
+              found.entry_there is within flagged book.made;
         };
         resolvers = refines.resolvers;
-        log = refines.log;
+        logs = refines.logs;
+        shard_map = refines.shard_map;
         commit_proxies = commit_proxies-set k.book.items k.book.items (taken_by k.resolvers.items)
             (taken_by k.resolvers.items) k.sequencer.committed k.sequencer.committed k.outcomes outcomes
             k.commit_proxies.items proxy commit_proxy

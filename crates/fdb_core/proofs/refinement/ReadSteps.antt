@@ -1,37 +1,69 @@
--- What a read at the one shard comes to for the machine.
-use Rattle.std.proofs.Common.{◌≡◌, ◌∙◌, sym, ap, subst, ℕ, Option, Some, Result, Ok, Err}
+-- What a read at the shards comes to for the machine.
+use Rattle.std.proofs.Common.{◌≡◌, ◌∙◌, ◌≤◌, refl, sym, ap, subst, ℕ, List, Option, Some, Result, Ok, Err}
 use Rattle.std.specs.Prelude.{OnErr}
+use Rattle.std.specs.FinMap.{get}
 use Rattle.fdb_keys.specs.Answers.{Answers}
 use Rattle.fdb_keys.specs.declared.refusal.Refusal.{Refusal}
 use Rattle.fdb_mutations.specs.Maps.{Map}
+use Rattle.fdb_txn.specs.declared.entry.Entry.{Entry}
 use Rattle.fdb_client.specs.declared.program.Op.{Op}
 use Rattle.fdb_client.specs.declared.program.Reply.{Reply}
 use Rattle.fdb_client.specs.declared.program.Transcript.{Transcript}
 use Rattle.fdb_client.specs.Parts.{with_op}
 use Rattle.fdb_client.specs.Programs.{program, copy, reply_on}
 use Rattle.fdb_core.specs.declared.cluster.Cluster.{Cluster}
+use Rattle.fdb_core.specs.declared.roles.shard.ShardRole.{ShardRole}
 use Rattle.fdb_core.specs.declared.step.Answered.{Answered}
-use Rattle.fdb_core.specs.machine.ClientSteps.{reads, answered_by}
+use Rattle.fdb_core.specs.machine.ClientSteps.{reads, answered_by, read_fault, fault_after, reply_after}
 use Rattle.fdb_core.specs.machine.Sessions.{Sessions, EachOpen, Open, open_at, with_state}
 use Rattle.fdb_core.specs.machine.Steps.{Unless, ran_out, answer_of, after}
 use Rattle.fdb_core.specs.refinement.Cluster.{machine_of, ReadsWithin, Refines}
-use Rattle.fdb_core.specs.refinement.ShardMaps.{map_in}
+use Rattle.fdb_core.specs.refinement.ShardReads.{ShardReads, AreReadable, key_fault, range_fault, run_map}
 use Rattle.fdb_core.proofs.common.FaultLemmas.{answers-fault, unless-fault}
 use Rattle.fdb_core.proofs.machine.Transitions.{reads-transition, reads-refused}
-use Rattle.fdb_core.proofs.refinement.ShardReads.{fault_there, fault_by, same_fault, same_reply}
+use Rattle.fdb_core.proofs.refinement.RunLaws.{entries-rising, serial-front}
 use Rattle.fdb_core.proofs.refinement.Ties.{opened-with_op}
+
+-- the world's shards, read at a version
+abbrev pub reads_of : Cluster → ℕ → ShardReads
+reads_of k version = record { version = version; config = k.config; book = k.book.items; shards = k.shards.items }
+
+-- what is shown is that
+pub same_reads : (k : Cluster) (transcript shown : Transcript) (book : List Entry) (shards : List ShardRole)
+    → shown ≡ transcript → book ≡ k.book.items → shards ≡ k.shards.items
+    → record { version = shown.read_version; config = k.config; book = book; shards = shards }
+    ≡ reads_of k transcript.read_version
+same_reads k transcript shown book shards is entries roles = rw (is, entries, roles) refl
+
+-- Each is readable: the run of the entries that it applied has, up to its version, what the run of all of them has.
+pub are_readable : (k : Cluster) (version : ℕ) → Refines k → AreReadable (reads_of k version)
+are_readable k version before = record {
+  splits = before.plain.splits;
+  as_many = before.logs.shard_count;
+  each = λ i role there.
+      let it = before.logs.each_shard i role there in
+      record {
+        range = it.range;
+        works = it.works;
+        version = it.version;
+        serves = λ x above reached inside.
+            it.serves version x above reached inside
+            ∙ ap (λ (map : Map). get map x) (sym (serial-front k.config.resolver_splits k.book.items
+            (entries-rising 1 k.book.items before.book.entries) role.applied version
+            (subst (λ (greatest : ℕ). version ≤ greatest) it.version reached)));
+      };
+}
 
 module _ (k : Cluster) (before : Refines k) (session : ℕ) (operation : Op) (transcript : Transcript)
     (is_open : open_at k.sessions session ≡ Some transcript) (sessions : Sessions) where
-  -- what the read replies on a map
-  abbrev pub reply_in : Map → Reply
-  reply_in map = reply_on (copy map (program transcript.ops)) operation
-
-  -- what is given is the reply, which the transaction has noted
-  abbrev pub GivesReply : Map → Answered → Type 0
-  GivesReply map given =
-      (given ≡ answered_by (reply_in map))
-      × (sessions ≡ with_state k.sessions session (Open (with_op transcript operation (reply_in map))))
+  -- the call is refused as the shards refuse the read, and else gives the reply on the map of the run, which the
+  -- transaction has noted
+  abbrev pub AnswersAt : ShardReads → Result Answered Refusal → Type 0
+  AnswersAt shown result =
+      let reply = reply_on (copy (run_map shown) (program transcript.ops)) operation in
+      Answers result (read_fault (key_fault shown) (range_fault shown) (program transcript.ops) operation)
+      (λ (given : Answered). (given ≡ answered_by reply)
+      × (sessions ≡ with_state k.sessions session (Open (with_op transcript operation reply))))
 
   -- the machine answers so, goes on to these sessions, and each open transaction reads within the committed version
   pub record Follows (result : Result Answered Refusal) : Type 0 where
@@ -40,35 +72,33 @@ module _ (k : Cluster) (before : Refines k) (session : ℕ) (operation : Op) (tr
         (reads (machine_of k) session operation)
     pub opened : EachOpen (ReadsWithin k.sequencer.committed) sessions
 
-  -- the one shard's fault and its map at the read version
-  abbrev pub there : Option Refusal
-  there = fault_there k before transcript.read_version
+  -- for the machine the refusal and the reply are the same
+  abbrev pub reply : Reply
+  reply = reply_after (machine_of k) transcript operation
 
-  abbrev pub map : Map
-  map = map_in transcript.read_version k.shard.items
+  abbrev pub fault : Option Refusal
+  fault = fault_after (machine_of k) transcript operation
 
-  follows-at : (result : Result Answered Refusal)
-      → Answers result (fault_by there (program transcript.ops) operation) (GivesReply map)
+  abbrev pub GivesReply : Answered → Type 0
+  GivesReply given =
+      (given ≡ answered_by reply)
+      × (sessions ≡ with_state k.sessions session (Open (with_op transcript operation reply)))
+
+  follows-at : (result : Result Answered Refusal) → Answers result fault GivesReply
       → OnErr result (sessions ≡ k.sessions) → Unless (ran_out result) (Follows result)
   follows-at (Ok given) answers kept =
-      let parts = answers-fault (fault_by there (program transcript.ops) operation) given (GivesReply map) answers in
-      let version = transcript.read_version in
-      let same = same_reply k before version (program transcript.ops) operation parts.0 in
-      let turn = reads-transition (machine_of k) session operation transcript is_open
-      (same_fault k before version (program transcript.ops) operation ∙ parts.0) in
+      let parts = answers-fault fault given GivesReply answers in
+      let turn = reads-transition (machine_of k) session operation transcript is_open parts.0 in
       record {
-        answer = ap (λ (a : Answered). Ok a) (parts.1.0 ∙ ap answered_by same) ∙ sym (ap answer_of turn);
-        goes_on = ap (λ (others : Sessions). record (machine_of k) { sessions = others })
-            (parts.1.1 ∙ ap (λ (reply : Reply). with_state k.sessions session
-            (Open (with_op transcript operation reply))) same)
+        answer = ap (λ (a : Answered). Ok a) parts.1.0 ∙ sym (ap answer_of turn);
+        goes_on = ap (λ (others : Sessions). record (machine_of k) { sessions = others }) parts.1.1
             ∙ sym (ap (after (machine_of k)) turn);
         opened = subst (EachOpen (ReadsWithin k.sequencer.committed)) (sym parts.1.1)
-            (opened-with_op k.sequencer.committed k.sessions session transcript operation _ before.opened is_open);
+            (opened-with_op k.sequencer.committed k.sessions session transcript operation reply before.opened is_open);
       }
   follows-at (Err why) answers kept =
-      unless-fault (fault_by there (program transcript.ops) operation) why (GivesReply map) _ answers (λ faulty.
-      let refused = (reads-refused (machine_of k) session operation transcript is_open why).1
-      (same_fault k before transcript.read_version (program transcript.ops) operation ∙ faulty) in
+      unless-fault fault why GivesReply _ answers (λ faulty.
+      let refused = (reads-refused (machine_of k) session operation transcript is_open why).1 faulty in
       record {
         answer = sym (ap answer_of refused);
         goes_on = ap (λ (others : Sessions). record (machine_of k) { sessions = others }) kept
@@ -76,12 +106,9 @@ module _ (k : Cluster) (before : Refines k) (session : ℕ) (operation : Op) (tr
         opened = subst (EachOpen (ReadsWithin k.sequencer.committed)) (sym kept) before.opened;
       })
 
-  -- so it is of a snapshot that refuses as the shard does and has its map
-  pub read-follows : (result : Result Answered Refusal) (fault : Option Refusal) (shown : Map)
-      → fault ≡ there → shown ≡ map
-      → Answers result (fault_by fault (program transcript.ops) operation) (GivesReply shown)
+  -- so it follows where the shards are read at the transaction's read version
+  pub read-follows : (shown : ShardReads) (result : Result Answered Refusal)
+      → shown ≡ reads_of k transcript.read_version → AnswersAt shown result
       → OnErr result (sessions ≡ k.sessions) → Unless (ran_out result) (Follows result)
-  read-follows result fault shown same_there same_map answers kept = follows-at result
-      (subst (λ (m : Map). Answers result (fault_by there (program transcript.ops) operation) (GivesReply m)) same_map
-      (subst (λ (f : Option Refusal). Answers result (fault_by f (program transcript.ops) operation) (GivesReply shown))
-      same_there answers)) kept
+  read-follows shown result same answers kept =
+      follows-at result (subst (λ (it : ShardReads). AnswersAt it result) same answers) kept

@@ -1,27 +1,25 @@
--- The resolver, the log and the shard, kept tied through the steps.
-use Rattle.std.proofs.Common.{◌≡◌, ◌∙◌, refl, sym, ap, subst, ℕ, zero, suc, ◌+◌, ◌-◌, ◌≤◌, min, max, List, [], ◌∷◌, ◌++◌, length, take, drop, Some, arith, add-one}
+-- The resolver, kept tied through the steps.
+use Rattle.std.proofs.Common.{◌≡◌, ◌∙◌, refl, sym, ap, subst, ℕ, zero, suc, ◌+◌, ◌-◌, ◌≤◌, List, [], ◌∷◌, ◌++◌, length, take, Some, arith}
 use Rattle.std.specs.List.{slice_get, slice_set}
 use Rattle.std.proofs.lemmas.Grind.{fold-append}
-use Rattle.std.proofs.lemmas.List.{length-take, take_all}
+use Rattle.std.proofs.lemmas.List.{take_all}
 use Rattle.std.proofs.lemmas.Option.{slice_get_within}
-use Rattle.std.proofs.Math.Seq.{take-add}
 use Rattle.fdb_txn.specs.declared.entry.Entry.{Entry}
 use Rattle.fdb_txn.specs.book.Book.{add_entry, seen_of, last_version, seen_before}
 use Rattle.fdb_txn.specs.book.History.{AreEntries}
 use Rattle.fdb_resolver.specs.Resolvers.{Resolver}
-use Rattle.fdb_core.specs.machine.Roles.{CommitProxy, ShardProgress}
-use Rattle.fdb_core.specs.refinement.Messages.{Message}
+use Rattle.fdb_core.specs.machine.Roles.{CommitProxy}
 use Rattle.fdb_core.specs.declared.roles.resolver.ResolverRole.{ResolverRole}
 use Rattle.fdb_core.specs.declared.step.Outcome.{Outcome}
 use Rattle.fdb_resolver.specs.declared.verdict.Verdict.{Verdict}
-use Rattle.fdb_core.specs.refinement.Cluster.{IsRising, ResolverRefines, ResolversRefine, LogRefines, CommitProxyRefines, CommitProxiesRefine}
+use Rattle.fdb_core.specs.refinement.Cluster.{IsRising, ResolverRefines, ResolversRefine, CommitProxyRefines, CommitProxiesRefine}
 use Rattle.fdb_core.specs.refinement.Resolving.{NoMovesIn, ResolverAt, IsNext, TakesNext, taken_by, sent_by}
-use Rattle.fdb_core.specs.refinement.Roles.{along, message_on}
+use Rattle.fdb_core.specs.refinement.Roles.{along}
 use Rattle.fdb_core.specs.machine.Verdicts.{verdicts_on}
 use Rattle.fdb_core.proofs.common.AllLemmas.{within-item}
 use Rattle.fdb_core.proofs.refinement.NoMoves.{no_moves-take}
 use Rattle.fdb_txn.proofs.book.HistoryLemmas.{seen_of-push}
-use Rattle.fdb_core.proofs.refinement.RunLaws.{slice_get-along, length-along}
+use Rattle.fdb_core.proofs.refinement.RunLaws.{slice_get-along}
 
 -- a front of a list with the next item
 pub take-next : {A : Type 0} (xs : List A) (i : ℕ) (x : A) → slice_get xs i ≡ Some x
@@ -41,7 +39,7 @@ one-at one x zero there = (refl, cc)
 one-at one x (suc r) there = cc
 
 -- a front of entries
-entries-take : (resolvers last n : ℕ) (book : List Entry) → AreEntries resolvers last book
+pub entries-take : (resolvers last n : ℕ) (book : List Entry) → AreEntries resolvers last book
     → AreEntries resolvers last (take n book)
 entries-take resolvers last zero book entries = tt
 entries-take resolvers last (suc n) [] entries = tt
@@ -140,31 +138,8 @@ module _ (book : List Entry) (resolvers : List ResolverRole) (r i : ℕ) (entry 
         refines.commit_proxy outcomes refines.ok;
   }
 
--- the log takes the message of the next entry
-module _ (book : List Entry) (logs : List ℕ) (shards : List ShardProgress) (log shard : List Message) (l i : ℕ)
-    (entry : Entry)
-    (ok : LogRefines book logs shards log shard) (there : slice_get book i ≡ Some entry)
-    (at : slice_get logs l ≡ Some i) where
-  log-is : (l ≡ 0) × (ok.taken ≡ i)
-  log-is = one-at ok.taken i l (rw ok.one_log at at)
-
-  pub log-next : (message : Message) → message ≡ message_on [] (seen_before book i) entry
-      → LogRefines book (slice_set logs l (i + 1)) shards (log ++ message ∷ []) shard
-  log-next message is = record {
-    taken = suc i;
-    applied = ok.applied;
-    one_log = rw (ok.one_log, log-is.0, add-one) refl;
-    one_shard = ok.one_shard;
-    within = slice_get_within book i entry there;
-    after = omega (arith, ok.after, log-is.1);
-    logged = ap (λ ms. ms ++ message ∷ []) (ok.logged ∙ ap (λ (n : ℕ). take n (along (message_on []) book)) log-is.1)
-        ∙ ap (λ m. take i (along (message_on []) book) ++ m ∷ []) is
-        ∙ sym (take-next (along (message_on []) book) i _ (slice_get-along (message_on []) book i entry there));
-    kept = ok.kept;
-  }
-
 -- a front of a front
-take-take : {A : Type 0} (xs : List A) (p t : ℕ) → p ≤ t → take p (take t xs) ≡ take p xs
+pub take-take : {A : Type 0} (xs : List A) (p t : ℕ) → p ≤ t → take p (take t xs) ≡ take p xs
 take-take [] zero zero h = refl
 take-take [] (suc p) zero h = refl
 take-take [] zero (suc t) h = refl
@@ -173,55 +148,6 @@ take-take (x ∷ xs) zero zero h = refl
 take-take (x ∷ xs) (suc p) zero h = absurd (omega (arith, h))
 take-take (x ∷ xs) zero (suc t) h = refl
 take-take (x ∷ xs) (suc p) (suc t) h = ap (λ ys. x ∷ ys) (take-take xs p t (omega (arith, h)))
-
--- the shard applies further messages of the log
-module _ (book : List Entry) (logs : List ℕ) (shards : List ShardProgress) (log shard : List Message)
-    (ok : LogRefines book logs shards log shard) where
-  pub length-log : length log ≡ ok.taken
-  length-log =
-      let through : length log ≡ min ok.taken (length (along (message_on []) book)) = ap length ok.logged
-      ∙ length-take ok.taken (along (message_on []) book) in
-      omega (arith, through, length-along (message_on []) book, ok.within)
-
-  -- what is applied is in the log
-  pub applied-until : (i has s n q : ℕ) (progress : ShardProgress) → slice_get logs i ≡ Some has
-      → slice_get shards s ≡ Some progress
-      → q ≡ max progress.applied (min has n) → q ≤ length log
-  applied-until i has s n q progress at there is =
-      let found = one-at (record { applied = ok.applied; floor = 0 }) progress s (rw ok.one_shard at there) in
-      let from_there : ok.applied ≡ progress.applied = ap (λ (r : ShardProgress). r.applied) found.1 in
-      let same = (one-at ok.taken has i (rw ok.one_log at at)).1 in
-      omega (arith, is, from_there, same, length-log, ok.after)
-
-  pub applied-next : (s q : ℕ) (progress : ShardProgress) → slice_get shards s ≡ Some progress → progress.applied ≤ q
-      → q ≤ length log
-      → LogRefines book logs (slice_set shards s (record { applied = q; floor = progress.floor })) log
-      (shard ++ take (q - progress.applied) (drop progress.applied log))
-  applied-next s q progress there from until =
-      let found = one-at (record { applied = ok.applied; floor = 0 }) progress s (rw ok.one_shard at there) in
-      let from_there : ok.applied ≡ progress.applied = ap (λ (r : ShardProgress). r.applied) found.1 in
-      let floor : 0 ≡ progress.floor = ap (λ (r : ShardProgress). r.floor) found.1 in
-      let below : q ≤ ok.taken = omega (arith, length-log, until) in
-      let whole : progress.applied + (q - progress.applied) ≡ q = omega (arith, from) in
-      record {
-        taken = ok.taken;
-        applied = q;
-        one_log = ok.one_log;
-        one_shard = rw (ok.one_shard, found.0, ← floor) refl;
-        within = ok.within;
-        after = below;
-        logged = ok.logged;
-        kept =
-            ap (λ ms. ms ++ take (q - progress.applied) (drop progress.applied log))
-            (ok.kept ∙ ap (λ (n : ℕ). take n (along (message_on []) book)) from_there
-            ∙ sym (take-take (along (message_on []) book) progress.applied ok.taken
-            (omega (arith, ok.after, from_there)))
-            ∙ ap (λ (ms : List Message). take progress.applied ms) (sym ok.logged))
-            ∙ sym (take-add progress.applied (q - progress.applied) log)
-            ∙ ap (λ (n : ℕ). take n log) whole
-            ∙ ap (λ (ms : List Message). take q ms) ok.logged
-            ∙ take-take (along (message_on []) book) q ok.taken below;
-      }
 
 -- the last version of a book that grows
 pub last-push : (book : List Entry) (entry : Entry) → last_version (book ++ entry ∷ []) ≡ entry.version

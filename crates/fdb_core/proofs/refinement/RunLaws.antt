@@ -1,26 +1,18 @@
--- What logs and shards keep, and the run of the committed transactions.
-use Rattle.std.proofs.Common.{◌≡◌, ◌∙◌, sym, ap, refl, ℕ, zero, suc, ◌<◌, ◌≤◌, nat_le, append_assoc, append-nil, take-append-drop, le_refl, le_of_lt, ⊎_elim, subst, List, [], ◌∷◌, ◌++◌, take, drop, fold, length, slice_get, Option, Some, arith}
+-- What is made of the entries of a book, and the run of its committed transactions.
+use Rattle.std.proofs.Common.{◌≡◌, ◌∙◌, sym, ap, refl, ℕ, zero, suc, ◌<◌, ◌≤◌, append_assoc, append-nil, take-append-drop, le_refl, le_of_lt, subst, List, [], ◌∷◌, ◌++◌, take, drop, fold, length, slice_get, Some, arith}
 use Rattle.std.specs.List.{AllByRecursion}
-use Rattle.std.specs.Ordering.{nat_cmp}
-use Rattle.std.specs.Cmp.Lexicographic.{slice_cmp}
-use Rattle.std.specs.FinMap.{get, get-empty}
-use Rattle.std.proofs.lemmas.Bool.{cases_Bool, cond-true, cond-false, leb-true, leb-false}
 use Rattle.std.proofs.lemmas.List.Sums.{fold-append}
 use Rattle.fdb_keys.specs.Points.{Point}
-use Rattle.fdb_mutations.specs.declared.mutation.Mutation.{Mutation}
-use Rattle.fdb_mutations.specs.Maps.{Map}
 use Rattle.fdb_txn.specs.declared.entry.Entry.{Entry}
 use Rattle.fdb_txn.specs.book.Transactions.{Transaction}
 use Rattle.fdb_txn.specs.book.Book.{Stamped, Place, Seen, nothing, placed, add_places, add_entry, seen_of, last_version, seen_before}
 use Rattle.fdb_txn.specs.rules.SerialMap.{serial_map, up_to, serial_map_at}
 use Rattle.fdb_txn.specs.book.History.{AreEntries, ReadsBelow}
 use Rattle.fdb_txn.proofs.book.HistoryLemmas.{all-weaken, AtMost, add_places-newer, up_to-above, up_to-all}
-use Rattle.fdb_txn.proofs.rules.MessagesLemmas.{at_most-more, get-effects, serial_map-add_places}
-use Rattle.fdb_txn.specs.rules.Messages.{mutations_in, committed_in, value_after}
-use Rattle.fdb_core.specs.refinement.Messages.{Message, value_in, value_with}
+use Rattle.fdb_txn.proofs.rules.MessagesLemmas.{at_most-more}
 use Rattle.fdb_core.specs.machine.Verdicts.{moves_through}
 use Rattle.fdb_core.specs.refinement.Cluster.{IsRising}
-use Rattle.fdb_core.specs.refinement.Roles.{along, message_on}
+use Rattle.fdb_core.specs.refinement.Roles.{along}
 
 -- `along` from what was seen before, by recursion from the front
 along_from : {A : Type 0} → (Seen → Entry → A) → Seen → List Entry → List A
@@ -142,6 +134,30 @@ rises-at least (first ∷ book) rising zero entry there =
     let same : first ≡ entry = cc in subst (λ (e : Entry). least < e.version) same rising.0
 rises-at least (first ∷ book) rising (suc i) entry there = rises-at first.version book rising.1 i entry there
 
+-- the last of more entries has a version that isn't below
+ordered-from : (least n m : ℕ) (book : List Entry) → RisesFrom least book → n ≤ m
+    → last_from least (take n book) ≤ last_from least (take m book)
+ordered-from least zero zero book rising ordered = le_refl least
+ordered-from least zero (suc m) [] rising ordered = le_refl least
+ordered-from least zero (suc m) (entry ∷ book) rising ordered =
+    let further = ordered-from entry.version 0 m book rising.1 (omega arith) in
+    omega (arith, further, rising.0)
+ordered-from least (suc n) zero book rising ordered = absurd (omega (arith, ordered))
+ordered-from least (suc n) (suc m) [] rising ordered = le_refl least
+ordered-from least (suc n) (suc m) (entry ∷ book) rising ordered =
+    ordered-from entry.version n m book rising.1 (omega (arith, ordered))
+
+-- and of entries that are more, one above
+apart-from : (least n m : ℕ) (book : List Entry) → RisesFrom least book → n < m → m ≤ length book
+    → last_from least (take n book) < last_from least (take m book)
+apart-from least n zero book rising before within = absurd (omega (arith, before))
+apart-from least n (suc m) [] rising before within = absurd (omega (arith, within))
+apart-from least zero (suc m) (entry ∷ book) rising before within =
+    let further = ordered-from entry.version 0 m book rising.1 (omega arith) in
+    omega (arith, further, rising.0)
+apart-from least (suc n) (suc m) (entry ∷ book) rising before within =
+    apart-from entry.version n m book rising.1 (omega (arith, before)) (omega (arith, within))
+
 -- entries rise
 entries-rise : (resolvers least : ℕ) (book : List Entry) → AreEntries resolvers least book → RisesFrom least book
 entries-rise resolvers least [] entries = tt
@@ -196,76 +212,26 @@ up_to-after v least seen (entry ∷ book) reached rising =
     up_to-after v entry.version (add_entry seen entry) book (omega (arith, rising.0)) rising.1
     ∙ up_to-entry v entry.version (moves_through seen entry) entry.batch seen.places (omega (arith, rising.0))
 
--- an entry's message answers as the run through the entry
-value-message : (splits : List Point) (v : ℕ) (x : Point) (seen : Seen) (entry : Entry)
-    → AtMost entry.version seen.places
-    → value_with v x (get (serial_map_at splits v seen.places) x) (message_on splits seen entry) ≡ get
-    (serial_map_at splits v (add_entry seen entry).places) x
-value-message splits v x seen entry at_most = ⊎_elim
-    (λ reached. let up : entry.version ≤ v = leb-true entry.version v reached in
-    let older : up_to v seen.places ≡ seen.places = up_to-all v seen.places
-    (at_most-more entry.version v seen.places up at_most) in
-    let all : up_to v places ≡ places =
-    up_to-all v places
-    (at_most-places v entry.version moves entry.batch seen.places up
-    (at_most-more entry.version v seen.places up at_most)) in
-    cond-true _ _ _ reached
-    ∙ ap (λ (now : List Place). fold (value_after x) (get (serial_map splits now) x) body) older
-    ∙ sym (get-effects (serial_map splits seen.places) body x)
-    ∙ ap (λ (map : Map). get map x) (sym (serial_map-add_places splits entry.version moves 0 entry.batch seen.places))
-    ∙ ap (λ (now : List Place). get (serial_map splits now) x) (sym all))
-    (λ above. cond-false _ _ _ above
-    ∙ ap (λ (now : List Place). get (serial_map splits now) x)
-    (sym (up_to-entry v entry.version moves entry.batch seen.places (leb-false entry.version v above))))
-    (cases_Bool (nat_le entry.version v))
-  where
-    moves : List Stamped
-    moves = moves_through seen entry
+-- up to the version of the last of the first entries, the map is that of these alone
+pub serial-front : (splits : List Point) (book : List Entry) → IsRising book → (n v : ℕ)
+    → v ≤ last_version (take n book)
+    → serial_map_at splits v (seen_of book).places ≡ serial_map_at splits v (seen_before book n).places
+serial-front splits book rising n v reached =
+    let parts : seen_of book ≡ fold add_entry (seen_of (take n book)) (drop n book) =
+    ap seen_of (sym (take-append-drop n book)) ∙ fold-append add_entry nothing (take n book) (drop n book) in
+    ap (λ (now : List Place). serial_map splits now)
+    (ap (λ (seen : Seen). up_to v seen.places) parts
+    ∙ up_to-after v (last_version (take n book)) (seen_of (take n book)) (drop n book) reached
+    (rises-drop 0 n book (rises 0 book rising)))
 
-    places : List Place
-    places = add_places entry.version moves entry.batch seen.places
+-- later entries have later versions
+pub versions-ordered : (book : List Entry) → IsRising book → (n m : ℕ) → n ≤ m
+    → last_version (take n book) ≤ last_version (take m book)
+versions-ordered book rising n m ordered = ordered-from 0 n m book (rises 0 book rising) ordered
 
-    body : List Mutation
-    body = mutations_in (committed_in splits seen entry)
-
--- so do the messages of a rising book
-value-messages : (splits : List Point) (v : ℕ) (x : Point) (least : ℕ) (seen : Seen) (book : List Entry)
-    → AtMost least seen.places → RisesFrom least book
-    → fold (value_with v x) (get (serial_map_at splits v seen.places) x) (along_from (message_on splits) seen book)
-    ≡ get (serial_map_at splits v (fold add_entry seen book).places) x
-unfolding along_from
-value-messages splits v x least seen [] at_most rising = refl
-value-messages splits v x least seen (entry ∷ book) at_most rising =
-    let here : AtMost entry.version seen.places = at_most-more least entry.version seen.places (le_of_lt rising.0)
-    at_most in
-    ap (λ (value : Option (List ℕ)). fold (value_with v x) value
-    (along_from (message_on splits) (add_entry seen entry) book))
-    (value-message splits v x seen entry here)
-    ∙ value-messages splits v x entry.version (add_entry seen entry) book
-    (at_most-places entry.version entry.version (moves_through seen entry) entry.batch seen.places
-    (le_refl entry.version) here) rising.1
-
--- the messages that a shard applied answer, at any version up to its own, as the run's map at that version
-pub value-of-serial_map : (splits : List Point) (book : List Entry) → IsRising book → (applied v : ℕ)
-    → v ≤ last_version (take applied book)
-    → (x : Point)
-    → value_in v x (take applied (along (message_on splits) book)) ≡ get (serial_map_at splits v (seen_of book).places)
-    x
-value-of-serial_map splits book rising applied v reached x =
-    let whole : RisesFrom 0 book = rises 0 book rising in
-    let parts : seen_of book ≡ fold add_entry (seen_of (take applied book)) (drop applied book) =
-    ap seen_of (sym (take-append-drop applied book))
-    ∙ fold-append add_entry nothing (take applied book) (drop applied book) in
-    ap (λ (messages : List Message). value_in v x messages)
-    (take-along (message_on splits) applied book ∙ along-is (message_on splits) (take applied book))
-    ∙ ap (λ (value : Option (List ℕ)). fold (value_with v x) value
-    (along_from (message_on splits) nothing (take applied book)))
-    (sym (get-empty {X = List ℕ} (slice_cmp nat_cmp) x))
-    ∙ value-messages splits v x 0 nothing (take applied book) tt (rises-take 0 applied book whole)
-    ∙ ap (λ (now : List Place). get (serial_map splits now) x)
-    (sym (ap (λ (seen : Seen). up_to v seen.places) parts
-    ∙ up_to-after v (last_version (take applied book)) (seen_of (take applied book)) (drop applied book) reached
-    (rises-drop 0 applied book whole)))
+pub versions-apart : (book : List Entry) → IsRising book → (n m : ℕ) → n < m → m ≤ length book
+    → last_version (take n book) < last_version (take m book)
+versions-apart book rising n m before within = apart-from 0 n m book (rises 0 book rising) before within
 
 -- with the places of a rising book none is above its last version
 at_most-book : (least : ℕ) (seen : Seen) (book : List Entry) → AtMost least seen.places → RisesFrom least book

@@ -1,27 +1,38 @@
 -- One more entry in the book, and what stays tied.
-use Rattle.std.proofs.Common.{◌≡◌, ◌∙◌, refl, sym, ap, subst, ℕ, zero, suc, ◌<◌, ◌≤◌, Bool, true, false, List, [], ◌∷◌, ◌++◌, length, map, take, drop, replicate, Option, Some, None, Ok, arith}
+use Rattle.std.proofs.Common.{◌≡◌, ◌∙◌, refl, sym, ap, ap₂, subst, ⊎_elim, ℕ, zero, suc, ◌<◌, ◌≤◌, le_of_lt, Bool, true, false, List, [], ◌∷◌, ◌++◌, length, map, take, drop, replicate, Option, Some, None, unwrap_or, if◌then◌else◌, Ok, arith}
 use Rattle.std.specs.List.{AllByRecursion, slice_get, slice_set}
-use Rattle.std.proofs.lemmas.Bool.{le-ltb, lt-leb}
+use Rattle.std.specs.FinMap.{get}
+use Rattle.std.proofs.lemmas.Option.{slice_get_within}
+use Rattle.std.proofs.lemmas.Bool.{cases_lt, le-ltb, lt-leb}
 use Rattle.std.proofs.lemmas.List.{length-append, length-map, length-replicate, length-take, take-append-le}
 use Rattle.fdb_txn.specs.Limits.{place_limit}
 use Rattle.fdb_txn.specs.declared.entry.Entry.{Entry}
-use Rattle.fdb_txn.specs.book.Book.{Seen, seen_of, last_version}
+use Rattle.fdb_txn.specs.book.Book.{Seen, seen_of, last_version, seen_before}
 use Rattle.fdb_txn.specs.book.History.{AreEntries}
 use Rattle.fdb_txn.specs.book.Transactions.{Transaction, NamesWrites}
 use Rattle.fdb_txn.proofs.book.HistoryLemmas.{entries_go_on}
 use Rattle.fdb_sequencer.specs.Limits.{version_limit}
 use Rattle.fdb_sequencer.specs.Sequencer.{next_version}
-use Rattle.fdb_core.specs.machine.Roles.{CommitProxy, ShardProgress, Resolving, Submission}
-use Rattle.fdb_core.specs.refinement.Messages.{Message}
+use Rattle.fdb_core.specs.machine.Roles.{CommitProxy, Resolving, Submission}
+use Rattle.fdb_log.specs.declared.message.LogMsg.{LogMsg}
+use Rattle.fdb_log.specs.Logs.{popped_through}
+use Rattle.fdb_log.specs.Messages.{above}
+use Rattle.fdb_txn.specs.rules.Messages.{messages_for}
+use Rattle.fdb_txn.specs.rules.SerialMap.{serial_map_at}
+use Rattle.fdb_txn.specs.rules.Splits.{piece}
+use Rattle.fdb_core.specs.declared.config.Config.{Config}
+use Rattle.fdb_core.specs.declared.roles.log.LogRole.{LogRole}
+use Rattle.fdb_core.specs.declared.roles.shard.ShardRole.{ShardRole}
+use Rattle.fdb_core.specs.refinement.Logs.{LogRefines, ShardRefines, LogsRefine}
 use Rattle.fdb_core.specs.declared.roles.resolver.ResolverRole.{ResolverRole}
 use Rattle.fdb_client.specs.declared.program.Transcript.{Transcript}
 use Rattle.fdb_core.specs.declared.step.Answered.TheVariants as answered
 use Rattle.fdb_core.specs.declared.step.Outcome.{Outcome}
-use Rattle.fdb_core.specs.refinement.Cluster.{BookRefines, ResolversRefine, LogRefines, WaitsRefines, CommitProxyRefines}
+use Rattle.fdb_core.specs.refinement.Cluster.{BookRefines, ResolversRefine, WaitsRefines, CommitProxyRefines, messages_on}
 use Rattle.fdb_core.specs.machine.Machine.{Machine, is_set}
 use Rattle.fdb_core.specs.machine.CommitProxySteps.{seals, is_idle, with_batch}
 use Rattle.fdb_core.specs.refinement.Resolving.{ResolverAt}
-use Rattle.fdb_core.specs.refinement.Roles.{along, message_on}
+use Rattle.fdb_core.specs.refinement.Roles.{along}
 use Rattle.fdb_core.specs.machine.Verdicts.{verdicts_on}
 use Rattle.fdb_core.proofs.common.AllLemmas.{all-drop}
 use Rattle.fdb_core.proofs.refinement.NoMoves.{no_moves-push}
@@ -99,14 +110,6 @@ pub last-at : {A : Type 0} (xs : List A) (x : A) → slice_get (xs ++ x ∷ []) 
 last-at [] x = refl
 last-at (y ∷ ys) x = last-at ys x
 
--- a flag that is set with one more that isn't was set before
-set-before : (flags : List Bool) (i : ℕ) → is_set (flags ++ false ∷ []) i ≡ true → (i < length flags)
-    × (is_set flags i ≡ true)
-set-before [] zero set = cc
-set-before [] (suc i) set = cc
-set-before (flag ∷ flags) zero set = (omega arith, set)
-set-before (flag ∷ flags) (suc i) set = let before = set-before flags i set in (omega (arith, before.0), before.1)
-
 -- no flag of as many that aren't set is set
 none-set : (n i : ℕ) → is_set (replicate n false) i ≡ false
 none-set zero i = refl
@@ -146,41 +149,84 @@ module _ (book : List Entry) (entry : Entry) where
         };
       }
 
-  pub log-push : (logs : List ℕ) (shards : List ShardProgress) (log shard : List Message)
-      → LogRefines book logs shards log shard
-      → LogRefines (book ++ entry ∷ []) logs shards log shard
-  log-push logs shards log shard ok = record {
-    taken = ok.taken;
-    applied = ok.applied;
-    one_log = ok.one_log;
-    one_shard = ok.one_shard;
-    within = omega (arith, length-append book (entry ∷ []), ok.within);
-    after = ok.after;
-    logged = ok.logged ∙ sym (along-front (message_on []) ok.taken ok.within);
-    kept = ok.kept ∙ sym (along-front (message_on []) ok.applied (omega (arith, ok.after, ok.within)));
+  pub logs-push : (config : Config) (logs : List LogRole) (shards : List ShardRole) → LogsRefine config book logs shards
+      → LogsRefine config (book ++ entry ∷ []) logs shards
+  logs-push config logs shards ok = record {
+    log_count = ok.log_count;
+    shard_count = ok.shard_count;
+    each_log = λ i role there. log-push config i role (ok.each_log i role there);
+    each_shard = λ i role there. shard-push config i role (ok.each_shard i role there);
+    each_tag = ok.each_tag;
   }
+    where
+      log-push : (config : Config) (i : ℕ) (role : LogRole) → LogRefines config book i role
+          → LogRefines config (book ++ entry ∷ []) i role
+      log-push config i role its =
+          let front = sym (take-append-le role.taken book (entry ∷ []) its.within) in
+          record {
+            number = its.number;
+            logs = its.logs;
+            tags = its.tags;
+            works = its.works;
+            within = omega (arith, length-append book (entry ∷ []), its.within);
+            last = its.last ∙ ap last_version front;
+            kept = λ tag keeps_it. its.kept tag keeps_it
+                ∙ ap (λ (all : List Entry). above (popped_through role.core tag)
+                (messages_for config.resolver_splits (piece config.shard_splits tag) all)) front;
+          }
 
-  pub book-push : (entry_proxies : List ℕ) (decided : List Bool) (messages : List (Option Message)) (proxy : ℕ)
-      → BookRefines book entry_proxies decided messages
+      shard-push : (config : Config) (i : ℕ) (role : ShardRole) → ShardRefines config book i role
+          → ShardRefines config (book ++ entry ∷ []) i role
+      shard-push config i role its =
+          let front = sym (take-append-le role.applied book (entry ∷ []) its.within) in
+          record {
+            tag = its.tag;
+            range = its.range;
+            works = its.works;
+            within = omega (arith, length-append book (entry ∷ []), its.within);
+            version = its.version ∙ ap last_version front;
+            serving = its.serving;
+            popped = its.popped;
+            serves = λ v x from until inside. its.serves v x from until inside
+                ∙ ap (λ (all : List Entry). get (serial_map_at config.resolver_splits v (seen_of all).places) x) front;
+          }
+
+  pub book-push : (config : Config) (entry_proxies : List ℕ) (decided : List Bool)
+      (messages : List (Option (List LogMsg))) (proxy : ℕ)
+      → BookRefines config book entry_proxies decided messages
       → entry.moves ≡ [] → AreEntries 1 (last_version book) (entry ∷ [])
-      → BookRefines (book ++ entry ∷ []) (entry_proxies ++ proxy ∷ []) (decided ++ false ∷ []) (messages ++ None ∷ [])
-  book-push entry_proxies decided messages proxy ok still next = record {
+      → BookRefines config (book ++ entry ∷ []) (entry_proxies ++ proxy ∷ []) (decided ++ false ∷ [])
+      (messages ++ None ∷ [])
+  book-push config entry_proxies decided messages proxy ok still next = record {
     no_moves = no_moves-push book entry ok.no_moves still;
     entries = entries_go_on 1 0 book entry ok.entries next;
     each_has_proxy = omega
         (arith, length-append entry_proxies (proxy ∷ []), length-append book (entry ∷ []), ok.each_has_proxy);
     each_flagged = omega (arith, length-append decided (false ∷ []), length-append book (entry ∷ []), ok.each_flagged);
     each_pooled = omega (arith, length-append messages (None ∷ []), length-append book (entry ∷ []), ok.each_pooled);
-    made = λ i message set there.
-        let before = set-before decided i set in
-        let early : i < length book = omega (arith, before.0, ok.each_flagged) in
-        let in_along : i < length (along (message_on []) book) = omega
-        (arith, early, length-along (message_on []) book) in
-        let in_pool : i < length messages = omega (arith, early, ok.each_pooled) in
-        let stood = sym (front-at (along (message_on []) book) (message_on [] (seen_of book) entry ∷ []) i in_along)
-        ∙ ap (λ (made : List Message). slice_get made i) (sym (along-push (message_on []) book entry)) ∙ there in
-        front-at messages (None ∷ []) i in_pool ∙ ok.made i message before.1 stood;
+    made = λ i other there. ⊎_elim
+        (λ early.
+        let old : slice_get book i ≡ Some other = sym (front-at book (entry ∷ []) i early) ∙ there in
+        front-at messages (None ∷ []) i (omega (arith, early, ok.each_pooled))
+        ∙ ok.made i other old
+        ∙ ap₂ (λ (flag : Bool) (front : List Entry).
+        Some (if flag then Some (messages_on config i (seen_of front) other) else None))
+        (sym (flag-front i (omega (arith, early, ok.each_flagged))))
+        (sym (take-append-le i book (entry ∷ []) (le_of_lt early))))
+        (λ late.
+        let inside = slice_get_within (book ++ entry ∷ []) i other there in
+        let last : i ≡ length book = omega (arith, late, inside, length-append book (entry ∷ [])) in
+        let pool_end : i ≡ length messages = omega (arith, last, ok.each_pooled) in
+        let flags_end : i ≡ length decided = omega (arith, last, ok.each_flagged) in
+        ap (slice_get (messages ++ None ∷ [])) pool_end ∙ last-at messages None
+        ∙ ap (λ (flag : Bool). Some (if flag then Some (messages_on config i (seen_before (book ++ entry ∷ []) i) other)
+        else None)) (sym (ap (is_set (decided ++ false ∷ [])) flags_end
+        ∙ ap (λ (flag : Option Bool). unwrap_or flag false) (last-at decided false))))
+        (cases_lt i (length book));
   }
+    where
+      flag-front : (i : ℕ) → i < length decided → is_set (decided ++ false ∷ []) i ≡ is_set decided i
+      flag-front i early = ap (λ (flag : Option Bool). unwrap_or flag false) (front-at decided (false ∷ []) i early)
 
   -- the commit proxy whose batch is that of the new entry
   pub commit_proxy-seal : (resolvers : List ℕ) (committed : ℕ) (commit_proxy : CommitProxy) (outcomes : List Outcome)

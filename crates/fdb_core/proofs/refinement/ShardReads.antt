@@ -1,115 +1,335 @@
--- What the one shard answers, at a version that it serves, is what stands on the serial map.
-use Rattle.std.proofs.Common.{◌≡◌, ◌∙◌, refl, sym, ap, ◌≤◌, ℕ, Bool, true, false, List, [], ◌∷◌, Option, Some, None, inl, inr, ⊎_elim, slice_get}
-use Rattle.std.specs.Prelude.{nat_lt, if◌then◌else◌}
-use Rattle.std.specs.FinMap.{get}
-use Rattle.std.proofs.lemmas.Bool.{cases_Bool, ltb-false}
-use Rattle.fdb_keys.specs.Points.{Point}
-use Rattle.fdb_keys.specs.Ranges.{Range}
+-- What the shards answer, at a version that they serve, is what stands on the map of the run.
+use Rattle.std.proofs.Common.{◌≡◌, ◌∙◌, refl, sym, ap, ap₂, ◌<◌, ◌≤◌, ℕ, zero, suc, ◌+◌, Bool, true, false, ◌&&◌, ◌||◌, List, [], ◌∷◌, length, take, map, Option, Some, None, ⊎_elim, slice_get, arith}
+use Rattle.std.specs.Prelude.{nat_eq, nat_lt, ◌==◌, if◌then◌else◌}
+use Rattle.std.specs.List.{list_any}
+use Rattle.std.specs.FinMap.{get, empty, get-empty}
+use Rattle.std.specs.Option.{option_map}
+use Rattle.std.proofs.lemmas.Bool.{cases_Bool, both_ways, and_parts, and_from, or_left, or_right, cond-true, cond-false, not-true, ltb-true, ltb-false, lt-ltb, le-ltb, eqb-true, eqb-false, eq-eqb}
+use Rattle.std.proofs.Math.Seq.{take-length}
+use Rattle.std.proofs.lemmas.List.{length-take, take_min}
+use Rattle.std.proofs.lemmas.Option.{slice_get-map, slice_get_within}
+use Rattle.fdb_keys.specs.Points.{Point, point_lt}
+use Rattle.fdb_keys.specs.Ranges.{Range, in_range, ranges_meet}
+use Rattle.fdb_keys.specs.Texts.{is_bound}
 use Rattle.fdb_keys.specs.declared.refusal.Refusal.{Refusal}
 use Rattle.fdb_keys.specs.declared.refusal.Refusal.TheVariants.{FutureVersion, TransactionTooOld}
+use Rattle.fdb_keys.proofs.PointOrder.{lt_le_chain}
+use Rattle.fdb_keys.proofs.RangesLemmas.{in_range_parts, common_from_meet, meet_from_common}
 use Rattle.fdb_mutations.specs.Maps.{Map}
-use Rattle.fdb_txn.specs.book.Book.{seen_of}
-use Rattle.fdb_core.specs.refinement.Messages.{Message, value_in}
+use Rattle.fdb_mutations.specs.Pairs.{first_of, pairs_in}
+use Rattle.fdb_mutations.proofs.PairsLemmas.{same_values}
 use Rattle.fdb_txn.specs.rules.Owners.{first_owner}
-use Rattle.fdb_txn.specs.rules.SerialMap.{serial_map_at}
-use Rattle.fdb_client.specs.declared.program.Op.{Op}
-use Rattle.fdb_client.specs.declared.program.Op.TheVariants as op
-use Rattle.fdb_client.specs.declared.program.Reply.TheVariants as reply
-use Rattle.fdb_client.specs.Programs.{copy, decided, reply_on}
-use Rattle.fdb_client.proofs.ProgramsAgree.{copies-agree}
-use Rattle.fdb_core.specs.declared.cluster.Cluster.{Cluster}
-use Rattle.fdb_core.specs.machine.Roles.{ShardProgress}
-use Rattle.fdb_core.specs.machine.RoleSteps.{serving_fault, shard_fault, version_of_shard}
-use Rattle.fdb_core.specs.machine.ClientSteps.{point_fault, fault_among, shard_begins, range_fault, read_fault}
-use Rattle.fdb_core.specs.refinement.Cluster.{machine_of, Refines}
-use Rattle.fdb_core.specs.refinement.RangeFaults.{unless_empty}
-use Rattle.fdb_core.specs.refinement.ShardMaps.{map_in}
-use Rattle.fdb_core.proofs.checking.PartLemmas.{given-agrees}
-use Rattle.fdb_core.proofs.common.RangeLemmas.{asked-unsplit, asked-inside}
-use Rattle.fdb_core.proofs.refinement.RunLaws.{entries-rising, value-of-serial_map}
-use Rattle.fdb_core.proofs.refinement.ShardMapLemmas.{get-map_in}
+use Rattle.fdb_txn.specs.rules.Splits.{end_of_keys}
+use Rattle.fdb_txn.proofs.rules.AskedLemmas.{owner-exists}
+use Rattle.fdb_txn.proofs.rules.SplitsLemmas.{pieces_part_the_keys}
+use Rattle.fdb_client.specs.Pages.{IsPage}
+use Rattle.fdb_client.specs.declared.snapshot.Page.{Page}
+use Rattle.fdb_storage.specs.Shards.{serving_fault, part_fault, value_at, HasCopied}
+use Rattle.fdb_core.specs.declared.roles.shard.ShardRole.{ShardRole}
+use Rattle.fdb_core.specs.machine.RoleSteps.{shard_fault}
+use Rattle.fdb_core.specs.refinement.Logs.{progress_of}
+use Rattle.fdb_core.specs.refinement.RangeFaults.{of-range, too-old-range, served-range, held_by_one}
+use Rattle.fdb_core.specs.refinement.ShardReads.{ShardReads, AreReadable, HasTheRunIn, key_fault, range_fault, run_map}
+use Rattle.fdb_core.proofs.common.AllLemmas.{within-item}
 
--- who serves a version has reached it
-reached-served : (version floor greatest : ℕ) → serving_fault version floor greatest ≡ None → version ≤ greatest
-reached-served version floor greatest served = by_tests (nat_lt version floor) (nat_lt greatest version) refl served
+-- an item that passes a test, with its number, where the list has one
+some-at : {A : Type 0} (p : A → Bool) (xs : List A) → list_any p xs ≡ true
+    → (i : ℕ) × (x : A) × (slice_get xs i ≡ Some x) × (p x ≡ true)
+some-at p [] is = cc
+some-at p (x ∷ xs) is = ⊎_elim
+    (λ here. (0, x, refl, here))
+    (λ not_here. let later = some-at p xs (sym (ap (λ (b : Bool). b || list_any p xs) not_here) ∙ is) in
+    (suc later.0, later.1, later.2, later.3))
+    (cases_Bool (p x))
+
+-- an item that passes it is such a one
+any-at : {A : Type 0} (p : A → Bool) (xs : List A) (i : ℕ) (x : A) → slice_get xs i ≡ Some x → p x ≡ true
+    → list_any p xs ≡ true
+any-at p [] i x there passes = cc
+any-at p (y ∷ ys) zero x there passes =
+    let same : y ≡ x = cc in or_left (p y) (list_any p ys) (ap p same ∙ passes)
+any-at p (y ∷ ys) (suc i) x there passes = or_right (p y) (list_any p ys) (any-at p ys i x there passes)
+
+-- a point of a range with a legal end comes before the end of the keys
+below-end : (range : Range) (x : Point) → is_bound range.end ≡ true → in_range range x ≡ true
+    → point_lt x end_of_keys ≡ true
+below-end range x legal inside =
+    lt_le_chain x range.end end_of_keys (in_range_parts range x inside).1 (not-true _ (and_parts _ _ legal).1)
+
+-- a version that is served lies from the floor through the greatest one
+serving : (version floor greatest : ℕ) → serving_fault version floor greatest ≡ None
+    → (floor ≤ version) × (version ≤ greatest)
+serving version floor greatest served = by_tests (nat_lt version floor) (nat_lt greatest version) refl refl served
   where
-    by_tests : (old future : Bool) → nat_lt greatest version ≡ future
+    by_tests : (old future : Bool) → nat_lt version floor ≡ old → nat_lt greatest version ≡ future
         → (if old then Some TransactionTooOld else (if future then Some FutureVersion else None)) ≡ None
-        → version ≤ greatest
-    by_tests true future is none = cc
-    by_tests false true is none = cc
-    by_tests false false is none = ltb-false greatest version is
+        → (floor ≤ version) × (version ≤ greatest)
+    by_tests true future is_old is_future none = cc
+    by_tests false true is_old is_future none = cc
+    by_tests false false is_old is_future none = (ltb-false version floor is_old, ltb-false greatest version is_future)
 
--- why a read is refused, by why the one shard refuses the version
-abbrev pub fault_by : Option Refusal → List Op → Op → Option Refusal
-fault_by fault earlier operation = read_fault (λ key. fault) (λ range. unless_empty range fault) earlier operation
+-- what is refused, and not as too old, is refused as not served yet
+not-old : (version floor greatest : ℕ) (why : Refusal) → serving_fault version floor greatest ≡ Some why
+    → nat_lt version floor ≡ false → (nat_lt greatest version ≡ true) × (why ≡ FutureVersion)
+not-old version floor greatest why refused young =
+    by_test (nat_lt greatest version) (sym (cond-false (nat_lt version floor) _ _ young) ∙ refused)
+  where
+    by_test : (future : Bool) → (if future then Some FutureVersion else None) ≡ Some why
+        → (future ≡ true) × (why ≡ FutureVersion)
+    by_test true is = let same : FutureVersion ≡ why = cc in (refl, sym same)
+    by_test false is = cc
 
-module _ (k : Cluster) (before : Refines k) (version : ℕ) where
-  -- the serial map there
-  abbrev pub serial : Map
-  serial = serial_map_at k.config.resolver_splits version (seen_of k.book.items).places
+-- the shard holds some of the range, and no longer serves the version
+abbrev pub is_behind_floor : ℕ → Range → ShardRole → Bool
+is_behind_floor version range role = ranges_meet role.core.range range && nat_lt version role.core.floor
 
-  -- the one shard's progress
-  abbrev pub progress : ShardProgress
-  progress = record { applied = before.log.applied; floor = 0 }
+-- or doesn't serve it yet
+abbrev pub is_ahead_of : ℕ → Range → ShardRole → Bool
+is_ahead_of version range role = ranges_meet role.core.range range && nat_lt role.core.version version
 
-  abbrev pub fault_there : Option Refusal
-  fault_there = serving_fault version 0 (version_of_shard k.book.items progress)
+-- the first items, as many as the limit says
+first-are : {A : Type 0} (limit : ℕ) (given all : List A) → given ≡ first_of limit all
+    → (given ≡ take (length given) all) × (nat_eq limit 0 ≡ false → length given ≤ limit)
+    × (nat_lt (length given) (length all) ≡ true → 0 < length given)
+first-are {A} limit given all is = ⊎_elim whole cut (cases_Bool (nat_eq limit 0))
+  where
+    AreFirst : Type 0
+    AreFirst =
+        (given ≡ take (length given) all) × (nat_eq limit 0 ≡ false → length given ≤ limit)
+        × (nat_lt (length given) (length all) ≡ true → 0 < length given)
 
-  -- the shard that holds a key is the one shard
-  pub fault-there : (key : Point)
-      → shard_fault k.book.items version (slice_get k.shards.items (first_owner k.config.shard_splits key))
-      ≡ fault_there
-  fault-there key =
-      ap (λ (shards : List ShardProgress).
-      shard_fault k.book.items version (slice_get shards (first_owner k.config.shard_splits key))) before.log.one_shard
-      ∙ ap (λ (splits : List Point).
-      shard_fault k.book.items version (slice_get (progress ∷ []) (first_owner splits key))) before.plain.shard_splits
+    whole : nat_eq limit 0 ≡ true → AreFirst
+    whole none =
+        let same : given ≡ all = is ∙ cond-true (nat_eq limit 0) all (take limit all) none in
+        let long = ap (λ (xs : List A). length xs) same in (
+          same ∙ sym (ap (λ (n : ℕ). take n all) long ∙ take-length all),
+          λ some. absurd (both_ways _ some none),
+          λ more. absurd (omega (arith, long, ltb-true (length given) (length all) more)),
+        )
 
-  -- at a version that it has reached it has what stands on the serial map
-  same_value : version ≤ version_of_shard k.book.items progress → (x : Point)
-      → get (map_in version k.shard.items) x ≡ get serial x
-  same_value reached x =
-      get-map_in version k.shard.items x
-      ∙ ap (λ (messages : List Message). value_in version x messages) before.log.kept
-      ∙ value-of-serial_map [] k.book.items (entries-rising 1 k.book.items before.book.entries) before.log.applied
-      version reached x
-      ∙ ap (λ (splits : List Point). get (serial_map_at splits version (seen_of k.book.items).places) x)
-      (sym before.plain.resolver_splits)
+    cut : nat_eq limit 0 ≡ false → AreFirst
+    cut some =
+        let same : given ≡ take limit all = is ∙ cond-false (nat_eq limit 0) all (take limit all) some in
+        let long = ap (λ (xs : List A). length xs) same ∙ length-take limit all in (
+          same ∙ sym (ap (λ (n : ℕ). take n all) long ∙ take_min limit all),
+          λ _. omega (arith, long),
+          λ more. omega (arith, long, ltb-true (length given) (length all) more, eqb-false limit 0 some),
+        )
 
-  -- and a range is refused as that one refuses it
-  range_fault-there : (range : Range) → range_fault (machine_of k) version range ≡ unless_empty range fault_there
-  range_fault-there range =
-      ap (λ (splits : List Point). fault_among (point_fault (machine_of k) version) (shard_begins splits range))
-      before.plain.shard_splits
-      ∙ asked-unsplit (point_fault (machine_of k) version) range
-      ∙ ap (unless_empty range) (fault-there range.begin)
+-- a page of a map that has the run in the range is one of the run
+pub page-of : (reads : ShardReads) (range : Range) (limit : ℕ) (is_reverse : Bool) (copy : Map) (page : Page)
+    → HasTheRunIn reads range copy
+    → (page.pairs ≡ first_of limit (pairs_in copy range is_reverse))
+    × (page.more ≡ nat_lt (length page.pairs) (length (pairs_in copy range is_reverse)))
+    → IsPage (run_map reads) range limit is_reverse page
+page-of reads range limit is_reverse copy page has is =
+    let all = pairs_in (run_map reads) range is_reverse in
+    let same : pairs_in copy range is_reverse ≡ all = same_values copy (run_map reads) range is_reverse has in
+    let first = first-are limit page.pairs all
+    (is.0 ∙ ap (λ (pairs : List (Point × List ℕ)). first_of limit pairs) same) in
+    let more : page.more ≡ nat_lt (length page.pairs) (length all) =
+    is.1 ∙ ap (λ (pairs : List (Point × List ℕ)). nat_lt (length page.pairs) (length pairs)) same in
+    record {
+      first = first.0;
+      within = first.1;
+      more = more;
+      goes_on = λ further. first.2 (sym more ∙ further);
+    }
 
-  -- so the machine refuses a read as the one shard does
-  pub same_fault : (earlier : List Op) (operation : Op)
-      → read_fault (point_fault (machine_of k) version) (range_fault (machine_of k) version) earlier operation
-      ≡ fault_by fault_there earlier operation
-  same_fault earlier (op.Get key snapshot) =
-      ap (λ (fault : Option Refusal). if decided earlier key then None else fault) (fault-there key)
-  same_fault earlier (op.Range range limit is_reverse snapshot) = range_fault-there range
-  same_fault earlier (op.Write mutation) = refl
-  same_fault earlier (op.AddRead range) = refl
-  same_fault earlier (op.AddWrite range) = refl
+-- the map has in the range what the run has where the first n shards hold it, and nothing elsewhere
+abbrev pub HasFirst : ShardReads → Range → ℕ → Map → Type 0
+HasFirst reads range n map =
+    (x : Point) → in_range range x ≡ true
+    → get map x ≡ (if nat_lt (first_owner reads.config.shard_splits x) n then get (run_map reads) x else None)
 
-  -- and a read that isn't refused is answered as on the serial map
-  pub same_reply : (earlier : List Op) (operation : Op) → fault_by fault_there earlier operation ≡ None
-      → reply_on (copy (map_in version k.shard.items) earlier) operation ≡ reply_on (copy serial earlier) operation
-  same_reply earlier (op.Get key snapshot) faultless = ap reply.Value (copies-agree _ _ earlier key (⊎_elim
-      (λ own. inl own)
-      (λ other. inr (same_value (reached-served version 0 _ (undecided (decided earlier key) other faultless)) key))
-      (cases_Bool (decided earlier key))))
-    where
-      undecided : (test : Bool) → test ≡ false → (if test then None else fault_there) ≡ None → fault_there ≡ None
-      undecided true is none = cc
-      undecided false is none = none
-  same_reply earlier (op.Range range limit is_reverse snapshot) faultless =
-      ap reply.Pairs (given-agrees range _ _ limit is_reverse (λ x inside. copies-agree _ _ earlier x
-      (inr (same_value (reached-served version 0 _ (asked-inside range x fault_there inside faultless)) x))))
-  same_reply earlier (op.Write mutation) faultless = refl
-  same_reply earlier (op.AddRead range) faultless = refl
-  same_reply earlier (op.AddWrite range) faultless = refl
+-- the empty map has what no shards have
+pub none-copied : (reads : ShardReads) (range : Range) → HasFirst reads range 0 empty
+none-copied reads range x inside =
+    get-empty _ x
+    ∙ sym (cond-false (nat_lt (first_owner reads.config.shard_splits x) 0) (get (run_map reads) x) None
+    (le-ltb _ 0 (omega arith)))
+
+module _ (reads : ShardReads) (readable : AreReadable reads) where
+  abbrev pub owner : Point → ℕ
+  owner x = first_owner reads.config.shard_splits x
+
+  owner-within : (x : Point) → owner x < length reads.shards
+  owner-within x =
+      let few : owner x < suc (length reads.config.shard_splits) =
+      owner-exists reads.config.shard_splits 0 [] x 0 tt in
+      omega (arith, few, readable.as_many)
+
+  -- a shard holds those keys that it owns
+  held-by : (i : ℕ) (role : ShardRole) (x : Point) → slice_get reads.shards i ≡ Some role
+      → point_lt x end_of_keys ≡ true → in_range role.core.range x ≡ (owner x == i)
+  held-by i role x there below =
+      let inside = slice_get_within reads.shards i role there in
+      ap (λ (range : Range). in_range range x) (readable.each i role there).range
+      ∙ pieces_part_the_keys reads.config.shard_splits i x readable.splits (omega (arith, inside, readable.as_many))
+      below
+
+  -- and is who refuses them
+  fault-of : (i : ℕ) (role : ShardRole) (x : Point) → slice_get reads.shards i ≡ Some role → owner x ≡ i
+      → key_fault reads x ≡ serving_fault reads.version role.core.floor role.core.version
+  fault-of i role x there owns =
+      ap (shard_fault reads.book reads.version)
+      (ap (slice_get (map progress_of reads.shards)) owns ∙ slice_get-map progress_of reads.shards i
+      ∙ ap (option_map progress_of) there)
+      ∙ ap (serving_fault reads.version role.core.floor) (sym (readable.each i role there).version)
+
+  -- at a key that it owns and serves it has what the run has
+  value-of : (i : ℕ) (role : ShardRole) (x : Point) → slice_get reads.shards i ≡ Some role
+      → in_range role.core.range x ≡ true → serving_fault reads.version role.core.floor role.core.version ≡ None
+      → value_at role.core reads.version x ≡ get (run_map reads) x
+  value-of i role x there inside served =
+      let bounds = serving reads.version role.core.floor role.core.version served in
+      let it = readable.each i role there in
+      it.serves x bounds.0 bounds.1 (ap (λ (range : Range). in_range range x) (sym it.range) ∙ inside)
+
+  module _ (range : Range) (legal : is_bound range.end ≡ true) where
+    -- a shard that holds some of the range is who refuses a point of it
+    met : (i : ℕ) (role : ShardRole) → slice_get reads.shards i ≡ Some role
+        → ranges_meet role.core.range range ≡ true
+        → (x : Point) × (in_range range x ≡ true)
+        × (key_fault reads x ≡ serving_fault reads.version role.core.floor role.core.version)
+    met i role there meets =
+        let common = common_from_meet role.core.range range meets in
+        let owns = sym (held-by i role common.0 there (below-end range common.0 legal common.2)) ∙ common.1 in
+        (common.0, common.2, fault-of i role common.0 there (eqb-true (owner common.0) i owns))
+
+    -- and each point of the range is refused by a shard that holds some of it
+    asked : (x : Point) → in_range range x ≡ true
+        → (i : ℕ) × (role : ShardRole) × (slice_get reads.shards i ≡ Some role)
+        × (ranges_meet role.core.range range ≡ true)
+        × (key_fault reads x ≡ serving_fault reads.version role.core.floor role.core.version)
+    asked x inside =
+        let one = within-item reads.shards (owner x) (owner-within x) in
+        let held : in_range one.0.core.range x ≡ true =
+        held-by (owner x) one.0 x one.1 (below-end range x legal inside) ∙ eq-eqb (owner x) (owner x) refl in (
+          owner x,
+          one.0,
+          one.1,
+          meet_from_common one.0.core.range range x held inside,
+          fault-of (owner x) one.0 x one.1 refl,
+        )
+
+    -- the range is too old for the shards where one of them forgot the version
+    too-old : list_any (is_behind_floor reads.version range) reads.shards ≡ true
+        → range_fault reads range ≡ Some TransactionTooOld
+    too-old is =
+        let one = some-at (is_behind_floor reads.version range) reads.shards is in
+        let parts = and_parts _ _ one.3 in
+        let point = met one.0 one.1 one.2 parts.0 in
+        too-old-range reads.config.shard_splits range (key_fault reads) (held_by_one reads) point.0 point.1
+        (point.2 ∙ cond-true (nat_lt reads.version one.1.core.floor) _ _ parts.1)
+
+    module _ (young : list_any (is_behind_floor reads.version range) reads.shards ≡ false) where
+      still : (i : ℕ) (role : ShardRole) → slice_get reads.shards i ≡ Some role
+          → ranges_meet role.core.range range ≡ true → nat_lt reads.version role.core.floor ≡ false
+      still i role there meets = ⊎_elim
+          (λ old. absurd (both_ways _ young (any-at (is_behind_floor reads.version range) reads.shards i role there
+          (and_from _ _ meets old))))
+          (λ no. no)
+          (cases_Bool (nat_lt reads.version role.core.floor))
+
+      -- otherwise it is refused as not served yet, by a shard that isn't so far
+      later : (why : Refusal) → range_fault reads range ≡ Some why
+          → (list_any (is_ahead_of reads.version range) reads.shards ≡ true) × (why ≡ FutureVersion)
+      later why refused =
+          let point = of-range reads.config.shard_splits range (key_fault reads) (held_by_one reads) why refused in
+          let one = asked point.0 point.1 in
+          let is = not-old reads.version one.1.core.floor one.1.core.version why (sym one.4 ∙ point.2)
+          (still one.0 one.1 one.2 one.3) in
+          (any-at (is_ahead_of reads.version range) reads.shards one.0 one.1 one.2 (and_from _ _ one.3 is.0), is.1)
+
+      -- and where there is such a shard
+      not-yet : list_any (is_ahead_of reads.version range) reads.shards ≡ true
+          → range_fault reads range ≡ Some FutureVersion
+      not-yet is = by_fault (range_fault reads range) refl
+        where
+          by_fault : (fault : Option Refusal) → range_fault reads range ≡ fault → fault ≡ Some FutureVersion
+          by_fault None served =
+              let one = some-at (is_ahead_of reads.version range) reads.shards is in
+              let parts = and_parts _ _ one.3 in
+              let point = met one.0 one.1 one.2 parts.0 in
+              let bounds = serving reads.version one.1.core.floor one.1.core.version (sym point.2
+              ∙ served-range reads.config.shard_splits range (key_fault reads) (held_by_one reads) point.0 point.1
+              served) in
+              absurd (omega (arith, bounds.1, ltb-true one.1.core.version reads.version parts.1))
+          by_fault (Some why) refused = ap (λ (refusal : Refusal). Some refusal) (later why refused).1
+
+      -- so where there is none it is served
+      all-serve : list_any (is_ahead_of reads.version range) reads.shards ≡ false → range_fault reads range ≡ None
+      all-serve none = by_fault (range_fault reads range) refl
+        where
+          by_fault : (fault : Option Refusal) → range_fault reads range ≡ fault → fault ≡ None
+          by_fault None served = refl
+          by_fault (Some why) refused = absurd (both_ways _ none (later why refused).0)
+
+    -- why a range is refused, by the shards that hold some of it
+    pub range_fault-is : range_fault reads range
+        ≡ (if list_any (is_behind_floor reads.version range) reads.shards then Some TransactionTooOld
+        else (if list_any (is_ahead_of reads.version range) reads.shards then Some FutureVersion else None))
+    range_fault-is = ⊎_elim
+        (λ old. too-old old ∙ sym (cond-true _ _ _ old))
+        (λ young. ⊎_elim
+        (λ ahead. not-yet young ahead ∙ sym (cond-true _ _ _ ahead) ∙ sym (cond-false _ _ _ young))
+        (λ reached. all-serve young reached ∙ sym (cond-false _ _ _ reached) ∙ sym (cond-false _ _ _ young))
+        (cases_Bool (list_any (is_ahead_of reads.version range) reads.shards)))
+        (cases_Bool (list_any (is_behind_floor reads.version range) reads.shards))
+
+    module _ (served : range_fault reads range ≡ None) where
+      point-served : (x : Point) → in_range range x ≡ true → key_fault reads x ≡ None
+      point-served x inside =
+          served-range reads.config.shard_splits range (key_fault reads) (held_by_one reads) x inside served
+
+      -- each shard gives its part of a range that is served
+      pub part-served : (i : ℕ) (role : ShardRole) → slice_get reads.shards i ≡ Some role
+          → part_fault role.core range reads.version ≡ None
+      part-served i role there = rw (readable.each i role there).works (⊎_elim
+          (λ meets. cond-true (ranges_meet range role.core.range) _ _ meets
+          ∙ (let common = common_from_meet range role.core.range meets in
+          let point = met i role there (meet_from_common role.core.range range common.0 common.2 common.1) in
+          sym point.2 ∙ point-served point.0 point.1))
+          (λ apart. cond-false (ranges_meet range role.core.range) _ _ apart)
+          (cases_Bool (ranges_meet range role.core.range)))
+
+      -- with the part of one more shard the map has what one more has
+      pub one-copied : (n : ℕ) (role : ShardRole) (old new : Map) → slice_get reads.shards n ≡ Some role
+          → HasFirst reads range n old → HasCopied role.core range reads.version old new
+          → HasFirst reads range (n + 1) new
+      one-copied n role old new there before copied x inside = ⊎_elim own other (cases_Bool (owner x == n))
+        where
+          held : in_range role.core.range x ≡ (owner x == n)
+          held = held-by n role x there (below-end range x legal inside)
+
+          own : (owner x == n) ≡ true
+              → get new x ≡ (if nat_lt (owner x) (n + 1) then get (run_map reads) x else None)
+          own is =
+              let same = eqb-true (owner x) n is in
+              copied.inside x inside (held ∙ is)
+              (before x inside ∙ cond-false (nat_lt (owner x) n) _ _ (le-ltb (owner x) n (omega (arith, same))))
+              ∙ value-of n role x there (held ∙ is)
+              (sym (fault-of n role x there same) ∙ point-served x inside)
+              ∙ sym (cond-true (nat_lt (owner x) (n + 1)) _ _ (lt-ltb (owner x) (n + 1) (omega (arith, same))))
+
+          same_test : (owner x == n) ≡ false → nat_lt (owner x) n ≡ nat_lt (owner x) (n + 1)
+          same_test differs = ⊎_elim
+              (λ less. less ∙ sym (lt-ltb (owner x) (n + 1) (omega (arith, ltb-true (owner x) n less))))
+              (λ more. more ∙ sym (le-ltb (owner x) (n + 1)
+              (omega (arith, ltb-false (owner x) n more, eqb-false (owner x) n differs))))
+              (cases_Bool (nat_lt (owner x) n))
+
+          other : (owner x == n) ≡ false
+              → get new x ≡ (if nat_lt (owner x) (n + 1) then get (run_map reads) x else None)
+          other differs =
+              copied.outside x (ap₂ (λ (a b : Bool). a && b) inside (held ∙ differs))
+              ∙ before x inside
+              ∙ ap (λ (test : Bool). if test then get (run_map reads) x else None) (same_test differs)
+
+  -- with those of all it has what the run has
+  pub all-copied : (range : Range) (copy : Map) → HasFirst reads range (length reads.shards) copy
+      → HasTheRunIn reads range copy
+  all-copied range copy before x inside =
+      before x inside ∙ cond-true (nat_lt (owner x) (length reads.shards)) _ _
+      (lt-ltb (owner x) (length reads.shards) (owner-within x))

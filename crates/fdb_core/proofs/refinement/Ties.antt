@@ -30,7 +30,8 @@ refines-sessions k grv_proxies sessions acknowledged before all = record {
   sequencer = before.sequencer;
   book = before.book;
   resolvers = before.resolvers;
-  log = before.log;
+  logs = before.logs;
+  shard_map = before.shard_map;
   commit_proxies = before.commit_proxies;
   opened = all;
 }

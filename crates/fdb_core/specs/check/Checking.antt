@@ -10,24 +10,24 @@ use Rattle.fdb_txn.specs.book.Transactions.{Transaction}
 use Rattle.fdb_txn.specs.book.Book.{Place, seen_of, last_version, seen_before}
 use Rattle.fdb_txn.specs.book.History.{AreEntries}
 use Rattle.fdb_txn.specs.book.Places.{place_at}
+use Rattle.fdb_txn.specs.rules.Messages.{mutations_in}
 use Rattle.fdb_txn.specs.rules.SerialMap.{serial_map, serial_map_at}
 use Rattle.fdb_core.specs.declared.check.serial.Replay.{Replay}
 use Rattle.fdb_core.specs.declared.check.compare.Moment.TheVariants.{Before}
 use Rattle.fdb_core.specs.declared.roles.client.Placed.{Placed}
-use Rattle.fdb_core.specs.refinement.Messages.{Message}
+use Rattle.fdb_core.specs.declared.roles.shard.ShardRole.{ShardRole}
 use Rattle.fdb_client.specs.declared.program.Transcript.{Transcript}
 use Rattle.fdb_core.specs.declared.step.Outcome.{Outcome}
 use Rattle.fdb_core.specs.declared.world.CheckFault.{CheckFault}
-use Rattle.fdb_core.specs.declared.world.CheckFault.TheVariants.{Shard}
 use Rattle.fdb_core.specs.check.Comparing.{AnsweredAt, StopsBy}
 use Rattle.fdb_core.specs.headline.Headline.{AnsweredOn}
-use Rattle.fdb_core.specs.check.Holding.{HoldsTheRun}
+use Rattle.fdb_core.specs.check.Holding.{HoldsTheRun, ShardDiffers}
 use Rattle.fdb_core.specs.refinement.Resolving.{NoMovesIn, ResolverAt}
 use Rattle.fdb_core.specs.refinement.Roles.{body_by}
 
 -- the map after the first places of a batch
 abbrev pub map_after : Map → List Transaction → List Outcome → ℕ → Map
-map_after map batch outcomes count = effects map (body_by (take count batch) (take count outcomes))
+map_after map batch outcomes count = effects map (mutations_in (body_by 0 (take count batch) (take count outcomes)))
 
 -- who stands at one of the first places of the entry was answered as on the map after the places before his
 abbrev pub AnsweredIn : Map → List Transaction → List Outcome → ℕ → ℕ → Placed → Type 0
@@ -68,15 +68,28 @@ abbrev pub ComesTo : {T : Type 0} → Result T CheckFault → List Entry → Lis
 ComesTo result book acknowledged n replay =
     MatchResult result (λ _. HasCome book acknowledged n replay) (StopsBy (Agrees book) acknowledged)
 
--- the shard is compared, and doesn't have the run's map
-abbrev pub ShardDiffers : List Entry → Bool → List Message → CheckFault → Type 0
-ShardDiffers book with_shard shard fault = (fault ≡ Shard 0) × (with_shard ≡ true) × ¬ HoldsTheRun book shard
+-- each shard whose version lies below that of the last of the first n entries has the run's values there
+abbrev pub HaveHeld : List Entry → List ShardRole → ℕ → Type 0
+HaveHeld book shards n =
+    AllByRecursion (λ (role : ShardRole). nat_lt role.core.version (last_version (take n book)) ≡ true
+    → HoldsTheRun book role) shards
 
--- What a check finds: that each acknowledged transaction was answered as in the run, and that the shard, if it is
--- compared, has the run's map; or one for which that isn't so. Or memory runs out.
-abbrev pub Finds : Result ℕ CheckFault → List Entry → List Placed → Bool → List Message → Type 0
-Finds result book acknowledged with_shard shard =
+-- memory ran out, or the fault names an acknowledged transaction that was answered otherwise, or a shard that has other
+-- values
+abbrev pub Stops : List Entry → List Placed → List ShardRole → CheckFault → Type 0
+Stops book acknowledged shards fault =
+    StopsBy (Agrees book) acknowledged fault ⊎ ShardDiffers (HoldsTheRun book) shards fault
+
+-- a check comes to entry n, with the shards compared up to there, or it stops
+abbrev pub GoesTo : {T : Type 0} → Result T CheckFault → List Entry → List Placed → List ShardRole → ℕ → Replay → Type 0
+GoesTo result book acknowledged shards n replay =
+    MatchResult result (λ _. HasCome book acknowledged n replay × HaveHeld book shards n) (Stops book acknowledged shards)
+
+-- What a check finds: that each acknowledged transaction was answered as in the run, and that each shard has the run's
+-- values at its version; or one for which that isn't so. Or memory runs out.
+abbrev pub Finds : Result ℕ CheckFault → List Entry → List Placed → List ShardRole → Type 0
+Finds result book acknowledged shards =
     MatchResult result
     (λ count. (count ≡ length acknowledged) × AllByRecursion (Agrees book) acknowledged
-    × (with_shard ≡ true → HoldsTheRun book shard))
-    (λ fault. StopsBy (Agrees book) acknowledged fault ⊎ ShardDiffers book with_shard shard fault)
+    × AllByRecursion (HoldsTheRun book) shards)
+    (Stops book acknowledged shards)

@@ -95,6 +95,8 @@ module _ (splits : List Point) (r : Readings) where
   IsAnswered (step.Answer proxy) (answered.Answers told) = AreReplies proxy told
   IsAnswered (step.Answer proxy) answer = ⊥
   IsAnswered (step.Pull shard limit) answer = ⊤
+  IsAnswered (step.Forget shard version) answer = ⊤
+  IsAnswered (step.Pop shard) answer = ⊤
 
 -- over every trace each accepted step is answered so
 abbrev pub AnsweredByTheTrace : Type 0

@@ -8,6 +8,8 @@ use Rattle.fdb_txn.specs.declared.entry.Entry.{Entry}
 use Rattle.fdb_txn.specs.declared.spot.Spot.TheVariants as spot
 use Rattle.fdb_txn.specs.book.Book.{seen_of}
 use Rattle.fdb_txn.specs.rules.Resolvers.{IsStateOf}
+use Rattle.fdb_txn.specs.rules.Splits.{piece}
+use Rattle.fdb_log.specs.Logs.{Log}
 use Rattle.fdb_core.specs.declared.config.Config.{Config}
 use Rattle.fdb_client.specs.declared.program.Op.TheVariants as op
 use Rattle.fdb_client.specs.declared.program.Reply.TheVariants as reply
@@ -110,14 +112,33 @@ AfterAVersion =
 -- A shard that serves up to the entry and has nothing at the key that it sets doesn't answer from the run.
 abbrev pub AnEmptyShardDoesNotServe : Type 0
 AnEmptyShardDoesNotServe =
-    ShardServes plain two_in_one_entry 0 (record { floor = 0; version = 100; messages = [] }) → ⊥
+    ShardServes plain two_in_one_entry 0 (record {
+      tag = 0;
+      range = piece [] 0;
+      version = 100;
+      floor = 0;
+      is_failed = false;
+      messages = [];
+    }) → ⊥
+
+-- the one log after it took the entry's message, which has nothing for any tag
+abbrev pub empty_message_taken : Log
+empty_message_taken = record {
+  log = 0;
+  logs = 1;
+  tags = 1;
+  last = 100;
+  is_failed = false;
+  popped = 0 ∷ [];
+  messages = record { log = 0; index = 0; version = 100; prev = 0; body = [] } ∷ [];
+}
 
 -- A resolver that took the entry and knows of no write, and a log that took it and has an empty message of it, keep
 -- something else than the book says.
 abbrev pub ForgetfulRolesDoNotKeep : Type 0
 ForgetfulRolesDoNotKeep =
     (IsStateOf [] 0 (seen_of two_in_one_entry).places 0 (λ x. 0) → ⊥)
-    × (LogKeeps (record (start plain) { book = two_in_one_entry }) 0 1 (record { version = 100; body = [] } ∷ []) → ⊥)
+    × (LogKeeps (record (start plain) { book = two_in_one_entry }) 0 1 empty_message_taken → ⊥)
 
 -- both sessions ask and are served, read the key a, set it and submit; their batch is sealed, and they are told
 abbrev pub two_sessions : List Step

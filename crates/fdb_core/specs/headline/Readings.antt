@@ -176,6 +176,8 @@ read r (step.Answer proxy) (answered.Answers told) = record r {
 }
 read r (step.Answer proxy) answer = r
 read r (step.Pull shard limit) answer = r
+read r (step.Forget shard version) answer = r
+read r (step.Pop shard) answer = r
 
 -- a refused step tells nothing
 abbrev pub read_step : Readings → Step → Result Answered Refusal → Readings

@@ -1,42 +1,39 @@
 -- What a world shows of its roles, and what holds of it.
-use Rattle.std.specs.Prelude.{◌≡◌, ◌<◌, ◌≤◌, ◌-◌, ℕ, suc, false, List, take, length, Option, Some, IfSome, slice_get}
+use Rattle.std.specs.Prelude.{◌≡◌, ◌<◌, ◌≤◌, ◌-◌, ℕ, suc, true, false, List, take, length, Option, Some, None, IfSome, slice_get, if◌then◌else◌}
 use Rattle.std.specs.FinMap.{get}
 use Rattle.fdb_keys.specs.declared.refusal.Refusal.TheVariants.{Stale}
 use Rattle.fdb_keys.specs.Points.{Point}
+use Rattle.fdb_keys.specs.Ranges.{in_range}
 use Rattle.fdb_interval.specs.Versions.{version_at}
 use Rattle.fdb_txn.specs.book.Book.{seen_of, last_version, seen_before}
-use Rattle.fdb_txn.specs.rules.Owners.{window, first_owner}
+use Rattle.fdb_txn.specs.rules.Messages.{messages_for}
+use Rattle.fdb_txn.specs.rules.Owners.{window}
 use Rattle.fdb_txn.specs.rules.Resolvers.{IsStateOf}
 use Rattle.fdb_txn.specs.rules.SerialMap.{serial_map_at}
+use Rattle.fdb_txn.specs.rules.Splits.{piece}
+use Rattle.fdb_log.specs.declared.message.LogMsg.{LogMsg}
+use Rattle.fdb_log.specs.Logs.{Log, keeps, popped_through, kept}
+use Rattle.fdb_log.specs.Messages.{above}
+use Rattle.fdb_storage.specs.LogMessages.{log_messages}
+use Rattle.fdb_storage.specs.Shards.{Shard, value_at}
 use Rattle.fdb_resolver.specs.Resolvers.{Resolver}
 use Rattle.fdb_sequencer.specs.Sequencer.{Sequencer, accept_fault}
 use Rattle.fdb_sequencer.specs.declared.ticket.Ticket.{Ticket}
 use Rattle.fdb_txn.specs.declared.entry.Entry.{Entry}
 use Rattle.fdb_core.specs.declared.config.Config.{Config}
 use Rattle.fdb_core.specs.machine.Roles.{ShardProgress}
-use Rattle.fdb_core.specs.refinement.Messages.{Message, value_in}
 use Rattle.fdb_core.specs.machine.RoleSteps.{version_of_shard}
-use Rattle.fdb_core.specs.machine.Machine.{Machine}
-use Rattle.fdb_core.specs.refinement.Roles.{along, message_on}
-
--- What a shard shows: the least version that it serves, the greatest, and what it applied.
-pub record Shard : Type 0 where
-  pub floor : ℕ
-  pub version : ℕ
-  pub messages : List Message
-
--- what a shard answers at a version and a point
-abbrev pub value_at : Shard → ℕ → Point → Option (List ℕ)
-value_at shard v x = value_in v x shard.messages
+use Rattle.fdb_core.specs.machine.Machine.{Machine, is_set}
 
 -- What a world shows: the machine, and what each of its roles keeps.
 pub record System : Type 0 where
   -- none once memory ran out in a step
   pub machine : Option Machine
   pub sequencer : Sequencer
-  -- by number: what a resolver keeps, the messages that a log took, and what a shard shows
   pub resolvers : List Resolver
-  pub logs : List (List Message)
+  -- for each entry the messages for the logs, once it is decided
+  pub messages : List (Option (List LogMsg))
+  pub logs : List Log
   pub shards : List Shard
 
 -- Each role of the one list, which says how far the roles are, keeps what the property says; there are as many of
@@ -64,20 +61,46 @@ ResolverKeeps m i taken resolver =
     × IsStateOf m.config.resolver_splits i (seen_before m.book taken).places (last - window)
     (version_at resolver.versions)
 
--- A log that took so many entries has for each its message, which holds the mutations of the entry's committed
--- transactions.
-abbrev pub LogKeeps : Machine → ℕ → ℕ → List Message → Type 0
-LogKeeps m i taken messages = messages ≡ along (message_on m.config.resolver_splits) (take taken m.book)
+-- The messages of an entry for the logs are made once it is decided. They hold just the mutations of its committed
+-- transactions, each with its place and its tags: each log's, those of which it keeps a tag.
+abbrev pub MessagesKeep : Machine → List (Option (List LogMsg)) → Type 0
+MessagesKeep m messages =
+    (length messages ≡ length m.book)
+    × ((i : ℕ) (entry : Entry) → slice_get m.book i ≡ Some entry
+    → slice_get messages i
+    ≡ Some (if is_set m.decided i
+    then Some (log_messages m.config.resolver_splits m.config.shard_splits m.config.logs i (seen_before m.book i) entry)
+    else None))
 
--- a shard that is so far serves from its floor through the version of the last entry that it applied
-abbrev pub ShardReaches : Machine → ℕ → ShardProgress → Shard → Type 0
-ShardReaches m i progress shard = (shard.floor ≡ progress.floor) × (shard.version ≡ version_of_shard m.book progress)
+-- A log that took so many entries has its number, has not failed, and has the version of the last of them. Of each of
+-- its tags it keeps just the messages of these entries above the version through which the tag's shard popped them.
+pub record LogKeeps (m : Machine) (i taken : ℕ) (log : Log) : Type 0 where
+  pub number : log.log ≡ i
+  pub logs : log.logs ≡ length m.logs
+  pub tags : log.tags ≡ length m.shards
+  pub works : log.is_failed ≡ false
+  pub last : log.last ≡ last_version (take taken m.book)
+  pub popped : (tag : ℕ) (progress : ShardProgress) → keeps log tag ≡ true → slice_get m.shards tag ≡ Some progress
+      → popped_through log tag ≡ progress.popped
+  pub kept : (tag : ℕ) → keeps log tag ≡ true
+      → kept log tag ≡ above (popped_through log tag)
+      (messages_for m.config.resolver_splits (piece m.config.shard_splits tag) (take taken m.book))
+
+-- A shard that is so far has its number as its tag and its piece of the keys, has not failed, and serves from its floor
+-- through the version of the last entry that it applied. What its log was told to drop it has applied.
+pub record ShardReaches (m : Machine) (i : ℕ) (progress : ShardProgress) (shard : Shard) : Type 0 where
+  pub tag : shard.tag ≡ i
+  pub range : shard.range ≡ piece m.config.shard_splits i
+  pub works : shard.is_failed ≡ false
+  pub floor : shard.floor ≡ progress.floor
+  pub version : shard.version ≡ version_of_shard m.book progress
+  pub popped : progress.popped ≤ shard.version
 
 -- A shard answers, at each version that it serves (from its floor through its version) and at each point that it
 -- holds, what stands there on the map of the run of one committed transaction at a time.
 abbrev pub ShardServes : Config → List Entry → ℕ → Shard → Type 0
 ShardServes config book i shard =
-    (v : ℕ) (x : Point) → shard.floor ≤ v → v ≤ shard.version → first_owner config.shard_splits x ≡ i
+    (v : ℕ) (x : Point) → shard.floor ≤ v → v ≤ shard.version → in_range (piece config.shard_splits i) x ≡ true
     → value_at shard v x ≡ get (serial_map_at config.resolver_splits v (seen_of book).places) x
 
 -- there is a shard for each piece between the splits, and every shard does so
@@ -91,6 +114,7 @@ abbrev pub RolesKeep : System → Type 0
 RolesKeep system = IfSome system.machine (λ (m : Machine).
     SequencerKeeps m system.sequencer
     × EachKeeps (ResolverKeeps m) m.resolvers system.resolvers
+    × MessagesKeep m system.messages
     × EachKeeps (LogKeeps m) m.logs system.logs
     × EachKeeps (ShardReaches m) m.shards system.shards
     × AllServe m.config m.book system.shards)

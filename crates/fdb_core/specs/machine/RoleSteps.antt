@@ -1,12 +1,14 @@
 -- The steps of resolvers, logs and shards.
-use Rattle.std.specs.Prelude.{ℕ, ◌+◌, ◌%◌, min, max, not, take, length, Result, Ok, slice_get, slice_set, nat_lt, List, Option, Some, None, if◌then◌else◌}
+use Rattle.std.specs.Prelude.{ℕ, ◌+◌, min, max, not, take, length, Result, Ok, slice_get, slice_set, nat_lt, List, Option, Some, None, if◌then◌else◌}
 use Rattle.fdb_keys.specs.declared.refusal.Refusal.{Refusal}
-use Rattle.fdb_keys.specs.declared.refusal.Refusal.TheVariants.{Unknown, TransactionTooOld, FutureVersion}
+use Rattle.fdb_keys.specs.declared.refusal.Refusal.TheVariants.{Unknown, FutureVersion}
 use Rattle.fdb_keys.specs.Ranges.{Range, is_empty_range}
 use Rattle.fdb_txn.specs.declared.entry.Entry.{Entry}
 use Rattle.fdb_core.specs.machine.Roles.{ShardProgress}
 use Rattle.fdb_core.specs.declared.step.Answered.TheVariants as answered
 use Rattle.fdb_txn.specs.book.Book.{last_version, seen_before}
+use Rattle.fdb_log.specs.Messages.{log_of}
+use Rattle.fdb_storage.specs.Shards.{serving_fault}
 use Rattle.fdb_core.specs.machine.Machine.{Machine, Transition, found, refused_where, in_turn, is_set}
 use Rattle.fdb_core.specs.machine.Verdicts.{verdicts_on}
 
@@ -30,25 +32,39 @@ pushes m i log = found (slice_get m.book i) (λ (entry : Entry). found (slice_ge
       next = record m { logs = slice_set m.logs log (taken + 1) };
     })))))
 
+-- the version through which a shard applied the book
+abbrev pub version_of_shard : List Entry → ShardProgress → ℕ
+version_of_shard book progress = last_version (take progress.applied book)
+
 -- Pull: the shard applies the next messages that its log has, at most as many as the limit.
 unfoldable pub pulls : Machine → ℕ → ℕ → Result Transition Refusal
 pulls m shard limit = found (slice_get m.shards shard)
-    (λ (progress : ShardProgress). found (slice_get m.logs (shard % length m.logs)) (λ (has : ℕ).
+    (λ (progress : ShardProgress). found (slice_get m.logs (log_of (length m.logs) shard)) (λ (has : ℕ).
     let applied = max progress.applied (min has (progress.applied + limit)) in
     Ok (record {
       answer = answered.Version (last_version (take applied m.book));
       next = record m { shards = slice_set m.shards shard (record progress { applied = applied }) };
     })))
 
--- the version through which a shard applied the book
-abbrev pub version_of_shard : List Entry → ShardProgress → ℕ
-version_of_shard book progress = last_version (take progress.applied book)
+-- Forget: the shard serves from the version on, or from its floor where that is greater. It isn't told to forget what
+-- it hasn't reached.
+unfoldable pub forgets : Machine → ℕ → ℕ → Result Transition Refusal
+forgets m shard version = found (slice_get m.shards shard) (λ (progress : ShardProgress).
+    let floor = max progress.floor version in
+    refused_where (nat_lt (version_of_shard m.book progress) version) FutureVersion
+    (Ok (record {
+      answer = answered.Version floor;
+      next = record m { shards = slice_set m.shards shard (record progress { floor = floor }) };
+    })))
 
--- why a version is not served by who serves from a floor through a greatest version
-abbrev pub serving_fault : (version floor greatest : ℕ) → Option Refusal
-serving_fault version floor greatest =
-    if nat_lt version floor then Some TransactionTooOld
-    else (if nat_lt greatest version then Some FutureVersion else None)
+-- Pop: the shard's log drops its messages through the shard's version.
+unfoldable pub pops : Machine → ℕ → Result Transition Refusal
+pops m shard = found (slice_get m.shards shard) (λ (progress : ShardProgress).
+    let version = version_of_shard m.book progress in
+    Ok (record {
+      answer = answered.Version version;
+      next = record m { shards = slice_set m.shards shard (record progress { popped = version }) };
+    }))
 
 -- why a range is not served at a version; one without a point is not asked for
 abbrev pub serving_range_fault : Range → (version floor greatest : ℕ) → Option Refusal

@@ -30,7 +30,9 @@ pub data Sender : Type 0 where
   FromResolver : (resolver : ℕ) → Sender
   FromLog : (log : ℕ) → Sender
 
--- a shard: how many entries it applied, and the least version that it serves
+-- a shard: how many entries it applied, the least version that it serves, and the version through which its log was
+-- told to drop its messages
 pub record ShardProgress : Type 0 where
   pub applied : ℕ
   pub floor : ℕ
+  pub popped : ℕ

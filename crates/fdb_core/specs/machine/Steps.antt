@@ -11,7 +11,7 @@ use Rattle.fdb_core.specs.machine.ClientSteps.{reads, writes, adds_read, adds_wr
 use Rattle.fdb_core.specs.machine.GrvProxySteps.{asks, grants}
 use Rattle.fdb_core.specs.machine.CommitProxySteps.{seals, receives, decides, reports, answers}
 use Rattle.fdb_core.specs.machine.Roles.{FromResolver, FromLog}
-use Rattle.fdb_core.specs.machine.RoleSteps.{resolves, pushes, pulls}
+use Rattle.fdb_core.specs.machine.RoleSteps.{resolves, pushes, pulls, forgets, pops}
 
 abbrev pub next : Machine → Step → Result Transition Refusal
 next m (step.Ask session proxy) = asks m session proxy
@@ -32,6 +32,8 @@ next m (step.Logged entry log) = receives m entry (FromLog log)
 next m (step.Report proxy) = reports m proxy
 next m (step.Answer proxy) = answers m proxy
 next m (step.Pull shard limit) = pulls m shard limit
+next m (step.Forget shard version) = forgets m shard version
+next m (step.Pop shard) = pops m shard
 
 -- what a transition answers
 abbrev pub answer_of : Result Transition Refusal → Result Answered Refusal

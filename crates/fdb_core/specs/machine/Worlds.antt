@@ -1,8 +1,11 @@
 -- The world as the machine: what it starts as, what a step may do to it, and a run of steps.
-use Rattle.std.specs.Prelude.{◌≡◌, suc, Bool, ◌&&◌, ◌==◌, nat_le, List, [], ◌∷◌, length, replicate, Option, Some, None, Result, Err, ◌⊎◌, if◌then◌else◌}
+use Rattle.std.specs.Prelude.{◌≡◌, suc, Bool, ◌&&◌, ◌==◌, nat_le, nat_lt, List, [], ◌∷◌, length, replicate, Option, Some, None, Result, Err, ◌⊎◌, if◌then◌else◌}
 use Rattle.std.specs.FinMap.{empty}
 use Rattle.fdb_keys.specs.declared.refusal.Refusal.{Refusal}
 use Rattle.fdb_keys.specs.declared.refusal.Refusal.TheVariants.{NoMemory, Failed, BadConfig}
+use Rattle.fdb_txn.specs.rules.Splits.{are_splits}
+use Rattle.fdb_log.specs.Limits.{log_limit}
+use Rattle.fdb_storage.specs.Limits.{shard_limit}
 use Rattle.fdb_core.specs.declared.config.Config.{Config}
 use Rattle.fdb_core.specs.machine.Roles.{CommitProxy, Idle}
 use Rattle.fdb_core.specs.declared.step.Answered.{Answered}
@@ -15,10 +18,13 @@ use Rattle.fdb_core.specs.machine.Steps.{next, answer_of, after}
 abbrev pub is_nil : {A : Type 0} → List A → Bool
 is_nil xs = length xs == 0
 
--- for now a world has one of each role; its book has from 1 to the limit of entries
+-- for now a world has one proxy of each kind and one resolver; it has from 1 to 16 logs, from 1 to 64 shards, and a
+-- book of 1 to the limit of entries
 abbrev pub is_served : Config → Bool
 is_served config =
-    (config.proxies == 1) && (config.logs == 1) && is_nil config.resolver_splits && is_nil config.shard_splits
+    (config.proxies == 1) && is_nil config.resolver_splits
+    && (nat_le 1 config.logs && nat_le config.logs log_limit)
+    && (nat_lt (length config.shard_splits) shard_limit && are_splits config.shard_splits)
     && (nat_le 1 config.book && nat_le config.book entry_limit)
 
 -- why a configuration is refused
@@ -42,7 +48,7 @@ start config =
       commit_proxies = replicate config.proxies idle_proxy;
       resolvers = replicate (suc (length config.resolver_splits)) 0;
       logs = replicate config.logs 0;
-      shards = replicate (suc (length config.shard_splits)) (record { applied = 0; floor = 0 });
+      shards = replicate (suc (length config.shard_splits)) (record { applied = 0; floor = 0; popped = 0 });
       grv_proxies = replicate config.proxies [];
       sessions = empty;
       committed = 0;

@@ -1,12 +1,13 @@
--- What the log and the shard keep, as functions of what they took of the book, and what is made of verdicts.
-use Rattle.std.specs.Prelude.{ℕ, zero, suc, Bool, true, false, ◌==◌, List, [], ◌∷◌, ◌++◌, fold, if◌then◌else◌}
+-- What a function makes of the entries of a book, and what is made of verdicts.
+use Rattle.std.specs.Prelude.{ℕ, zero, suc, Bool, true, false, ◌==◌, List, [], ◌∷◌, ◌++◌, fold, filter, map, if◌then◌else◌}
 use Rattle.fdb_keys.specs.Points.{Point}
-use Rattle.fdb_mutations.specs.declared.mutation.Mutation.{Mutation}
 use Rattle.fdb_txn.specs.declared.entry.Entry.{Entry}
 use Rattle.fdb_txn.specs.book.Transactions.{Transaction}
 use Rattle.fdb_txn.specs.book.Book.{Seen, nothing, add_entry}
-use Rattle.fdb_txn.specs.rules.Messages.{mutations_in, committed_in}
-use Rattle.fdb_core.specs.refinement.Messages.{Message}
+use Rattle.fdb_txn.specs.rules.Messages.{Body, at_place}
+use Rattle.fdb_log.specs.declared.message.LogMsg.{LogMsg}
+use Rattle.fdb_log.specs.declared.message.Tagged.{Tagged}
+use Rattle.fdb_storage.specs.LogMessages.{tagged, is_for_log}
 use Rattle.fdb_resolver.specs.declared.verdict.Verdict.{Verdict}
 use Rattle.fdb_resolver.specs.declared.verdict.Verdict.TheVariants as verdict
 use Rattle.fdb_core.specs.declared.step.Outcome.{Outcome}
@@ -21,11 +22,6 @@ along {A} f book = after.1
 
     after : Seen × List A
     after = fold step (nothing, []) book
-
--- what logs get of an entry
-abbrev pub message_on : List Point → Seen → Entry → Message
-message_on splits before entry =
-    record { version = entry.version; body = mutations_in (committed_in splits before entry) }
 
 -- what is made of a verdict on a place; without a verdict nothing stands against it
 abbrev pub outcome_by : ℕ → ℕ → Verdict → Outcome
@@ -48,8 +44,26 @@ is_commit (outcome.Commit version place) = true
 is_commit outcome.Conflict = false
 is_commit outcome.Old = false
 
--- the mutations of those transactions whose outcome is a commit, in order
-abbrev pub body_by : List Transaction → List Outcome → List Mutation
-body_by [] outcomes = []
-body_by (t ∷ ts) [] = []
-body_by (t ∷ ts) (outcome ∷ outcomes) = (if is_commit outcome then t.mutations else []) ++ body_by ts outcomes
+-- the mutations of those transactions, from place p on, whose outcome is a commit: by place, and then in the
+-- transaction's order
+abbrev pub body_by : ℕ → List Transaction → List Outcome → Body
+body_by p [] outcomes = []
+body_by p (t ∷ ts) [] = []
+body_by p (t ∷ ts) (outcome ∷ outcomes) =
+    (if is_commit outcome then at_place p t.mutations else []) ++ body_by (suc p) ts outcomes
+
+-- the message of entry i, with these mutations, for a log, of so many
+abbrev pub message_with : (logs i : ℕ) → Entry → List Tagged → ℕ → LogMsg
+message_with logs i entry body log =
+    record {
+      log = log;
+      index = i;
+      version = entry.version;
+      prev = entry.prev;
+      body = filter (is_for_log logs log) body;
+    }
+
+-- and by what became of its places
+abbrev pub message_by : List Point → (logs log i : ℕ) → Entry → List Outcome → LogMsg
+message_by shard_splits logs log i entry outcomes =
+    message_with logs i entry (map (tagged shard_splits) (body_by 0 entry.batch outcomes)) log

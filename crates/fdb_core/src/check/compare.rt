@@ -10,8 +10,8 @@ ghost use Rattle.fdb_core.specs.check.Comparing.{is_below, is_at, IsAnswered, An
 ghost use Rattle.fdb_core.specs.headline.Headline.{AnsweredOn};
 
 use crate::check::parts::part_after;
+use crate::check::values::{copied, value_after_ops};
 use crate::roles::client::Placed;
-use crate::roles::values::{copied, value_after_ops};
 use crate::world::CheckFault;
 use bytes::Bytes;
 use fdb_client::{Op, Reply, Transcript};
@@ -29,7 +29,8 @@ pub(crate) enum Moment {
     Between { from: u64, until: Option<u64> },
 }
 
-fn is_below(version: u64, end: Option<u64>) -> bool
+/// Whether the version is below the end, where there is one.
+pub(crate) fn is_below(version: u64, end: Option<u64>) -> bool
     ensures { result ≡ is_below version end }
 {
     match end {

@@ -1,12 +1,11 @@
 // The comparison of what was answered with the run of one transaction at a time.
-ghost use Rattle.std.specs.Prelude.{◌≡◌, ◌↔◌, ◌≤◌, ◌<◌, ◌+◌, ◌++◌, List, [], ◌∷◌, length, take, IsTrue, IfOk, IfErr, OnOk, if◌then◌else◌};
-ghost use Rattle.std.specs.FinMap.{get};
-ghost use Rattle.fdb_keys.specs.Points.{Point};
+ghost use Rattle.std.specs.Prelude.{◌≡◌, ◌<◌, ◌≤◌, ◌+◌, ◌++◌, true, List, [], ◌∷◌, length, None, IfOk, IfErr, OnOk, if◌then◌else◌};
+ghost use Rattle.fdb_keys.specs.Answers.{Answers};
 ghost use Rattle.fdb_mutations.specs.Mutations.{effects};
 ghost use Rattle.fdb_txn.specs.declared.entry.Entry.{Entry};
-ghost use Rattle.fdb_txn.specs.book.Book.{seen_of, last_version};
-ghost use Rattle.fdb_core.specs.refinement.Messages.{value_in};
-ghost use Rattle.fdb_core.specs.check.Checking.{AnsweredIn, map_after, IsPlainBook, HasCome, ComesTo, Finds};
+ghost use Rattle.fdb_txn.specs.book.Book.{seen_of};
+ghost use Rattle.fdb_storage.specs.Limits.{shard_limit};
+ghost use Rattle.fdb_core.specs.check.Checking.{AnsweredIn, map_after, IsPlainBook, HasCome, ComesTo, HaveHeld, GoesTo, Finds};
 ghost use Rattle.fdb_core.specs.check.Comparing.{AnsweredAt, Checks};
 ghost use Rattle.fdb_core.specs.refinement.Resolving.{ResolverAt, IsNext};
 ghost use Rattle.fdb_core.specs.refinement.Roles.{is_commit};
@@ -14,17 +13,16 @@ ghost use Rattle.fdb_core.specs.machine.Verdicts.{outcomes_on};
 
 use crate::book::last_version;
 use crate::check::compare::{Moment, compare};
-use crate::check::maps::is_left;
+use crate::check::shards::compare_shards;
 use crate::cluster::Cluster;
 use crate::roles::client::Placed;
 use crate::roles::commit_proxy::deciding::decide_batch;
-use crate::roles::log::Message;
-use crate::roles::maps::apply;
 use crate::roles::resolver::{first_resolver, judge_entry};
+use crate::roles::shard::ShardRole;
 use crate::step::Outcome;
 use crate::world::CheckFault;
-use fdb_keys::Items;
-use fdb_mutations::PlainMap;
+use fdb_keys::{Items, Refusal};
+use fdb_mutations::{Mutation, PlainMap};
 use fdb_resolver::ResolverCore;
 use fdb_txn::{Entry, Sealed};
 use std::alloc::Global;
@@ -60,6 +58,16 @@ fn outcomes_of(
         Ok(outcomes) => Ok(outcomes),
         Err(_) => Err(CheckFault::NoMemory),
     }
+}
+
+// Applies the mutations to the map, the first one first.
+fn apply(map: &mut PlainMap, mutations: &[Mutation]) -> Result<(), Refusal>
+    ensures { Answers result None (λ _. map.new ≡ effects map.old mutations.now) }
+{
+    for mutation in mutations {
+        map.apply(mutation)?;
+    }
+    Ok(())
 }
 
 // Compares those who stand at the moment, and runs the transaction there.
@@ -133,41 +141,43 @@ fn run_entry(
     )
 }
 
-// Goes on through the entries from one on up to another.
+// Compares the shards that are between the entry and the one before it with the run, and goes on through the entry.
+fn run_next(
+    alloc: Global,
+    replay: &mut Replay,
+    acknowledged: &[Placed],
+    shards: &[ShardRole],
+    book: &[Entry],
+    index: usize,
+) -> Result<(), CheckFault>
+    requires within { index < length book.now }
+    requires few { length shards.now ≤ shard_limit }
+    ensures { IsPlainBook book.now → HasCome book.now acknowledged.now index replay.old
+        → HaveHeld book.now shards.now index
+        → GoesTo result book.now acknowledged.now shards.now (index + 1) replay.new }
+{
+    let entry = &book[index];
+    let from = last_version(book, index);
+    compare_shards(alloc, &replay.map, shards, from, Some(entry.version))?;
+    run_entry(alloc, replay, acknowledged, book, index)
+}
+
+// Goes through all entries.
 fn run_entries(
     alloc: Global,
     replay: &mut Replay,
     acknowledged: &[Placed],
+    shards: &[ShardRole],
     book: &[Entry],
-    from: usize,
-    until: usize,
 ) -> Result<(), CheckFault>
-    requires order { from ≤ until }
-    requires within { until ≤ length book.now }
-    ensures { IsPlainBook book.now → HasCome book.now acknowledged.now from replay.old
-        → ComesTo result book.now acknowledged.now until replay.new }
+    requires { length shards.now ≤ shard_limit }
+    ensures { IsPlainBook book.now → HasCome book.now acknowledged.now 0 replay.old
+        → GoesTo result book.now acknowledged.now shards.now (length book.now) replay.new }
 {
-    for index in from..until {
-        run_entry(alloc, replay, acknowledged, book, index)?;
+    for index in 0..book.len() {
+        run_next(alloc, replay, acknowledged, shards, book, index)?;
     }
     Ok(())
-}
-
-// Whether the shard has the map at the version of the last of the entries that it applied.
-fn is_held(
-    alloc: Global,
-    map: &PlainMap,
-    shard: &[Message],
-    book: &[Entry],
-    applied: usize,
-) -> Result<bool, CheckFault>
-    requires { applied ≤ length book.now }
-    ensures ok { IfOk result (λ held. IsTrue held
-        ↔ ((x : Point) → value_in (last_version (take applied book.now)) x shard.now ≡ get map.now x)) }
-    ensures err { IfErr result (λ fault. fault ≡ CheckFault.NoMemory) }
-{
-    let held = is_left(alloc, shard, last_version(book, applied), map)?;
-    Ok(held)
 }
 
 // Runs the book anew from its beginning, and compares on the way.
@@ -175,44 +185,35 @@ fn check_book(
     alloc: Global,
     book: &[Entry],
     acknowledged: &[Placed],
-    shard: &[Message],
-    with_shard: bool,
+    shards: &[ShardRole],
 ) -> Result<u64, CheckFault>
+    requires { length shards.now ≤ shard_limit }
     ensures count { IfOk result (λ count. count ≡ length acknowledged.now) }
-    ensures finds { IsPlainBook book.now → Finds result book.now acknowledged.now with_shard shard.now }
+    ensures finds { IsPlainBook book.now → Finds result book.now acknowledged.now shards.now }
 {
     let mut replay = Replay {
         resolver: first_resolver(alloc),
         map: PlainMap::new(alloc),
     };
-    let applied = shard.len().min(book.len());
-    run_entries(alloc, &mut replay, acknowledged, book, 0, applied)?;
-    if with_shard && !is_held(alloc, &replay.map, shard, book, applied)? {
-        return Err(CheckFault::Shard(0));
-    }
-    run_entries(alloc, &mut replay, acknowledged, book, applied, book.len())?;
-    let last = Moment::Between {
-        from: last_version(book, book.len()),
-        until: None,
-    };
+    run_entries(alloc, &mut replay, acknowledged, shards, book)?;
+    let from = last_version(book, book.len());
+    compare_shards(alloc, &replay.map, shards, from, None)?;
+    let last = Moment::Between { from, until: None };
     compare(alloc, &replay.map, acknowledged, last)?;
     Ok(acknowledged.len() as u64)
 }
 
-/// Compares every acknowledged transcript with the run of one transaction at a time, and the shard at its
-/// version where `with_shard` says so. Answers the number of acknowledged transactions. For each book without
+/// Compares every acknowledged transcript with the run of one transaction at a time, and each shard at its
+/// version where `with_shards` says so. Answers the number of acknowledged transactions. For each book without
 /// moves whose versions rise from entry to entry, and whose transactions read below the versions of their
 /// entries, a fault is found just where something differs.
-pub(crate) fn check_all(cluster: &Cluster, with_shard: bool) -> Result<u64, CheckFault>
+pub(crate) fn check_all(cluster: &Cluster, with_shards: bool) -> Result<u64, CheckFault>
+    requires { with_shards ≡ true → length cluster.now.shards.items ≤ shard_limit }
     ensures count { IfOk result (λ count. count ≡ length cluster.now.acknowledged.items) }
     ensures finds { IsPlainBook cluster.now.book.items
-        → Finds result cluster.now.book.items cluster.now.acknowledged.items with_shard cluster.now.shard.items }
+        → Finds result cluster.now.book.items cluster.now.acknowledged.items
+        (if with_shards then cluster.now.shards.items else []) }
 {
-    check_book(
-        cluster.alloc,
-        &cluster.book,
-        &cluster.acknowledged,
-        &cluster.shard,
-        with_shard,
-    )
+    let shards: &[ShardRole] = if with_shards { &cluster.shards } else { &[] };
+    check_book(cluster.alloc, &cluster.book, &cluster.acknowledged, shards)
 }

@@ -2,6 +2,7 @@
 pub(crate) mod batching;
 pub(crate) mod deciding;
 pub(crate) mod flags;
+pub(crate) mod logging;
 pub(crate) mod replying;
 
 use crate::roles::client::Submission;

@@ -1,87 +1,30 @@
-// The messages of entries, on their way from the pool to a log and from there to a shard.
-ghost use Rattle.std.specs.Prelude.{◌≡◌, ◌+◌, ◌-◌, ◌<◌, ◌≤◌, ◌++◌, take, drop, length, Some, slice_get, vec_len, IfOk, OnOk};
-ghost use Rattle.fdb_core.specs.refinement.Messages.{Message};
+// The logs.
+ghost use Rattle.std.specs.Prelude.{◌<◌, ◌≤◌, None};
+ghost use Rattle.fdb_keys.specs.Answers.{Answers};
+ghost use Rattle.fdb_log.specs.Limits.{log_limit, tag_limit};
+ghost use Rattle.fdb_core.specs.refinement.Starts.{AreNewLogs};
 
-use fdb_keys::Items;
-use fdb_mutations::Mutation;
-use std::alloc::AllocError;
-use std::marker::Model;
+use fdb_keys::Refusal;
+use fdb_log::LogCore;
+use std::alloc::Global;
 
-/// What a log gets of an entry: the mutations of its committed transactions, in order.
+/// A log, with how many entries it took.
 #[derive(Drop)]
-pub(crate) struct Message {
-    version: u64,
-    body: Items<Mutation>,
+pub(crate) struct LogRole {
+    pub(crate) core: LogCore,
+    pub(crate) taken: u32,
 }
 
-impl Model for Message {
-    ghost use Rattle.fdb_core.specs.refinement.Messages.{Message};
-
-    ghost Value = { Message };
-
-    ghost view = { λ m. record { version = m.version; body = m.body } };
-}
-
-impl Message {
-    ghost use Rattle.std.specs.Prelude.{◌≡◌, IfOk};
-
-    /// The message of an entry of the version.
-    pub(crate) fn new(version: u64, body: Items<Mutation>) -> Self
-        ensures { result ≡ record { version = version; body = body } }
-    {
-        Message { version, body }
-    }
-
-    /// The version of its entry.
-    pub(crate) fn version(&self) -> u64
-        ensures { result ≡ self.now.version }
-    {
-        self.version
-    }
-
-    /// The mutations of the entry's committed transactions, in order.
-    pub(crate) fn body(&self) -> &[Mutation]
-        ensures { result.now ≡ self.now.body }
-    {
-        self.body.as_slice()
-    }
-
-    fn copied(&self) -> Result<Message, AllocError>
-        ensures { IfOk result (λ copy. copy ≡ self.now) }
-    {
-        let body = self.body.clone()?;
-        Ok(Message::new(self.version, body))
-    }
-}
-
-/// A copy of the message with the number, which is there.
-pub(crate) fn copied_message(
-    messages: &[Option<Message>],
-    number: usize,
-) -> Result<Message, AllocError>
-    requires { (message : Message) × (slice_get messages.now number ≡ Some (Some message)) }
-    ensures { IfOk result (λ copy. slice_get messages.now number ≡ Some (Some copy)) }
+/// So many logs for so many tags, which took nothing. Refused as `LogCore::new` refuses one of them.
+pub(crate) fn new_logs(alloc: Global, logs: u32, tags: u32) -> Result<Vec<LogRole>, Refusal>
+    requires few { 0 < logs × (logs ≤ log_limit) }
+    requires tagged { 0 < tags × (tags ≤ tag_limit) }
+    ensures { Answers result None (λ list. AreNewLogs logs logs tags list.items) }
 {
-    match &messages[number] {
-        Some(message) => message.copied(),
-        None => unreachable!(),
+    let mut list = Vec::new(alloc);
+    for log in 0..logs {
+        let core = LogCore::new(alloc, log, logs, tags)?;
+        list.push(LogRole { core, taken: 0 })?;
     }
-}
-
-/// Adds copies of the log's messages from one number up to another.
-pub(crate) fn copy_range(
-    shard: &mut Vec<Message>,
-    log: &[Message],
-    from: usize,
-    to: usize,
-) -> Result<(), AllocError>
-    requires order { from ≤ to }
-    requires within { to ≤ length log.now }
-    ensures { OnOk result (shard.new.items ≡ shard.old.items ++ take (to - from) (drop from log.now)) }
-{
-    for message in &log[from..to] {
-        let copy = message.copied()?;
-        shard.push(copy)?;
-    }
-    Ok(())
+    Ok(list)
 }

@@ -1,54 +1,37 @@
-// How far a shard is.
-use std::marker::Model;
+// The shards.
+ghost use Rattle.std.specs.Prelude.{◌≡◌, ◌<◌, suc, length, None};
+ghost use Rattle.fdb_keys.specs.Answers.{Answers};
+ghost use Rattle.fdb_core.specs.refinement.Starts.{AreNewShards};
 
-/// How many entries a shard applied, and the least version that it serves.
-#[derive(Clone, Copy)]
-pub(crate) struct ShardProgress {
-    applied: u32,
-    floor: u64,
+use fdb_keys::Refusal;
+use fdb_storage::{Shard, ShardMap};
+use std::alloc::Global;
+
+/// A shard, with how many entries it applied and the version through which its log was told to drop its messages.
+#[derive(Drop)]
+pub(crate) struct ShardRole {
+    pub(crate) core: Shard,
+    pub(crate) applied: u32,
+    pub(crate) popped: u64,
 }
 
-impl Model for ShardProgress {
-    ghost use Rattle.fdb_core.specs.machine.Roles.{ShardProgress};
-
-    ghost Value = { ShardProgress };
-
-    ghost view = { λ p. record { applied = p.applied; floor = p.floor } };
-
-    ghost inverse = { λ p. record { applied = p.applied; floor = p.floor } };
-}
-
-impl ShardProgress {
-    ghost use Rattle.std.specs.Prelude.{◌≡◌};
-
-    /// A shard that applied nothing, and serves every version from 0 on.
-    pub(crate) fn new() -> Self
-        ensures { result ≡ record { applied = 0; floor = 0 } }
-    {
-        ShardProgress {
+/// The shards of the map, which applied nothing. Refused only as `NoMemory`.
+pub(crate) fn new_shards(
+    alloc: Global,
+    shard_map: &ShardMap,
+    count: u32,
+) -> Result<Vec<ShardRole>, Refusal>
+    requires { count ≡ suc (length shard_map.now) }
+    ensures { Answers result None (λ list. AreNewShards count shard_map.now list.items) }
+{
+    let mut list = Vec::new(alloc);
+    for tag in 0..count {
+        let core = Shard::new(alloc, tag, shard_map.range(tag)?);
+        list.push(ShardRole {
+            core,
             applied: 0,
-            floor: 0,
-        }
+            popped: 0,
+        })?;
     }
-
-    /// How many entries the shard applied.
-    pub(crate) fn applied(&self) -> u32
-        ensures { result ≡ self.now.applied }
-    {
-        self.applied
-    }
-
-    /// The least version that the shard serves.
-    pub(crate) fn floor(&self) -> u64
-        ensures { result ≡ self.now.floor }
-    {
-        self.floor
-    }
-
-    /// The shard applied as many entries.
-    pub(crate) fn apply_to(&mut self, applied: u32)
-        ensures { self.new ≡ record self.old { applied = applied } }
-    {
-        self.applied = applied;
-    }
+    Ok(list)
 }

@@ -7,11 +7,10 @@ ghost use Rattle.fdb_core.specs.machine.Steps.{Unless, ran_out, answer_of, after
 ghost use Rattle.fdb_core.specs.refinement.Cluster.{machine_of, Refines};
 ghost use Rattle.fdb_core.specs.refinement.Reads.{operation_of};
 
-use crate::book::last_version;
 use crate::cluster::Cluster;
 use crate::roles::client::read::Read;
 use crate::roles::client::{Placed, Submission};
-use crate::roles::shard_snapshot::ShardSnapshot;
+use crate::roles::shard_reads::ShardReads;
 use crate::step::Answered;
 use fdb_client::{Finished, Transcript};
 use fdb_keys::{KeyRange, Refusal};
@@ -36,18 +35,15 @@ impl Cluster {
         let Some(txn) = self.sessions.open(session) else {
             return Err(Refusal::NoTransaction);
         };
-        if self.shards.is_empty() {
-            return Err(Refusal::Unknown);
-        }
-        let progress = &self.shards[0];
-        let shard = ShardSnapshot {
+        let reads = ShardReads {
             alloc: self.alloc,
             version: txn.transcript().read_version,
-            floor: progress.floor(),
-            greatest: last_version(&self.book, progress.applied() as usize),
-            messages: &self.shard,
+            config: &self.config,
+            book: &self.book,
+            shard_map: &self.shard_map,
+            shards: &self.shards,
         };
-        self.sessions.read(session, &shard, read, snapshot)
+        self.sessions.read(session, &reads, read, snapshot)
     }
 
     #[tactic(auto, unfolding(crate::specs::machine::ClientSteps::writes))]

@@ -1,5 +1,6 @@
 // The steps of the commit proxies.
-ghost use Rattle.std.specs.Prelude.{◌≡◌, ◌<◌, true, length, IfOk};
+ghost use Rattle.std.specs.Prelude.{◌≡◌, ◌<◌, ◌^◌, true, length, None};
+ghost use Rattle.fdb_keys.specs.Answers.{Answers};
 ghost use Rattle.fdb_core.specs.refinement.Views.{sender_of};
 ghost use Rattle.fdb_core.specs.refinement.Cluster.{machine_of, IsDecision, Refines};
 ghost use Rattle.fdb_core.specs.refinement.Resolving.{sent_by};
@@ -8,17 +9,17 @@ ghost use Rattle.fdb_core.specs.machine.Steps.{Unless, ran_out, answer_of, after
 
 use crate::cluster::Cluster;
 use crate::roles::commit_proxy::Sender;
-use crate::roles::commit_proxy::deciding::{committed_body, decide_batch};
+use crate::roles::commit_proxy::deciding::decide_batch;
 use crate::roles::commit_proxy::flags::{first_unset, is_set};
+use crate::roles::commit_proxy::logging::messages_for;
 use crate::roles::commit_proxy::replying::{place_all, reply_all, tell_all};
-use crate::roles::log::Message;
 use crate::roles::resolver::{are_any_judged, sent_of};
 use crate::roles::sequencer::{issue, take_report};
 use crate::step::{Answered, Outcome};
 use fdb_keys::{Items, Refusal};
+use fdb_log::LogMsg;
 use fdb_sequencer::Ticket;
 use fdb_txn::{Batch, Entry};
-use std::alloc::AllocError;
 
 impl Cluster {
     #[tactic(auto, unfolding(crate::specs::machine::CommitProxySteps::seals))]
@@ -79,7 +80,10 @@ impl Cluster {
                 Some(role) => Some(role.taken),
                 None => None,
             },
-            Sender::Log(log) => self.logs.get(log as usize).copied(),
+            Sender::Log(log) => match self.logs.get(log as usize) {
+                Some(role) => Some(role.taken),
+                None => None,
+            },
         }
     }
 
@@ -139,9 +143,9 @@ impl Cluster {
         if !is_received && are_any_judged(self.book[i].batch.as_slice()) {
             return Err(Refusal::NotYet(0));
         }
-        let (outcomes, message) = self.decision(i, is_received)?;
+        let (outcomes, messages) = self.decision(i, is_received)?;
         let answer = outcomes.clone()?;
-        self.messages[i] = Some(message);
+        self.messages[i] = Some(messages);
         self.decided[i] = true;
         self.outcomes = outcomes;
         let commit_proxy = &mut self.commit_proxies[at];
@@ -149,11 +153,18 @@ impl Cluster {
         Ok(Answered::Decided(answer))
     }
 
-    // The outcomes of an entry's places and its message, by the verdicts that came.
-    fn decision(&self, i: usize, is_received: bool) -> Result<(Items<Outcome>, Message), AllocError>
+    // The outcomes of an entry's places and its messages for the logs, by the verdicts that came.
+    fn decision(
+        &self,
+        i: usize,
+        is_received: bool,
+    ) -> Result<(Items<Outcome>, Items<LogMsg>), Refusal>
         requires within { i < length self.now.book.items }
+        requires small { i < 2 ^ 32 }
+        requires logs { 0 < self.now.config.logs }
         requires verdicts_received { is_received ≡ true → i < length (sent_by self.now.resolvers.items) }
-        ensures { IfOk result (IsDecision self.now.book.items (sent_by self.now.resolvers.items) i is_received) }
+        ensures { Answers result None (IsDecision self.now.shard_map self.now.config.logs self.now.book.items
+            (sent_by self.now.resolvers.items) i is_received) }
     {
         let entry = &self.book[i];
         let batch = entry.batch.as_slice();
@@ -163,8 +174,15 @@ impl Cluster {
             &[]
         };
         let outcomes = decide_batch(self.alloc, entry.version, said, batch.len())?;
-        let body = committed_body(self.alloc, batch, outcomes.as_slice())?;
-        Ok((outcomes, Message::new(entry.version, body)))
+        let messages = messages_for(
+            self.alloc,
+            &self.shard_map,
+            self.config.logs,
+            i as u32,
+            entry,
+            outcomes.as_slice(),
+        )?;
+        Ok((outcomes, messages))
     }
 
     #[tactic(auto, unfolding(crate::specs::machine::CommitProxySteps::reports))]

@@ -5,8 +5,6 @@ ghost use Rattle.fdb_core.specs.machine.RoleSteps.{pushes};
 ghost use Rattle.fdb_core.specs.machine.Steps.{Unless, ran_out, answer_of, after};
 
 use crate::cluster::Cluster;
-use crate::roles::commit_proxy::flags::is_set;
-use crate::roles::log::copied_message;
 use crate::step::Answered;
 use fdb_keys::Refusal;
 
@@ -19,24 +17,16 @@ impl Cluster {
             (machine_of self.new ≡ after (machine_of self.old) (pushes (machine_of self.old) entry log)) }
         ensures refines { Unless (ran_out result) (Refines self.new) }
     {
-        let i = entry as usize;
-        let of = log as usize;
-        if i >= self.book.len() || of >= self.logs.len() {
+        let (i, of) = (entry as usize, log as usize);
+        if i >= self.messages.len() || of >= self.logs.len() {
             return Err(Refusal::Unknown);
         }
-        if !is_set(&self.decided, i) {
+        let Some(messages) = &self.messages[i] else {
             return Err(Refusal::Unknown);
-        }
-        let taken = self.logs[of];
-        if entry < taken {
-            return Err(Refusal::Stale);
-        }
-        if taken < entry {
-            return Err(Refusal::NotYet(self.book[i].prev));
-        }
-        let message = copied_message(&self.messages, i)?;
-        self.log.push(message)?;
-        self.logs[of] = taken + 1;
+        };
+        let role = &mut self.logs[of];
+        role.core.push(&messages.as_slice()[of])?;
+        role.taken += 1;
         Ok(Answered::Done)
     }
 }

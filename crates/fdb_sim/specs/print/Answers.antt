@@ -12,7 +12,7 @@ use Rattle.fdb_core.specs.declared.step.Outcome.TheVariants as outcome
 use Rattle.fdb_core.specs.declared.step.Answered.{Answered}
 use Rattle.fdb_core.specs.declared.step.Answered.TheVariants as answered
 use Rattle.fdb_sim.specs.declared.script.step_line.Kind.{Kind}
-use Rattle.fdb_sim.specs.declared.script.step_line.Kind.TheVariants.{Pull}
+use Rattle.fdb_sim.specs.declared.script.step_line.Kind.TheVariants.{Pull, Forget, Pop}
 use Rattle.fdb_sim.specs.print.Texts.{text_of}
 
 -- the refusal's name
@@ -112,9 +112,12 @@ outcome_text (place, outcome) = item_text place (outcome_name outcome)
 abbrev pub outcomes_text : List Outcome → List ℕ
 outcomes_text outcomes = codes "decided" ++ flat_map outcome_text (enumerate_from 0 outcomes)
 
--- a version: after a pull the one that the shard has come to, and else the committed one
+-- a version: after a pull the one that the shard has come to, after a forget its floor, after a pop the one through
+-- which its log dropped its messages, and else the committed one
 abbrev pub version_text : Kind → ℕ → List ℕ
 version_text Pull version = codes "through " ++ decimal version
+version_text Forget version = codes "floor " ++ decimal version
+version_text Pop version = codes "popped " ++ decimal version
 version_text kind version = codes "committed " ++ decimal version
 
 -- what a client is told: the version and place of its commit, or the number of the refusal

@@ -13,7 +13,7 @@ use Rattle.fdb_mutations.specs.Naming.{NamedKeys, OneKey, KeysIn}
 use Rattle.fdb_sim.specs.declared.script.line.Line.{Line}
 use Rattle.fdb_sim.specs.declared.script.line.Line.TheVariants as given
 use Rattle.fdb_sim.specs.declared.script.step_line.Kind.{Kind}
-use Rattle.fdb_sim.specs.declared.script.step_line.Kind.TheVariants.{Ask, Grant, Get, SnapshotGet, SnapshotRange, Write, AddRead, AddWrite, Submit, Seal, Resolve, Verdict, Decide, Push, Logged, Report, Answer, Pull}
+use Rattle.fdb_sim.specs.declared.script.step_line.Kind.TheVariants.{Ask, Grant, Get, SnapshotGet, SnapshotRange, Write, AddRead, AddWrite, Submit, Seal, Resolve, Verdict, Decide, Push, Logged, Report, Answer, Pull, Forget, Pop}
 use Rattle.fdb_sim.specs.declared.script.step_line.Kind.TheVariants as line_kind
 use Rattle.fdb_sim.specs.declared.script.keys.RangeRead.{RangeRead}
 use Rattle.fdb_sim.specs.script.Kinds.{name_of}
@@ -134,6 +134,9 @@ WritesRest Logged words step = (entry : ℕ) × (log : ℕ) × WritesTwo words e
 WritesRest Report words step = (proxy : ℕ) × WritesOne words proxy × (step ≡ made.Report proxy)
 WritesRest Answer words step = (proxy : ℕ) × WritesOne words proxy × (step ≡ made.Answer proxy)
 WritesRest Pull words step = (shard : ℕ) × (limit : ℕ) × WritesTwo words shard limit × (step ≡ made.Pull shard limit)
+WritesRest Forget words step = (shard : ℕ) × (version : ℕ) × WritesSmallAndNumber words shard version
+    × (step ≡ made.Forget shard version)
+WritesRest Pop words step = (shard : ℕ) × WritesOne words shard × (step ≡ made.Pop shard)
 
 -- the words are the kind's name and then words that write the step
 abbrev pub WritesStep : List (List ℕ) → Kind → Step → Type 0
@@ -184,6 +187,8 @@ step_fault (made.Logged entry log) = None
 step_fault (made.Report proxy) = None
 step_fault (made.Answer proxy) = None
 step_fault (made.Pull shard limit) = None
+step_fault (made.Forget shard version) = None
+step_fault (made.Pop shard) = None
 
 -- why the key or range of the line's step, if it has one, is none
 abbrev pub read_fault : Line → Option Refusal

@@ -148,12 +148,14 @@ fn outcome_name(outcome: Outcome) -> &'static str
     }
 }
 
-// A report answers the committed version, and a pull the shard's.
+// A report answers the committed version, a pull and a pop the shard's, and a forget its floor.
 fn push_version(text: &mut String, kind: Kind, version: u64) -> Result<(), AllocError>
     ensures { OnOk result (string_bytes text.new ≡ string_bytes text.old ++ version_text kind version) }
 {
     match kind {
         Kind::Pull => write!(text, "through {version}"),
+        Kind::Forget => write!(text, "floor {version}"),
+        Kind::Pop => write!(text, "popped {version}"),
         _ => write!(text, "committed {version}"),
     }
 }

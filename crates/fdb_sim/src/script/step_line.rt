@@ -33,10 +33,12 @@ pub enum Kind {
     Report,
     Answer,
     Pull,
+    Forget,
+    Pop,
 }
 
 /// All kinds of lines.
-const KINDS: [Kind; 19] = [
+const KINDS: [Kind; 21] = [
     Kind::Ask,
     Kind::Grant,
     Kind::Get,
@@ -56,6 +58,8 @@ const KINDS: [Kind; 19] = [
     Kind::Report,
     Kind::Answer,
     Kind::Pull,
+    Kind::Forget,
+    Kind::Pop,
 ];
 
 impl Kind {
@@ -83,6 +87,8 @@ impl Kind {
             Kind::Report => b"report",
             Kind::Answer => b"answer",
             Kind::Pull => b"pull",
+            Kind::Forget => b"forget",
+            Kind::Pop => b"pop",
         }
     }
 }
@@ -134,6 +140,8 @@ fn read_words(alloc: Global, kind: Kind, words: &mut Words<'_>) -> Result<Step, 
         Kind::Report => read_report(words),
         Kind::Answer => read_answer(words),
         Kind::Pull => read_pull(words),
+        Kind::Forget => read_forget(words),
+        Kind::Pop => read_pop(words),
     }
 }
 
@@ -275,4 +283,20 @@ fn read_pull(words: &mut Words<'_>) -> Result<Step, Fault>
 {
     let (shard, limit) = words.last_pair()?;
     Ok(Step::Pull { shard, limit })
+}
+
+fn read_forget(words: &mut Words<'_>) -> Result<Step, Fault>
+    ensures { Reads result (WritesRest Kind.Forget words.old) step_fault }
+{
+    let shard = words.small_number()?;
+    let version = words.number()?;
+    words.end()?;
+    Ok(Step::Forget { shard, version })
+}
+
+fn read_pop(words: &mut Words<'_>) -> Result<Step, Fault>
+    ensures { Reads result (WritesRest Kind.Pop words.old) step_fault }
+{
+    let shard = words.last_number()?;
+    Ok(Step::Pop { shard })
 }

@@ -45,6 +45,8 @@ const TOO_MANY: &[u8] = b"ask 0 0 0\n\
     report 0 0\n\
     answer 0 0\n\
     pull 0 9 9\n\
+    forget 0 1 1\n\
+    pop 0 0\n\
     show 0 0\n\
     drive 0 0";
 
@@ -72,6 +74,8 @@ const TOO_FEW: &[u8] = b"ask 0\n\
     report\n\
     answer\n\
     pull 0\n\
+    forget 0\n\
+    pop\n\
     show\n\
     drive\n\
     \x20  ";
@@ -89,8 +93,8 @@ const NO_WORDS: &[u8] = b"wri\n\
     write 0 append a b\n\
     addreads 0 a b\n\
     move a b 0\n\
-    forget 0 1\n\
-    pop 0\n\
+    forgets 0 1\n\
+    pops 0\n\
     shows 0\n\
     Drive 0\n\
     drives 0\n\
@@ -110,6 +114,9 @@ const NO_NUMBERS: &[u8] = b"ask 4294967296 0\n\
     seal 0 18446744073709551616\n\
     pull 0 4294967296\n\
     pull 4294967296 0\n\
+    forget 4294967296 0\n\
+    forget 0 18446744073709551616\n\
+    pop 4294967296\n\
     sget a a\n\
     addread 4294967296 a b\n\
     addwrite a a b\n\

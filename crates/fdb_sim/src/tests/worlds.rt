@@ -26,23 +26,26 @@ fn is_bad(alloc: Global, config: Config) -> bool {
     }
 }
 
-fn is_bad_with(alloc: Global, proxies: u32, book: u32) -> bool {
+fn is_bad_with(alloc: Global, proxies: u32, logs: u32, book: u32) -> bool {
     let mut config = one_of_each(alloc);
     config.proxies = proxies;
+    config.logs = logs;
     config.book = book;
     is_bad(alloc, config)
 }
 
 fn is_bad_split(alloc: Global, split: Key) -> Result<bool, Fail> {
     let mut config = one_of_each(alloc);
-    config.shard_splits.push(split)?;
+    config.resolver_splits.push(split)?;
     Ok(is_bad(alloc, config))
 }
 
 #[test]
-fn world_has_one_of_each_role(rt: HostRuntime) -> Result<(), Fail> {
-    assert!(rt; is_bad_with(rt.alloc(), 2, 8));
-    assert!(rt; is_bad_with(rt.alloc(), 1, 0));
+fn world_has_one_proxy_of_each_kind_and_one_resolver(rt: HostRuntime) -> Result<(), Fail> {
+    assert!(rt; is_bad_with(rt.alloc(), 2, 1, 8));
+    assert!(rt; is_bad_with(rt.alloc(), 1, 17, 8));
+    assert!(rt; is_bad_with(rt.alloc(), 1, 1, 0));
+    assert!(rt; !is_bad_with(rt.alloc(), 1, 16, 8));
     let split = Key::new(rt.alloc(), b"m")?;
     assert!(rt; is_bad_split(rt.alloc(), split)?);
     Ok(())

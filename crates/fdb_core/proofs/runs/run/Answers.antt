@@ -2,10 +2,20 @@ use Rattle.std.proofs.Common.{◌≡◌, ◌∙◌, sym, ap, ◌+◌, ◌<◌, �
 use Rattle.std.proofs.lemmas.List.{take_all, take_more}
 use Rattle.fdb_core.specs.declared.step.Step.{Step}
 use Rattle.fdb_core.specs.headline.Traces.{IsTraceOf}
-use Rattle.fdb_core.specs.machine.Worlds.{start}
+use Rattle.fdb_core.specs.machine.Worlds.{config_fault, start}
+use Rattle.fdb_core.proofs.common.FaultLemmas.{answers-fault}
 use Rattle.fdb_core.proofs.headline.HeadlineLaws.{strictly_serializable}
 use Rattle.fdb_core.proofs.headline.RunsLemmas.{run-push}
 use Rattle.fdb_core.proofs.runs.run.Goals as goal
+
+pub loop-step-init : goal.loop-step-init
+loop-step-init c =
+    let started = answers-fault (config_fault c.args.config) c.in_ok-world.world _ c.in_ok-world.ensures.started in
+    record {
+      legal = started.0;
+      stands = rw c.new-answers.ensures started.1;
+      keep = c.in_ok-world.ensures.roles;
+    }
 
 pub loop-step-preserved : goal.loop-step-preserved
 loop-step-preserved c =

@@ -1,12 +1,10 @@
 // What a commit proxy makes of the verdicts on its batch.
-ghost use Rattle.std.specs.Prelude.{◌≡◌, ◌<◌, ◌^◌, [], ◌++◌, length, if◌then◌else◌, IfOk, OnOk};
-ghost use Rattle.fdb_core.specs.refinement.Roles.{outcome_by, verdict_for, outcomes_by, is_commit, body_by};
+ghost use Rattle.std.specs.Prelude.{◌≡◌, ◌<◌, ◌^◌, IfOk};
+ghost use Rattle.fdb_core.specs.refinement.Roles.{outcome_by, verdict_for, outcomes_by};
 
 use crate::step::Outcome;
 use fdb_keys::Items;
-use fdb_mutations::Mutation;
 use fdb_resolver::Verdict;
-use fdb_txn::Sealed;
 use std::alloc::{AllocError, Global};
 
 fn outcome_by(version: u64, place: u32, verdict: Verdict) -> Outcome
@@ -45,31 +43,4 @@ pub(crate) fn decide_batch(
         outcomes.push(outcome_by(version, place, verdict_for(verdicts, place)))?;
     }
     Ok(outcomes)
-}
-
-fn append(body: &mut Items<Mutation>, txn: &Sealed, outcome: &Outcome) -> Result<(), AllocError>
-    ensures { OnOk result (body.new ≡ body.old ++ (if is_commit outcome.now then txn.now.mutations else [])) }
-{
-    if let Outcome::Commit { .. } = outcome {
-        for mutation in txn.mutations() {
-            body.push(mutation.clone()?)?;
-        }
-    }
-    Ok(())
-}
-
-/// The mutations of the transactions that commit, in order.
-pub(crate) fn committed_body(
-    alloc: Global,
-    batch: &[Sealed],
-    outcomes: &[Outcome],
-) -> Result<Items<Mutation>, AllocError>
-    requires { length batch.now ≡ length outcomes.now }
-    ensures { IfOk result (λ body. body ≡ body_by batch.now outcomes.now) }
-{
-    let mut body = Items::new(alloc);
-    for (txn, outcome) in batch.iter().zip(outcomes) {
-        append(&mut body, txn, outcome)?;
-    }
-    Ok(body)
 }

@@ -1,11 +1,10 @@
 use Rattle.std.proofs.Common.{◌≡◌, ◌∙◌, ◌+◌, ◌<◌, sym, refl, ap, length, take, Some, slice_get, rules}
-use Rattle.std.proofs.lemmas.Option.{slice_get_read, same_Some}
+use Rattle.std.proofs.lemmas.Option.{slice_get_read}
 use Rattle.std.proofs.lemmas.Result.{err_from_is_err_and}
-use Rattle.fdb_txn.specs.declared.entry.Entry.{Entry}
 use Rattle.fdb_core.specs.declared.check.serial.Replay.{Replay}
 use Rattle.fdb_core.specs.check.Checking.{Agrees, HasCome}
 use Rattle.fdb_core.specs.check.Comparing.{StopsBy}
-use Rattle.fdb_core.proofs.checking.AgreeLemmas.{IsUntil, stops-between, stops-in, comes-next, ends-weaken}
+use Rattle.fdb_core.proofs.checking.AgreeLemmas.{until-next, stops-between, stops-in, comes-next, ends-weaken}
 use Rattle.fdb_core.proofs.refinement.RoleTies.{awaits}
 use Rattle.fdb_core.proofs.check.serial.run_entry.Goals as goal
 
@@ -17,12 +16,10 @@ returns-in_err-compare c = λ plain come.
     let within : index < length book = search rules in
     let there : slice_get book index ≡ Some entry = slice_get_read book (length book) index entry refl within
     c.index-book-index.is in
-    let next : IsUntil book index (Some entry.version) = λ other at. ap (λ (e : Entry). Some e.version)
-    (same_Some entry other (sym there ∙ at)) in
     let stops : StopsBy (Agrees book) c.args.acknowledged.now c.in_err-compare.field-0.0 =
     stops-between book plain index c.args.acknowledged.now c.args.replay.now c.last_version.result (Some entry.version)
     c.in_err-compare.field-0.0 come
-    c.last_version.ensures next c.in_err-compare.ensures in
+    c.last_version.ensures (until-next book plain index entry there) c.in_err-compare.ensures in
     let left = err_from_is_err_and c.from_residual.result c.from_residual.ensures.1 in
     rw (left.1, left.2) stops
 

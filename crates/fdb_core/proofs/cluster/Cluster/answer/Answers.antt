@@ -96,7 +96,8 @@ returns-clause-refines c =
       sequencer = before.sequencer;
       book = before.book;
       resolvers = before.resolvers;
-      log = before.log;
+      logs = before.logs;
+      shard_map = before.shard_map;
       commit_proxies = search rules;
       opened = rw c.in_ok-tell_all.ensures
           (open-told (ReadsWithin k.sequencer.committed) c.in_flight-transcripts.result.now k.sessions before.opened);

@@ -5,7 +5,8 @@ use Rattle.std.proofs.lemmas.Option.{slice_get_within}
 use Rattle.fdb_keys.specs.declared.refusal.Refusal.TheVariants.{NotYet}
 use Rattle.fdb_txn.specs.declared.entry.Entry.{Entry}
 use Rattle.fdb_core.specs.machine.Roles.{CommitProxy, Logging}
-use Rattle.fdb_core.specs.refinement.Messages.{Message}
+use Rattle.fdb_log.specs.declared.message.LogMsg.{LogMsg}
+use Rattle.fdb_keys.specs.Points.{Point}
 use Rattle.fdb_core.specs.declared.step.Outcome.{Outcome}
 use Rattle.fdb_core.specs.declared.step.Answered.TheVariants as answered
 use Rattle.fdb_core.specs.declared.cluster.Cluster.{Cluster}
@@ -13,7 +14,7 @@ use Rattle.fdb_core.specs.refinement.Cluster.{machine_of, IsDecision, Refines}
 use Rattle.fdb_core.specs.machine.Machine.{is_set}
 use Rattle.fdb_core.specs.machine.CommitProxySteps.{decides, is_resolving}
 use Rattle.fdb_core.specs.machine.Steps.{answer_of, after}
-use Rattle.fdb_core.proofs.refinement.DecideLemmas.{same-items, one-item, proxy-and-entry, Deciding, is_any_judged, decides-waits, decides-transition, verdicts_received-taken, decision-outcomes, decision-message, decided-refines}
+use Rattle.fdb_core.proofs.refinement.DecideLemmas.{same-items, one-item, proxy-and-entry, Deciding, is_any_judged, decides-waits, decides-transition, verdicts_received-taken, decision-outcomes, decision-messages, decided-refines}
 use Rattle.fdb_core.proofs.cluster.Cluster.decide.Goals as goal
 use Rattle.fdb_core.proofs.cluster.Cluster.decide.Goals.{After-is_set-is_received, Then-are_any_judged, In_ok-answer, else-not-is_received-via-then-not-is_received+else-are_any_judged, else-not-is_received-via-else-not-is_received}
 use Rattle.fdb_core.specs.refinement.Resolving.{sent_by}
@@ -87,13 +88,17 @@ none_missing c entry there = elim c.else-not-is_received.branch [
 
 -- what was decided of the entry
 decided : (c : In_ok-answer)
-    → IsDecision c.args.self.now.book.items (sent_by c.args.self.now.resolvers.items)
+    → IsDecision c.args.self.now.config.shard_splits c.args.self.now.config.logs c.args.self.now.book.items (sent_by c.args.self.now.resolvers.items)
     c.index-commit_proxy.result.now.entry c.is_set-is_received.result
-    (c.in_ok-outcomes.outcomes, c.in_ok-outcomes.message)
+    (c.in_ok-outcomes.outcomes, c.in_ok-outcomes.messages)
 decided c =
-    subst (λ (i : ℕ). IsDecision c.args.self.now.book.items (sent_by c.args.self.now.resolvers.items) i
-    c.is_set-is_received.result (c.in_ok-outcomes.outcomes, c.in_ok-outcomes.message))
-    c.entry-i.ensures c.in_ok-outcomes.ensures
+    let k = c.args.self.now in
+    subst (λ (splits : List Point). IsDecision splits k.config.logs k.book.items (sent_by k.resolvers.items)
+    c.index-commit_proxy.result.now.entry c.is_set-is_received.result
+    (c.in_ok-outcomes.outcomes, c.in_ok-outcomes.messages)) c.requires.shard_map
+    (subst (λ (i : ℕ). IsDecision k.shard_map k.config.logs k.book.items (sent_by k.resolvers.items) i
+    c.is_set-is_received.result (c.in_ok-outcomes.outcomes, c.in_ok-outcomes.messages))
+    c.entry-i.ensures c.in_ok-outcomes.ensures)
 
 pub returns-clause-answer : goal.returns-clause-answer
 returns-clause-answer c =
@@ -101,7 +106,7 @@ returns-clause-answer c =
     let commit_proxy = c.index-commit_proxy.result.now in
     let f = found_at (goal.at.returns-clause-answer c).After-is_set-is_received in
     let none = none_missing (goal.at.returns-clause-answer c).In_ok-answer f.0 f.1.entry_there in
-    let decision : List Outcome × Message = (c.in_ok-outcomes.outcomes, c.in_ok-outcomes.message) in
+    let decision : List Outcome × List LogMsg = (c.in_ok-outcomes.outcomes, c.in_ok-outcomes.messages) in
     let outcomes = decision-outcomes k c.args.proxy commit_proxy f.0 c.requires f.1 c.is_set-is_received.result decision
     f.2 none (decided (goal.at.returns-clause-answer c).In_ok-answer) in
     let same : c.in_ok-answer.answer ≡ c.in_ok-outcomes.outcomes = same-items c.in_ok-outcomes.outcomes
@@ -141,11 +146,11 @@ returns-clause-refines c =
     let commit_proxy = c.index-commit_proxy.result.now in
     let f = found_at (goal.at.returns-clause-refines c).After-is_set-is_received in
     let none = none_missing (goal.at.returns-clause-refines c).In_ok-answer f.0 f.1.entry_there in
-    let decision : List Outcome × Message = (c.in_ok-outcomes.outcomes, c.in_ok-outcomes.message) in
+    let decision : List Outcome × List LogMsg = (c.in_ok-outcomes.outcomes, c.in_ok-outcomes.messages) in
     let is = decided (goal.at.returns-clause-refines c).In_ok-answer in
     let outcomes = decision-outcomes k c.args.proxy commit_proxy f.0 c.requires f.1 c.is_set-is_received.result decision
     f.2 none is in
-    let message = decision-message k c.args.proxy commit_proxy f.0 c.requires f.1 c.is_set-is_received.result decision
+    let messages = decision-messages k c.args.proxy commit_proxy f.0 c.requires f.1 c.is_set-is_received.result decision
     f.2 none is in
     let new = logging k c.args.proxy commit_proxy c.index_mut-commit_proxy.result.now c.decide.new.self f.1.proxy_there
     c.index_mut-commit_proxy.ensures.value c.decide.ensures in
@@ -153,13 +158,13 @@ returns-clause-refines c =
       decided = with_item k.decided c.entry-i.result true;
       commit_proxies = with_item k.commit_proxies c.args.proxy p;
       outcomes = c.in_ok-outcomes.outcomes;
-      messages = with_item k.messages c.entry-i.result (Some c.in_ok-outcomes.message);
+      messages = with_item k.messages c.entry-i.result (Some c.in_ok-outcomes.messages);
     })) (sym new)
     (subst (λ (i : ℕ). Refines (record k {
       decided = with_item k.decided i true;
       commit_proxies = with_item k.commit_proxies c.args.proxy (record commit_proxy { stage = Logging });
       outcomes = c.in_ok-outcomes.outcomes;
-      messages = with_item k.messages i (Some c.in_ok-outcomes.message);
+      messages = with_item k.messages i (Some c.in_ok-outcomes.messages);
     })) (sym c.entry-i.ensures)
     (decided-refines k c.args.proxy commit_proxy f.0 c.requires f.1 c.in_ok-outcomes.outcomes
-    c.in_ok-outcomes.message outcomes message))
+    c.in_ok-outcomes.messages outcomes messages))

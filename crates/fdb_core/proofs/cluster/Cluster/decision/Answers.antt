@@ -1,22 +1,23 @@
-use Rattle.std.proofs.Common.{◌≡◌, ◌∙◌, refl, sym, ap, ap₂, ℕ, if◌then◌else◌, length, List, [], Some, slice_get}
+use Rattle.std.proofs.Common.{◌≡◌, ◌∙◌, refl, sym, ap, ap₂, ℕ, if◌then◌else◌, length, map, List, [], Some, slice_get}
 use Rattle.std.specs.Borrow.{Bor}
 use Rattle.std.proofs.lemmas.Bool.{cond-true, cond-false}
 use Rattle.std.proofs.lemmas.Option.{same_Some, slice_get_read}
-use Rattle.fdb_mutations.specs.declared.mutation.Mutation.{Mutation}
 use Rattle.fdb_txn.specs.declared.entry.Entry.{Entry}
 use Rattle.fdb_txn.specs.book.Transactions.{Transaction}
 use Rattle.fdb_core.specs.declared.step.Outcome.{Outcome}
 use Rattle.fdb_resolver.specs.declared.verdict.Verdict.{Verdict}
-use Rattle.fdb_core.specs.refinement.Roles.{outcomes_by, body_by}
+use Rattle.std.specs.List.{range_with_len}
+use Rattle.fdb_core.specs.refinement.Roles.{outcomes_by, message_by}
 use Rattle.fdb_core.proofs.refinement.DecideLemmas.{length-outcomes_by}
 use Rattle.fdb_core.proofs.cluster.Cluster.decision.Goals as goal
 use Rattle.fdb_core.proofs.cluster.Cluster.decision.Goals.{then-is_received, else-is_received}
 use Rattle.fdb_core.specs.declared.roles.resolver.ResolverRole.{ResolverRole}
 use Rattle.fdb_core.specs.refinement.Resolving.{sent_by}
 
-pub committed_body-requires : goal.committed_body-requires
-committed_body-requires c =
-    sym (ap (λ (outcomes : List Outcome). length outcomes) (c.as_slice.ensures ∙ c.in_ok-outcomes.ensures)
+pub messages_for-requires-clause-each : goal.messages_for-requires-clause-each
+messages_for-requires-clause-each c =
+    ap (λ (batch : List Transaction). length batch) (sym c.as_slice-batch.ensures.places)
+    ∙ sym (ap (λ (outcomes : List Outcome). length outcomes) (c.as_slice.ensures ∙ c.in_ok-outcomes.ensures)
     ∙ length-outcomes_by c.index-entry.result.now.version c.if-is_received.said.now
     (length c.as_slice-batch.result.now))
 
@@ -45,12 +46,10 @@ returns c entry sent there verdicts_received =
     (ap (λ (batch : List Transaction). length batch) c.as_slice-batch.ensures.places)
     ∙ ap (λ (e : Entry). outcomes_by e.version c.if-is_received.said.now (length e.batch)) same
     ∙ ap (λ (verdicts : List (ℕ × Verdict)). outcomes_by entry.version verdicts (length entry.batch)) said in
-    let body : c.in_ok-body.body ≡ body_by entry.batch c.in_ok-outcomes.outcomes =
-    c.in_ok-body.ensures
-    ∙ ap₂ (λ (batch : List Transaction) (made : List Outcome). body_by batch made)
-    (c.as_slice-batch.ensures.places ∙ ap (λ (e : Entry). e.batch) same) c.as_slice.ensures in (
-      outcomes,
-      c.new.ensures
-          ∙ ap₂ (λ (version : ℕ) (made : List Mutation). record { version = version; body = made })
-          (ap (λ (e : Entry). e.version) same) body,
-    )
+    let messages : c.in_ok-messages.messages ≡ map (λ (log : ℕ).
+    message_by k.shard_map k.config.logs log c.args.i entry c.in_ok-outcomes.outcomes) (range_with_len 0 k.config.logs) =
+    c.in_ok-messages.ensures
+    ∙ ap₂ (λ (e : Entry) (made : List Outcome). map (λ (log : ℕ).
+    message_by k.shard_map k.config.logs log c.args.i e made) (range_with_len 0 k.config.logs)) same c.as_slice.ensures
+    in
+    (outcomes, messages)

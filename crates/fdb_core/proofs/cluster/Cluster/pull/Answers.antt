@@ -1,79 +1,189 @@
-use Rattle.std.proofs.Common.{◌≡◌, ◌∙◌, refl, ap, ◌-◌, ◌%◌, ◌<◌, ◌≤◌, ℕ, min, max, length, List, ◌++◌, take, drop, Some, slice_get, slice_set, arith, rules}
+use Rattle.std.proofs.Common.{◌≡◌, ◌∙◌, refl, sym, ap, ◌+◌, ◌<◌, ◌%◌, length, ℕ, List, map, Some, None, Ok, slice_get, slice_set, arith, rules}
 use Rattle.std.proofs.lemmas.Option.{slice_get_read}
-use Rattle.fdb_core.specs.refinement.Messages.{Message}
-use Rattle.fdb_core.specs.declared.cluster.Cluster.{Cluster}
+use Rattle.std.proofs.lemmas.Result.{err_from_is_err_and}
+use Rattle.fdb_log.specs.Logs.{peek_fault, peek_of}
+use Rattle.fdb_log.specs.Messages.{log_of}
+use Rattle.fdb_storage.specs.Shards.{apply_fault, HasApplied}
+use Rattle.fdb_core.specs.declared.step.Answered.TheVariants as answered
+use Rattle.fdb_core.specs.machine.RoleSteps.{pulls}
 use Rattle.fdb_core.specs.machine.Roles.{ShardProgress}
-use Rattle.fdb_core.specs.refinement.Cluster.{LogRefines}
-use Rattle.fdb_core.proofs.refinement.DecideLemmas.{one-item}
-use Rattle.fdb_core.proofs.refinement.RoleTies.{applied-next, applied-until}
+use Rattle.fdb_core.specs.machine.Steps.{after, answer_of}
+use Rattle.fdb_core.specs.refinement.Cluster.{machine_of}
+use Rattle.fdb_core.specs.refinement.Logs.{progress_of}
+use Rattle.fdb_core.proofs.common.FaultLemmas.{answers-fault, lacks-memory}
+use Rattle.fdb_core.proofs.refinement.ShardSteps.{peek-faultless, apply-faultless, pull-room, pull-goes_on, pull-counted, pull-tied}
 use Rattle.fdb_core.proofs.cluster.Cluster.pull.Goals as goal
+use Rattle.fdb_core.proofs.cluster.Cluster.pull.Goals.{After-from_residual, After-drop-peek, After-drop-peek-2, After-len-3}
 
--- how far the shard was, and how far it is now
-module _ (k : Cluster) (log : LogRefines k.book.items k.logs.items k.shards.items k.log.items k.shard.items)
-    (shard from : ℕ) (progress : ShardProgress) (has limit before after : ℕ)
-    (there : slice_get k.shards.items shard ≡ Some progress) (at : slice_get k.logs.items from ≡ Some has)
-    (was : before ≡ progress.applied)
-    (is : after ≡ max before (min has limit)) where
-  until : after ≤ length k.log.items
-  until = applied-until k.book.items k.logs.items k.shards.items k.log.items k.shard.items log from has shard limit
-      after progress at there (is ∙ ap (λ (n : ℕ). max n (min has limit)) was)
+at-lacking : (c : After-from_residual) → slice_get c.args.self.now.shards.items c.args.shard ≡ Some c.index_mut-role.result.now
+at-lacking c =
+    let inside : c.args.shard < length c.args.self.now.shards.items = search rules in
+    slice_get_read c.args.self.now.shards.items (length c.args.self.now.shards.items) c.args.shard
+    c.index_mut-role.result.now refl inside c.index_mut-role.ensures.value
 
-  applies : (new : ShardProgress) → new ≡ record progress { applied = after }
-      → LogRefines k.book.items k.logs.items (slice_set k.shards.items shard new) k.log.items
-      (k.shard.items ++ take (after - before) (drop before k.log.items))
-  applies new same =
-      rw (same, was)
-      (applied-next k.book.items k.logs.items k.shards.items k.log.items k.shard.items log shard after progress
-      there (omega (arith, is, was)) until)
+count-lacking : (c : After-from_residual) → c.len-2.result ≡ length c.args.self.now.logs.items
+count-lacking c = search rules
 
-pub copy_range-requires-clause-within : goal.copy_range-requires-clause-within
-copy_range-requires-clause-within c =
-    let k = c.args.self.now in
-    let inside : c.args.shard < length k.shards.items = search rules in
-    let there = slice_get_read k.shards.items (length k.shards.items) c.args.shard c.index-progress.result.now refl
-    inside c.index-progress.ensures in
-    let here : c.args.shard % c.len-2.result < length k.logs.items = search rules in
-    let at = slice_get_read k.logs.items (length k.logs.items) (c.args.shard % c.len-2.result) c.index-has.result.now
-    refl here c.index-has.ensures in
-    let is : c.max-applied.result ≡ max c.applied-before.result (min c.index-has.result.now c.saturating_add.result) =
-    search rules in
-    let within = until k c.requires.log c.args.shard (c.args.shard % c.len-2.result) c.index-progress.result.now
-    c.index-has.result.now c.saturating_add.result c.applied-before.result c.max-applied.result
-    there at c.applied-before.ensures is in
-    omega (arith, within, c.deref.ensures.len)
+log-at-lacking : (c : After-from_residual) → slice_get c.args.self.now.logs.items (log_of (length c.args.self.now.logs.items) c.args.shard)
+    ≡ Some c.index-log.result.now
+log-at-lacking c =
+    let inside : c.args.shard % c.len-2.result < length c.args.self.now.logs.items = search rules in
+    ap (λ (n : ℕ). slice_get c.args.self.now.logs.items (c.args.shard % n)) (sym (count-lacking c))
+    ∙ slice_get_read c.args.self.now.logs.items (length c.args.self.now.logs.items) (c.args.shard % c.len-2.result)
+    c.index-log.result.now refl inside c.index-log.ensures
+
+-- the log refuses nothing but for want of memory
+no-fault : (c : After-from_residual) → peek_fault c.index-log.result.now.core c.args.shard c.version.result ≡ None
+no-fault c = peek-faultless c.args.self.now c.requires c.args.shard c.args.limit c.version.result c.index_mut-role.result.now c.index-log.result.now
+    (at-lacking c) (log-at-lacking c) c.version.ensures
+
+pub returns-in_err-peek-clause-answer : goal.returns-in_err-peek-clause-answer
+returns-in_err-peek-clause-answer c =
+    let left = err_from_is_err_and c.from_residual.result c.from_residual.ensures.1 in
+    rw (left.1, left.2)
+    (lacks-memory (peek_fault c.index-log.result.now.core c.args.shard c.version.result) c.in_err-peek.field-0.0 _ _
+    (no-fault c) c.in_err-peek.ensures.answers)
+
+pub returns-in_err-peek-clause-after : goal.returns-in_err-peek-clause-after
+returns-in_err-peek-clause-after c =
+    let left = err_from_is_err_and c.from_residual.result c.from_residual.ensures.1 in
+    rw (left.1, left.2)
+    (lacks-memory (peek_fault c.index-log.result.now.core c.args.shard c.version.result) c.in_err-peek.field-0.0 _ _
+    (no-fault c) c.in_err-peek.ensures.answers)
+
+at-failed : (c : After-drop-peek) → slice_get c.args.self.now.shards.items c.args.shard ≡ Some c.index_mut-role.result.now
+at-failed c =
+    let inside : c.args.shard < length c.args.self.now.shards.items = search rules in
+    slice_get_read c.args.self.now.shards.items (length c.args.self.now.shards.items) c.args.shard
+    c.index_mut-role.result.now refl inside c.index_mut-role.ensures.value
+
+count-failed : (c : After-drop-peek) → c.len-2.result ≡ length c.args.self.now.logs.items
+count-failed c = search rules
+
+log-at-failed : (c : After-drop-peek) → slice_get c.args.self.now.logs.items (log_of (length c.args.self.now.logs.items) c.args.shard)
+    ≡ Some c.index-log.result.now
+log-at-failed c =
+    let inside : c.args.shard % c.len-2.result < length c.args.self.now.logs.items = search rules in
+    ap (λ (n : ℕ). slice_get c.args.self.now.logs.items (c.args.shard % n)) (sym (count-failed c))
+    ∙ slice_get_read c.args.self.now.logs.items (length c.args.self.now.logs.items) (c.args.shard % c.len-2.result)
+    c.index-log.result.now refl inside c.index-log.ensures
+
+peek-is-failed : (c : After-drop-peek) → c.in_ok-peek.peek
+    ≡ peek_of c.index-log.result.now.core c.args.shard c.version.result c.args.limit
+peek-is-failed c = (answers-fault (peek_fault c.index-log.result.now.core c.args.shard c.version.result) c.in_ok-peek.peek
+    (λ peek. peek ≡ peek_of c.index-log.result.now.core c.args.shard c.version.result c.args.limit)
+    c.in_ok-peek.ensures.answers).1
+
+-- and neither does the shard
+none-failed : (c : After-drop-peek) → apply_fault c.index_mut-role.result.now.core c.in_ok-peek.peek ≡ None
+none-failed c = apply-faultless c.args.self.now c.requires c.args.shard c.args.limit c.version.result c.index_mut-role.result.now c.index-log.result.now
+    (at-failed c) (log-at-failed c) c.version.ensures c.in_ok-peek.peek (peek-is-failed c)
+
+pub returns-in_err-apply-clause-answer : goal.returns-in_err-apply-clause-answer
+returns-in_err-apply-clause-answer c =
+    let left = err_from_is_err_and c.from_residual-in_err-apply.result c.from_residual-in_err-apply.ensures.1 in
+    rw (left.1, left.2)
+    (lacks-memory (apply_fault c.index_mut-role.result.now.core c.in_ok-peek.peek) c.in_err-apply.field-0.0 _ _
+    (none-failed c) c.in_err-apply.ensures.answers)
+
+pub returns-in_err-apply-clause-after : goal.returns-in_err-apply-clause-after
+returns-in_err-apply-clause-after c =
+    let left = err_from_is_err_and c.from_residual-in_err-apply.result c.from_residual-in_err-apply.ensures.1 in
+    rw (left.1, left.2)
+    (lacks-memory (apply_fault c.index_mut-role.result.now.core c.in_ok-peek.peek) c.in_err-apply.field-0.0 _ _
+    (none-failed c) c.in_err-apply.ensures.answers)
+
+pub returns-in_err-apply-clause-refines : goal.returns-in_err-apply-clause-refines
+returns-in_err-apply-clause-refines c =
+    let left = err_from_is_err_and c.from_residual-in_err-apply.result c.from_residual-in_err-apply.ensures.1 in
+    rw (left.1, left.2)
+    (lacks-memory (apply_fault c.index_mut-role.result.now.core c.in_ok-peek.peek) c.in_err-apply.field-0.0 _ _
+    (none-failed c) c.in_err-apply.ensures.answers)
+
+at-counting : (c : After-len-3) → slice_get c.args.self.now.shards.items c.args.shard ≡ Some c.index_mut-role.result.now
+at-counting c =
+    let inside : c.args.shard < length c.args.self.now.shards.items = search rules in
+    slice_get_read c.args.self.now.shards.items (length c.args.self.now.shards.items) c.args.shard
+    c.index_mut-role.result.now refl inside c.index_mut-role.ensures.value
+
+count-counting : (c : After-len-3) → c.len-2.result ≡ length c.args.self.now.logs.items
+count-counting c = search rules
+
+log-at-counting : (c : After-len-3) → slice_get c.args.self.now.logs.items (log_of (length c.args.self.now.logs.items) c.args.shard)
+    ≡ Some c.index-log.result.now
+log-at-counting c =
+    let inside : c.args.shard % c.len-2.result < length c.args.self.now.logs.items = search rules in
+    ap (λ (n : ℕ). slice_get c.args.self.now.logs.items (c.args.shard % n)) (sym (count-counting c))
+    ∙ slice_get_read c.args.self.now.logs.items (length c.args.self.now.logs.items) (c.args.shard % c.len-2.result)
+    c.index-log.result.now refl inside c.index-log.ensures
+
+peek-is-counting : (c : After-len-3) → c.in_ok-peek.peek
+    ≡ peek_of c.index-log.result.now.core c.args.shard c.version.result c.args.limit
+peek-is-counting c = (answers-fault (peek_fault c.index-log.result.now.core c.args.shard c.version.result) c.in_ok-peek.peek
+    (λ peek. peek ≡ peek_of c.index-log.result.now.core c.args.shard c.version.result c.args.limit)
+    c.in_ok-peek.ensures.answers).1
+
+pub overflow_add-role : goal.overflow_add-role
+overflow_add-role c =
+    let room = pull-room c.args.self.now c.requires c.args.shard c.args.limit c.version.result c.index_mut-role.result.now c.index-log.result.now
+    (at-counting c) (log-at-counting c) c.version.ensures c.in_ok-peek.peek (peek-is-counting c) in
+    let count : c.len-3.result ≡ length c.in_ok-peek.peek.messages = c.len-3.ensures in
+    omega (arith, room, count)
+
+at : (c : After-drop-peek-2) → slice_get c.args.self.now.shards.items c.args.shard ≡ Some c.index_mut-role.result.now
+at c =
+    let inside : c.args.shard < length c.args.self.now.shards.items = search rules in
+    slice_get_read c.args.self.now.shards.items (length c.args.self.now.shards.items) c.args.shard
+    c.index_mut-role.result.now refl inside c.index_mut-role.ensures.value
+
+count : (c : After-drop-peek-2) → c.len-2.result ≡ length c.args.self.now.logs.items
+count c = search rules
+
+log-at : (c : After-drop-peek-2) → slice_get c.args.self.now.logs.items (log_of (length c.args.self.now.logs.items) c.args.shard)
+    ≡ Some c.index-log.result.now
+log-at c =
+    let inside : c.args.shard % c.len-2.result < length c.args.self.now.logs.items = search rules in
+    ap (λ (n : ℕ). slice_get c.args.self.now.logs.items (c.args.shard % n)) (sym (count c))
+    ∙ slice_get_read c.args.self.now.logs.items (length c.args.self.now.logs.items) (c.args.shard % c.len-2.result)
+    c.index-log.result.now refl inside c.index-log.ensures
+
+peek-is : (c : After-drop-peek-2) → c.in_ok-peek.peek
+    ≡ peek_of c.index-log.result.now.core c.args.shard c.version.result c.args.limit
+peek-is c = (answers-fault (peek_fault c.index-log.result.now.core c.args.shard c.version.result) c.in_ok-peek.peek
+    (λ peek. peek ≡ peek_of c.index-log.result.now.core c.args.shard c.version.result c.args.limit)
+    c.in_ok-peek.ensures.answers).1
+
+applied : (c : After-drop-peek-2) → HasApplied c.index_mut-role.result.now.core c.in_ok-peek.peek c.apply.new.self
+applied c = (answers-fault (apply_fault c.index_mut-role.result.now.core c.in_ok-peek.peek) c.in_ok-apply.field-0
+    (λ _. HasApplied c.index_mut-role.result.now.core c.in_ok-peek.peek c.apply.new.self)
+    c.in_ok-apply.ensures.answers).1
+
+goes_on : (c : After-drop-peek-2) → pulls (machine_of c.args.self.now) c.args.shard c.args.limit ≡ Ok (record {
+  answer = answered.Version c.apply.new.self.version;
+  next = record (machine_of c.args.self.now) {
+    shards = slice_set (map progress_of c.args.self.now.shards.items) c.args.shard
+        (record (progress_of c.index_mut-role.result.now)
+        { applied = c.index_mut-role.result.now.applied + c.len-3.result });
+  };
+})
+goes_on c = pull-goes_on c.args.self.now c.requires c.args.shard c.args.limit c.version.result c.index_mut-role.result.now c.index-log.result.now
+    (at c) (log-at c) c.version.ensures c.in_ok-peek.peek (peek-is c) c.apply.new.self (applied c) c.len-3.result
+    c.len-3.ensures
+
+pub returns-clause-answer : goal.returns-clause-answer
+returns-clause-answer c =
+    ap (λ (version : ℕ). Ok (answered.Version version)) c.version-2.ensures ∙ sym (ap answer_of (goes_on c))
+
+pub returns-clause-after : goal.returns-clause-after
+returns-clause-after c =
+    ap (λ (shards : List ShardProgress). record (machine_of c.args.self.now) { shards = shards })
+    (pull-counted c.args.self.now c.requires c.args.shard c.args.limit c.version.result c.index_mut-role.result.now c.index-log.result.now
+    (at c) (log-at c) c.version.ensures c.in_ok-peek.peek (peek-is c) c.apply.new.self (applied c) c.len-3.result
+    c.len-3.ensures)
+    ∙ sym (ap (after (machine_of c.args.self.now)) (goes_on c))
 
 pub returns-clause-refines : goal.returns-clause-refines
 returns-clause-refines c =
-    let k = c.args.self.now in
-    let before = c.requires in
-    let inside : c.args.shard < length k.shards.items = search rules in
-    let there = slice_get_read k.shards.items (length k.shards.items) c.args.shard c.index-progress.result.now refl
-    inside c.index-progress.ensures in
-    let here : c.args.shard % c.len-2.result < length k.logs.items = search rules in
-    let at = slice_get_read k.logs.items (length k.logs.items) (c.args.shard % c.len-2.result) c.index-has.result.now
-    refl here c.index-has.ensures in
-    let is : c.max-applied.result ≡ max c.applied-before.result (min c.index-has.result.now c.saturating_add.result) =
-    search rules in
-    let same : c.index_mut-progress.result.now ≡ c.index-progress.result.now =
-    one-item k.shards.items c.args.shard c.index_mut-progress.result.now c.index-progress.result.now inside
-    c.index_mut-progress.ensures.value there in
-    let new : c.apply_to.new.self ≡ record c.index-progress.result.now { applied = c.max-applied.result } =
-    c.apply_to.ensures ∙ ap (λ (p : ShardProgress). record p { applied = c.max-applied.result }) same in
-    let kept : c.copy_range.new.shard.items ≡ k.shard.items ++ take (c.max-applied.result - c.applied-before.result)
-    (drop c.applied-before.result k.log.items) =
-    c.in_ok-copy_range.ensures
-    ∙ ap (λ (log : List Message). k.shard.items ++ take (c.max-applied.result - c.applied-before.result)
-    (drop c.applied-before.result log)) c.deref.ensures.value in
-    record {
-      plain = before.plain;
-      room = before.room;
-      sequencer = before.sequencer;
-      book = before.book;
-      resolvers = before.resolvers;
-      log = rw kept
-          (applies k before.log c.args.shard (c.args.shard % c.len-2.result) c.index-progress.result.now
-          c.index-has.result.now c.saturating_add.result c.applied-before.result c.max-applied.result
-          there at c.applied-before.ensures is c.apply_to.new.self new);
-      commit_proxies = before.commit_proxies;
-      opened = before.opened;
-    }
+    pull-tied c.args.self.now c.requires c.args.shard c.args.limit c.version.result c.index_mut-role.result.now c.index-log.result.now
+    (at c) (log-at c) c.version.ensures c.in_ok-peek.peek (peek-is c) c.apply.new.self (applied c) c.len-3.result
+    c.len-3.ensures

@@ -96,7 +96,8 @@ returns-clause-refines c =
       sequencer = before.sequencer;
       book = before.book;
       resolvers = before.resolvers;
-      log = before.log;
+      logs = before.logs;
+      shard_map = before.shard_map;
       commit_proxies = rw (received c)
           (commit_proxies-set k.book.items k.book.items (taken_by k.resolvers.items) (taken_by k.resolvers.items)
           k.sequencer.committed k.sequencer.committed k.outcomes k.outcomes k.commit_proxies.items c.index.result.now

@@ -113,7 +113,8 @@ returns-clause-refines c =
       };
       book = before.book;
       resolvers = before.resolvers;
-      log = before.log;
+      logs = before.logs;
+      shard_map = before.shard_map;
       commit_proxies = rw (reported c)
           (commit_proxies-set k.book.items k.book.items (taken_by k.resolvers.items) (taken_by k.resolvers.items)
           k.sequencer.committed committed k.outcomes k.outcomes k.commit_proxies.items c.args.proxy commit_proxy _

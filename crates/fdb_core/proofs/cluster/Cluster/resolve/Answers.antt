@@ -120,7 +120,8 @@ returns-clause-refines c =
       resolvers = resolvers-next k.book.items k.resolvers.items c.args.resolver c.args.entry c.index-part.result.now
           c.index_mut-role.result.now before.resolvers before.book.no_moves before.book.entries (there c) (at c) (due c)
           c.in_ok-answer.answer c.take.new.self (takes c);
-      log = before.log;
+      logs = before.logs;
+      shard_map = before.shard_map;
       commit_proxies = subst
           (λ (resolvers : List ℕ). CommitProxiesRefine k.book.items resolvers k.sequencer.committed
           k.commit_proxies.items k.outcomes) (sym numbers)

@@ -19,7 +19,9 @@ use Rattle.fdb_core.proofs.refinement.CommitProxyTies.{commit_proxies-set}
 use Rattle.fdb_core.proofs.refinement.DecideLemmas.{one-item}
 use Rattle.fdb_core.proofs.refinement.RoleTies.{last-push}
 use Rattle.fdb_core.proofs.refinement.CommitProxyTies.{commit_proxy-at}
-use Rattle.fdb_core.proofs.refinement.SealLemmas.{sealed_entry, sealed_proxy, seals-transition, length-sealed, batch-fits, sealed-below, book-push, resolvers-push, log-push, commit_proxy-seal}
+use Rattle.fdb_core.specs.declared.roles.log.LogRole.{LogRole}
+use Rattle.fdb_core.specs.refinement.Logs.{logs_taken}
+use Rattle.fdb_core.proofs.refinement.SealLemmas.{sealed_entry, sealed_proxy, seals-transition, length-sealed, batch-fits, sealed-below, book-push, resolvers-push, logs-push, commit_proxy-seal}
 use Rattle.fdb_core.proofs.refinement.TicketTies.{plan-refused, plan-given, seals-exhausted}
 use Rattle.fdb_core.proofs.cluster.Cluster.seal.Goals as goal
 use Rattle.fdb_core.proofs.cluster.Cluster.seal.Goals.{After-drop-ticket-2, In_err-ticket}
@@ -105,7 +107,9 @@ next c =
     let count_of : c.len-resolvers.result ≡ length c.args.self.now.resolvers.items = search rules in
     let resolvers : c.len-resolvers.result ≡ length (taken_by c.args.self.now.resolvers.items) = count_of
     ∙ sym (length-map c.args.self.now.resolvers.items (λ (role : ResolverRole). role.taken)) in
-    let logs : c.len-logs.result ≡ length c.args.self.now.logs.items = search rules in
+    let logs_count : c.len-logs.result ≡ length c.args.self.now.logs.items = search rules in
+    let logs : c.len-logs.result ≡ length (logs_taken c.args.self.now.logs.items) = logs_count
+    ∙ sym (length-map c.args.self.now.logs.items (λ (role : LogRole). role.taken)) in
     c.in_ok-batch.ensures.after
     ∙ (λ i. with_batch c.index_mut-commit_proxy.result.now (count c i) (resolvers i) (logs i))
 
@@ -197,10 +201,11 @@ returns-clause-refines c =
             committed = rw (last-push k.book.items e) (omega (arith, above, before.sequencer.committed));
           });
       book = rw (book_then c, c.in_ok-push-2.ensures.items, c.in_ok-push-3.ensures.items, c.in_ok-push-4.ensures.items)
-          (book-push k.book.items e k.entry_proxies.items k.decided.items k.messages.items c.args.proxy before.book refl
+          (book-push k.book.items e k.config k.entry_proxies.items k.decided.items k.messages.items c.args.proxy before.book refl
           (above, refl, tt, reads, tt));
       resolvers = rw (book_then c) (resolvers-push k.book.items e k.resolvers.items before.resolvers);
-      log = rw (book_then c) (log-push k.book.items e k.logs.items k.shards.items k.log.items k.shard.items before.log);
+      logs = rw (book_then c) (logs-push k.book.items e k.config k.logs.items k.shards.items before.logs);
+      shard_map = before.shard_map;
       commit_proxies = rw (c.issue.ensures, book_then c)
           (subst (λ (commit_proxies : List CommitProxy). CommitProxiesRefine (k.book.items ++ e ∷ [])
           (taken_by k.resolvers.items) k.sequencer.committed commit_proxies k.outcomes) (sym (proxies_then c))

@@ -101,7 +101,8 @@ returns-in_ok-submit-in-ToCommit-clause-refines c =
       sequencer = before.sequencer;
       book = before.book;
       resolvers = before.resolvers;
-      log = before.log;
+      logs = before.logs;
+      shard_map = before.shard_map;
       commit_proxies = rw c.in_ok-submit-in-ToCommit.ensures
           (commit_proxies-set k.book.items k.book.items (taken_by k.resolvers.items) (taken_by k.resolvers.items)
           k.sequencer.committed k.sequencer.committed k.outcomes k.outcomes k.commit_proxies.items c.args.proxy

@@ -1,7 +1,10 @@
 use Rattle.std.proofs.Common.{ap}
 use Rattle.fdb_core.specs.headline.Serving.{System}
-use Rattle.fdb_core.proofs.checking.SoundChecks.{world-finds}
+use Rattle.fdb_core.proofs.checking.SoundChecks.{few-compared, world-finds}
 use Rattle.fdb_core.proofs.world.World.check.Goals as goal
+
+pub check_all-requires : goal.check_all-requires
+check_all-requires c = few-compared c.self.inside.cluster c.self.inside.failed c.self.invariant
 
 pub returns : goal.returns
 returns c = world-finds c.self.inside.cluster c.self.inside.failed c.args.self.now.machine c.check_all.result

@@ -1,0 +1,57 @@
+-- The shards, read at a version.
+use Rattle.std.specs.Prelude.{◌≡◌, ◌≤◌, ℕ, suc, true, false, List, map, take, length, Option, slice_get}
+use Rattle.std.specs.FinMap.{get}
+use Rattle.fdb_keys.specs.declared.refusal.Refusal.{Refusal}
+use Rattle.fdb_keys.specs.Points.{Point}
+use Rattle.fdb_keys.specs.Ranges.{Range, in_range}
+use Rattle.fdb_mutations.specs.Maps.{Map}
+use Rattle.fdb_mutations.specs.PairLaws.{AgreeIn}
+use Rattle.fdb_txn.specs.declared.entry.Entry.{Entry}
+use Rattle.fdb_txn.specs.book.Book.{seen_of, last_version}
+use Rattle.fdb_txn.specs.rules.Owners.{first_owner}
+use Rattle.fdb_txn.specs.rules.SerialMap.{serial_map_at}
+use Rattle.fdb_txn.specs.rules.Splits.{are_splits, piece}
+use Rattle.fdb_storage.specs.Shards.{value_at}
+use Rattle.fdb_core.specs.declared.config.Config.{Config}
+use Rattle.fdb_core.specs.declared.roles.shard.ShardRole.{ShardRole}
+use Rattle.fdb_core.specs.machine.ClientSteps.{fault_among, shard_begins}
+use Rattle.fdb_core.specs.machine.RoleSteps.{shard_fault}
+use Rattle.fdb_core.specs.refinement.Logs.{progress_of, Each}
+
+pub record ShardReads : Type 0 where
+  pub version : ℕ
+  pub config : Config
+  pub book : List Entry
+  pub shards : List ShardRole
+
+-- the run's map at the version
+abbrev pub run_map : ShardReads → Map
+run_map reads = serial_map_at reads.config.resolver_splits reads.version (seen_of reads.book).places
+
+-- why a point is not read, as the machine says it
+abbrev pub key_fault : ShardReads → Point → Option Refusal
+key_fault reads x =
+    shard_fault reads.book reads.version
+    (slice_get (map progress_of reads.shards) (first_owner reads.config.shard_splits x))
+
+-- and why a range is not read
+abbrev pub range_fault : ShardReads → Range → Option Refusal
+range_fault reads range = fault_among (key_fault reads) (shard_begins reads.config.shard_splits range)
+
+-- the map has at each point of the range what the run's map has
+abbrev pub HasTheRunIn : ShardReads → Range → Map → Type 0
+HasTheRunIn reads range map = AgreeIn range map (run_map reads)
+
+-- A shard holds its piece of the keys, and answers from the run where it serves the version.
+pub record IsReadable (reads : ShardReads) (i : ℕ) (role : ShardRole) : Type 0 where
+  pub range : role.core.range ≡ piece reads.config.shard_splits i
+  pub works : role.core.is_failed ≡ false
+  pub version : role.core.version ≡ last_version (take role.applied reads.book)
+  pub serves : (x : Point) → role.core.floor ≤ reads.version → reads.version ≤ role.core.version
+      → in_range (piece reads.config.shard_splits i) x ≡ true → value_at role.core reads.version x ≡ get (run_map reads) x
+
+-- there is a shard for each piece of the keys, and each is readable
+pub record AreReadable (reads : ShardReads) : Type 0 where
+  pub splits : are_splits reads.config.shard_splits ≡ true
+  pub as_many : length reads.shards ≡ suc (length reads.config.shard_splits)
+  pub each : Each (IsReadable reads) reads.shards
