@@ -1,3 +1,4 @@
+pub mod LogLaws
 pub mod OnceLaws
 pub mod RealTimeLaws
 pub mod SerializedLemmas

@@ -1,5 +1,6 @@
 pub mod AcceptedTransitions
 pub mod FinishLemmas
+pub mod LogLemmas
 pub mod OpenLemmas
 pub mod SessionLemmas
 pub mod SessionMaps

@@ -5,6 +5,7 @@ pub mod Headline
 pub mod Promises
 pub mod Readings
 pub mod RealTime
+pub mod Replays
 pub mod Serving
 pub mod Sessions
 pub mod Traces

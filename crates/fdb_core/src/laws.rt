@@ -1,8 +1,9 @@
 //! What the machine promises, at every step and over every run.
-ghost use Rattle.fdb_core.specs.headline.Promises.{RefusalsChangeNothing, GrantsCommitted, CommittedIsGreatestReported, GetsFromTheRun, GetsRefused, RangeReadsFromTheRun, RangeReadsRefused};
+ghost use Rattle.fdb_core.specs.headline.Promises.{RefusalsChangeNothing, GrantsCommitted, CommittedIsGreatestReported, GetsFromTheRun, GetsRefused, RangeReadsFromTheRun, RangeReadsRefused, AcknowledgedAreLogged};
 ghost use Rattle.fdb_core.specs.headline.Answers.{AnsweredByTheTrace};
+ghost use Rattle.fdb_core.specs.headline.Replays.{ReplaysTellTheRun};
 ghost use Rattle.fdb_core.specs.headline.RealTime.{RealTime};
-ghost use Rattle.fdb_core.specs.headline.Examples.{OnlyTheFirstIsSerialized, ReadOnlyAtItsVersion, AfterAVersion, AnEmptyShardDoesNotServe, OnlyOrdinaryReadsCount, BegunByServing, ForgetfulRolesDoNotKeep, ReadOffTheTrace, Traced};
+ghost use Rattle.fdb_core.specs.headline.Examples.{OnlyTheFirstIsSerialized, ReadOnlyAtItsVersion, AfterAVersion, AnEmptyShardDoesNotServe, OnlyOrdinaryReadsCount, BegunByServing, ForgetfulRolesDoNotKeep, ReadOffTheTrace, Traced, ShardsGoOnAndForget};
 ghost use Rattle.fdb_core.specs.headline.Headline.{AcknowledgedAreSerialized};
 ghost use Rattle.fdb_core.specs.headline.Traces.{TracesDetermineTheMachine, WorldsShowWhatIsTold};
 ghost use Rattle.fdb_core.specs.headline.Sessions.{SessionsAreWhereTheirStatesSay, AsksAreRefused};
@@ -79,7 +80,8 @@ pub fn who_begins_after_an_acknowledgement_is_ordered_after_it()
 
 /// What the headline says of small worlds: which transactions are serialized at which spots and which aren't, who is
 /// ordered after a version, what an empty shard would have to answer, which reads count, who has begun, what a role
-/// that forgets would have to keep, what is read off a trace with a conflict, and which answers a trace has.
+/// that forgets would have to keep, what is read off a trace with a conflict, which answers a trace has, and what a
+/// shard of two pulls, forgets and pops.
 pub fn worked_examples()
     ensures spots { OnlyTheFirstIsSerialized }
     ensures read_only { ReadOnlyAtItsVersion }
@@ -90,6 +92,7 @@ pub fn worked_examples()
     ensures roles { ForgetfulRolesDoNotKeep }
     ensures readings { ReadOffTheTrace }
     ensures traces { Traced }
+    ensures shards { ShardsGoOnAndForget }
 {}
 
 /// Over every trace the entries are a book: their versions rise, and each previous version is that of the entry before;
@@ -108,4 +111,16 @@ pub fn entries_of_traces_are_books()
 pub fn sessions_are_where_their_states_say()
     ensures places { SessionsAreWhereTheirStatesSay }
     ensures refused { AsksAreRefused }
+{}
+
+/// Over every trace every log has taken each entry with an acknowledged place, so what is acknowledged is in all logs.
+pub fn acknowledged_transactions_are_logged()
+    ensures { AcknowledgedAreLogged }
+{}
+
+/// The peeks of a tag that wasn't popped tell the run: where they go on from version 0, the messages that they hold
+/// leave, at each point of the range of the tag's shard and each version that they cover, what stands there on the map
+/// of the run of one transaction at a time. So does `replay` of them.
+pub fn replays_of_unpopped_peeks_tell_the_run()
+    ensures { ReplaysTellTheRun }
 {}

@@ -16,10 +16,11 @@ use Rattle.fdb_txn.proofs.rules.MessagesLemmas.{get-effects}
 use Rattle.fdb_txn.specs.rules.Admission.{committed}
 use Rattle.fdb_client.specs.declared.program.Reply.TheVariants as reply
 use Rattle.fdb_keys.specs.Ranges.{Range}
-use Rattle.fdb_core.specs.headline.Examples.{reads_and_sets, OnlyTheFirstIsSerialized, ReadOnlyAtItsVersion, AfterAVersion, AnEmptyShardDoesNotServe, OnlyOrdinaryReadsCount, BegunByServing, ForgetfulRolesDoNotKeep, ReadOffTheTrace, plain, one_asks, Traced}
+use Rattle.fdb_core.specs.headline.Examples.{reads_and_sets, OnlyTheFirstIsSerialized, ReadOnlyAtItsVersion, AfterAVersion, AnEmptyShardDoesNotServe, OnlyOrdinaryReadsCount, BegunByServing, ForgetfulRolesDoNotKeep, ReadOffTheTrace, plain, one_asks, Traced, ShardsGoOnAndForget}
 use Rattle.fdb_core.specs.declared.step.Answered.TheVariants as answered
 use Rattle.fdb_core.specs.machine.GrvProxySteps.{asks, grants}
 use Rattle.fdb_core.specs.machine.Machine.{Transition}
+use Rattle.fdb_core.specs.machine.RoleSteps.{pulls, forgets, pops}
 use Rattle.fdb_core.specs.machine.Sessions.{Session}
 use Rattle.fdb_core.specs.machine.Steps.{answer_of, after}
 use Rattle.fdb_core.specs.machine.Worlds.{start}
@@ -137,3 +138,7 @@ traced = (
   ),
   (λ world stands. ⊎_elim (λ went. let wrong = went.0 in cc) (λ failed. let wrong = failed.0 in cc) stands.1),
 )
+
+pub shards_go_on_and_forget : ShardsGoOnAndForget
+unfolding pulls forgets pops
+shards_go_on_and_forget = (refl, refl, refl, refl, refl, refl, refl, refl)

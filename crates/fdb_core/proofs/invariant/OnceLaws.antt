@@ -220,7 +220,7 @@ module _ (id : TxnId) where
   -- every step keeps it
   once_steps : KeptBySteps (IsOnce id)
   once_steps = record {
-    roles = λ m taken answer resolvers logs shards quiet once. once;
+    roles = λ m taken answer resolvers logs shards quiet grew once. once;
     asked = λ m session proxy there at free once. (
       session_steps.asked m session proxy there at free once.0,
       changed-once m session Asking m.book m.commit_proxies once.1 (λ same. omega (arith, once.1.stands))
@@ -254,14 +254,14 @@ module _ (id : TxnId) where
       session_steps.sealed m proxy advance commit_proxy at idle few room once.0,
       sealed-once m proxy advance commit_proxy once.1 at,
     );
-    went_on = λ m taken answer proxy commit_proxy stage decided verdicts acknowledgements quiet at busy goes_on
+    went_on = λ m taken answer proxy commit_proxy stage decided verdicts acknowledgements quiet came at busy goes_on
         unreported once. (
-          session_steps.went_on m taken answer proxy commit_proxy stage decided verdicts acknowledgements quiet at busy
+          session_steps.went_on m taken answer proxy commit_proxy stage decided verdicts acknowledgements quiet came at busy
               goes_on unreported once.0,
           with-commit_proxy m proxy commit_proxy _ once.1 at refl,
         );
-    reported_version = λ m proxy commit_proxy entry at logging there once. (
-      session_steps.reported_version m proxy commit_proxy entry at logging there once.0,
+    reported_version = λ m proxy commit_proxy entry at logging there whole once. (
+      session_steps.reported_version m proxy commit_proxy entry at logging there whole once.0,
       with-commit_proxy m proxy commit_proxy _ once.1 at refl,
     );
     told = λ m proxy commit_proxy entry at reported there once. (

@@ -194,7 +194,7 @@ module _ (P : Sessions → TxnId → ℕ → Type 0) (low : ℕ) where
 
     kept_steps : KeptBySteps Kept
     kept_steps = record {
-      roles = λ m taken answer resolvers logs shards quiet kept. kept;
+      roles = λ m taken answer resolvers logs shards quiet grew kept. kept;
       asked = λ m session proxy there at free kept.
           (kept.0, put-kept m.sessions session Asking m.commit_proxies m.acknowledged kept.1 tt);
       granted = λ m proxy there at left kept.
@@ -221,10 +221,10 @@ module _ (P : Sessions → TxnId → ℕ → Type 0) (low : ℕ) where
                 (all-take _ place_limit commit_proxy.waiting waiting),
           ) in
           (kept.0, (kept.1.0, proxies, kept.1.2));
-      went_on = λ m taken answer proxy commit_proxy stage decided verdicts acknowledgements quiet at busy goes_on
+      went_on = λ m taken answer proxy commit_proxy stage decided verdicts acknowledgements quiet came at busy goes_on
           unreported kept.
           (kept.0, (kept.1.0, set-proxy m kept proxy _ (proxy-has m kept proxy commit_proxy at), kept.1.2));
-      reported_version = λ m proxy commit_proxy entry at logging there kept. (
+      reported_version = λ m proxy commit_proxy entry at logging there whole kept. (
         omega (arith, kept.0),
         (kept.1.0, set-proxy m kept proxy _ (proxy-has m kept proxy commit_proxy at), kept.1.2),
       );

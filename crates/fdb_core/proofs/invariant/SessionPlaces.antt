@@ -278,7 +278,7 @@ with-none_idle m proxy new none all = all-set HasNoneIdle m.commit_proxies proxy
 -- every step keeps it
 pub session_steps : KeptBySteps AllStand
 session_steps = record {
-  roles = λ m taken answer resolvers logs shards quiet all. all;
+  roles = λ m taken answer resolvers logs shards quiet grew all. all;
   asked = λ m asker proxy there at free all.
       (λ session. asked-stands session m asker proxy there at free (all.0 session), all.1);
   granted = λ m proxy there at left all. (λ session. granted-stands session m proxy there at (all.0 session), all.1);
@@ -301,12 +301,12 @@ session_steps = record {
         (all-at HasNoneIdle m.commit_proxies proxy commit_proxy all.1 at (ap is_idle idle)) (all.0 session),
     with-none_idle m proxy (sealed_proxy m commit_proxy) (λ idle. cc) all,
   );
-  went_on = λ m taken answer proxy commit_proxy stage decided verdicts acknowledgements quiet at busy goes_on
+  went_on = λ m taken answer proxy commit_proxy stage decided verdicts acknowledgements quiet came at busy goes_on
       unreported all. (
         λ session. with-commit_proxy session m proxy commit_proxy _ at refl (all.0 session),
         with-none_idle m proxy _ (λ idle. cc) all,
       );
-  reported_version = λ m proxy commit_proxy entry at logging there all. (
+  reported_version = λ m proxy commit_proxy entry at logging there whole all. (
     λ session. with-commit_proxy session m proxy commit_proxy _ at refl (all.0 session),
     with-none_idle m proxy _ (λ idle. cc) all,
   );

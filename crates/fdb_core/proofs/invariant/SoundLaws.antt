@@ -186,7 +186,7 @@ sound-reported m proxy commit_proxy entry sound at busy there = record {
 -- every step keeps a machine sound
 pub sound_steps : KeptBySteps Invariant
 sound_steps = record {
-  roles = λ m taken answer resolvers logs shards quiet sound.
+  roles = λ m taken answer resolvers logs shards quiet grew sound.
       same_book m sound sound.opened sound.commit_proxies sound.acknowledged sound.reported;
   asked = λ m session proxy there at free sound.
       same_book m sound (open-put (IsReplied m) m.sessions session Asking sound.opened tt) sound.commit_proxies
@@ -215,14 +215,14 @@ sound_steps = record {
       (with-commit_proxy m sound proxy _ (waiting, was.1, was.2))
       sound.acknowledged sound.reported;
   sealed = λ m proxy advance commit_proxy at idle few room sound. sound-sealed m proxy advance commit_proxy sound at;
-  went_on = λ m taken answer proxy commit_proxy stage decided verdicts acknowledgements quiet at busy goes_on
+  went_on = λ m taken answer proxy commit_proxy stage decided verdicts acknowledgements quiet came at busy goes_on
       unreported sound.
       let was = commit_proxy-at m sound proxy commit_proxy at in
       let flies = was.2 busy in
       same_book m sound sound.opened
       (with-commit_proxy m sound proxy _ (was.0, was.1, λ _. (flies.0, flies.1, flies.2, λ reported. cc)))
       sound.acknowledged sound.reported;
-  reported_version = λ m proxy commit_proxy entry at logging there sound. sound-reported m proxy commit_proxy entry
+  reported_version = λ m proxy commit_proxy entry at logging there whole sound. sound-reported m proxy commit_proxy entry
       sound at (ap is_idle logging) there;
   told = λ m proxy commit_proxy entry at reported there sound.
       let was = commit_proxy-at m sound proxy commit_proxy at in

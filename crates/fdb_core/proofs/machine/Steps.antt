@@ -1,8 +1,8 @@
 -- The walk over the steps of all kinds: what accepted steps change, and what they keep.
-use Rattle.std.proofs.Common.{◌≡◌, ◌<◌, ◌≤◌, refl, ap, ℕ, ◌+◌, min, max, Bool, true, false, not, List, [], ◌∷◌, ◌++◌, take, map, length, fold, Option, Some, None, Result, Ok, Err}
+use Rattle.std.proofs.Common.{◌≡◌, ◌<◌, ◌≤◌, refl, ap, ℕ, ◌+◌, min, max, Bool, true, false, not, List, [], ◌∷◌, ◌++◌, take, map, length, fold, Option, Some, None, Result, Ok, Err, inl, inr, arith}
 use Rattle.std.specs.Prelude.{nat_lt, nat_le}
 use Rattle.std.specs.List.{slice_get, slice_set, list_any}
-use Rattle.std.proofs.lemmas.Bool.{and_parts, not-false, ltb-false, leb-false}
+use Rattle.std.proofs.lemmas.Bool.{and_parts, eqb-true, not-false, ltb-false, leb-false}
 use Rattle.fdb_keys.specs.declared.refusal.Refusal.{Refusal}
 use Rattle.fdb_mutations.specs.Mutations.{mutation_fault}
 use Rattle.fdb_txn.specs.Limits.{place_limit}
@@ -33,6 +33,7 @@ use Rattle.fdb_core.specs.machine.Steps.{next, after}
 use Rattle.fdb_core.specs.machine.Verdicts.{is_needed, outcomes_on}
 use Rattle.fdb_client.specs.Programs.{program, copy, reply_on, commit_request_of, is_read_only}
 use Rattle.fdb_core.proofs.headline.TraceLaws.{kept-after_steps}
+use Rattle.fdb_core.proofs.machine.LogLemmas.{Grew, AcknowledgementCame, grew-same, grew-set}
 use Rattle.fdb_core.proofs.machine.AcceptedTransitions.{IfAccepted, past-found, past-test, past-fault, past-wait, past-turn, past-choice, past-open}
 use Rattle.fdb_core.proofs.refinement.SealLemmas.{sealed_machine}
 
@@ -63,7 +64,7 @@ is_quiet taken = false
 pub record HoldsOfSteps (R : Machine → Step → Answered → Machine → Type 0) : Type 0 where
   -- resolvers, logs and shards went on (Resolve, Push, Pull, Forget, Pop)
   pub roles : (m : Machine) (taken : Step) (answer : Answered) (resolvers logs : List ℕ) (shards : List ShardProgress)
-      → is_quiet taken ≡ true → R m taken answer (record m { resolvers = resolvers; logs = logs; shards = shards })
+      → is_quiet taken ≡ true → Grew m.logs logs → R m taken answer (record m { resolvers = resolvers; logs = logs; shards = shards })
   -- a session that neither asks nor waits asks (Ask)
   pub asked : (m : Machine) (session proxy : ℕ) (there : List ℕ) → slice_get m.grv_proxies proxy ≡ Some there
       → is_busy (session_of m.sessions session).state ≡ false
@@ -111,10 +112,12 @@ pub record HoldsOfSteps (R : Machine → Step → Answered → Machine → Type 
       (answered.Issued (length m.book) (next_version prev advance) prev
       (length (take place_limit commit_proxy.waiting)))
       (sealed_machine m proxy advance commit_proxy)
-  -- a proxy went on with its batch, which isn't reported (Verdict, Decide, Logged)
+  -- a proxy went on with its batch, which isn't reported; a log whose acknowledgement came took the entry (Verdict,
+  -- Decide, Logged)
   pub went_on : (m : Machine) (taken : Step) (answer : Answered) (proxy : ℕ) (commit_proxy : CommitProxy)
       (stage : Stage) (decided verdicts_received acknowledgements_received : List Bool)
       → is_quiet taken ≡ true
+      → AcknowledgementCame m.logs commit_proxy.entry commit_proxy.acknowledgements_received acknowledgements_received
       → slice_get m.commit_proxies proxy ≡ Some commit_proxy → is_idle commit_proxy.stage ≡ false
       → is_idle stage ≡ false → is_reported stage ≡ false
       → R m taken answer (record m {
@@ -125,10 +128,11 @@ pub record HoldsOfSteps (R : Machine → Step → Answered → Machine → Type 
           acknowledgements_received = acknowledgements_received;
         });
       })
-  -- a proxy reported its batch (Report)
+  -- a proxy reported its batch, once each log acknowledged it (Report)
   pub reported_version : (m : Machine) (proxy : ℕ) (commit_proxy : CommitProxy) (entry : Entry)
       → slice_get m.commit_proxies proxy ≡ Some commit_proxy → commit_proxy.stage ≡ Logging
       → slice_get m.book commit_proxy.entry ≡ Some entry
+      → first_missing (λ log. true) 0 commit_proxy.acknowledgements_received ≡ None
       → R m (step.Report proxy) (answered.Version (max m.committed entry.version)) (record m {
         committed = max m.committed entry.version;
         commit_proxies = slice_set m.commit_proxies proxy (record commit_proxy { stage = Reported });
@@ -162,16 +166,20 @@ module _ (R : Machine → Step → Answered → Machine → Type 0) (holds : Hol
   received : (m : Machine) (taken : Step) (proxy : ℕ) (commit_proxy : CommitProxy) (i : ℕ) (sender : Sender)
       → is_quiet taken ≡ true → slice_get m.commit_proxies proxy ≡ Some commit_proxy
       → awaits commit_proxy i sender ≡ true
+      → (has : ℕ) → taken_by_sender m sender ≡ Some has → nat_le has i ≡ false
       → R m taken answered.Done
       (record m { commit_proxies = slice_set m.commit_proxies proxy (with_received commit_proxy sender) })
-  received m taken proxy commit_proxy i (FromResolver resolver) quiet at awaited =
+  received m taken proxy commit_proxy i (FromResolver resolver) quiet at awaited has there later =
       let stage = (stage-is commit_proxy.stage).1 (and_parts _ _ (and_parts _ _ awaited).0).0 in
-      holds.went_on m taken answered.Done proxy commit_proxy commit_proxy.stage m.decided _ _ quiet at
+      holds.went_on m taken answered.Done proxy commit_proxy commit_proxy.stage m.decided _ _ quiet (inl refl) at
       (ap is_idle stage) (ap is_idle stage) (ap is_reported stage)
-  received m taken proxy commit_proxy i (FromLog log) quiet at awaited =
-      let stage = (stage-is commit_proxy.stage).2 (and_parts _ _ (and_parts _ _ awaited).0).0 in
-      holds.went_on m taken answered.Done proxy commit_proxy commit_proxy.stage m.decided _ _ quiet at
-      (ap is_idle stage) (ap is_idle stage) (ap is_reported stage)
+  received m taken proxy commit_proxy i (FromLog log) quiet at awaited has there later =
+      let parts = and_parts _ _ (and_parts _ _ awaited).0 in
+      let stage = (stage-is commit_proxy.stage).2 parts.0 in
+      let its : commit_proxy.entry ≡ i = eqb-true commit_proxy.entry i parts.1 in
+      let after : commit_proxy.entry < has = let above = leb-false has i later in omega (arith, its, above) in
+      holds.went_on m taken answered.Done proxy commit_proxy commit_proxy.stage m.decided _ _ quiet
+      (inr (log, has, there, after, refl)) at (ap is_idle stage) (ap is_idle stage) (ap is_reported stage)
 
   -- an operation that reads goes to the session's open transaction
   reads-operated : (m : Machine) (taken : Step) (session : ℕ) (operation : Op)
@@ -225,14 +233,15 @@ module _ (R : Machine → Step → Answered → Machine → Type 0) (holds : Hol
   holds-next m (step.Resolve i resolver) =
       past-found _ (slice_get m.book i) _ (λ entry _. past-found _ (slice_get m.resolvers resolver) _ (λ taken _.
       past-turn _ taken i entry _
-      (holds.roles m (step.Resolve i resolver) _ (slice_set m.resolvers resolver (taken + 1)) m.logs m.shards refl)))
+      (holds.roles m (step.Resolve i resolver) _ (slice_set m.resolvers resolver (taken + 1)) m.logs m.shards refl
+      (grew-same m.logs))))
   holds-next m (step.Verdict i resolver) =
-      past-found _ (taken_by_sender m (FromResolver resolver)) _ (λ taken _. past-test _ (nat_le taken i) _ _ (λ _.
+      past-found _ (taken_by_sender m (FromResolver resolver)) _ (λ has there. past-test _ (nat_le has i) _ _ (λ later.
       past-found _ (slice_get m.entry_proxies i) _
       (λ proxy _. past-found _ (slice_get m.commit_proxies proxy) _ (λ commit_proxy at.
       past-test _ (not (awaits commit_proxy i (FromResolver resolver))) _ _
       (λ awaited. received m (step.Verdict i resolver) proxy commit_proxy i (FromResolver resolver) refl at
-      (not-false _ awaited))))))
+      (not-false _ awaited) has there later)))))
   holds-next m (step.Decide proxy) =
       past-found _ (slice_get m.commit_proxies proxy) _ (λ commit_proxy at.
       past-test _ (not (is_resolving commit_proxy.stage)) _ _ (λ resolving.
@@ -240,26 +249,28 @@ module _ (R : Machine → Step → Answered → Machine → Type 0) (holds : Hol
       let before = seen_before m.book commit_proxy.entry in
       past-wait _ (first_missing (λ resolver. is_needed m.config.resolver_splits resolver before entry) 0
       commit_proxy.verdicts_received) _ (λ _.
-      holds.went_on m (step.Decide proxy) _ proxy commit_proxy Logging _ _ _ refl at
+      holds.went_on m (step.Decide proxy) _ proxy commit_proxy Logging _ _ _ refl (inl refl) at
       (ap is_idle ((stage-is commit_proxy.stage).1 (not-false _ resolving))) refl refl))))
   holds-next m (step.Push i log) =
-      past-found _ (slice_get m.book i) _ (λ entry _. past-found _ (slice_get m.logs log) _ (λ taken _.
+      past-found _ (slice_get m.book i) _ (λ entry _. past-found _ (slice_get m.logs log) _ (λ taken at.
       past-test _ (not (is_set m.decided i)) _ _
       (λ _. past-turn _ taken i entry _
-      (holds.roles m (step.Push i log) _ m.resolvers (slice_set m.logs log (taken + 1)) m.shards refl))))
+      (holds.roles m (step.Push i log) _ m.resolvers (slice_set m.logs log (taken + 1)) m.shards refl
+      (grew-set m.logs log taken at)))))
   holds-next m (step.Logged i log) =
-      past-found _ (taken_by_sender m (FromLog log)) _ (λ taken _. past-test _ (nat_le taken i) _ _ (λ _.
+      past-found _ (taken_by_sender m (FromLog log)) _ (λ has there. past-test _ (nat_le has i) _ _ (λ later.
       past-found _ (slice_get m.entry_proxies i) _
       (λ proxy _. past-found _ (slice_get m.commit_proxies proxy) _ (λ commit_proxy at.
       past-test _ (not (awaits commit_proxy i (FromLog log))) _ _
-      (λ awaited. received m (step.Logged i log) proxy commit_proxy i (FromLog log) refl at (not-false _ awaited))))))
+      (λ awaited. received m (step.Logged i log) proxy commit_proxy i (FromLog log) refl at (not-false _ awaited) has
+      there later)))))
   holds-next m (step.Report proxy) =
       past-found _ (slice_get m.commit_proxies proxy) _ (λ commit_proxy at.
       past-test _ (not (is_logging commit_proxy.stage)) _ _ (λ logging.
       past-found _ (slice_get m.book commit_proxy.entry) _ (λ entry there.
-      past-wait _ (first_missing (λ log. true) 0 commit_proxy.acknowledgements_received) _ (λ _.
+      past-wait _ (first_missing (λ log. true) 0 commit_proxy.acknowledgements_received) _ (λ whole.
       holds.reported_version m proxy commit_proxy entry at ((stage-is commit_proxy.stage).2 (not-false _ logging))
-      there))))
+      there whole))))
   holds-next m (step.Answer proxy) =
       past-found _ (slice_get m.commit_proxies proxy) _ (λ commit_proxy at.
       past-test _ (is_idle commit_proxy.stage) _ _ (λ _.
@@ -271,16 +282,17 @@ module _ (R : Machine → Step → Answered → Machine → Type 0) (holds : Hol
       (λ progress _. past-found _ (slice_get m.logs (log_of (length m.logs) shard)) _ (λ has _.
       holds.roles m (step.Pull shard limit) _ m.resolvers m.logs
       (slice_set m.shards shard
-      (record progress { applied = max progress.applied (min has (progress.applied + limit)) })) refl))
+      (record progress { applied = max progress.applied (min has (progress.applied + limit)) })) refl (grew-same m.logs)))
   holds-next m (step.Forget shard version) =
       past-found _ (slice_get m.shards shard) _ (λ progress _.
       past-test _ (nat_lt (version_of_shard m.book progress) version) _ _ (λ _.
       holds.roles m (step.Forget shard version) _ m.resolvers m.logs
-      (slice_set m.shards shard (record progress { floor = max progress.floor version })) refl))
+      (slice_set m.shards shard (record progress { floor = max progress.floor version })) refl (grew-same m.logs)))
   holds-next m (step.Pop shard) =
       past-found _ (slice_get m.shards shard) _ (λ progress _.
       holds.roles m (step.Pop shard) _ m.resolvers m.logs
-      (slice_set m.shards shard (record progress { popped = version_of_shard m.book progress })) refl)
+      (slice_set m.shards shard (record progress { popped = version_of_shard m.book progress })) refl
+      (grew-same m.logs))
 
 -- What steps keep.
 abbrev pub KeptBySteps : (Machine → Type 0) → Type 0

@@ -131,7 +131,7 @@ operation-answered splits r book (step.Pop shard) session operation transcript s
 
 answered_steps : HoldsOfSteps AnswersTold
 answered_steps = record {
-  roles = λ m taken answer resolvers logs shards quiet r tells. quiet-answered _ r taken answer quiet;
+  roles = λ m taken answer resolvers logs shards quiet grew r tells. quiet-answered _ r taken answer quiet;
   asked = λ m session proxy there at free r tells. refl;
   granted = λ m proxy there at left r tells. all-granted m.committed r.reported there (sym tells.reported_told);
   operated = λ m taken session transcript operation does opened r tells.
@@ -154,9 +154,9 @@ answered_steps = record {
             (take-map (λ submission. submission.transcript) place_limit commit_proxy.waiting)
             ∙ length-map (take place_limit commit_proxy.waiting) (λ submission. submission.transcript)),
       );
-  went_on = λ m taken answer proxy commit_proxy stage decided verdicts acknowledgements quiet at busy goes_on
+  went_on = λ m taken answer proxy commit_proxy stage decided verdicts acknowledgements quiet came at busy goes_on
       unreported r tells. quiet-answered _ r taken answer quiet;
-  reported_version = λ m proxy commit_proxy entry at logging there r tells.
+  reported_version = λ m proxy commit_proxy entry at logging there whole r tells.
       let batch = batch-at r m proxy commit_proxy entry tells at (ap is_idle logging) there in
       λ k. answered.Version (max (sym tells.reported_told k) (sym batch k).version);
   told = λ m proxy commit_proxy entry at reported there r tells.

@@ -237,7 +237,7 @@ batch-at r m proxy commit_proxy entry tells at busy there =
 
 pub tells_steps : HoldsOfSteps TellsOn
 tells_steps = record {
-  roles = λ m taken answer resolvers logs shards quiet r sound all tells.
+  roles = λ m taken answer resolvers logs shards quiet grew r sound all tells.
       subst (λ (told : Readings). TellsMachine told m) (quiet-tells r taken answer quiet) tells;
   asked = λ m session proxy there at free r sound all tells.
       with-clients r m (others_than session r.opened) (with_state m.sessions session Asking) _ _ _ _ tells
@@ -274,7 +274,7 @@ tells_steps = record {
       (record { sealed = commit_request_of transcript; transcript = transcript }) tells at opened refl;
   sealed = λ m proxy advance commit_proxy at idle few room r sound all tells.
       sealed-told r m proxy advance commit_proxy tells sound at idle;
-  went_on = λ m taken answer proxy commit_proxy stage decided verdicts acknowledgements quiet at busy goes_on unreported
+  went_on = λ m taken answer proxy commit_proxy stage decided verdicts acknowledgements quiet came at busy goes_on unreported
       r sound all tells.
       let was = tells.proxies_told proxy commit_proxy at in
       subst (λ (told : Readings). TellsMachine told (record m {
@@ -287,7 +287,7 @@ tells_steps = record {
       (proxy-goes_on r m proxy commit_proxy _ at tells
       (record { waiting_told = was.waiting_told; batch_told = λ _. was.batch_told busy })
       (λ entry. rw (goes_on, busy) (le_refl _)));
-  reported_version = λ m proxy commit_proxy entry at logging there r sound all tells.
+  reported_version = λ m proxy commit_proxy entry at logging there whole r sound all tells.
       let was = tells.proxies_told proxy commit_proxy at in
       let batch = batch-at r m proxy commit_proxy entry tells at (ap is_idle logging) there in
       with-clients r

@@ -123,16 +123,16 @@ trace-tells config steps given world stands =
 -- the configuration stays
 config_steps : (config : Config) → KeptBySteps (λ m. m.config ≡ config)
 config_steps config = record {
-  roles = λ m taken answer resolvers logs shards quiet same. same;
+  roles = λ m taken answer resolvers logs shards quiet grew same. same;
   asked = λ m session proxy there at free same. same;
   granted = λ m proxy there at left same. same;
   operated = λ m taken session transcript operation does opened same. same;
   read_only = λ m session proxy transcript opened empty same. same;
   submitted = λ m session proxy commit_proxy transcript at opened writes same. same;
   sealed = λ m proxy advance commit_proxy at idle few room same. same;
-  went_on = λ m taken answer proxy commit_proxy stage decided verdicts acknowledgements quiet at busy goes_on
+  went_on = λ m taken answer proxy commit_proxy stage decided verdicts acknowledgements quiet came at busy goes_on
       unreported same. same;
-  reported_version = λ m proxy commit_proxy entry at logging there same. same;
+  reported_version = λ m proxy commit_proxy entry at logging there whole same. same;
   told = λ m proxy commit_proxy entry at reported there same. same;
 }
 

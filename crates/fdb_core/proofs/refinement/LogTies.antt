@@ -54,7 +54,7 @@ each-set {A} P (z ∷ zs) (suc i) x all is (suc j) y there =
     each-set (λ (n : ℕ) (item : A). P (suc n) item) zs i x (λ n item at. all (suc n) item at) is j y there
 
 -- a front of a front, whichever is shorter
-take-both : {A : Type 0} (n m : ℕ) (xs : List A) → take n (take m xs) ≡ take (min n m) xs
+pub take-both : {A : Type 0} (n m : ℕ) (xs : List A) → take n (take m xs) ≡ take (min n m) xs
 take-both n m xs = ⊎_elim
     (λ shorter. take-take xs n m (le_of_lt shorter) ∙ ap (λ (k : ℕ). take k xs) (let is : n ≡ min n m = omega (arith, shorter) in is))
     (λ longer. take_all n (take m xs) (let count = length-take m xs in omega (arith, count, longer))
@@ -62,7 +62,7 @@ take-both n m xs = ⊎_elim
     (cases_lt n m)
 
 -- the first messages of entries are those of the first entries
-messages-take : (splits : List Point) (range : Range) (seen : Seen) (n : ℕ) (more : List Entry)
+pub messages-take : (splits : List Point) (range : Range) (seen : Seen) (n : ℕ) (more : List Entry)
     → take n (messages_after splits range seen more) ≡ messages_after splits range seen (take n more)
 messages-take splits range seen zero more = refl
 messages-take splits range seen (suc n) [] = refl
@@ -71,7 +71,7 @@ messages-take splits range seen (suc n) (entry ∷ more) =
     (messages-take splits range (add_entry seen entry) n more)
 
 -- the messages of entries go through the version of the last one
-through-messages : (splits : List Point) (range : Range) (seen : Seen) (version : ℕ) (more : List Entry)
+pub through-messages : (splits : List Point) (range : Range) (seen : Seen) (version : ℕ) (more : List Entry)
     → through_after version (messages_after splits range seen more) ≡ version_after version more
 through-messages splits range seen version [] = refl
 through-messages splits range seen version (entry ∷ more) =

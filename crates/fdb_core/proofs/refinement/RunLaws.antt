@@ -77,19 +77,6 @@ pub slice_get-along : {A : Type 0} (f : Seen → Entry → A) (book : List Entry
 slice_get-along f book i entry there = ap (λ made. slice_get made i) (along-is f book)
     ∙ slice_get-from f nothing book i entry there
 
--- the first ones are those of the first entries
-take-from : {A : Type 0} (f : Seen → Entry → A) (seen : Seen) (n : ℕ) (book : List Entry)
-    → take n (along_from f seen book) ≡ along_from f seen (take n book)
-unfolding along_from
-take-from f seen zero book = refl
-take-from f seen (suc n) [] = refl
-take-from f seen (suc n) (entry ∷ book) = ap (λ made. f seen entry ∷ made) (take-from f (add_entry seen entry) n book)
-
--- the first ones are those of the first entries
-pub take-along : {A : Type 0} (f : Seen → Entry → A) (n : ℕ) (book : List Entry)
-    → take n (along f book) ≡ along f (take n book)
-take-along f n book = ap (take n) (along-is f book) ∙ take-from f nothing n book ∙ sym (along-is f (take n book))
-
 -- each entry's version is greater than that of the entry before it, and the first one's greater than the least
 abbrev RisesFrom : ℕ → List Entry → Type 0
 RisesFrom least [] = Unit
@@ -119,12 +106,6 @@ rises-drop : (least n : ℕ) (book : List Entry) → RisesFrom least book
 rises-drop least zero book rising = rising
 rises-drop least (suc n) [] rising = tt
 rises-drop least (suc n) (entry ∷ book) rising = rises-drop entry.version n book rising.1
-
--- a book that rises stays so with an entry of a greater version
-rises-push : (least : ℕ) (book : List Entry) (entry : Entry) → RisesFrom least book
-    → last_from least book < entry.version → RisesFrom least (book ++ entry ∷ [])
-rises-push least [] entry rising above = (above, tt)
-rises-push least (first ∷ book) entry rising above = (rising.0, rises-push first.version book entry rising.1 above)
 
 -- back to the form by number
 rises-at : (least : ℕ) (book : List Entry) → RisesFrom least book
@@ -174,20 +155,6 @@ entries-below resolvers least (entry ∷ book) entries = (
   all-weaken _ (λ (t : Transaction). t.read < entry.version) (λ (t : Transaction) may. may.0) entry.batch entries.3,
   entries-below resolvers entry.version book entries.4,
 )
-
--- the empty book rises
-pub rising-nil : IsRising []
-rising-nil = rises-at 0 [] tt
-
--- a rising book goes on with an entry of a greater version than the last one's
-pub rising-push : (book : List Entry) (entry : Entry) → IsRising book → last_version book < entry.version
-    → IsRising (book ++ entry ∷ [])
-rising-push book entry rising above = rises-at 0 (book ++ entry ∷ [])
-    (rises-push 0 book entry (rises 0 book rising) above)
-
--- the first entries of a rising book rise
-pub rising-take : (n : ℕ) (book : List Entry) → IsRising book → IsRising (take n book)
-rising-take n book rising = rises-at 0 (take n book) (rises-take 0 n book (rises 0 book rising))
 
 -- places of a version at most v come in
 at_most-places : (v version : ℕ) (moves : List Stamped) (batch : List Transaction) (earlier : List Place) → version ≤ v

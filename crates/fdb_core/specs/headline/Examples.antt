@@ -2,7 +2,7 @@
 use Rattle.std.specs.Prelude.{◌≡◌, ℕ, Bool, true, false, List, [], ◌∷◌, Option, Some, None, Result, Ok, Err, codes}
 use Rattle.std.specs.FinMap.{empty, insert}
 use Rattle.fdb_keys.specs.declared.refusal.Refusal.{Refusal}
-use Rattle.fdb_keys.specs.declared.refusal.Refusal.TheVariants.{Unknown}
+use Rattle.fdb_keys.specs.declared.refusal.Refusal.TheVariants.{Unknown, FutureVersion}
 use Rattle.fdb_mutations.specs.declared.mutation.Mutation.TheVariants.{Set}
 use Rattle.fdb_txn.specs.declared.entry.Entry.{Entry}
 use Rattle.fdb_txn.specs.declared.spot.Spot.TheVariants as spot
@@ -27,6 +27,7 @@ use Rattle.fdb_core.specs.headline.RealTime.{HasBegun, IsAfterVersion}
 use Rattle.fdb_core.specs.headline.Serving.{LogKeeps, ShardServes}
 use Rattle.fdb_core.specs.headline.Traces.{machine_of_trace, IsTraceOf}
 use Rattle.fdb_core.specs.machine.Sessions.{Asking}
+use Rattle.fdb_core.specs.machine.Steps.{next}
 use Rattle.fdb_core.specs.machine.Worlds.{start}
 
 -- one of each role
@@ -108,6 +109,30 @@ abbrev pub AfterAVersion : Type 0
 AfterAVersion =
     (IsAfterVersion 100 (spot.Entry 0 0 100) → ⊥) × IsAfterVersion 100 (spot.Entry 0 0 101)
     × (IsAfterVersion 100 (spot.ReadOnly 99) → ⊥) × IsAfterVersion 100 (spot.ReadOnly 100)
+
+-- the entry is in the book, and two logs took none and one of the entries; the shard of the first applied nothing, and
+-- that of the second serves from 40 on
+abbrev pub two_shards : (applied floor popped : ℕ) → Machine
+two_shards applied floor popped = record (start plain) {
+  book = two_in_one_entry;
+  logs = 0 ∷ 1 ∷ [];
+  shards = record { applied = 0; floor = 0; popped = 0 }
+      ∷ record { applied = applied; floor = floor; popped = popped } ∷ [];
+}
+
+-- A shard pulls what its own log has, raises its floor up to its version and never lowers it, and pops through its
+-- version.
+abbrev pub ShardsGoOnAndForget : Type 0
+ShardsGoOnAndForget =
+    (next (two_shards 0 0 0) (step.Pull 0 9) ≡ Ok (record { answer = answered.Version 0; next = two_shards 0 0 0 }))
+    × (next (two_shards 0 0 0) (step.Pull 1 9) ≡ Ok (record { answer = answered.Version 100; next = two_shards 1 0 0 }))
+    × (next (two_shards 0 0 0) (step.Pull 1 0) ≡ Ok (record { answer = answered.Version 0; next = two_shards 0 0 0 }))
+    × (next (two_shards 0 0 0) (step.Pull 2 9) ≡ Err Unknown)
+    × (next (two_shards 1 40 0) (step.Forget 1 100)
+    ≡ Ok (record { answer = answered.Version 100; next = two_shards 1 100 0 }))
+    × (next (two_shards 1 40 0) (step.Forget 1 30) ≡ Ok (record { answer = answered.Version 40; next = two_shards 1 40 0 }))
+    × (next (two_shards 1 40 0) (step.Forget 1 101) ≡ Err FutureVersion)
+    × (next (two_shards 1 40 0) (step.Pop 1) ≡ Ok (record { answer = answered.Version 100; next = two_shards 1 40 100 }))
 
 -- A shard that serves up to the entry and has nothing at the key that it sets doesn't answer from the run.
 abbrev pub AnEmptyShardDoesNotServe : Type 0

@@ -1,6 +1,10 @@
 -- What holds of the machine at every step and over every run.
-use Rattle.std.specs.Prelude.{◌≡◌, ◌↔◌, ℕ, suc, Bool, true, false, nat_lt, List, length, map, Some, Result, Ok, Err, slice_get}
+use Rattle.std.specs.Prelude.{◌≡◌, ◌↔◌, ◌<◌, ⊤, ℕ, suc, Bool, true, false, nat_lt, List, length, map, Some, Result, Ok, Err, slice_get}
 use Rattle.std.specs.FinMap.{get}
+use Rattle.std.specs.List.{AllByRecursion}
+use Rattle.fdb_txn.specs.declared.spot.Spot.{Spot}
+use Rattle.fdb_txn.specs.declared.spot.Spot.TheVariants as spot
+use Rattle.fdb_core.specs.declared.roles.client.Placed.{Placed}
 use Rattle.fdb_keys.specs.declared.refusal.Refusal.{Refusal}
 use Rattle.fdb_keys.specs.declared.refusal.Refusal.TheVariants.{FutureVersion, TransactionTooOld}
 use Rattle.fdb_keys.specs.Points.{Point}
@@ -129,3 +133,15 @@ RangeReadsRefused =
     ↔ ((¬ AtSomePoint range (Forgot m version)) × AtSomePoint range (Lags m version)))
     × (((transition : Transition) × (next m taken ≡ Ok transition)) ↔ AtEachPoint range (Serves m version))
     × (is_empty_range range ≡ true → (transition : Transition) × (next m taken ≡ Ok transition))
+
+-- every log, by how many entries each took, has taken the entry of the spot
+abbrev pub IsTakenByAll : List ℕ → Spot → Type 0
+IsTakenByAll logs (spot.Entry index place version) = AllByRecursion (λ (taken : ℕ). index < taken) logs
+IsTakenByAll logs (spot.ReadOnly version) = ⊤
+
+-- over every trace every log has taken each entry with an acknowledged place
+abbrev pub AcknowledgedAreLogged : Type 0
+AcknowledgedAreLogged =
+    (config : Config) (steps : List Step) (answers : List (Result Answered Refusal)) (m : Machine)
+    → IsTraceOf config steps answers (Some m)
+    → AllByRecursion (λ (placed : Placed). IsTakenByAll m.logs placed.spot) m.acknowledged

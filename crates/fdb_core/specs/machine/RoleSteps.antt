@@ -1,8 +1,7 @@
 -- The steps of resolvers, logs and shards.
-use Rattle.std.specs.Prelude.{ℕ, ◌+◌, min, max, not, take, length, Result, Ok, slice_get, slice_set, nat_lt, List, Option, Some, None, if◌then◌else◌}
+use Rattle.std.specs.Prelude.{ℕ, ◌+◌, min, max, not, take, length, Result, Ok, slice_get, slice_set, nat_lt, List, Option, Some, None}
 use Rattle.fdb_keys.specs.declared.refusal.Refusal.{Refusal}
 use Rattle.fdb_keys.specs.declared.refusal.Refusal.TheVariants.{Unknown, FutureVersion}
-use Rattle.fdb_keys.specs.Ranges.{Range, is_empty_range}
 use Rattle.fdb_txn.specs.declared.entry.Entry.{Entry}
 use Rattle.fdb_core.specs.machine.Roles.{ShardProgress}
 use Rattle.fdb_core.specs.declared.step.Answered.TheVariants as answered
@@ -65,11 +64,6 @@ pops m shard = found (slice_get m.shards shard) (λ (progress : ShardProgress).
       answer = answered.Version version;
       next = record m { shards = slice_set m.shards shard (record progress { popped = version }) };
     }))
-
--- why a range is not served at a version; one without a point is not asked for
-abbrev pub serving_range_fault : Range → (version floor greatest : ℕ) → Option Refusal
-serving_range_fault range version floor greatest =
-    if is_empty_range range then None else serving_fault version floor greatest
 
 -- why a shard does not serve a version
 abbrev pub shard_fault : List Entry → ℕ → Option ShardProgress → Option Refusal

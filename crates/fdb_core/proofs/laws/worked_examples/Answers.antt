@@ -1,4 +1,4 @@
-use Rattle.fdb_core.proofs.headline.ExamplesLemmas.{only_the_first_is_serialized, read_only_at_its_version, after_a_version, an_empty_shard_does_not_serve, only_ordinary_reads_count, begun_by_serving, forgetful_roles_do_not_keep, read_off_the_trace, traced}
+use Rattle.fdb_core.proofs.headline.ExamplesLemmas.{only_the_first_is_serialized, read_only_at_its_version, after_a_version, an_empty_shard_does_not_serve, only_ordinary_reads_count, begun_by_serving, forgetful_roles_do_not_keep, read_off_the_trace, traced, shards_go_on_and_forget}
 use Rattle.fdb_core.proofs.laws.worked_examples.Goals as goal
 
 pub returns : goal.returns
@@ -12,4 +12,5 @@ returns c = record {
   roles = forgetful_roles_do_not_keep;
   readings = read_off_the_trace;
   traces = traced;
+  shards = shards_go_on_and_forget;
 }

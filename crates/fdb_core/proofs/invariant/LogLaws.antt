@@ -1,0 +1,142 @@
+-- Every log has taken each entry with an acknowledged place.
+use Rattle.std.proofs.Common.{◌≡◌, sym, ap, subst, ⊎_elim, ℕ, Bool, true, false, List, [], ◌∷◌, length, Some}
+use Rattle.std.specs.List.{AllByRecursion, slice_get}
+use Rattle.std.proofs.lemmas.Bool.{both_ways}
+use Rattle.fdb_txn.specs.declared.spot.Spot.{Spot}
+use Rattle.fdb_txn.specs.declared.spot.Spot.TheVariants as spot
+use Rattle.fdb_txn.proofs.book.HistoryLemmas.{all-append, all-weaken}
+use Rattle.fdb_client.specs.declared.program.Transcript.{Transcript}
+use Rattle.fdb_core.specs.declared.config.Config.{Config}
+use Rattle.fdb_core.specs.declared.roles.client.Placed.{Placed}
+use Rattle.fdb_core.specs.declared.step.Outcome.{Outcome}
+use Rattle.fdb_core.specs.declared.step.Outcome.TheVariants as outcome
+use Rattle.fdb_core.specs.headline.Promises.{IsTakenByAll, AcknowledgedAreLogged}
+use Rattle.fdb_core.specs.machine.CommitProxySteps.{is_idle, is_reported, placed_from}
+use Rattle.fdb_core.specs.machine.Machine.{Machine}
+use Rattle.fdb_core.specs.machine.Roles.{CommitProxy}
+use Rattle.fdb_core.specs.machine.Sessions.{Sessions}
+use Rattle.fdb_core.specs.machine.Worlds.{start, idle_proxy}
+use Rattle.fdb_core.proofs.common.AllLemmas.{all-at, all-push, all-replicate, all-set}
+use Rattle.fdb_core.proofs.headline.TraceLaws.{traces_tell}
+use Rattle.fdb_core.proofs.machine.LogLemmas.{AcknowledgementCame, Grew, FlagsTell, Took, flags-all, flags-grew, flags-none, flags-set, took-grew}
+use Rattle.fdb_core.proofs.refinement.SealLemmas.{sealed_proxy}
+use Rattle.fdb_core.proofs.machine.Steps.{KeptBySteps, kept-by_trace}
+
+-- a proxy whose batch is in flight has set the flags of logs that took its entry, and once it reported all took it
+abbrev ProxyTold : List ℕ → CommitProxy → Type 0
+ProxyTold logs commit_proxy =
+    (is_idle commit_proxy.stage ≡ false
+    → FlagsTell commit_proxy.entry commit_proxy.acknowledgements_received logs)
+    × (is_reported commit_proxy.stage ≡ true → Took commit_proxy.entry logs)
+
+abbrev PlacedTaken : List ℕ → Placed → Type 0
+PlacedTaken logs placed = IsTakenByAll logs placed.spot
+
+record AreLogged (m : Machine) : Type 0 where
+  commit_proxies : AllByRecursion (ProxyTold m.logs) m.commit_proxies
+  acknowledged : AllByRecursion (PlacedTaken m.logs) m.acknowledged
+
+-- those of an entry that every log took are taken by all
+taken-placed : (logs : List ℕ) (entry : ℕ) (transcripts : List Transcript) (outcomes : List Outcome) → Took entry logs
+    → AllByRecursion (PlacedTaken logs) (placed_from entry transcripts outcomes)
+taken-placed logs entry [] outcomes took = tt
+taken-placed logs entry (transcript ∷ transcripts) [] took = tt
+taken-placed logs entry (transcript ∷ transcripts) (outcome.Commit version place ∷ outcomes) took =
+    (took, taken-placed logs entry transcripts outcomes took)
+taken-placed logs entry (transcript ∷ transcripts) (outcome.Conflict ∷ outcomes) took =
+    taken-placed logs entry transcripts outcomes took
+taken-placed logs entry (transcript ∷ transcripts) (outcome.Old ∷ outcomes) took =
+    taken-placed logs entry transcripts outcomes took
+
+spot-grew : (olds news : List ℕ) → Grew olds news → (placed : Placed) → PlacedTaken olds placed → PlacedTaken news placed
+spot-grew olds news grew placed = by_spot placed.spot
+  where
+    by_spot : (at : Spot) → IsTakenByAll olds at → IsTakenByAll news at
+    by_spot (spot.Entry index place version) took = took-grew index olds news grew took
+    by_spot (spot.ReadOnly version) took = took
+
+-- what a step changes that leaves the logs, the proxies and who is acknowledged
+same : {m : Machine} {sessions : Sessions} {grv_proxies : List (List ℕ)} → AreLogged m
+    → AreLogged (record m { sessions = sessions; grv_proxies = grv_proxies })
+same logged = record { commit_proxies = logged.commit_proxies; acknowledged = logged.acknowledged }
+
+proxy-at : (m : Machine) → AreLogged m → (proxy : ℕ) (commit_proxy : CommitProxy)
+    → slice_get m.commit_proxies proxy ≡ Some commit_proxy → ProxyTold m.logs commit_proxy
+proxy-at m logged proxy commit_proxy at = all-at (ProxyTold m.logs) m.commit_proxies proxy commit_proxy
+    logged.commit_proxies at
+
+-- an acknowledgement that came is that of a log that took the entry
+told-more : (logs : List ℕ) (entry : ℕ) (old new : List Bool) → AcknowledgementCame logs entry old new
+    → FlagsTell entry old logs → FlagsTell entry new logs
+told-more logs entry old new came tell = ⊎_elim
+    (λ stays. subst (λ (flags : List Bool). FlagsTell entry flags logs) (sym stays) tell)
+    (λ one. subst (λ (flags : List Bool). FlagsTell entry flags logs) (sym one.4)
+    (flags-set entry old logs one.0 one.1 one.2 one.3 tell))
+    came
+
+logged_steps : KeptBySteps AreLogged
+logged_steps = record {
+  roles = λ m taken answer resolvers logs shards quiet grew logged. record {
+    commit_proxies = all-weaken (ProxyTold m.logs) (ProxyTold logs)
+        (λ commit_proxy told. (
+          (λ busy. flags-grew commit_proxy.entry commit_proxy.acknowledgements_received m.logs logs grew (told.0 busy)),
+          (λ reported. took-grew commit_proxy.entry m.logs logs grew (told.1 reported)),
+        )) m.commit_proxies logged.commit_proxies;
+    acknowledged = all-weaken (PlacedTaken m.logs) (PlacedTaken logs) (λ placed. spot-grew m.logs logs grew placed)
+        m.acknowledged logged.acknowledged;
+  };
+  asked = λ m session proxy there at free logged. same logged;
+  granted = λ m proxy there at left logged. same logged;
+  operated = λ m taken session transcript operation does opened logged. same logged;
+  read_only = λ m session proxy transcript opened empty logged. record {
+    commit_proxies = logged.commit_proxies;
+    acknowledged = all-push (PlacedTaken m.logs) m.acknowledged _ logged.acknowledged tt;
+  };
+  submitted = λ m session proxy commit_proxy transcript at opened writes logged. record {
+    commit_proxies = all-set (ProxyTold m.logs) m.commit_proxies proxy _ logged.commit_proxies
+        (proxy-at m logged proxy commit_proxy at);
+    acknowledged = logged.acknowledged;
+  };
+  sealed = λ m proxy advance commit_proxy at idle few room logged. record {
+    commit_proxies = all-set (ProxyTold m.logs) m.commit_proxies proxy (sealed_proxy m commit_proxy)
+        logged.commit_proxies ((λ busy. flags-none (length m.book) m.logs), (λ reported. cc));
+    acknowledged = logged.acknowledged;
+  };
+  went_on = λ m taken answer proxy commit_proxy stage decided verdicts acknowledgements quiet came at busy goes_on
+      unreported logged. record {
+        commit_proxies = all-set (ProxyTold m.logs) m.commit_proxies proxy _ logged.commit_proxies (
+          (λ still. told-more m.logs commit_proxy.entry commit_proxy.acknowledgements_received acknowledgements came
+              ((proxy-at m logged proxy commit_proxy at).0 busy)),
+          (λ reported. absurd (both_ways (is_reported stage) unreported reported)),
+        );
+        acknowledged = logged.acknowledged;
+      };
+  reported_version = λ m proxy commit_proxy entry at logging there whole logged.
+      let flags = (proxy-at m logged proxy commit_proxy at).0 (ap is_idle logging) in
+      record {
+        commit_proxies = all-set (ProxyTold m.logs) m.commit_proxies proxy _ logged.commit_proxies (
+          (λ busy. flags),
+          (λ reported. flags-all 0 commit_proxy.entry commit_proxy.acknowledgements_received m.logs whole flags),
+        );
+        acknowledged = logged.acknowledged;
+      };
+  told = λ m proxy commit_proxy entry at reported there logged. record {
+    commit_proxies = all-set (ProxyTold m.logs) m.commit_proxies proxy _ logged.commit_proxies
+        ((λ busy. cc), (λ still. cc));
+    acknowledged = all-append (PlacedTaken m.logs) m.acknowledged _ logged.acknowledged
+        (taken-placed m.logs commit_proxy.entry commit_proxy.in_flight _
+        ((proxy-at m logged proxy commit_proxy at).1 (ap is_reported reported)));
+  };
+}
+
+logged-start : (config : Config) → AreLogged (start config)
+logged-start config = record {
+  commit_proxies = all-replicate (ProxyTold (start config).logs) idle_proxy config.proxies ((λ busy. cc), (λ reported. cc));
+  acknowledged = tt;
+}
+
+pub acknowledged_are_logged : AcknowledgedAreLogged
+acknowledged_are_logged config steps answers m stands =
+    subst (λ (machine : Machine). AllByRecursion (λ (placed : Placed). IsTakenByAll machine.logs placed.spot)
+    machine.acknowledged) (sym (traces_tell config steps answers m stands))
+    (kept-by_trace AreLogged logged_steps (start config) steps answers (logged-start config)).acknowledged
