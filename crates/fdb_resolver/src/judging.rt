@@ -11,10 +11,8 @@ use crate::part::Item;
 use crate::verdict::Verdict;
 use fdb_interval::LastCommit;
 use fdb_keys::{Items, RangeSet, Refusal};
+use fdb_txn::WINDOW;
 use std::alloc::Global;
-
-/// Reads older than this many versions are no longer judged.
-pub(crate) const WINDOW: u64 = 5_000_000;
 
 fn are_any_newer(versions: &LastCommit, reads: &RangeSet, version: u64) -> bool
     ensures { IsTrue result ↔ HasNewer (version_at versions.now) reads.now version }

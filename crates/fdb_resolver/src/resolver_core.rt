@@ -1,8 +1,9 @@
-use crate::judging::{WINDOW, judge_items};
+use crate::judging::judge_items;
 use crate::part::Part;
 use crate::verdict::Verdicts;
 use fdb_interval::LastCommit;
 use fdb_keys::Refusal;
+use fdb_txn::WINDOW;
 use std::alloc::Global;
 use std::marker::Model;
 

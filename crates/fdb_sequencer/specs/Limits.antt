@@ -4,9 +4,6 @@ use Rattle.std.specs.Prelude.{ℕ, ◌^◌}
 abbrev pub proxy_limit : ℕ
 proxy_limit = 16
 
-abbrev pub resolver_limit : ℕ
-resolver_limit = 64
-
 abbrev pub ticket_limit : ℕ
 ticket_limit = 2 ^ 32
 

@@ -3,7 +3,8 @@ use Rattle.std.specs.Prelude.{ℕ, suc, ◌+◌, ◌≤◌, min, max, Bool, ◌&
 use Rattle.fdb_keys.specs.declared.refusal.Refusal.{Refusal}
 use Rattle.fdb_keys.specs.declared.refusal.Refusal.TheVariants.{Stale, Exhausted, BadConfig}
 use Rattle.fdb_sequencer.specs.declared.ticket.Ticket.{Ticket}
-use Rattle.fdb_sequencer.specs.Limits.{proxy_limit, resolver_limit, ticket_limit, version_limit, greatest_advance}
+use Rattle.fdb_txn.specs.Limits.{resolver_limit}
+use Rattle.fdb_sequencer.specs.Limits.{proxy_limit, ticket_limit, version_limit, greatest_advance}
 
 pub record Sequencer : Type 0 where
   -- how many commit proxies and how many resolvers there are

@@ -9,6 +9,6 @@ mod tests;
 mod ticket;
 
 pub use sequencer_core::{
-    GREATEST_ADVANCE, PROXY_LIMIT, RESOLVER_LIMIT, SequencerCore, TICKET_LIMIT, VERSION_LIMIT,
+    GREATEST_ADVANCE, PROXY_LIMIT, SequencerCore, TICKET_LIMIT, VERSION_LIMIT,
 };
 pub use ticket::Ticket;

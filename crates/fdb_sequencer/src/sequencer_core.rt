@@ -1,13 +1,11 @@
 use crate::ticket::Ticket;
 use fdb_keys::{Items, Refusal};
+use fdb_txn::RESOLVER_LIMIT;
 use std::alloc::Global;
 use std::marker::Model;
 
 /// The most commit proxies that there may be.
 pub const PROXY_LIMIT: u32 = 16;
-
-/// The most resolvers that there may be.
-pub const RESOLVER_LIMIT: u32 = 64;
 
 /// The most tickets that may be accepted.
 pub const TICKET_LIMIT: u64 = 1 << 32;

@@ -4,7 +4,9 @@ ghost use Rattle.std.specs.Prelude.{◌≡◌};
 ghost use Rattle.std.specs.Bool.{Decides};
 ghost use Rattle.fdb_txn.specs.Equality.{txn_id_eq, spot_eq, move_eq, entry_eq, batch_eq, sealed_eq};
 ghost use Rattle.fdb_txn.specs.declared.batch.TheConstants.{PLACE_LIMIT};
-ghost use Rattle.fdb_txn.specs.Limits.{place_limit};
+ghost use Rattle.fdb_txn.specs.declared.limits.TheConstants.{RESOLVER_LIMIT, WINDOW};
+ghost use Rattle.fdb_txn.specs.Limits.{place_limit, resolver_limit};
+ghost use Rattle.fdb_txn.specs.rules.Owners.{window};
 ghost use Rattle.fdb_txn.specs.laws.Examples.{OneBatch, WriteSkew, FalseConflict, FormerOwner, ThereAndBack, EqualIsNotNewer, Window, OldReading, TwoMoves, Spans, AtBounds, ShardMessages, Entries, Books};
 ghost use Rattle.fdb_txn.specs.laws.AdmissionLaws.{OverlapsAtSomePoint, AskedAtSomePoint, OwnedAtSomeVersion, AdmitsWithoutConflict, CommittedByTheAsked, OldIsAsked};
 ghost use Rattle.fdb_txn.specs.laws.ResolverLaws.{AskedWhereItHasAPart, LastVersionsDecide, OnePlaceMore, StateDecides, StateTakesPlace, StateForgets, ForgottenAgree};
@@ -21,6 +23,12 @@ use crate::txn_id::TxnId;
 /// A batch is filled up to the limit of the definitions.
 pub fn batches_are_filled_up_to_the_limit()
     ensures { PLACE_LIMIT ≡ place_limit }
+{}
+
+/// The most resolvers and the window of reads are those of the definitions.
+pub fn limits_are_those_of_the_definitions()
+    ensures resolvers { RESOLVER_LIMIT ≡ resolver_limit }
+    ensures window { WINDOW ≡ window }
 {}
 
 /// Two names of transactions are equal exactly where they are the same.

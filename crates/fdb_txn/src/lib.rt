@@ -5,6 +5,7 @@
 mod batch;
 mod entry;
 pub mod laws;
+mod limits;
 mod sealed;
 mod size;
 mod splits;
@@ -17,6 +18,7 @@ mod writes;
 
 pub use batch::{Batch, PLACE_LIMIT};
 pub use entry::{Entry, Move};
+pub use limits::{RESOLVER_LIMIT, WINDOW};
 pub use sealed::{Sealed, Unsealed};
 pub use size::SIZE_LIMIT;
 pub use splits::Splits;

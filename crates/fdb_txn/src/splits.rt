@@ -1,5 +1,5 @@
-ghost use Rattle.std.specs.Prelude.{◌≡◌, ◌≤◌, ℕ, length, None, IsTrue, IfOk};
-ghost use Rattle.fdb_keys.specs.Answers.{Answers};
+ghost use Rattle.std.specs.Prelude.{◌≡◌, ◌≤◌, ⊤, ℕ, length, None, IsTrue, IfOk};
+ghost use Rattle.fdb_keys.specs.Answers.{Answers, AnswersExactly};
 ghost use Rattle.fdb_keys.specs.Points.{point_lt};
 ghost use Rattle.fdb_keys.specs.Ranges.{in_range};
 ghost use Rattle.fdb_keys.specs.Texts.{is_bound};
@@ -34,11 +34,21 @@ impl Splits {
     pub fn new(alloc: Global, keys: &[Key], most: usize) -> Result<Self, Refusal>
         ensures { Answers result (splits_fault most keys.now) (λ splits. splits ≡ keys.now) }
     {
+        Splits::check(keys, most)?;
+        let keys = copies(alloc, keys)?;
+        Ok(Splits { keys })
+    }
+
+    /// Whether there are splits at these keys into at most `most` pieces, one more than there are keys. It takes no
+    /// memory. Refused as `BadConfig` where that is more than `most`, where a key is empty and where one doesn't come
+    /// after the one before it.
+    pub fn check(keys: &[Key], most: usize) -> Result<(), Refusal>
+        ensures { AnswersExactly result (splits_fault most keys.now) (λ _. ⊤) }
+    {
         if keys.len() >= most || !rise_after(&[], keys) {
             return Err(Refusal::BadConfig);
         }
-        let keys = copies(alloc, keys)?;
-        Ok(Splits { keys })
+        Ok(())
     }
 
     /// The keys, in their order.

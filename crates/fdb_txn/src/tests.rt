@@ -255,6 +255,14 @@ fn split_code(alloc: Global, first: &[u8], second: &[u8], most: usize) -> u32 {
     }
 }
 
+// Whether there are splits at the two keys, of which there may be as many pieces.
+fn may_split(alloc: Global, first: &[u8], second: &[u8], most: usize) -> bool {
+    match two_keys(alloc, first, second) {
+        Ok(keys) => Splits::check(keys.as_slice(), most).is_ok(),
+        Err(_why) => false,
+    }
+}
+
 // The number of the piece of the key.
 fn piece_of(alloc: Global, splits: &Splits, key: &[u8]) -> Option<usize> {
     match Key::new(alloc, key) {
@@ -273,6 +281,8 @@ fn goes(alloc: Global, splits: &Splits, piece: usize, begin: &[u8], end: &[u8]) 
 
 #[test]
 fn splits_rise_and_none_is_empty(rt: HostRuntime) {
+    assert!(rt; may_split(rt.alloc(), b"b", b"m", 3));
+    assert!(rt; !may_split(rt.alloc(), b"b", b"m", 2));
     assert_eq!(rt; split_code(rt.alloc(), b"b", b"m", 3), 0);
     assert_eq!(rt; split_code(rt.alloc(), b"b", b"m", 2), 9009);
     assert_eq!(rt; split_code(rt.alloc(), b"", b"m", 3), 9009);
