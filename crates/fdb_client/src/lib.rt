@@ -13,8 +13,6 @@ mod program;
 mod range_read;
 mod reading;
 mod snapshot;
-#[cfg(test)]
-mod tests;
 mod txn;
 
 pub use finished::Finished;

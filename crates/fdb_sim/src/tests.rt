@@ -1,4 +1,5 @@
 mod answers;
+mod client;
 mod failing;
 mod large;
 mod lines;

@@ -7,8 +7,8 @@ use super::{
     add, add_read, add_write, applies, begin, clear, clear_range, compare_and_clear, set, set_to,
     write,
 };
-use crate::txn::Txn;
 use bytes::Bytes;
+use fdb_client::Txn;
 use fdb_keys::{Items, Key, KeyRange, Refusal};
 use fdb_mutations::{Mutation, PlainMap};
 use std::alloc::Global;

@@ -1,16 +1,15 @@
-// Calls with known answers. The prover goes over every kind of mutation where one goes out of scope, and over all that
-// a transaction holds at each early exit. So what asks one answers plain data, and no test leaves early.
+// The client's calls with known answers. They stand in this crate since one with tests is proved twice.
+//
+// The prover goes over every kind of mutation where one goes out of scope, and over all that a transaction holds at each
+// early exit. So what asks one answers plain data, and no test leaves early.
 mod cut_snapshot;
 mod marks;
 mod programs;
 mod ranges;
 mod steps;
 
-use crate::finished::Finished;
-use crate::plain_snapshot::PlainSnapshot;
-use crate::snapshot::{Page, Snapshot};
-use crate::txn::Txn;
 use bytes::Bytes;
+use fdb_client::{Finished, Page, PlainSnapshot, Snapshot, Txn};
 use fdb_keys::{Key, KeyRange, Refusal, TreeRangeSet};
 use fdb_mutations::{Mutation, PlainMap};
 use fdb_txn::{Sealed, TxnId};

@@ -3,9 +3,8 @@ use super::{
     FutureSnapshot, add_read, begin, clear, compare_and_clear, fill, has_bounds, has_no_conflicts,
     is_one, op_count, set, write,
 };
-use crate::plain_snapshot::PlainSnapshot;
-use crate::txn::Txn;
 use bytes::Bytes;
+use fdb_client::{PlainSnapshot, Txn};
 use fdb_keys::{Items, Key, KeyRange, Refusal, TreeRangeSet};
 use fdb_mutations::PlainMap;
 use std::alloc::Global;

@@ -1,8 +1,8 @@
 // What a program decides, reads and writes, as a mark at each key.
 use super::first_byte;
 use super::steps::{Ask, Change, Span};
-use crate::txn::Txn;
 use bytes::Bytes;
+use fdb_client::Txn;
 use fdb_keys::{Key, TreeRangeSet};
 use std::alloc::Global;
 

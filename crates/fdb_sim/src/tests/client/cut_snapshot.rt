@@ -1,8 +1,7 @@
 ghost use Rattle.std.specs.Prelude.{◌≡◌, ◌≤◌, false, nat_eq};
 
-use crate::plain_snapshot::PlainSnapshot;
-use crate::snapshot::{Page, Snapshot};
 use bytes::Bytes;
+use fdb_client::{Page, PlainSnapshot, Snapshot};
 use fdb_keys::{Key, KeyRange, Refusal};
 use fdb_mutations::PlainMap;
 
