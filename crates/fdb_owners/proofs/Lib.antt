@@ -1,0 +1,7 @@
+pub mod BookLemmas
+pub mod LearningLemmas
+pub mod OwnedLemmas
+pub mod OwnerLemmas
+pub mod PartsLemmas
+pub mod RisingLemmas
+pub mod StepsLemmas

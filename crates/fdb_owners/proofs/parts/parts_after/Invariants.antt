@@ -1,0 +1,10 @@
+use Rattle.std.proofs.Common.{◌&&◌, ◌==◌}
+use Rattle.fdb_keys.specs.Ranges.{in_range}
+use Rattle.fdb_txn.specs.rules.Owners.{first_owner}
+use Rattle.fdb_owners.specs.Learnt.{owner_after}
+use Rattle.fdb_owners.specs.Parts.{AreFirstParts}
+use Rattle.fdb_owners.proofs.parts.parts_after.Given as goal
+
+abbrev pub invariant-loop-resolver : goal.invariant-loop-resolver
+invariant-loop-resolver l =
+    AreFirstParts l.resolver (λ i x. in_range l.range x && (owner_after l.steps x (first_owner l.splits x) == i)) l.parts

@@ -1,0 +1,4 @@
+pub mod Learnt
+pub mod Ownership
+pub mod OwnersLaws
+pub mod Parts

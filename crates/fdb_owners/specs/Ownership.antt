@@ -1,0 +1,80 @@
+-- Which resolver owns a point at a version, and what each call leaves of that.
+use Rattle.std.specs.Prelude.{◌≡◌, ◌<◌, ◌≤◌, ℕ, suc, max, Bool, true, ◌&&◌, ◌==◌, nat_le, List, fold, length, Option, Some, None, if◌then◌else◌}
+use Rattle.std.specs.List.{AllByRecursion}
+use Rattle.fdb_keys.specs.Points.{Point}
+use Rattle.fdb_keys.specs.Ranges.{in_range}
+use Rattle.fdb_keys.specs.declared.refusal.Refusal.{Refusal}
+use Rattle.fdb_keys.specs.declared.refusal.Refusal.TheVariants.{Stale, BadConfig}
+use Rattle.fdb_txn.specs.declared.entry.Move.{Move}
+use Rattle.fdb_txn.specs.book.Book.{Stamped}
+use Rattle.fdb_txn.specs.rules.Owners.{first_owner, owner, owned}
+use Rattle.fdb_txn.specs.rules.Splits.{are_splits}
+use Rattle.fdb_txn.specs.Limits.{resolver_limit}
+
+-- the splits, the moves that were learnt, the newest first, the last version learnt, and the version from which on
+-- owners are known
+pub record Ownership : Type 0 where
+  pub splits : List Point
+  pub moves : List Stamped
+  pub last : ℕ
+  pub floor : ℕ
+
+-- the owner of a point at a version
+abbrev pub owner_at : Ownership → Point → ℕ → ℕ
+owner_at owners x v = owner owners.splits owners.moves x v
+
+-- there is one more of them than there are splits
+abbrev pub resolvers_of : Ownership → ℕ
+resolvers_of owners = suc (length owners.splits)
+
+-- resolver i owned the point at some version above low and at most high
+abbrev pub owned_between : Ownership → ℕ → Point → ℕ → ℕ → Bool
+owned_between owners i x low high = owned owners.splits i owners.moves x low high
+
+-- the target of the last of the moves whose range holds the point, else the owner before them
+abbrev pub target_after : List Move → Point → ℕ → ℕ
+target_after moves x before =
+    fold (λ (target : ℕ) (move : Move). if in_range move.range x then move.to else target) before moves
+
+-- why there are not so many resolvers with these splits
+abbrev pub owners_fault : ℕ → List Point → Option Refusal
+owners_fault resolvers splits =
+    if (suc (length splits) == resolvers) && nat_le resolvers resolver_limit && are_splits splits then None
+    else Some BadConfig
+
+-- why the moves of a version can't be learnt
+abbrev pub learn_fault : Ownership → ℕ → Option Refusal
+learn_fault owners version = if nat_le version owners.last then Some Stale else None
+
+-- Between two calls: there are few resolvers and the splits rise, and each move is of a version that was learnt and
+-- goes to a resolver that exists.
+pub record IsOwnership (owners : Ownership) : Type 0 where
+  pub few : resolvers_of owners ≤ resolver_limit
+  pub rising : are_splits owners.splits ≡ true
+  pub moves : AllByRecursion (λ (move : Stamped). (move.version ≤ owners.last) × (move.target < resolvers_of owners))
+      owners.moves
+
+-- nothing was learnt: each point has its first owner at every version
+pub record IsNew (splits : List Point) (owners : Ownership) : Type 0 where
+  pub splits_are : owners.splits ≡ splits
+  pub last : owners.last ≡ 0
+  pub floor : owners.floor ≡ 0
+  pub first : (x : Point) (v : ℕ) → owner_at owners x v ≡ first_owner splits x
+
+-- From the version on owners are those before it, changed by the moves; below it they are what they were.
+pub record HasLearnt (old : Ownership) (version : ℕ) (moves : List Move) (new : Ownership) : Type 0 where
+  pub splits : new.splits ≡ old.splits
+  pub last : new.last ≡ version
+  pub floor : new.floor ≡ old.floor
+  pub before : (x : Point) (v : ℕ) → old.floor ≤ v → v < version → owner_at new x v ≡ owner_at old x v
+  pub since : (x : Point) (v : ℕ) → old.floor ≤ v → version ≤ v
+      → owner_at new x v ≡ target_after moves x (owner_at old x v)
+  pub now : (x : Point) → owner_at new x version ≡ target_after moves x (owner_at old x old.last)
+
+-- From the greater floor on owners are what they were, and so they are at the last version learnt.
+pub record HasExpired (old : Ownership) (version : ℕ) (new : Ownership) : Type 0 where
+  pub splits : new.splits ≡ old.splits
+  pub last : new.last ≡ old.last
+  pub floor : new.floor ≡ max old.floor version
+  pub kept : (x : Point) (v : ℕ) → new.floor ≤ v → owner_at new x v ≡ owner_at old x v
+  pub now : (x : Point) → owner_at new x new.last ≡ owner_at old x old.last

@@ -1,0 +1,15 @@
+//! What owners have to do with the moves of a book, for the proofs of the crates that use them.
+ghost use Rattle.fdb_owners.specs.OwnersLaws.{OwnedAtSomeVersion, NewGoesOn, LearningGoesOn, ExpiringGoesOn, OwnedByTheBook};
+
+/// A resolver owned a point between two versions exactly where it was the owner at one of them.
+pub fn points_are_owned_exactly_where_at_some_version()
+    ensures { OwnedAtSomeVersion }
+{}
+
+/// Owners that learn the moves of a book's entries one after another are, from the floor on, those of the book.
+pub fn owners_are_by_the_book()
+    ensures new { NewGoesOn }
+    ensures learning { LearningGoesOn }
+    ensures expiring { ExpiringGoesOn }
+    ensures owned { OwnedByTheBook }
+{}
