@@ -2,12 +2,10 @@ pub mod ClientSteps
 pub mod CommitProxySteps
 pub mod GrvProxySteps
 pub mod InFlight
-pub mod Limits
 pub mod Machine
 pub mod Opened
 pub mod RoleSteps
 pub mod Roles
 pub mod Sessions
 pub mod Steps
-pub mod Verdicts
 pub mod Worlds

@@ -4,7 +4,6 @@ ghost use Rattle.fdb_keys.specs.Answers.{Answers};
 ghost use Rattle.fdb_core.specs.machine.Worlds.{config_fault, start};
 ghost use Rattle.fdb_core.specs.refinement.Cluster.{machine_of, Refines};
 
-use crate::config::Config;
 use crate::roles::client::Placed;
 use crate::roles::client::sessions::Sessions;
 use crate::roles::commit_proxy::CommitProxy;
@@ -12,9 +11,9 @@ use crate::roles::log::{LogRole, new_logs};
 use crate::roles::resolver::ResolverRole;
 use crate::roles::sequencer::first_sequencer;
 use crate::roles::shard::{ShardRole, new_shards};
-use crate::step::Outcome;
 use fdb_keys::{Items, Refusal};
 use fdb_log::LogMsg;
+use fdb_proxy::{Config, Outcome};
 use fdb_sequencer::SequencerCore;
 use fdb_storage::ShardMap;
 use fdb_txn::Entry;

@@ -4,7 +4,6 @@
 mod book;
 mod check;
 mod cluster;
-mod config;
 mod in_flight;
 pub mod laws;
 mod roles;
@@ -14,10 +13,10 @@ mod steps;
 mod world;
 
 pub use check::compare::is_answered_on;
-pub use config::Config;
+pub use fdb_proxy::{Config, Outcome};
 pub use fdb_resolver::Verdict;
 pub use in_flight::InFlight;
 pub use roles::client::Placed;
 pub use runs::run;
-pub use step::{Answered, Outcome, Step};
+pub use step::{Answered, Step};
 pub use world::{CheckFault, World};

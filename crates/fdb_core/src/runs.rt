@@ -3,10 +3,10 @@ ghost use Rattle.fdb_core.specs.headline.Headline.{IsStrictlySerializable};
 ghost use Rattle.fdb_core.specs.headline.Serving.{RolesKeep};
 ghost use Rattle.fdb_core.specs.machine.Worlds.{config_fault};
 
-use crate::config::Config;
 use crate::step::{Answered, Step};
 use crate::world::World;
 use fdb_keys::{Items, Refusal};
+use fdb_proxy::Config;
 use std::alloc::Global;
 
 /// Takes the steps one after another from the configuration's first world, and gives the last world with

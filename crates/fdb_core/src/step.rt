@@ -1,6 +1,7 @@
 use bytes::Bytes;
 use fdb_keys::{Items, Key, KeyRange};
 use fdb_mutations::Mutation;
+use fdb_proxy::Outcome;
 use fdb_resolver::Verdict;
 
 /// One step of a client or of a role. Roles, entries and sessions are named by their numbers, from 0.
@@ -101,17 +102,6 @@ pub enum Step {
     Pop {
         shard: u32,
     },
-}
-
-/// What became of a submitted transaction.
-#[derive(Clone, Copy, Debug, PartialEq, Eq)]
-pub enum Outcome {
-    /// It is committed, at a version and a place of the version's batch.
-    Commit { version: u64, place: u32 },
-    /// Something that it read was written since its read version.
-    Conflict,
-    /// Its reads lie too far back to be judged.
-    Old,
 }
 
 /// What an accepted step answers.

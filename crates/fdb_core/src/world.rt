@@ -3,12 +3,12 @@ ghost use Rattle.fdb_core.specs.machine.Steps.{ran_out as has_run_out};
 
 use crate::check::serial::check_all;
 use crate::cluster::Cluster;
-use crate::config::{Config, ENTRY_LIMIT};
 use crate::in_flight::InFlight;
 use crate::step::{Answered, Step};
 use fdb_client::Txn;
 use fdb_keys::Refusal;
 use fdb_log::LOG_LIMIT;
+use fdb_proxy::{Config, ENTRY_LIMIT};
 use fdb_storage::ShardMap;
 use fdb_txn::TxnId;
 use std::alloc::Global;
@@ -54,7 +54,7 @@ impl World {
     ghost use Rattle.std.specs.Prelude.{◌≡◌, List, [], ◌∷◌, ◌++◌, length, Some, IfSome, Result, IfOk, MatchResult};
     ghost use Rattle.fdb_keys.specs.Answers.{Answers};
     ghost use Rattle.fdb_keys.specs.declared.refusal.Refusal.{Refusal};
-    ghost use Rattle.fdb_core.specs.declared.config.Config.{Config};
+    ghost use Rattle.fdb_proxy.specs.declared.config.Config.{Config};
     ghost use Rattle.fdb_core.specs.declared.step.Answered.{Answered};
     ghost use Rattle.fdb_core.specs.declared.step.Step.{Step};
     ghost use Rattle.std.specs.Option.{option_copied};

@@ -22,14 +22,14 @@ use Rattle.fdb_core.specs.declared.check.serial.Replay.{Replay}
 use Rattle.fdb_core.specs.declared.check.compare.Moment.TheVariants.{Before, Between}
 use Rattle.fdb_core.specs.declared.roles.client.Placed.{Placed}
 use Rattle.fdb_client.specs.declared.program.Transcript.{Transcript}
-use Rattle.fdb_core.specs.declared.step.Outcome.{Outcome}
+use Rattle.fdb_proxy.specs.declared.outcome.Outcome.{Outcome}
 use Rattle.fdb_core.specs.declared.world.CheckFault.{CheckFault}
 use Rattle.fdb_core.specs.check.Checking.{AnsweredIn, map_after, IsPlainBook, AgreesAt, Agrees, is_before, HasCome}
 use Rattle.fdb_core.specs.check.Comparing.{is_below, is_at, AnsweredAt, Differs, StopsBy}
 use Rattle.fdb_core.specs.headline.Headline.{AnsweredOn}
 use Rattle.fdb_core.specs.refinement.Resolving.{ResolverAt}
 use Rattle.fdb_core.specs.refinement.Roles.{body_by}
-use Rattle.fdb_core.specs.machine.Verdicts.{moves_through, outcomes_on}
+use Rattle.fdb_proxy.specs.Verdicts.{moves_through, outcomes_on}
 use Rattle.fdb_core.proofs.common.AllLemmas.{all-both}
 use Rattle.fdb_core.proofs.refinement.BatchLaws.{body-committed, length-outcomes_on}
 use Rattle.fdb_core.proofs.checking.ReplayLemmas.{place-map, place-there, place-within}

@@ -14,10 +14,10 @@ use Rattle.fdb_txn.specs.rules.Admission.{committed}
 use Rattle.fdb_txn.specs.rules.Messages.{mutations_in, at_place}
 use Rattle.fdb_txn.specs.rules.SerialMap.{serial_map}
 use Rattle.fdb_txn.proofs.rules.MessagesLemmas.{mutations-if}
-use Rattle.fdb_core.specs.declared.step.Outcome.{Outcome}
+use Rattle.fdb_proxy.specs.declared.outcome.Outcome.{Outcome}
 use Rattle.fdb_core.specs.check.Checking.{map_after}
 use Rattle.fdb_core.specs.refinement.Roles.{body_by, is_commit}
-use Rattle.fdb_core.specs.machine.Verdicts.{outcome_at, outcomes_from}
+use Rattle.fdb_proxy.specs.Verdicts.{outcome_at, outcomes_from}
 use Rattle.fdb_core.proofs.refinement.BatchLaws.{commit-at}
 use Rattle.fdb_core.proofs.refinement.RoleTies.{take-next}
 

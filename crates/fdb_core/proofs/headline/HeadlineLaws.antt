@@ -3,7 +3,7 @@ use Rattle.std.proofs.Common.{◌∙◌, sym, ap, subst, List, [], ◌∷◌, �
 use Rattle.std.specs.Prelude.{IfSome}
 use Rattle.fdb_keys.specs.declared.refusal.Refusal.{Refusal}
 use Rattle.fdb_txn.specs.declared.entry.Entry.{Entry}
-use Rattle.fdb_core.specs.declared.config.Config.{Config}
+use Rattle.fdb_proxy.specs.declared.config.Config.{Config}
 use Rattle.fdb_core.specs.declared.step.Answered.{Answered}
 use Rattle.fdb_core.specs.declared.step.Step.{Step}
 use Rattle.fdb_core.specs.headline.Headline.{IsStrictlySerializable}

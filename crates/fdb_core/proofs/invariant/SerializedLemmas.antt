@@ -21,15 +21,15 @@ use Rattle.fdb_core.specs.declared.roles.client.Placed.{Placed}
 use Rattle.fdb_client.specs.declared.program.Op.{Op}
 use Rattle.fdb_client.specs.declared.program.Reply.{Reply}
 use Rattle.fdb_client.specs.declared.program.Transcript.{Transcript}
-use Rattle.fdb_core.specs.declared.step.Outcome.{Outcome}
-use Rattle.fdb_core.specs.declared.step.Outcome.TheVariants as outcome
+use Rattle.fdb_proxy.specs.declared.outcome.Outcome.{Outcome}
+use Rattle.fdb_proxy.specs.declared.outcome.Outcome.TheVariants as outcome
 use Rattle.fdb_core.specs.headline.Headline.{AnsweredOn, IsSerializedAtSpot, WroteNothing}
 use Rattle.fdb_core.specs.machine.Machine.{Machine}
 use Rattle.fdb_client.specs.ProgramLaws.{AgreeWhereOrdinary}
 use Rattle.fdb_client.specs.Programs.{program, exec, mutations_of, write_ranges, commit_request_of, is_read_only, replies_of}
 use Rattle.fdb_core.specs.machine.CommitProxySteps.{placed_from}
 use Rattle.fdb_core.specs.invariant.Invariant.{IsReplied, IsSerializedIn, IsReported}
-use Rattle.fdb_core.specs.machine.Verdicts.{moves_through, outcomes_from, outcomes_on}
+use Rattle.fdb_proxy.specs.Verdicts.{moves_through, outcomes_from, outcomes_on}
 use Rattle.fdb_client.proofs.ProgramsAgree.{programs_agree}
 use Rattle.fdb_client.proofs.ReadSetLemmas.{in_executed_ranges}
 use Rattle.fdb_core.proofs.refinement.RoleTies.{last-push}

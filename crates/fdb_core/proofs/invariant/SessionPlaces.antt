@@ -7,7 +7,7 @@ use Rattle.std.proofs.lemmas.List.Folds.{sum_by-replicate}
 use Rattle.std.proofs.lemmas.Bool.{eq-eqb, ne_eqb}
 use Rattle.fdb_keys.specs.declared.refusal.Refusal.{Refusal}
 use Rattle.fdb_txn.specs.Limits.{place_limit}
-use Rattle.fdb_core.specs.declared.config.Config.{Config}
+use Rattle.fdb_proxy.specs.declared.config.Config.{Config}
 use Rattle.fdb_client.specs.declared.program.Transcript.{Transcript}
 use Rattle.fdb_core.specs.declared.step.Answered.{Answered}
 use Rattle.fdb_core.specs.declared.step.Step.{Step}

@@ -30,7 +30,7 @@ use Rattle.fdb_core.specs.machine.Machine.{Machine, Transition, is_set, first_mi
 use Rattle.fdb_core.specs.machine.RoleSteps.{version_of_shard, resolves, pushes, pulls, forgets, pops}
 use Rattle.fdb_core.specs.machine.Sessions.{Idle as Free, Asking, Waiting, session_of, open_at, with_state, is_busy, serve, tell_all}
 use Rattle.fdb_core.specs.machine.Steps.{next, after}
-use Rattle.fdb_core.specs.machine.Verdicts.{is_needed, outcomes_on}
+use Rattle.fdb_proxy.specs.Verdicts.{is_needed, outcomes_on}
 use Rattle.fdb_client.specs.Programs.{program, copy, reply_on, commit_request_of, is_read_only}
 use Rattle.fdb_core.proofs.headline.TraceLaws.{kept-after_steps}
 use Rattle.fdb_core.proofs.machine.LogLemmas.{Grew, AcknowledgementCame, grew-same, grew-set}

@@ -15,7 +15,7 @@ use Rattle.fdb_core.specs.machine.RoleSteps.{resolves, pushes}
 use Rattle.fdb_core.specs.machine.Machine.{Machine, Transition, refused_by, is_set}
 use Rattle.fdb_core.specs.machine.Roles.{CommitProxy}
 use Rattle.fdb_core.specs.machine.Sessions.{Waiting, open_at, with_state}
-use Rattle.fdb_core.specs.machine.Verdicts.{verdicts_on}
+use Rattle.fdb_proxy.specs.Verdicts.{verdicts_on}
 use Rattle.fdb_client.specs.Programs.{commit_request_of, is_read_only}
 
 -- a read on an open transaction

@@ -11,7 +11,7 @@ use Rattle.fdb_txn.specs.Limits.{place_limit}
 use Rattle.fdb_txn.specs.declared.entry.Entry.{Entry}
 use Rattle.fdb_txn.specs.book.Book.{seen_of, last_version, seen_before}
 use Rattle.fdb_txn.specs.rules.SerialMap.{serial_map_at}
-use Rattle.fdb_core.specs.declared.config.Config.{Config}
+use Rattle.fdb_proxy.specs.declared.config.Config.{Config}
 use Rattle.fdb_client.specs.declared.program.Op.{Op}
 use Rattle.fdb_client.specs.declared.program.Op.TheVariants as op
 use Rattle.fdb_client.specs.declared.program.Transcript.{Transcript}
@@ -25,7 +25,7 @@ use Rattle.fdb_core.specs.machine.ClientSteps.{answered_by}
 use Rattle.fdb_core.specs.machine.CommitProxySteps.{is_idle, replies_from}
 use Rattle.fdb_core.specs.machine.Machine.{Machine, Transition}
 use Rattle.fdb_core.specs.machine.Steps.{next, answer_of}
-use Rattle.fdb_core.specs.machine.Verdicts.{outcomes_on}
+use Rattle.fdb_proxy.specs.Verdicts.{outcomes_on}
 use Rattle.fdb_core.specs.machine.Worlds.{start, IsRun, IsStep}
 use Rattle.fdb_client.specs.Programs.{program, copy, reply_on}
 use Rattle.fdb_core.proofs.headline.RunsLemmas.{run-last}

@@ -19,7 +19,7 @@ use Rattle.fdb_core.specs.headline.Traces.{alone}
 use Rattle.fdb_core.specs.machine.Machine.{Machine}
 use Rattle.fdb_core.specs.machine.Sessions.{Session, Sessions, Idle as Free, Asking, Open, Waiting, with_state, open_of, open_at, serve, tell_all}
 use Rattle.fdb_core.specs.machine.Roles.{CommitProxy, Submission, Reported, Idle}
-use Rattle.fdb_core.specs.machine.Verdicts.{outcomes_on}
+use Rattle.fdb_proxy.specs.Verdicts.{outcomes_on}
 use Rattle.fdb_client.specs.Programs.{program, copy, reply_on, commit_request_of}
 use Rattle.fdb_sequencer.specs.Sequencer.{next_version}
 use Rattle.fdb_core.proofs.common.AllLemmas.{all-at, all-take}

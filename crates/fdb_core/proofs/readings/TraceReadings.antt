@@ -9,7 +9,7 @@ use Rattle.fdb_txn.specs.declared.entry.Entry.{Entry}
 use Rattle.fdb_txn.specs.book.History.{AreEntries, IsBook, IsSealed}
 use Rattle.fdb_txn.proofs.book.HistoryLemmas.{books_are_entries}
 use Rattle.fdb_txn.specs.declared.txn_id.TxnId.{TxnId}
-use Rattle.fdb_core.specs.declared.config.Config.{Config}
+use Rattle.fdb_proxy.specs.declared.config.Config.{Config}
 use Rattle.fdb_core.specs.declared.roles.client.Placed.{Placed}
 use Rattle.fdb_core.specs.declared.step.Answered.{Answered}
 use Rattle.fdb_core.specs.declared.step.Step.{Step}

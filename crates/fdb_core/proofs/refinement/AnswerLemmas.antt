@@ -5,12 +5,12 @@ use Rattle.fdb_txn.specs.declared.entry.Entry.{Entry}
 use Rattle.fdb_core.specs.declared.cluster.Cluster.{Cluster}
 use Rattle.fdb_core.specs.machine.Roles.{CommitProxy, Stage, Idle, Resolving, Logging, Reported}
 use Rattle.fdb_core.specs.declared.step.Answered.TheVariants as answered
-use Rattle.fdb_core.specs.declared.step.Outcome.{Outcome}
+use Rattle.fdb_proxy.specs.declared.outcome.Outcome.{Outcome}
 use Rattle.fdb_core.specs.refinement.Cluster.{machine_of, CommitProxyRefines, Refines}
 use Rattle.fdb_txn.specs.book.Book.{seen_before}
 use Rattle.fdb_core.specs.machine.CommitProxySteps.{answers, is_idle, is_resolving, is_reported, placed_from, replies_from}
 use Rattle.fdb_core.specs.machine.Sessions.{tell_all}
-use Rattle.fdb_core.specs.machine.Verdicts.{outcomes_on}
+use Rattle.fdb_proxy.specs.Verdicts.{outcomes_on}
 use Rattle.fdb_core.proofs.refinement.BatchLaws.{length-outcomes_on}
 use Rattle.fdb_core.proofs.refinement.CommitProxyTies.{commit_proxy-at}
 use Rattle.fdb_core.specs.refinement.Resolving.{taken_by}

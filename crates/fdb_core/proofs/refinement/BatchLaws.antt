@@ -10,8 +10,8 @@ use Rattle.fdb_txn.specs.rules.Owners.{is_asked}
 use Rattle.fdb_txn.specs.rules.Admission.{is_fresh, no_conflict, admits, all_below, committed}
 use Rattle.fdb_resolver.specs.declared.verdict.Verdict.{Verdict}
 use Rattle.fdb_resolver.specs.declared.verdict.Verdict.TheVariants as verdict
-use Rattle.fdb_core.specs.declared.step.Outcome.TheVariants as outcome
-use Rattle.fdb_core.specs.machine.Verdicts.{verdict_at, outcome_at, verdicts_from, asks_about, outcomes_from, moves_through, verdicts_on, is_needed, outcomes_on}
+use Rattle.fdb_proxy.specs.declared.outcome.Outcome.TheVariants as outcome
+use Rattle.fdb_proxy.specs.Verdicts.{verdict_at, outcome_at, verdicts_from, asks_about, outcomes_from, moves_through, verdicts_on, is_needed, outcomes_on}
 use Rattle.fdb_txn.specs.book.History.{ReadsBelow}
 use Rattle.fdb_core.specs.refinement.Roles.{outcome_by, verdict_for, outcomes_by, is_commit, body_by}
 use Rattle.fdb_txn.specs.rules.Messages.{Body, at_place, committed_from, committed_in}

@@ -2,7 +2,7 @@
 use Rattle.std.proofs.Common.{◌≡◌, ◌∙◌, sym, ap, ℕ, zero, suc, ◌+◌, append-nil, append_assoc, List, [], ◌∷◌, ◌++◌, take, slice_get, Some, if◌then◌else◌, arith}
 use Rattle.fdb_txn.specs.book.Transactions.{Transaction}
 use Rattle.fdb_txn.specs.rules.Messages.{Body, at_place}
-use Rattle.fdb_core.specs.declared.step.Outcome.{Outcome}
+use Rattle.fdb_proxy.specs.declared.outcome.Outcome.{Outcome}
 use Rattle.fdb_core.specs.refinement.Roles.{is_commit, body_by}
 
 -- with one place more, that place's mutations come last

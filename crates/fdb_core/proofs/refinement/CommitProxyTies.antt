@@ -6,7 +6,7 @@ use Rattle.std.proofs.lemmas.List.{length-set}
 use Rattle.fdb_txn.specs.declared.entry.Entry.{Entry}
 use Rattle.fdb_core.specs.machine.Roles.{CommitProxy, Logging, Reported, Sender, FromResolver, FromLog, Submission}
 use Rattle.fdb_core.specs.declared.step.Answered.TheVariants as answered
-use Rattle.fdb_core.specs.declared.step.Outcome.{Outcome}
+use Rattle.fdb_proxy.specs.declared.outcome.Outcome.{Outcome}
 use Rattle.fdb_core.specs.machine.Machine.{Machine}
 use Rattle.fdb_core.specs.refinement.Cluster.{CommitProxyRefines, CommitProxiesRefine, WaitsRefines}
 use Rattle.fdb_core.specs.machine.CommitProxySteps.{is_idle, is_resolving, awaits, receives, taken_by_sender, with_received}

@@ -14,16 +14,16 @@ use Rattle.fdb_keys.specs.Points.{Point}
 use Rattle.fdb_log.specs.declared.message.LogMsg.{LogMsg}
 use Rattle.fdb_storage.specs.LogMessages.{tagged, is_for_log}
 use Rattle.fdb_txn.specs.rules.Messages.{Body, committed_in}
-use Rattle.fdb_core.specs.declared.config.Config.{Config}
+use Rattle.fdb_proxy.specs.declared.config.Config.{Config}
 use Rattle.fdb_resolver.specs.declared.verdict.Verdict.{Verdict}
-use Rattle.fdb_core.specs.declared.step.Outcome.{Outcome}
+use Rattle.fdb_proxy.specs.declared.outcome.Outcome.{Outcome}
 use Rattle.fdb_core.specs.declared.step.Answered.TheVariants as answered
 use Rattle.fdb_txn.specs.book.History.{ReadsBelow}
 use Rattle.fdb_core.specs.refinement.Cluster.{machine_of, messages_on, Refines, CommitProxyRefines, IsDecision}
 use Rattle.fdb_core.specs.machine.Machine.{is_set, first_missing}
 use Rattle.fdb_core.specs.machine.CommitProxySteps.{decides, is_idle, is_resolving}
 use Rattle.fdb_core.specs.refinement.Roles.{along, outcomes_by, message_by}
-use Rattle.fdb_core.specs.machine.Verdicts.{verdicts_on, is_needed, outcomes_on}
+use Rattle.fdb_proxy.specs.Verdicts.{verdicts_on, is_needed, outcomes_on}
 use Rattle.fdb_core.proofs.common.AllLemmas.{all-at, within-item}
 use Rattle.fdb_core.proofs.refinement.BatchLaws.{needed-points, not_needed-verdicts, outcomes-decided, body-committed}
 use Rattle.fdb_core.proofs.refinement.CommitProxyTies.{commit_proxy-at, commit_proxies-set}

@@ -32,7 +32,7 @@ use Rattle.fdb_log.proofs.AboveLemmas.{above-keeps, above-higher}
 use Rattle.fdb_storage.specs.LogMessages.{log_message}
 use Rattle.fdb_storage.specs.Shards.{Shard, HasApplied}
 use Rattle.fdb_storage.proofs.LogMessagesLemmas.{logs_are_sent_the_messages, messages_above_a_version}
-use Rattle.fdb_core.specs.declared.config.Config.{Config}
+use Rattle.fdb_proxy.specs.declared.config.Config.{Config}
 use Rattle.fdb_core.specs.declared.roles.log.LogRole.{LogRole}
 use Rattle.fdb_core.specs.declared.roles.shard.ShardRole.{ShardRole}
 use Rattle.fdb_core.specs.machine.Machine.{Machine, Transition, refused_where, is_set}

@@ -4,7 +4,7 @@ use Rattle.fdb_txn.specs.declared.entry.Move.{Move}
 use Rattle.fdb_txn.specs.declared.entry.Entry.{Entry}
 use Rattle.fdb_txn.specs.book.Book.{Seen, nothing, add_moves, add_entry, seen_of, seen_before}
 use Rattle.fdb_core.specs.refinement.Resolving.{NoMovesIn}
-use Rattle.fdb_core.specs.machine.Verdicts.{moves_through}
+use Rattle.fdb_proxy.specs.Verdicts.{moves_through}
 
 -- without moves there are none through an entry
 pub no_moves-through : (before : Seen) (entry : Entry) → before.moves ≡ [] → entry.moves ≡ []

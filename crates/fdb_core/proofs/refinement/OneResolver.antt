@@ -14,10 +14,10 @@ use Rattle.fdb_txn.proofs.rules.AskedLemmas.{points_from-in_set, point_of-set}
 use Rattle.fdb_txn.proofs.rules.CornersLemmas.{asked_at_some_point, owned_at_some_version}
 use Rattle.fdb_resolver.specs.RuleLaws.{IsItemOf}
 use Rattle.fdb_resolver.specs.declared.verdict.Verdict.TheVariants as verdict
-use Rattle.fdb_core.specs.declared.step.Outcome.TheVariants as outcome
+use Rattle.fdb_proxy.specs.declared.outcome.Outcome.TheVariants as outcome
 use Rattle.fdb_core.specs.refinement.Resolving.{is_judged, item_of}
 use Rattle.fdb_core.specs.refinement.Roles.{outcome_by}
-use Rattle.fdb_core.specs.machine.Verdicts.{verdict_at, outcome_at}
+use Rattle.fdb_proxy.specs.Verdicts.{verdict_at, outcome_at}
 
 -- two tests that follow from each other are the same
 same_tests : (a b : Bool) → (a ≡ true → b ≡ true) → (b ≡ true → a ≡ true) → a ≡ b

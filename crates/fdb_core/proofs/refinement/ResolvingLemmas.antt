@@ -25,7 +25,7 @@ use Rattle.fdb_resolver.specs.Resolvers.{Resolver, part_fault, IsAnswer, HasTake
 use Rattle.fdb_resolver.specs.Rule.{AreVerdicts, versions_with, versions_after}
 use Rattle.fdb_resolver.proofs.BookLemmas.{verdicts_are_by_the_book, places_keep_state}
 use Rattle.fdb_core.specs.refinement.Resolving.{is_judged, item_of, items_from, ResolverAt, IsNext}
-use Rattle.fdb_core.specs.machine.Verdicts.{verdict_at, verdicts_from, moves_through, verdicts_on}
+use Rattle.fdb_proxy.specs.Verdicts.{verdict_at, verdicts_from, moves_through, verdicts_on}
 use Rattle.fdb_core.proofs.refinement.NoMoves.{no_moves-through, no_moves-seen, no_moves-front}
 use Rattle.fdb_core.proofs.refinement.OneResolver.{part_writes-all, item-is, asked-points}
 

@@ -10,12 +10,12 @@ use Rattle.fdb_txn.specs.book.History.{AreEntries}
 use Rattle.fdb_resolver.specs.Resolvers.{Resolver}
 use Rattle.fdb_core.specs.machine.Roles.{CommitProxy}
 use Rattle.fdb_core.specs.declared.roles.resolver.ResolverRole.{ResolverRole}
-use Rattle.fdb_core.specs.declared.step.Outcome.{Outcome}
+use Rattle.fdb_proxy.specs.declared.outcome.Outcome.{Outcome}
 use Rattle.fdb_resolver.specs.declared.verdict.Verdict.{Verdict}
 use Rattle.fdb_core.specs.refinement.Cluster.{IsRising, ResolverRefines, ResolversRefine, CommitProxyRefines, CommitProxiesRefine}
 use Rattle.fdb_core.specs.refinement.Resolving.{NoMovesIn, ResolverAt, IsNext, TakesNext, taken_by, sent_by}
 use Rattle.fdb_core.specs.refinement.Roles.{along}
-use Rattle.fdb_core.specs.machine.Verdicts.{verdicts_on}
+use Rattle.fdb_proxy.specs.Verdicts.{verdicts_on}
 use Rattle.fdb_core.proofs.common.AllLemmas.{within-item}
 use Rattle.fdb_core.proofs.refinement.NoMoves.{no_moves-take}
 use Rattle.fdb_txn.proofs.book.HistoryLemmas.{seen_of-push}

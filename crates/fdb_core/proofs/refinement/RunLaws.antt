@@ -10,7 +10,7 @@ use Rattle.fdb_txn.specs.rules.SerialMap.{serial_map, up_to, serial_map_at}
 use Rattle.fdb_txn.specs.book.History.{AreEntries, ReadsBelow}
 use Rattle.fdb_txn.proofs.book.HistoryLemmas.{all-weaken, AtMost, add_places-newer, up_to-above, up_to-all}
 use Rattle.fdb_txn.proofs.rules.MessagesLemmas.{at_most-more}
-use Rattle.fdb_core.specs.machine.Verdicts.{moves_through}
+use Rattle.fdb_proxy.specs.Verdicts.{moves_through}
 use Rattle.fdb_core.specs.refinement.Cluster.{IsRising}
 use Rattle.fdb_core.specs.refinement.Roles.{along}
 

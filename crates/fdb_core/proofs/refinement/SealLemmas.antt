@@ -20,20 +20,20 @@ use Rattle.fdb_log.specs.Messages.{above}
 use Rattle.fdb_txn.specs.rules.Messages.{messages_for}
 use Rattle.fdb_txn.specs.rules.SerialMap.{serial_map_at}
 use Rattle.fdb_txn.specs.rules.Splits.{piece}
-use Rattle.fdb_core.specs.declared.config.Config.{Config}
+use Rattle.fdb_proxy.specs.declared.config.Config.{Config}
 use Rattle.fdb_core.specs.declared.roles.log.LogRole.{LogRole}
 use Rattle.fdb_core.specs.declared.roles.shard.ShardRole.{ShardRole}
 use Rattle.fdb_core.specs.refinement.Logs.{LogRefines, ShardRefines, LogsRefine}
 use Rattle.fdb_core.specs.declared.roles.resolver.ResolverRole.{ResolverRole}
 use Rattle.fdb_client.specs.declared.program.Transcript.{Transcript}
 use Rattle.fdb_core.specs.declared.step.Answered.TheVariants as answered
-use Rattle.fdb_core.specs.declared.step.Outcome.{Outcome}
+use Rattle.fdb_proxy.specs.declared.outcome.Outcome.{Outcome}
 use Rattle.fdb_core.specs.refinement.Cluster.{BookRefines, ResolversRefine, WaitsRefines, CommitProxyRefines, messages_on}
 use Rattle.fdb_core.specs.machine.Machine.{Machine, is_set}
 use Rattle.fdb_core.specs.machine.CommitProxySteps.{seals, is_idle, with_batch}
 use Rattle.fdb_core.specs.refinement.Resolving.{ResolverAt}
 use Rattle.fdb_core.specs.refinement.Roles.{along}
-use Rattle.fdb_core.specs.machine.Verdicts.{verdicts_on}
+use Rattle.fdb_proxy.specs.Verdicts.{verdicts_on}
 use Rattle.fdb_core.proofs.common.AllLemmas.{all-drop}
 use Rattle.fdb_core.proofs.refinement.NoMoves.{no_moves-push}
 use Rattle.fdb_core.proofs.refinement.RunLaws.{along-push, length-along}

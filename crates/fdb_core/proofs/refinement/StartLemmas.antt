@@ -10,11 +10,11 @@ use Rattle.fdb_keys.specs.declared.refusal.Refusal.TheVariants.{BadConfig}
 use Rattle.fdb_txn.specs.rules.Splits.{are_splits, piece}
 use Rattle.fdb_log.specs.Limits.{log_limit}
 use Rattle.fdb_storage.specs.Limits.{shard_limit}
-use Rattle.fdb_core.specs.machine.Limits.{entry_limit}
+use Rattle.fdb_proxy.specs.Configs.{entry_limit}
 use Rattle.fdb_log.specs.Logs.{IsNewLog}
 use Rattle.fdb_log.specs.Messages.{log_of}
 use Rattle.fdb_storage.specs.Shards.{IsNewShard}
-use Rattle.fdb_core.specs.declared.config.Config.{Config}
+use Rattle.fdb_proxy.specs.declared.config.Config.{Config}
 use Rattle.fdb_core.specs.declared.roles.log.LogRole.{LogRole}
 use Rattle.fdb_core.specs.declared.roles.shard.ShardRole.{ShardRole}
 use Rattle.fdb_core.specs.machine.Roles.{ShardProgress}

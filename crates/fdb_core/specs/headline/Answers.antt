@@ -11,11 +11,11 @@ use Rattle.fdb_txn.specs.declared.entry.Entry.{Entry}
 use Rattle.fdb_txn.specs.book.Book.{seen_of, last_version, seen_before}
 use Rattle.fdb_txn.specs.rules.SerialMap.{serial_map_at}
 use Rattle.fdb_sequencer.specs.Sequencer.{next_version}
-use Rattle.fdb_core.specs.declared.config.Config.{Config}
+use Rattle.fdb_proxy.specs.declared.config.Config.{Config}
 use Rattle.fdb_client.specs.declared.program.Transcript.{Transcript}
 use Rattle.fdb_core.specs.declared.step.Answered.{Answered}
 use Rattle.fdb_core.specs.declared.step.Answered.TheVariants as answered
-use Rattle.fdb_core.specs.declared.step.Outcome.{Outcome}
+use Rattle.fdb_proxy.specs.declared.outcome.Outcome.{Outcome}
 use Rattle.fdb_core.specs.declared.step.Step.{Step}
 use Rattle.fdb_core.specs.declared.step.Step.TheVariants as step
 use Rattle.fdb_core.specs.headline.Headline.{WroteNothing}
@@ -23,7 +23,7 @@ use Rattle.fdb_core.specs.headline.Readings.{Readings, readings_of, of_session}
 use Rattle.fdb_core.specs.headline.Traces.{IsTraceOf}
 use Rattle.fdb_core.specs.machine.CommitProxySteps.{replies_from}
 use Rattle.fdb_core.specs.machine.Machine.{Machine}
-use Rattle.fdb_core.specs.machine.Verdicts.{outcomes_on}
+use Rattle.fdb_proxy.specs.Verdicts.{outcomes_on}
 use Rattle.fdb_client.specs.Programs.{program, copy}
 
 -- the session has this transaction open

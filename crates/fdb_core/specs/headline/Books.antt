@@ -3,7 +3,7 @@ use Rattle.std.specs.Prelude.{◌≤◌, ◌==◌, ℕ, suc, List, length, Optio
 use Rattle.std.specs.List.{AllByRecursion, count_by}
 use Rattle.fdb_keys.specs.declared.refusal.Refusal.{Refusal}
 use Rattle.fdb_txn.specs.book.History.{IsBook, IsSealed}
-use Rattle.fdb_core.specs.declared.config.Config.{Config}
+use Rattle.fdb_proxy.specs.declared.config.Config.{Config}
 use Rattle.fdb_core.specs.declared.step.Answered.{Answered}
 use Rattle.fdb_core.specs.declared.step.Step.{Step}
 use Rattle.fdb_core.specs.headline.Readings.{Readings, readings_of}

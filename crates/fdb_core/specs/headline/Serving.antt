@@ -20,7 +20,7 @@ use Rattle.fdb_resolver.specs.Resolvers.{Resolver}
 use Rattle.fdb_sequencer.specs.Sequencer.{Sequencer, accept_fault}
 use Rattle.fdb_sequencer.specs.declared.ticket.Ticket.{Ticket}
 use Rattle.fdb_txn.specs.declared.entry.Entry.{Entry}
-use Rattle.fdb_core.specs.declared.config.Config.{Config}
+use Rattle.fdb_proxy.specs.declared.config.Config.{Config}
 use Rattle.fdb_core.specs.machine.Roles.{ShardProgress}
 use Rattle.fdb_core.specs.machine.RoleSteps.{version_of_shard}
 use Rattle.fdb_core.specs.machine.Machine.{Machine, is_set}

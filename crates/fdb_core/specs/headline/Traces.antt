@@ -1,7 +1,7 @@
 -- Traces: steps with their answers, and the machine that they determine.
 use Rattle.std.specs.Prelude.{◌≡◌, ℕ, min, false, map, filter, slice_get, List, [], ◌∷◌, Option, Some, None, Result, Ok, Err}
 use Rattle.fdb_keys.specs.declared.refusal.Refusal.{Refusal}
-use Rattle.fdb_core.specs.declared.config.Config.{Config}
+use Rattle.fdb_proxy.specs.declared.config.Config.{Config}
 use Rattle.fdb_client.specs.declared.program.Transcript.{Transcript}
 use Rattle.fdb_core.specs.declared.step.Answered.{Answered}
 use Rattle.fdb_core.specs.declared.step.Step.{Step}

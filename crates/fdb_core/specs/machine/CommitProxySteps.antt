@@ -9,13 +9,13 @@ use Rattle.fdb_sequencer.specs.Sequencer.{next_version}
 use Rattle.fdb_core.specs.machine.Roles.{CommitProxy, Sender, FromResolver, FromLog, Submission, Stage, Idle, Resolving, Logging, Reported}
 use Rattle.fdb_core.specs.declared.roles.client.Placed.{Placed}
 use Rattle.fdb_client.specs.declared.program.Transcript.{Transcript}
-use Rattle.fdb_core.specs.declared.step.Outcome.{Outcome}
-use Rattle.fdb_core.specs.declared.step.Outcome.TheVariants as outcome
+use Rattle.fdb_proxy.specs.declared.outcome.Outcome.{Outcome}
+use Rattle.fdb_proxy.specs.declared.outcome.Outcome.TheVariants as outcome
 use Rattle.fdb_core.specs.declared.step.Answered.TheVariants as answered
 use Rattle.fdb_txn.specs.book.Book.{last_version, seen_before}
 use Rattle.fdb_core.specs.machine.Machine.{Machine, Transition, found, refused_where, waits_for, is_set, first_missing}
 use Rattle.fdb_core.specs.machine.Sessions.{tell_all}
-use Rattle.fdb_core.specs.machine.Verdicts.{is_needed, outcomes_on}
+use Rattle.fdb_proxy.specs.Verdicts.{is_needed, outcomes_on}
 
 abbrev pub is_idle : Stage → Bool
 is_idle Idle = true

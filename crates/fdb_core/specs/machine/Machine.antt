@@ -4,7 +4,7 @@ use Rattle.fdb_keys.specs.declared.refusal.Refusal.{Refusal}
 use Rattle.fdb_keys.specs.declared.refusal.Refusal.TheVariants.{Unknown, Stale, NotYet, NoTransaction}
 use Rattle.fdb_txn.specs.declared.entry.Move.{Move}
 use Rattle.fdb_txn.specs.declared.entry.Entry.{Entry}
-use Rattle.fdb_core.specs.declared.config.Config.{Config}
+use Rattle.fdb_proxy.specs.declared.config.Config.{Config}
 use Rattle.fdb_core.specs.machine.Roles.{CommitProxy, ShardProgress}
 use Rattle.fdb_core.specs.machine.Sessions.{Sessions}
 use Rattle.fdb_core.specs.declared.roles.client.Placed.{Placed}

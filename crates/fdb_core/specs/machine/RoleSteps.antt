@@ -9,7 +9,7 @@ use Rattle.fdb_txn.specs.book.Book.{last_version, seen_before}
 use Rattle.fdb_log.specs.Messages.{log_of}
 use Rattle.fdb_storage.specs.Shards.{serving_fault}
 use Rattle.fdb_core.specs.machine.Machine.{Machine, Transition, found, refused_where, in_turn, is_set}
-use Rattle.fdb_core.specs.machine.Verdicts.{verdicts_on}
+use Rattle.fdb_proxy.specs.Verdicts.{verdicts_on}
 
 -- Resolve: entries are taken in order, each once.
 unfoldable pub resolves : Machine → ℕ → ℕ → Result Transition Refusal

@@ -6,11 +6,11 @@ use Rattle.fdb_keys.specs.declared.refusal.Refusal.TheVariants.{NoMemory, Failed
 use Rattle.fdb_txn.specs.rules.Splits.{are_splits}
 use Rattle.fdb_log.specs.Limits.{log_limit}
 use Rattle.fdb_storage.specs.Limits.{shard_limit}
-use Rattle.fdb_core.specs.declared.config.Config.{Config}
+use Rattle.fdb_proxy.specs.declared.config.Config.{Config}
 use Rattle.fdb_core.specs.machine.Roles.{CommitProxy, Idle}
 use Rattle.fdb_core.specs.declared.step.Answered.{Answered}
 use Rattle.fdb_core.specs.declared.step.Step.{Step}
-use Rattle.fdb_core.specs.machine.Limits.{entry_limit}
+use Rattle.fdb_proxy.specs.Configs.{entry_limit}
 use Rattle.fdb_core.specs.machine.Machine.{Machine}
 use Rattle.fdb_core.specs.machine.Steps.{next, answer_of, after}
 

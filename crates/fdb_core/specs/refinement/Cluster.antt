@@ -5,7 +5,7 @@ use Rattle.fdb_txn.specs.declared.entry.Entry.{Entry}
 use Rattle.fdb_txn.specs.book.Transactions.{NamesWrites}
 use Rattle.fdb_txn.specs.book.History.{AreEntries}
 use Rattle.fdb_sequencer.specs.Sequencer.{Sequencer}
-use Rattle.fdb_core.specs.declared.config.Config.{Config}
+use Rattle.fdb_proxy.specs.declared.config.Config.{Config}
 use Rattle.fdb_core.specs.declared.cluster.Cluster.{Cluster}
 use Rattle.fdb_core.specs.machine.Roles.{CommitProxy, Submission}
 use Rattle.fdb_core.specs.declared.roles.log.LogRole.{LogRole}
@@ -13,8 +13,8 @@ use Rattle.fdb_core.specs.declared.roles.shard.ShardRole.{ShardRole}
 use Rattle.fdb_core.specs.declared.roles.resolver.ResolverRole.{ResolverRole}
 use Rattle.fdb_client.specs.declared.program.Transcript.{Transcript}
 use Rattle.fdb_resolver.specs.declared.verdict.Verdict.{Verdict}
-use Rattle.fdb_core.specs.declared.step.Outcome.{Outcome}
-use Rattle.fdb_core.specs.machine.Limits.{entry_limit}
+use Rattle.fdb_proxy.specs.declared.outcome.Outcome.{Outcome}
+use Rattle.fdb_proxy.specs.Configs.{entry_limit}
 use Rattle.fdb_txn.specs.book.Book.{Seen, last_version, seen_before}
 use Rattle.fdb_keys.specs.Points.{Point}
 use Rattle.fdb_log.specs.declared.message.LogMsg.{LogMsg}
@@ -29,7 +29,7 @@ use Rattle.fdb_core.specs.machine.CommitProxySteps.{is_idle, is_resolving}
 use Rattle.fdb_core.specs.refinement.Logs.{logs_taken, progress_of, LogsRefine}
 use Rattle.fdb_core.specs.refinement.Roles.{along, outcomes_by, message_by}
 use Rattle.fdb_core.specs.headline.Serving.{System}
-use Rattle.fdb_core.specs.machine.Verdicts.{verdicts_on, outcomes_on}
+use Rattle.fdb_proxy.specs.Verdicts.{verdicts_on, outcomes_on}
 
 -- the machine that the world's parts stand for
 abbrev pub machine_of : Cluster → Machine

@@ -11,7 +11,7 @@ use Rattle.fdb_txn.specs.rules.Splits.{piece}
 use Rattle.fdb_log.specs.Logs.{keeps, kept, popped_through}
 use Rattle.fdb_log.specs.Messages.{above, log_of}
 use Rattle.fdb_storage.specs.Shards.{value_at}
-use Rattle.fdb_core.specs.declared.config.Config.{Config}
+use Rattle.fdb_proxy.specs.declared.config.Config.{Config}
 use Rattle.fdb_core.specs.declared.roles.log.LogRole.{LogRole}
 use Rattle.fdb_core.specs.declared.roles.shard.ShardRole.{ShardRole}
 use Rattle.fdb_core.specs.machine.Roles.{ShardProgress}

@@ -12,7 +12,7 @@ use Rattle.fdb_resolver.specs.declared.part.Item.{Item}
 use Rattle.fdb_resolver.specs.declared.verdict.Verdict.{Verdict}
 use Rattle.fdb_resolver.specs.Resolvers.{Resolver}
 use Rattle.fdb_core.specs.declared.roles.resolver.ResolverRole.{ResolverRole}
-use Rattle.fdb_core.specs.machine.Verdicts.{verdicts_on}
+use Rattle.fdb_proxy.specs.Verdicts.{verdicts_on}
 
 -- a set of the transaction has a point, so that the resolver is asked about it
 abbrev pub is_judged : Transaction → Bool

@@ -10,8 +10,8 @@ use Rattle.fdb_log.specs.declared.message.Tagged.{Tagged}
 use Rattle.fdb_storage.specs.LogMessages.{tagged, is_for_log}
 use Rattle.fdb_resolver.specs.declared.verdict.Verdict.{Verdict}
 use Rattle.fdb_resolver.specs.declared.verdict.Verdict.TheVariants as verdict
-use Rattle.fdb_core.specs.declared.step.Outcome.{Outcome}
-use Rattle.fdb_core.specs.declared.step.Outcome.TheVariants as outcome
+use Rattle.fdb_proxy.specs.declared.outcome.Outcome.{Outcome}
+use Rattle.fdb_proxy.specs.declared.outcome.Outcome.TheVariants as outcome
 
 -- for each entry of a book what a function makes of it and of what was seen before it
 abbrev pub along : {A : Type 0} → (Seen → Entry → A) → List Entry → List A

@@ -12,7 +12,7 @@ use Rattle.fdb_txn.specs.rules.Owners.{first_owner}
 use Rattle.fdb_txn.specs.rules.SerialMap.{serial_map_at}
 use Rattle.fdb_txn.specs.rules.Splits.{are_splits, piece}
 use Rattle.fdb_storage.specs.Shards.{value_at}
-use Rattle.fdb_core.specs.declared.config.Config.{Config}
+use Rattle.fdb_proxy.specs.declared.config.Config.{Config}
 use Rattle.fdb_core.specs.declared.roles.shard.ShardRole.{ShardRole}
 use Rattle.fdb_core.specs.machine.ClientSteps.{fault_among, shard_begins}
 use Rattle.fdb_core.specs.machine.RoleSteps.{shard_fault}

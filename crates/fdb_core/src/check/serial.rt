@@ -9,7 +9,7 @@ ghost use Rattle.fdb_core.specs.check.Checking.{AnsweredIn, map_after, IsPlainBo
 ghost use Rattle.fdb_core.specs.check.Comparing.{AnsweredAt, Checks};
 ghost use Rattle.fdb_core.specs.refinement.Resolving.{ResolverAt, IsNext};
 ghost use Rattle.fdb_core.specs.refinement.Roles.{is_commit};
-ghost use Rattle.fdb_core.specs.machine.Verdicts.{outcomes_on};
+ghost use Rattle.fdb_proxy.specs.Verdicts.{outcomes_on};
 
 use crate::book::last_version;
 use crate::check::compare::{Moment, compare};
@@ -19,10 +19,10 @@ use crate::roles::client::Placed;
 use crate::roles::commit_proxy::deciding::decide_batch;
 use crate::roles::resolver::{first_resolver, judge_entry};
 use crate::roles::shard::ShardRole;
-use crate::step::Outcome;
 use crate::world::CheckFault;
 use fdb_keys::{Items, Refusal};
 use fdb_mutations::{Mutation, PlainMap};
+use fdb_proxy::Outcome;
 use fdb_resolver::ResolverCore;
 use fdb_txn::{Entry, Sealed};
 use std::alloc::Global;

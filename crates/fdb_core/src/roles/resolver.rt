@@ -7,7 +7,7 @@ ghost use Rattle.fdb_txn.specs.declared.entry.Entry.{Entry};
 ghost use Rattle.fdb_txn.specs.rules.Admission.{has_points};
 ghost use Rattle.fdb_txn.specs.book.Book.{seen_of};
 ghost use Rattle.fdb_core.specs.refinement.Resolving.{is_judged, item_of, items_from, sent_by, ResolverAt, IsNext};
-ghost use Rattle.fdb_core.specs.machine.Verdicts.{verdicts_on};
+ghost use Rattle.fdb_proxy.specs.Verdicts.{verdicts_on};
 
 use fdb_keys::{Items, RangeSet, Refusal};
 use fdb_resolver::{Item, Part, ResolverCore, Verdict};

@@ -7,12 +7,12 @@ ghost use Rattle.fdb_keys.specs.Texts.{is_bound};
 ghost use Rattle.fdb_core.specs.declared.roles.shard.ShardRole.{ShardRole as Role};
 ghost use Rattle.fdb_core.specs.refinement.ShardReads.{range_fault, HasTheRunIn};
 
-use crate::config::Config;
 use crate::roles::shard::ShardRole;
 use bytes::Bytes;
 use fdb_client::{Page, Snapshot};
 use fdb_keys::{Key, KeyRange, Refusal};
 use fdb_mutations::PlainMap;
+use fdb_proxy::Config;
 use fdb_storage::ShardMap;
 use fdb_txn::Entry;
 use std::alloc::Global;

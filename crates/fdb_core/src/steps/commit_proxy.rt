@@ -15,9 +15,10 @@ use crate::roles::commit_proxy::logging::messages_for;
 use crate::roles::commit_proxy::replying::{place_all, reply_all, tell_all};
 use crate::roles::resolver::{are_any_judged, sent_of};
 use crate::roles::sequencer::{issue, take_report};
-use crate::step::{Answered, Outcome};
+use crate::step::Answered;
 use fdb_keys::{Items, Refusal};
 use fdb_log::LogMsg;
+use fdb_proxy::Outcome;
 use fdb_sequencer::Ticket;
 use fdb_txn::{Batch, Entry};
 

@@ -7,8 +7,8 @@ use Rattle.fdb_keys.specs.declared.refusal.Refusal.TheVariants.{TransactionTooOl
 use Rattle.fdb_keys.specs.Refusals.{code_of}
 use Rattle.fdb_resolver.specs.declared.verdict.Verdict.{Verdict}
 use Rattle.fdb_resolver.specs.declared.verdict.Verdict.TheVariants as verdict
-use Rattle.fdb_core.specs.declared.step.Outcome.{Outcome}
-use Rattle.fdb_core.specs.declared.step.Outcome.TheVariants as outcome
+use Rattle.fdb_proxy.specs.declared.outcome.Outcome.{Outcome}
+use Rattle.fdb_proxy.specs.declared.outcome.Outcome.TheVariants as outcome
 use Rattle.fdb_core.specs.declared.step.Answered.{Answered}
 use Rattle.fdb_core.specs.declared.step.Answered.TheVariants as answered
 use Rattle.fdb_sim.specs.declared.script.step_line.Kind.{Kind}

@@ -2,7 +2,7 @@
 use Rattle.std.specs.Prelude.{◌≡◌, ℕ, ◌==◌, nat_lt, Bool, ◌⊎◌, List, [], ◌∷◌, ◌++◌, length, Option, Some, None, if◌then◌else◌, codes}
 use Rattle.std.specs.List.{list_any, slice_split, AllZip}
 use Rattle.std.specs.Option.{option_or}
-use Rattle.fdb_core.specs.declared.config.Config.{Config}
+use Rattle.fdb_proxy.specs.declared.config.Config.{Config}
 use Rattle.fdb_keys.specs.Texts.{begins_with_ff, key_fault}
 use Rattle.fdb_keys.specs.Limits.{key_limit}
 use Rattle.fdb_keys.specs.declared.refusal.Refusal.{Refusal}

@@ -2,8 +2,8 @@
 ghost use Rattle.std.specs.Prelude.{◌≡◌, ◌<◌, ◌^◌, IfOk};
 ghost use Rattle.fdb_core.specs.refinement.Roles.{outcome_by, verdict_for, outcomes_by};
 
-use crate::step::Outcome;
 use fdb_keys::Items;
+use fdb_proxy::Outcome;
 use fdb_resolver::Verdict;
 use std::alloc::{AllocError, Global};
 

@@ -6,10 +6,10 @@ ghost use Rattle.fdb_txn.specs.rules.Messages.{at_place};
 ghost use Rattle.fdb_storage.specs.LogMessages.{tagged, is_for_log};
 ghost use Rattle.fdb_core.specs.refinement.Roles.{is_commit, body_by, message_by, message_with};
 
-use crate::step::Outcome;
 use fdb_keys::{Items, Refusal};
 use fdb_log::{LogMsg, Tagged};
 use fdb_mutations::Mutation;
+use fdb_proxy::Outcome;
 use fdb_storage::ShardMap;
 use fdb_txn::{Entry, Sealed};
 use std::alloc::{AllocError, Global};

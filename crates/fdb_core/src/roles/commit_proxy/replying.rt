@@ -5,9 +5,9 @@ ghost use Rattle.fdb_core.specs.machine.Sessions.{tell_all};
 
 use crate::roles::client::Placed;
 use crate::roles::client::sessions::Sessions;
-use crate::step::Outcome;
 use fdb_client::Transcript;
 use fdb_keys::Items;
+use fdb_proxy::Outcome;
 use fdb_txn::Spot;
 use std::alloc::{AllocError, Global};
 

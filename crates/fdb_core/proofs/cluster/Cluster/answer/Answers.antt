@@ -5,7 +5,7 @@ use Rattle.fdb_core.specs.declared.cluster.Cluster.{Cluster}
 use Rattle.fdb_core.specs.machine.Roles.{CommitProxy, Idle}
 use Rattle.fdb_client.specs.declared.program.Transcript.{Transcript}
 use Rattle.fdb_core.specs.declared.step.Answered.TheVariants as answered
-use Rattle.fdb_core.specs.declared.step.Outcome.{Outcome}
+use Rattle.fdb_proxy.specs.declared.outcome.Outcome.{Outcome}
 use Rattle.fdb_core.specs.refinement.Cluster.{machine_of, ReadsWithin}
 use Rattle.fdb_core.specs.machine.CommitProxySteps.{is_reported, placed_from, replies_from}
 use Rattle.fdb_core.specs.machine.Sessions.{tell_all}

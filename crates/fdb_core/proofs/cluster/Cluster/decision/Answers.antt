@@ -4,7 +4,7 @@ use Rattle.std.proofs.lemmas.Bool.{cond-true, cond-false}
 use Rattle.std.proofs.lemmas.Option.{same_Some, slice_get_read}
 use Rattle.fdb_txn.specs.declared.entry.Entry.{Entry}
 use Rattle.fdb_txn.specs.book.Transactions.{Transaction}
-use Rattle.fdb_core.specs.declared.step.Outcome.{Outcome}
+use Rattle.fdb_proxy.specs.declared.outcome.Outcome.{Outcome}
 use Rattle.fdb_resolver.specs.declared.verdict.Verdict.{Verdict}
 use Rattle.std.specs.List.{range_with_len}
 use Rattle.fdb_core.specs.refinement.Roles.{outcomes_by, message_by}

@@ -9,7 +9,7 @@ use Rattle.fdb_core.specs.machine.RoleSteps.{resolves}
 use Rattle.fdb_core.specs.refinement.Cluster.{machine_of, CommitProxiesRefine}
 use Rattle.fdb_txn.specs.book.Book.{seen_before}
 use Rattle.fdb_core.specs.refinement.Resolving.{TakesNext, taken_by}
-use Rattle.fdb_core.specs.machine.Verdicts.{verdicts_on}
+use Rattle.fdb_proxy.specs.Verdicts.{verdicts_on}
 use Rattle.fdb_core.proofs.refinement.DecideLemmas.{one-item}
 use Rattle.fdb_core.proofs.refinement.RoleTies.{resolver-is, resolver-number, resolver-awaits, resolvers-next, numbers-next, commit_proxies-resolved}
 use Rattle.fdb_core.proofs.machine.Transitions.{resolves-transition}

@@ -3,7 +3,7 @@ use Rattle.std.proofs.lemmas.List.{map-append}
 use Rattle.std.proofs.lemmas.Option.{slice_get_read, slice_get-get_or}
 use Rattle.fdb_keys.specs.Points.{Point}
 use Rattle.fdb_txn.specs.book.Transactions.{Transaction}
-use Rattle.fdb_core.specs.declared.step.Outcome.{Outcome}
+use Rattle.fdb_proxy.specs.declared.outcome.Outcome.{Outcome}
 use Rattle.fdb_log.specs.declared.message.Tagged.{Tagged}
 use Rattle.fdb_txn.specs.rules.Messages.{at_place}
 use Rattle.fdb_storage.specs.LogMessages.{tagged}

@@ -8,8 +8,8 @@ use Rattle.fdb_txn.specs.rules.Owners.{is_asked}
 use Rattle.fdb_txn.specs.rules.Admission.{is_fresh, admits, committed}
 use Rattle.fdb_resolver.specs.declared.verdict.Verdict.{Verdict}
 use Rattle.fdb_resolver.specs.declared.verdict.Verdict.TheVariants as verdict
-use Rattle.fdb_core.specs.declared.step.Outcome.{Outcome}
-use Rattle.fdb_core.specs.declared.step.Outcome.TheVariants as outcome
+use Rattle.fdb_proxy.specs.declared.outcome.Outcome.{Outcome}
+use Rattle.fdb_proxy.specs.declared.outcome.Outcome.TheVariants as outcome
 
 -- what resolver i says of a place after the earlier ones
 abbrev pub verdict_at : List Point → ℕ → List Place → Place → Verdict

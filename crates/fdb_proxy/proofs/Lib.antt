@@ -1,0 +1,10 @@
+pub mod CloneLemmas
+pub mod DecidingLemmas
+pub mod LoggingLemmas
+pub mod OutcomeLemmas
+pub mod PartingLemmas
+pub mod RequestLemmas
+pub mod ResolvingLemmas
+pub mod SpreadLemmas
+pub mod TicketLemmas
+pub mod VerdictLemmas

@@ -1,0 +1,199 @@
+-- What each resolver is sent of a batch, place by place.
+use Rattle.std.proofs.Common.{◌≡◌, ◌∙◌, sym, ap, subst, refl, ℕ, zero, suc, ◌+◌, true, false, ◌||◌, List, [], ◌∷◌, ◌++◌, append-nil, length, slice_get, Option, Some, None, ⊎_elim, inl, inr, arith}
+use Rattle.std.specs.Option.{option_to_list}
+use Rattle.std.proofs.lemmas.Bool.{or_left, or_right, or_cases, false_from_ne_true, both_ways}
+use Rattle.std.proofs.lemmas.Slice.Zip.{AllZip-long}
+use Rattle.fdb_keys.specs.Points.{Point}
+use Rattle.fdb_keys.specs.Ranges.{Range, in_set}
+use Rattle.fdb_txn.specs.book.Book.{Stamped, Place, placed}
+use Rattle.fdb_txn.specs.book.Transactions.{Transaction}
+use Rattle.fdb_txn.specs.rules.Admission.{has_points}
+use Rattle.fdb_txn.specs.rules.Owners.{is_asked}
+use Rattle.fdb_txn.specs.rules.Resolvers.{part_reads, part_writes}
+use Rattle.fdb_txn.proofs.rules.AskedLemmas.{points_from-in_set, point_of-set}
+use Rattle.fdb_txn.proofs.rules.CornersLemmas.{asked_at_some_point}
+use Rattle.fdb_resolver.specs.declared.part.Item.{Item}
+use Rattle.fdb_resolver.specs.declared.part.Part.{Part}
+use Rattle.fdb_resolver.specs.RuleLaws.{IsItemOf}
+use Rattle.fdb_proxy.specs.declared.parting.Spread.{Spread}
+use Rattle.fdb_proxy.specs.Parting.{AreItems}
+use Rattle.fdb_proxy.specs.Spreads.{is_held, IsSpreadOf, AreSpreadsOf, IsItemIfAsked}
+
+-- two sets of what resolver i holds of a place's reads and writes
+module _ (splits : List Point) (i : ℕ) (place : Place) (spread : Spread) (reads writes : List Range)
+    (are : IsSpreadOf splits place spread) (of_reads : (x : Point) → in_set reads x ≡ is_held spread.reads i x)
+    (of_writes : (x : Point) → in_set writes x ≡ is_held spread.writes i x) where
+  -- it isn't asked where neither has a point
+  pub unasked : has_points reads ≡ false → has_points writes ≡ false → is_asked splits i place ≡ false
+  unasked no_reads no_writes = false_from_ne_true _ (λ asked.
+      let some = (asked_at_some_point splits i place).0 asked in
+      ⊎_elim
+      (λ writes_it. both_ways _ no_writes
+      (points_from-in_set writes some.0 (of_writes some.0 ∙ are.writes i some.0 ∙ writes_it)))
+      (λ reads_it. both_ways _ no_reads
+      (points_from-in_set reads some.0 (of_reads some.0 ∙ are.reads i some.0 ∙ reads_it)))
+      (or_cases (part_writes splits i place some.0) (part_reads splits i place some.0) some.1))
+
+  -- it is asked where one of them has
+  asked : (has_points reads || has_points writes) ≡ true → is_asked splits i place ≡ true
+  asked some = (asked_at_some_point splits i place).1 (⊎_elim
+      (λ (some_reads : has_points reads ≡ true).
+      let point = point_of-set reads some_reads in (
+        point.0,
+        or_right (part_writes splits i place point.0) _
+            (sym (are.reads i point.0) ∙ sym (of_reads point.0) ∙ point.1),
+      ))
+      (λ (some_writes : has_points writes ≡ true).
+      let point = point_of-set writes some_writes in
+      (point.0, or_left _ _ (sym (are.writes i point.0) ∙ sym (of_writes point.0) ∙ point.1)))
+      (or_cases (has_points reads) (has_points writes) some))
+
+  -- and is sent both
+  pub item_if_asked : (number : ℕ) → (has_points reads || has_points writes) ≡ true
+      → IsItemIfAsked splits i number place (Some (record {
+        place = number;
+        read_version = spread.read_version;
+        has_reads = spread.has_reads;
+        reads = reads;
+        writes = writes;
+      }))
+  item_if_asked number some = (
+    asked some,
+    refl,
+    record {
+      read = are.read;
+      has_reads = are.has_reads;
+      reads = λ x. of_reads x ∙ are.reads i x;
+      writes = λ x. of_writes x ∙ are.writes i x;
+    },
+  )
+
+module _ (splits : List Point) (moves : List Stamped) (i version : ℕ) where
+  -- a batch with one place more, of which the resolver is asked
+  items-push : (p : ℕ) (ts : List Transaction) (t : Transaction) (items : List Item) (item : Item)
+      → AreItems splits moves i version p ts items → is_asked splits i (placed version moves t) ≡ true
+      → item.place ≡ p + length ts → IsItemOf splits i (placed version moves t) item
+      → AreItems splits moves i version p (ts ++ t ∷ []) (items ++ item ∷ [])
+  items-push p [] t items item are asked number is =
+      inl (asked, (item, [], ap (λ (before : List Item). before ++ item ∷ []) are, omega (arith, number), is, refl))
+  items-push p (first ∷ ts) t items item are asked number is =
+      let next : item.place ≡ suc p + length ts = omega (arith, number) in
+      ⊎_elim
+      (λ here.
+      let its = here.1 in
+      inl (
+        here.0,
+        (
+          its.0,
+          its.1 ++ item ∷ [],
+          ap (λ (all : List Item). all ++ item ∷ []) its.2,
+          its.3,
+          its.4,
+          items-push (suc p) ts t its.1 item its.5 asked next is,
+        ),
+      ))
+      (λ other. inr (other.0, items-push (suc p) ts t items item other.1 asked next is))
+      are
+
+  -- a batch with one place more, of which it isn't asked
+  items-skip : (p : ℕ) (ts : List Transaction) (t : Transaction) (items : List Item)
+      → AreItems splits moves i version p ts items → is_asked splits i (placed version moves t) ≡ false
+      → AreItems splits moves i version p (ts ++ t ∷ []) items
+  items-skip p [] t items are unasked = inr (unasked, are)
+  items-skip p (first ∷ ts) t items are unasked = ⊎_elim
+      (λ here.
+      let its = here.1 in
+      inl (here.0, (its.0, its.1, its.2, its.3, its.4, items-skip (suc p) ts t its.1 its.5 unasked)))
+      (λ other. inr (other.0, items-skip (suc p) ts t items other.1 unasked))
+      are
+
+  -- with its item, if it is asked
+  items-add : (ts : List Transaction) (t : Transaction) (items : List Item) (given : Option Item)
+      → AreItems splits moves i version 0 ts items → IsItemIfAsked splits i (length ts) (placed version moves t) given
+      → AreItems splits moves i version 0 (ts ++ t ∷ []) (items ++ option_to_list given)
+  items-add ts t items None are unasked =
+      subst (λ (all : List Item). AreItems splits moves i version 0 (ts ++ t ∷ []) all) (sym (append-nil items))
+      (items-skip 0 ts t items are unasked)
+  items-add ts t items (Some item) are asked =
+      items-push 0 ts t items item are asked.0 (omega (arith, asked)) asked.2
+
+-- a batch's last transaction, with its spread
+last-spread : (splits : List Point) (moves : List Stamped) (version : ℕ) (batch : List Transaction)
+    (spreads : List Spread) (spread : Spread) → AreSpreadsOf splits moves version batch (spreads ++ spread ∷ [])
+    → (ts : List Transaction) × (t : Transaction) × (batch ≡ ts ++ t ∷ []) × AreSpreadsOf splits moves version ts spreads
+    × IsSpreadOf splits (placed version moves t) spread
+last-spread splits moves version [] [] spread are = absurd are
+last-spread splits moves version [] (first ∷ spreads) spread are = absurd are
+last-spread splits moves version (t ∷ []) [] spread are = ([], t, refl, tt, are.0)
+last-spread splits moves version (t ∷ next ∷ ts) [] spread are = absurd are.1
+last-spread splits moves version (t ∷ ts) (first ∷ spreads) spread are =
+    let rest = last-spread splits moves version ts spreads spread are.1 in
+    (t ∷ rest.0, rest.1, ap (λ (others : List Transaction). t ∷ others) rest.2, (are.0, rest.3), rest.4)
+
+-- the items of one place more come after those before it
+pub items-next : (splits : List Point) (moves : List Stamped) (i version : ℕ) (batch : List Transaction)
+    (spreads : List Spread) (spread : Spread) (number : ℕ) (items : List Item) (given : Option Item)
+    → length spreads ≡ number
+    → ((ts : List Transaction) → AreSpreadsOf splits moves version ts spreads
+    → AreItems splits moves i version 0 ts items)
+    → ((place : Place) → IsSpreadOf splits place spread → IsItemIfAsked splits i number place given)
+    → AreSpreadsOf splits moves version batch (spreads ++ spread ∷ [])
+    → AreItems splits moves i version 0 batch (items ++ option_to_list given)
+items-next splits moves i version batch spreads spread number items given count before its are =
+    let last = last-spread splits moves version batch spreads spread are in
+    let place = placed version moves last.1 in
+    let numbered : number ≡ length last.0 = sym count ∙ AllZip-long _ last.0 spreads last.3 in
+    subst (λ (all : List Transaction). AreItems splits moves i version 0 all (items ++ option_to_list given)) (sym last.2)
+    (items-add splits moves i version last.0 last.1 items given (before last.0 last.3)
+    (subst (λ (n : ℕ). IsItemIfAsked splits i n place given) numbered (its place last.4)))
+
+-- a batch with one transaction more, and its spread
+spreads-push : (splits : List Point) (moves : List Stamped) (version : ℕ) (ts : List Transaction) (t : Transaction)
+    (spreads : List Spread) (spread : Spread) → AreSpreadsOf splits moves version ts spreads
+    → IsSpreadOf splits (placed version moves t) spread
+    → AreSpreadsOf splits moves version (ts ++ t ∷ []) (spreads ++ spread ∷ [])
+spreads-push splits moves version [] t [] spread are is = (is, tt)
+spreads-push splits moves version [] t (first ∷ spreads) spread are is = absurd are
+spreads-push splits moves version (other ∷ ts) t [] spread are is = absurd are
+spreads-push splits moves version (other ∷ ts) t (first ∷ spreads) spread are is =
+    (are.0, spreads-push splits moves version ts t spreads spread are.1 is)
+
+-- the same of lists that are longer by those
+pub spreads-next : (splits : List Point) (moves : List Stamped) (version : ℕ) (ts all : List Transaction)
+    (t : Transaction) (old new : List Spread) (spread : Spread) → all ≡ ts ++ t ∷ [] → new ≡ old ++ spread ∷ []
+    → AreSpreadsOf splits moves version ts old → IsSpreadOf splits (placed version moves t) spread
+    → AreSpreadsOf splits moves version all new
+spreads-next splits moves version ts all t old new spread longer adds are is =
+    subst (λ (batch : List Transaction). AreSpreadsOf splits moves version batch new) (sym longer)
+    (subst (AreSpreadsOf splits moves version (ts ++ t ∷ [])) (sym adds)
+    (spreads-push splits moves version ts t old spread are is))
+
+-- what holds of each part and of one more at its number holds of all
+parts-push : (P : ℕ → Part → Type 0) (parts : List Part) (part : Part)
+    → ((i : ℕ) (given : Part) → slice_get parts i ≡ Some given → P i given) → P (length parts) part
+    → (i : ℕ) (given : Part) → slice_get (parts ++ part ∷ []) i ≡ Some given → P i given
+parts-push P [] part each last zero given there = let same : part ≡ given = cc in subst (P 0) same last
+parts-push P [] part each last (suc i) given there = cc
+parts-push P (first ∷ parts) part each last zero given there = each zero given there
+parts-push P (first ∷ parts) part each last (suc i) given there =
+    parts-push (λ (j : ℕ). P (suc j)) parts part (λ j one at. each (suc j) one at) last i given there
+
+-- an empty batch has no items
+pub no-items : (splits : List Point) (moves : List Stamped) (i version : ℕ) (batch : List Transaction)
+    (items : List Item) → AreSpreadsOf splits moves version batch [] → items ≡ []
+    → AreItems splits moves i version 0 batch items
+no-items splits moves i version [] items are none = none
+no-items splits moves i version (t ∷ ts) items are none = absurd are
+
+-- the same of a list that is longer by that one
+pub parts-next : (P : ℕ → Part → Type 0) (old new : List Part) (number : ℕ) (part : Part) → new ≡ old ++ part ∷ []
+    → length old ≡ number → ((i : ℕ) (given : Part) → slice_get old i ≡ Some given → P i given) → P number part
+    → (i : ℕ) (given : Part) → slice_get new i ≡ Some given → P i given
+parts-next P old new number part adds count each last i given there =
+    parts-push P old part each (subst (λ (n : ℕ). P n part) (sym count) last) i given
+    (ap (λ (parts : List Part). slice_get parts i) (sym adds) ∙ there)
+
+-- a batch has as many spreads as transactions
+pub spreads-length : (splits : List Point) (moves : List Stamped) (version : ℕ) (batch : List Transaction)
+    (spreads : List Spread) → AreSpreadsOf splits moves version batch spreads → length spreads ≡ length batch
+spreads-length splits moves version batch spreads are = AllZip-long _ batch spreads are

@@ -1,0 +1,51 @@
+-- Which verdicts are missing, resolver by resolver.
+use Rattle.std.proofs.Common.{◌≡◌, ◌∙◌, refl, sym, ap, ℕ, zero, suc, Bool, true, false, ◌&&◌, List, [], ◌∷◌, drop, length, slice_get, ◌==◌, Option, Some, None, if◌then◌else◌}
+use Rattle.std.proofs.lemmas.Bool.{and_parts}
+use Rattle.fdb_resolver.specs.declared.part.Item.{Item}
+use Rattle.fdb_resolver.specs.declared.part.Part.{Part}
+use Rattle.fdb_proxy.specs.Deciding.{Said}
+use Rattle.fdb_proxy.specs.Resolving.{are_on, asks, has_not_come, first_missing}
+
+missing-past : (m : ℕ) (parts : List Part) → first_missing m parts [] ≡ None
+missing-past m [] = refl
+missing-past m (part ∷ parts) = refl
+
+-- one that isn't missing is passed over
+pub missing-next : (m n : ℕ) (parts : List Part) (verdicts : List (Option Said)) (part : Part)
+    → slice_get parts n ≡ Some part → asks part && has_not_come (slice_get verdicts n) ≡ false
+    → first_missing (suc m) (drop (suc n) parts) (drop (suc n) verdicts)
+    ≡ first_missing m (drop n parts) (drop n verdicts)
+missing-next m n [] verdicts part there isnt = cc
+missing-next m zero (first ∷ parts) [] part there isnt = missing-past (suc m) parts
+missing-next m zero (first ∷ parts) (of ∷ verdicts) part there isnt =
+    let same : first ≡ part = cc in
+    sym (ap (λ (b : Bool). if b then Some m else first_missing (suc m) parts verdicts)
+    (ap (λ (p : Part). asks p && has_not_come (Some of)) same ∙ isnt))
+missing-next m (suc n) (first ∷ parts) [] part there isnt =
+    missing-past (suc m) (drop (suc n) parts) ∙ sym (missing-past m (drop n parts))
+missing-next m (suc n) (first ∷ parts) (of ∷ verdicts) part there isnt =
+    missing-next m n parts verdicts part there isnt
+
+none-missing : (b : Bool) → b && false ≡ true → ⊥
+none-missing true is = cc
+none-missing false is = cc
+
+-- the first one that is missing is found
+pub missing-here : (m n : ℕ) (parts : List Part) (verdicts : List (Option Said)) (part : Part)
+    → slice_get parts n ≡ Some part → asks part && has_not_come (slice_get verdicts n) ≡ true
+    → first_missing m (drop n parts) (drop n verdicts) ≡ Some m
+missing-here m n [] verdicts part there is = cc
+missing-here m zero (first ∷ parts) [] part there is = absurd (none-missing (asks part) is)
+missing-here m zero (first ∷ parts) (of ∷ verdicts) part there is =
+    let same : first ≡ part = cc in
+    ap (λ (b : Bool). if b then Some m else first_missing (suc m) parts verdicts)
+    (ap (λ (p : Part). asks p && has_not_come (Some of)) same ∙ is)
+missing-here m (suc n) (first ∷ parts) [] part there is = absurd (none-missing (asks part) is)
+missing-here m (suc n) (first ∷ parts) (of ∷ verdicts) part there is = missing-here m n parts verdicts part there is
+
+-- verdicts on as many places are on the same ones
+pub on-lengths : (items : List Item) (said : Said) → are_on items said ≡ true → length items ≡ length said
+on-lengths [] [] is = refl
+on-lengths [] (one ∷ said) is = cc
+on-lengths (item ∷ items) [] is = cc
+on-lengths (item ∷ items) (one ∷ said) is = ap suc (on-lengths items said (and_parts (item.place == one.0) (are_on items said) is).1)

@@ -1,0 +1,14 @@
+use Rattle.std.proofs.Common.{◌≡◌, ◌&&◌, ◌||◌, ℕ}
+use Rattle.std.specs.Slice.Iter.{iter_rest}
+use Rattle.fdb_keys.specs.Points.{Point}
+use Rattle.fdb_keys.specs.Ranges.{in_set}
+use Rattle.fdb_owners.specs.Ownership.{owned_between}
+use Rattle.fdb_proxy.specs.Spreads.{is_held}
+use Rattle.fdb_proxy.proofs.parting.spread_reads.Given as goal
+
+-- with what is left spread too, all is
+abbrev pub invariant-loop-range : goal.invariant-loop-range
+invariant-loop-range l =
+    (i : ℕ) (x : Point)
+    → (is_held l.parts.items i x || in_set (iter_rest l.range-iterator) x && owned_between l.owners i x l.from l.version)
+    ≡ (in_set l.reads x && owned_between l.owners i x l.from l.version)

@@ -1,0 +1,15 @@
+pub mod Askers
+pub mod CommitFields
+pub mod CommitProxies
+pub mod Configs
+pub mod Deciding
+pub mod Flags
+pub mod Logging
+pub mod Parting
+pub mod RequestFields
+pub mod Requests
+pub mod Resolving
+pub mod Spreads
+pub mod VerdictLaws
+pub mod Verdicts
+pub use Rattle.fdb_keys.specs.Answers

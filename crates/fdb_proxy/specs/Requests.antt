@@ -1,0 +1,22 @@
+-- The requests of a commit proxy.
+use Rattle.std.specs.Prelude.{◌≡◌, ℕ, List, Option, position}
+use Rattle.fdb_txn.specs.Equality.{txn_id_eq}
+use Rattle.fdb_txn.specs.book.Transactions.{Transaction}
+use Rattle.fdb_txn.specs.declared.txn_id.TxnId.{TxnId}
+
+pub record Requests : Type 0 where
+  -- those of the batch in flight, by place
+  pub batch : List Transaction
+  -- those that wait for a batch, in order
+  pub waiting : List Transaction
+  -- how many more may be submitted without memory
+  pub spare : ℕ
+
+-- these are in flight, and these wait
+pub record Holds (requests : Requests) (batch waiting : List Transaction) : Type 0 where
+  pub in_flight : requests.batch ≡ batch
+  pub in_line : requests.waiting ≡ waiting
+
+-- the first of the transactions with the name
+abbrev pub place_of : TxnId → List Transaction → Option ℕ
+place_of id transactions = position (λ (t : Transaction). txn_id_eq t.id id) transactions

@@ -1,0 +1,36 @@
+-- A transaction of a batch, spread over the resolvers that are asked about it.
+use Rattle.std.specs.Prelude.{◌≡◌, ℕ, Bool, true, false, ◌&&◌, ◌==◌, List, Option, MatchOption}
+use Rattle.std.specs.List.{list_any, AllZip}
+use Rattle.fdb_keys.specs.Points.{Point}
+use Rattle.fdb_keys.specs.Ranges.{in_set}
+use Rattle.fdb_txn.specs.book.Book.{Stamped, Place, placed}
+use Rattle.fdb_txn.specs.book.Transactions.{Transaction}
+use Rattle.fdb_txn.specs.rules.Admission.{has_points}
+use Rattle.fdb_txn.specs.rules.Owners.{is_asked}
+use Rattle.fdb_txn.specs.rules.Resolvers.{part_reads, part_writes}
+use Rattle.fdb_owners.specs.declared.parts.Owned.{Owned}
+use Rattle.fdb_resolver.specs.declared.part.Item.{Item}
+use Rattle.fdb_resolver.specs.RuleLaws.{IsItemOf}
+use Rattle.fdb_proxy.specs.declared.parting.Spread.{Spread}
+
+-- the point lies in a part of resolver i
+abbrev pub is_held : List Owned → ℕ → Point → Bool
+is_held parts i x = list_any (λ (part : Owned). (part.resolver == i) && in_set part.ranges x) parts
+
+-- the parts give each resolver what it is sent of the place
+pub record IsSpreadOf (splits : List Point) (place : Place) (spread : Spread) : Type 0 where
+  pub read : spread.read_version ≡ place.transaction.read
+  pub has_reads : spread.has_reads ≡ has_points place.transaction.reads
+  pub reads : (i : ℕ) (x : Point) → is_held spread.reads i x ≡ part_reads splits i place x
+  pub writes : (i : ℕ) (x : Point) → is_held spread.writes i x ≡ part_writes splits i place x
+
+-- one for each transaction of a batch at a version
+abbrev pub AreSpreadsOf : List Point → List Stamped → ℕ → List Transaction → List Spread → Type 0
+AreSpreadsOf splits moves version =
+    AllZip (λ (t : Transaction) (spread : Spread). IsSpreadOf splits (placed version moves t) spread)
+
+-- resolver i's item for the place with the number, none where it isn't asked about the place
+abbrev pub IsItemIfAsked : List Point → ℕ → ℕ → Place → Option Item → Type 0
+IsItemIfAsked splits i number place item =
+    MatchOption item (is_asked splits i place ≡ false)
+    (λ (given : Item). (is_asked splits i place ≡ true) × (given.place ≡ number) × IsItemOf splits i place given)

@@ -1,0 +1,337 @@
+use crate::config::Config;
+use crate::logging::{Logging, take_acknowledgement};
+use crate::outcome::Outcome;
+use crate::requests::Requests;
+use crate::resolving::take_verdicts;
+use crate::stage::Stage;
+use crate::ticketing::{is_stale, resolve};
+use fdb_keys::{Items, Refusal, Refused};
+use fdb_log::{LogAck, LogMsg};
+use fdb_owners::Owners;
+use fdb_resolver::{Part, Verdicts};
+use fdb_sequencer::Ticket;
+use fdb_storage::ShardMap;
+use fdb_txn::{Batch, Sealed, TxnId};
+use std::alloc::Global;
+use std::marker::Model;
+use std::mem;
+
+/// A commit proxy: it makes batches of what is submitted, asks resolvers about them, decides, and tells the logs.
+///
+/// A batch is sealed, and given up or, once it has a ticket, resolved; it is decided, logged and done. Then the next one
+/// may be sealed. Once memory ran out while it learnt a ticket, or once it was told to fail, a proxy has failed: every
+/// call that may be refused is, as `Failed`.
+#[derive(Debug, Drop)]
+pub struct CommitCore {
+    alloc: Global,
+    index: u32,
+    logs: u32,
+    shards: ShardMap,
+    owners: Owners,
+    // the version of the last ticket
+    last: u64,
+    requests: Requests,
+    stage: Stage,
+    is_failed: bool,
+}
+
+impl Model for CommitCore {
+    ghost use Rattle.fdb_proxy.specs.CommitProxies.{ProxyWithRoom, IsCommitProxy};
+    ghost use Rattle.fdb_proxy.specs.CommitFields.{proxy_of, with_room};
+
+    ghost Value = { ProxyWithRoom };
+
+    ghost view = { with_room };
+
+    ghost invariant = { λ core. IsCommitProxy (proxy_of core) };
+}
+
+impl CommitCore {
+    ghost use Rattle.std.specs.Prelude.{◌≡◌, ◌≤◌, ⊤, true, [], take, IsSome, IsNone, OnErr, map};
+    ghost use Rattle.fdb_keys.specs.Answers.{Answers, AnswersExactly, AnswersOrHandsBack, AnswersExactlyOrHandsBack};
+    ghost use Rattle.fdb_txn.specs.Limits.{place_limit};
+    ghost use Rattle.fdb_txn.specs.book.Transactions.{Transaction};
+    ghost use Rattle.fdb_proxy.specs.CommitProxies.{new_fault, IsNewProxy, failed_fault, name_fault, submit_fault, submitting, seal_fault, sealing, unsealing, IsTicketFor, learn_fault, HasLearntTicket, HasFailed, parts_fault, parts_in, verdict_fault, hearing, decide_fault, outcomes_in, deciding, messages_fault, messages_of, logged_fault, acknowledging, all_logged_fault, done_fault, answers_in, finishing};
+
+    /// The commit proxy with the number, of so many roles as the configuration says. Nobody waits there yet. Refused as
+    /// `BadConfig` where the configuration isn't legal and where it has no proxy with the number, and as `NoMemory`.
+    pub fn new(alloc: Global, index: u32, config: &Config) -> Result<Self, Refusal>
+        ensures { Answers result (new_fault index config.now) (λ core. IsNewProxy index config.now core.proxy) }
+    {
+        config.check()?;
+        if index >= config.proxies {
+            return Err(Refusal::BadConfig);
+        }
+        let splits = config.resolver_splits.as_slice();
+        let owners = Owners::new(alloc, splits, splits.len() as u32 + 1)?;
+        let shards = ShardMap::new(alloc, config.shard_splits.as_slice())?;
+        Ok(CommitCore {
+            alloc,
+            index,
+            logs: config.logs,
+            shards,
+            owners,
+            last: 0,
+            requests: Requests::new(alloc),
+            stage: Stage::Idle,
+            is_failed: false,
+        })
+    }
+
+    /// Makes room for one more request, so that the next `submit` takes no memory. Nothing else changes. Refused as
+    /// `Failed`, and as `NoMemory`.
+    pub fn reserve(&mut self) -> Result<(), Refusal>
+        ensures answers { Answers result (failed_fault self.old.proxy) (λ _. 1 ≤ self.new.spare) }
+        ensures same { self.new.proxy ≡ self.old.proxy }
+    {
+        self.check_works()?;
+        self.requests.reserve()?;
+        Ok(())
+    }
+
+    /// Takes a request, which waits for a batch after those that wait already. It takes no memory where there is room
+    /// for one more. Refused as `Failed`; as `Repeated` where a request of its name is in flight or waits, with the place
+    /// of that one, counted from the first place of the batch in flight on through those that wait (and no higher than
+    /// 2^32 - 1); and as `NoMemory`. A refusal hands the request back, and nothing changes.
+    pub fn submit(&mut self, sealed: Sealed) -> Result<(), Refused<Sealed>>
+        ensures answers { AnswersOrHandsBack result sealed (submit_fault self.old.proxy sealed)
+            (λ _. self.new.proxy ≡ submitting self.old.proxy sealed) }
+        ensures room { 1 ≤ self.old.spare → AnswersExactlyOrHandsBack result sealed
+            (submit_fault self.old.proxy sealed) (λ _. ⊤) }
+        ensures refused { OnErr result (self.new.proxy ≡ self.old.proxy) }
+    {
+        if let Err(why) = self.check_name(sealed.id()) {
+            return Err(Refused { why, back: sealed });
+        }
+        match self.requests.submit(sealed) {
+            Ok(()) => Ok(()),
+            Err(failed) => Err(Refused {
+                why: Refusal::NoMemory,
+                back: failed.value,
+            }),
+        }
+    }
+
+    /// The proxy has failed from now on.
+    pub fn fail(&mut self)
+        ensures { self.new.proxy ≡ record self.old.proxy { is_failed = true } }
+    {
+        self.is_failed = true;
+    }
+
+    /// The first 4,096 of those that wait, in order, become the batch in flight, all of them where there are no more.
+    /// Answers a copy of it. Refused as `Failed`, as `WrongState` where a batch is in flight already, and as `NoMemory`,
+    /// and then nothing changes.
+    pub fn seal(&mut self) -> Result<Batch, Refusal>
+        ensures answers { Answers result (seal_fault self.old.proxy)
+            (λ batch. (batch ≡ take place_limit self.old.proxy.waiting) × (self.new.proxy ≡ sealing self.old.proxy)) }
+        ensures refused { OnErr result (self.new.proxy ≡ self.old.proxy) }
+    {
+        self.check_works()?;
+        let Stage::Idle = self.stage else {
+            return Err(Refusal::WrongState);
+        };
+        let batch = self.requests.seal()?;
+        self.stage = Stage::Sealed;
+        Ok(batch)
+    }
+
+    /// Gives a batch up that has no ticket yet: its requests wait again, before all others. At every other stage nothing
+    /// changes. It takes no memory.
+    pub fn unseal(&mut self)
+        ensures { self.new.proxy ≡ unsealing self.old.proxy }
+    {
+        if let Stage::Sealed = self.stage {
+            self.requests.unseal();
+            self.stage = Stage::Idle;
+        }
+    }
+
+    /// Drops those that wait, and answers their names in order. It takes no memory.
+    pub fn refuse_all(&mut self) -> Items<TxnId>
+        ensures names { result ≡ map (λ (t : Transaction). t.id) self.old.proxy.waiting }
+        ensures left { self.new.proxy ≡ record self.old.proxy { waiting = [] } }
+    {
+        self.requests.refuse_all()
+    }
+
+    /// Learns the ticket of the batch: its moves, and what each resolver is asked about the batch. The ticket's version is
+    /// above what the batch read at, and its moves, at versions that rise up to the ticket's, go to resolvers that exist.
+    /// Refused as `Failed`, as `WrongState` unless a batch is sealed, as `Stale` where the ticket's version or that of
+    /// one of its moves isn't above the last ticket's, and then nothing changes; and as `NoMemory`, after which the proxy
+    /// has failed.
+    pub fn learn(&mut self, ticket: &Ticket) -> Result<(), Refusal>
+        requires { IsTicketFor self.old.proxy ticket.now }
+        ensures answers { Answers result (learn_fault self.old.proxy ticket.now)
+            (λ _. HasLearntTicket self.old.proxy ticket.now self.new.proxy) }
+        ensures refused { IsSome (learn_fault self.old.proxy ticket.now) → self.new.proxy ≡ self.old.proxy }
+        ensures failed { IsNone (learn_fault self.old.proxy ticket.now)
+            → OnErr result (HasFailed self.old.proxy self.new.proxy) }
+    {
+        self.check_ticket(ticket)?;
+        self.last = ticket.version;
+        let batch = self.requests.batch();
+        match resolve(self.alloc, &mut self.owners, ticket, batch) {
+            Ok(batch) => {
+                self.stage = Stage::Resolving(batch);
+                Ok(())
+            }
+            Err(why) => {
+                self.is_failed = true;
+                Err(why)
+            }
+        }
+    }
+
+    /// What each resolver is asked about the batch, one part for each of them in order. Refused as `Failed`, as
+    /// `WrongState` unless the batch waits for verdicts, and as `NoMemory`.
+    pub fn parts(&self) -> Result<Items<Part>, Refusal>
+        ensures { Answers result (parts_fault self.now.proxy) (λ parts. parts ≡ parts_in self.now.proxy.stage) }
+    {
+        self.check_works()?;
+        let Stage::Resolving(batch) = &self.stage else {
+            return Err(Refusal::WrongState);
+        };
+        let parts = batch.copy_parts()?;
+        Ok(parts)
+    }
+
+    /// Takes a resolver's verdicts. It takes no memory. Refused as `Failed`; as `Stale` unless the batch waits for just
+    /// these: they are on its entry, on just the places of the resolver's part, and the resolver's first. Then nothing
+    /// changes.
+    pub fn verdict(&mut self, verdicts: Verdicts) -> Result<(), Refusal>
+        ensures answers { AnswersExactly result (verdict_fault self.old.proxy verdicts)
+            (λ _. self.new.proxy ≡ hearing self.old.proxy verdicts) }
+        ensures refused { OnErr result (self.new.proxy ≡ self.old.proxy) }
+    {
+        self.check_works()?;
+        match &mut self.stage {
+            Stage::Resolving(batch) => take_verdicts(batch, verdicts),
+            _ => Err(Refusal::Stale),
+        }
+    }
+
+    /// Decides the batch: a place commits where all resolvers that are asked about it say yes, is old where one says so,
+    /// and else conflicts. Answers what becomes of each place. Refused as `Failed`, as `WrongState` unless the batch waits
+    /// for verdicts, as `NotYet` with the least resolver that is asked about some place and whose verdicts haven't come,
+    /// and as `NoMemory`. Then nothing changes.
+    pub fn decide(&mut self) -> Result<Items<Outcome>, Refusal>
+        ensures answers { Answers result (decide_fault self.old.proxy) (λ outcomes.
+            (outcomes ≡ outcomes_in self.old.proxy) × (self.new.proxy ≡ deciding self.old.proxy)) }
+        ensures refused { OnErr result (self.new.proxy ≡ self.old.proxy) }
+    {
+        self.check_works()?;
+        let Stage::Resolving(batch) = &self.stage else {
+            return Err(Refusal::WrongState);
+        };
+        if let Some(missing) = batch.first_missing() {
+            return Err(Refusal::NotYet(missing as u64));
+        }
+        let places = self.requests.batch();
+        let outcomes = batch.outcomes(self.alloc, places.len())?;
+        let decided = Logging::new(
+            self.alloc,
+            batch.position,
+            places,
+            outcomes.as_slice(),
+            self.logs,
+        )?;
+        self.stage = Stage::Logging(decided);
+        Ok(outcomes)
+    }
+
+    /// The message of the batch for each log: the mutations of the places that commit of which the log keeps a tag, by
+    /// place and then in the transaction's order. Refused as `Failed`, as `WrongState` unless the batch is decided and
+    /// isn't done, and as `NoMemory`.
+    pub fn messages(&self) -> Result<Items<LogMsg>, Refusal>
+        ensures { Answers result (messages_fault self.now.proxy) (λ messages. messages ≡ messages_of self.now.proxy) }
+    {
+        self.check_works()?;
+        let Stage::Logging(decided) = &self.stage else {
+            return Err(Refusal::WrongState);
+        };
+        let batch = self.requests.batch();
+        let messages = decided.messages(self.alloc, &self.shards, self.logs, batch)?;
+        Ok(messages)
+    }
+
+    /// Takes a log's acknowledgement. It takes no memory. Refused as `Failed`; as `Stale` unless the batch waits for it:
+    /// it is of its entry, of a log that there is, and the log's first. Then nothing changes.
+    pub fn logged(&mut self, ack: LogAck) -> Result<(), Refusal>
+        ensures answers { AnswersExactly result (logged_fault self.old.proxy ack)
+            (λ _. self.new.proxy ≡ acknowledging self.old.proxy ack) }
+        ensures refused { OnErr result (self.new.proxy ≡ self.old.proxy) }
+    {
+        self.check_works()?;
+        match &mut self.stage {
+            Stage::Logging(decided) => take_acknowledgement(decided, ack),
+            _ => Err(Refusal::Stale),
+        }
+    }
+
+    /// Whether all logs have acknowledged the batch. It takes no memory. Refused as `Failed`, as `WrongState` unless the
+    /// batch is decided and isn't done, and as `NotYet` with the least log whose acknowledgement hasn't come.
+    pub fn all_logged(&self) -> Result<(), Refusal>
+        ensures { AnswersExactly result (all_logged_fault self.now.proxy) (λ _. ⊤) }
+    {
+        self.check_works()?;
+        let Stage::Logging(decided) = &self.stage else {
+            return Err(Refusal::WrongState);
+        };
+        match decided.first_missing() {
+            Some(missing) => Err(Refusal::NotYet(missing as u64)),
+            None => Ok(()),
+        }
+    }
+
+    /// The batch is done: answers the name of each transaction with what became of it, by place. The next batch may be
+    /// sealed. It takes no memory. Refused as `Failed`, and as `WrongState` unless all logs have acknowledged the batch.
+    /// Then nothing changes.
+    pub fn done(&mut self) -> Result<Items<(TxnId, Outcome)>, Refusal>
+        ensures answers { AnswersExactly result (done_fault self.old.proxy) (λ answers.
+            (answers ≡ answers_in self.old.proxy.stage) × (self.new.proxy ≡ finishing self.old.proxy)) }
+        ensures refused { OnErr result (self.new.proxy ≡ self.old.proxy) }
+    {
+        self.check_works()?;
+        if !self.stage.is_logged() {
+            return Err(Refusal::WrongState);
+        }
+        self.requests.finish();
+        let stage = mem::replace(&mut self.stage, Stage::Idle);
+        Ok(stage.into_answers(self.alloc))
+    }
+
+    fn check_works(&self) -> Result<(), Refusal>
+        ensures { AnswersExactly result (failed_fault self.now.proxy) (λ _. ⊤) }
+    {
+        if self.is_failed {
+            return Err(Refusal::Failed);
+        }
+        Ok(())
+    }
+
+    // Whether a request of this name may be taken.
+    fn check_name(&self, id: TxnId) -> Result<(), Refusal>
+        ensures { AnswersExactly result (name_fault self.now.proxy id) (λ _. ⊤) }
+    {
+        self.check_works()?;
+        match self.requests.place_of(id) {
+            Some(place) => Err(Refusal::Repeated(place.min(u32::MAX as usize) as u32)),
+            None => Ok(()),
+        }
+    }
+
+    // Whether the ticket may be learnt.
+    fn check_ticket(&self, ticket: &Ticket) -> Result<(), Refusal>
+        ensures { AnswersExactly result (learn_fault self.now.proxy ticket.now) (λ _. ⊤) }
+    {
+        self.check_works()?;
+        let Stage::Sealed = self.stage else {
+            return Err(Refusal::WrongState);
+        };
+        if is_stale(self.last, ticket) {
+            return Err(Refusal::Stale);
+        }
+        Ok(())
+    }
+}

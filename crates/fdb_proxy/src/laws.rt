@@ -1,0 +1,21 @@
+//! What the rule over the book says of resolvers' verdicts, for the proofs of the crates that use the proxies.
+ghost use Rattle.fdb_proxy.specs.VerdictLaws.{BatchesAreJudgedByTheRule, EntriesAreJudgedByTheRule, ItemsWhereAsked, BatchesAreDecidedByTheRule, EntriesAreDecidedByTheRule};
+
+/// A resolver that is sent its part of a batch, and has forgotten what lies below the window, says of the batch
+/// what the rule over the book says, and keeps the versions of which that rule speaks; so it does of an entry.
+pub fn what_a_resolver_says_of_its_part_is_the_rule()
+    ensures batches { BatchesAreJudgedByTheRule }
+    ensures entries { EntriesAreJudgedByTheRule }
+{}
+
+/// A part has items exactly where its resolver is asked about some place of the batch.
+pub fn parts_have_items_where_their_resolver_is_asked()
+    ensures { ItemsWhereAsked }
+{}
+
+/// The verdicts of the resolvers that are asked decide each place of a batch, and so of an entry, as the rule
+/// over all resolvers does; who isn't asked may be silent.
+pub fn verdicts_of_the_asked_decide_as_the_rule()
+    ensures batches { BatchesAreDecidedByTheRule }
+    ensures entries { EntriesAreDecidedByTheRule }
+{}

@@ -1,0 +1,25 @@
+//! The proxies of a transaction system: one kind gives read versions, the other takes transactions to be committed.
+#![tactic(auto)]
+
+mod commit_core;
+mod config;
+mod deciding;
+mod flags;
+mod grv_core;
+pub mod laws;
+mod logging;
+mod outcome;
+mod parting;
+mod position;
+mod requests;
+mod resolving;
+mod stage;
+#[cfg(test)]
+mod tests;
+mod ticketing;
+
+pub use commit_core::CommitCore;
+pub use config::{Config, ENTRY_LIMIT};
+pub use grv_core::GrvCore;
+pub use outcome::Outcome;
+pub use position::Position;

@@ -1,0 +1,233 @@
+// A batch that is decided, and what it makes for the logs.
+ghost use Rattle.std.specs.Prelude.{◌≡◌, ◌<◌, ◌^◌, ◌++◌, ℕ, [], Some, None, true, false, filter, map, length, replicate, IsTrue, IfOk, OnErr, if◌then◌else◌};
+ghost use Rattle.std.specs.List.{range_with_len};
+ghost use Rattle.fdb_keys.specs.Answers.{Answers, AnswersExactly};
+ghost use Rattle.fdb_keys.specs.declared.refusal.Refusal.TheVariants.{Stale};
+ghost use Rattle.fdb_txn.specs.rules.Messages.{at_place};
+ghost use Rattle.fdb_storage.specs.LogMessages.{tagged, is_for_log};
+ghost use Rattle.fdb_proxy.specs.Flags.{first_unset};
+ghost use Rattle.fdb_proxy.specs.Logging.{is_commit, answers_by, body_by, message_with, messages_by, is_awaited, with_acknowledgement};
+
+use crate::flags::{first_unset, is_set, unset};
+use crate::outcome::Outcome;
+use crate::position::Position;
+use fdb_keys::{Items, Refusal};
+use fdb_log::{LogAck, LogMsg, Tagged};
+use fdb_mutations::Mutation;
+use fdb_storage::ShardMap;
+use fdb_txn::{Sealed, TxnId};
+use std::alloc::{AllocError, Global};
+
+/// A batch with its position, what its clients are to be told, and for each log whether its acknowledgement came.
+#[derive(Debug, Drop)]
+pub(crate) struct Logging {
+    pub(crate) position: Position,
+    pub(crate) answers: Items<(TxnId, Outcome)>,
+    pub(crate) acknowledged: Items<bool>,
+}
+
+impl Logging {
+    /// The batch with these outcomes, before any acknowledgement of so many logs came.
+    pub(crate) fn new(
+        alloc: Global,
+        position: Position,
+        batch: &[Sealed],
+        outcomes: &[Outcome],
+        logs: u32,
+    ) -> Result<Self, AllocError>
+        requires { length batch.now ≡ length outcomes.now }
+        ensures value { IfOk result (λ decided. decided ≡ record {
+          position = position;
+          answers = answers_by batch.now outcomes.now;
+          acknowledged = replicate logs false;
+        }) }
+        ensures each { IfOk result (λ decided. length batch.now ≡ length decided.answers) }
+    {
+        Ok(Logging {
+            position,
+            answers: answers_by(alloc, batch, outcomes)?,
+            acknowledged: unset(alloc, logs)?,
+        })
+    }
+
+    /// The message for each log, of so many, of the batch.
+    pub(crate) fn messages(
+        &self,
+        alloc: Global,
+        shards: &ShardMap,
+        logs: u32,
+        batch: &[Sealed],
+    ) -> Result<Items<LogMsg>, Refusal>
+        requires some { 0 < logs }
+        requires each { length batch.now ≡ length self.now.answers }
+        requires small { length batch.now < 2 ^ 32 }
+        ensures { Answers result None (λ messages. messages ≡ messages_by shards.now logs batch.now self.now) }
+    {
+        let body = tagged_body(alloc, shards, batch, self.answers.as_slice())?;
+        let mut messages = Items::new(alloc);
+        for log in 0..logs {
+            messages.push(message_to(alloc, logs, log, self.position, body.as_slice())?)?;
+        }
+        Ok(messages)
+    }
+
+    /// Whether the batch waits for this acknowledgement.
+    pub(crate) fn is_awaited(&self, ack: LogAck) -> bool
+        ensures { result ≡ is_awaited self.now ack }
+    {
+        let log = ack.log as usize;
+        ack.index == self.position.index
+            && log < self.acknowledged.len()
+            && !is_set(self.acknowledged.as_slice(), log)
+    }
+
+    /// The acknowledgement came, for which the batch waits.
+    pub(crate) fn receive(&mut self, ack: LogAck)
+        requires { IsTrue (is_awaited self.old ack) }
+        ensures { self.new ≡ with_acknowledgement self.old ack }
+    {
+        self.acknowledged.set(ack.log as usize, true);
+    }
+
+    /// The least log whose acknowledgement hasn't come.
+    pub(crate) fn first_missing(&self) -> Option<usize>
+        ensures { result ≡ first_unset 0 self.now.acknowledged }
+    {
+        first_unset(self.acknowledged.as_slice())
+    }
+}
+
+/// Takes an acknowledgement, where the batch waits for it.
+pub(crate) fn take_acknowledgement(decided: &mut Logging, ack: LogAck) -> Result<(), Refusal>
+    ensures answers { AnswersExactly result (if is_awaited decided.old ack then None else Some Stale)
+        (λ _. decided.new ≡ with_acknowledgement decided.old ack) }
+    ensures refused { OnErr result (decided.new ≡ decided.old) }
+{
+    if !decided.is_awaited(ack) {
+        return Err(Refusal::Stale);
+    }
+    decided.receive(ack);
+    Ok(())
+}
+
+// The name of each transaction, with what becomes of it.
+fn answers_by(
+    alloc: Global,
+    batch: &[Sealed],
+    outcomes: &[Outcome],
+) -> Result<Items<(TxnId, Outcome)>, AllocError>
+    requires { length batch.now ≡ length outcomes.now }
+    ensures { IfOk result (λ answers. answers ≡ answers_by batch.now outcomes.now) }
+{
+    let mut answers = Items::new(alloc);
+    for (txn, outcome) in batch.iter().zip(outcomes) {
+        answers.push((txn.id(), *outcome))?;
+    }
+    Ok(answers)
+}
+
+fn tag_mutation(shards: &ShardMap, place: u32, mutation: &Mutation) -> Result<Tagged, Refusal>
+    ensures { Answers result None (λ sent. sent ≡ tagged shards.now (place, mutation.now)) }
+{
+    let tags = shards.tags(mutation)?;
+    let mutation = mutation.clone()?;
+    Ok(Tagged {
+        place,
+        mutation,
+        tags,
+    })
+}
+
+fn add_txn(
+    body: &mut Items<Tagged>,
+    shards: &ShardMap,
+    place: u32,
+    txn: &Sealed,
+) -> Result<(), Refusal>
+    ensures { Answers result None
+        (λ _. body.new ≡ body.old ++ map (tagged shards.now) (at_place place txn.now.mutations)) }
+{
+    for mutation in txn.mutations() {
+        body.push(tag_mutation(shards, place, mutation)?)?;
+    }
+    Ok(())
+}
+
+fn add_place(
+    body: &mut Items<Tagged>,
+    shards: &ShardMap,
+    place: u32,
+    txn: &Sealed,
+    outcome: Outcome,
+) -> Result<(), Refusal>
+    ensures { Answers result None (λ _. body.new ≡ body.old
+        ++ map (tagged shards.now) (if is_commit outcome then at_place place txn.now.mutations else [])) }
+{
+    if let Outcome::Commit { .. } = outcome {
+        add_txn(body, shards, place, txn)?;
+    }
+    Ok(())
+}
+
+// The mutations of the transactions that commit, by place, with their tags.
+fn tagged_body(
+    alloc: Global,
+    shards: &ShardMap,
+    batch: &[Sealed],
+    answers: &[(TxnId, Outcome)],
+) -> Result<Items<Tagged>, Refusal>
+    requires each { length batch.now ≡ length answers.now }
+    requires small { length batch.now < 2 ^ 32 }
+    ensures { Answers result None (λ body. body ≡ map (tagged shards.now) (body_by 0 batch.now answers.now)) }
+{
+    let mut body = Items::new(alloc);
+    for (place, txn) in batch.iter().enumerate() {
+        add_place(&mut body, shards, place as u32, txn, answers[place].1)?;
+    }
+    Ok(body)
+}
+
+fn is_for_log(logs: u32, log: u32, sent: &Tagged) -> bool
+    requires { 0 < logs }
+    ensures { result ≡ is_for_log logs log sent.now }
+{
+    sent.tags.as_slice().iter().any(|tag| *tag % logs == log)
+}
+
+fn body_for(
+    alloc: Global,
+    logs: u32,
+    log: u32,
+    body: &[Tagged],
+) -> Result<Items<Tagged>, AllocError>
+    requires { 0 < logs }
+    ensures { IfOk result (λ sent. sent ≡ filter (is_for_log logs log) body.now) }
+{
+    let mut sent = Items::new(alloc);
+    for one in body {
+        if is_for_log(logs, log, one) {
+            sent.push(one.copy(alloc)?)?;
+        }
+    }
+    Ok(sent)
+}
+
+// The message for a log, of so many, at a position, with its part of these mutations.
+fn message_to(
+    alloc: Global,
+    logs: u32,
+    log: u32,
+    position: Position,
+    body: &[Tagged],
+) -> Result<LogMsg, AllocError>
+    requires { 0 < logs }
+    ensures { IfOk result (λ message. message ≡ message_with logs position body.now log) }
+{
+    Ok(LogMsg {
+        log,
+        index: position.index,
+        version: position.version,
+        prev: position.prev,
+        body: body_for(alloc, logs, log, body)?,
+    })
+}

@@ -1,0 +1,177 @@
+// The transactions that were submitted to a commit proxy.
+ghost use Rattle.std.specs.Prelude.{◌≡◌, ◌+◌, ◌≤◌, ◌++◌, length, map, vec_len, vec_capacity, IfOk};
+ghost use Rattle.fdb_txn.specs.book.Transactions.{Transaction};
+ghost use Rattle.fdb_proxy.specs.Requests.{place_of};
+
+use fdb_keys::Items;
+use fdb_txn::{Batch, PLACE_LIMIT, Sealed, TxnId};
+use std::alloc::{AllocError, AllocFailed, Global};
+use std::marker::Model;
+use std::mem;
+
+/// The requests of a commit proxy: those of the batch in flight by place, and those that wait for a batch in order.
+///
+/// Who gives the batch up, or refuses those that wait, must not need memory for that. So there is always room for the
+/// names of all, and while somebody waits there is as much again for the names of the batch.
+#[derive(Debug, Drop)]
+pub(crate) struct Requests {
+    // the batch, and then those that wait
+    list: Vec<Sealed>,
+    // how many are in the batch
+    taken: usize,
+    // both empty, and kept for their room
+    names: Vec<TxnId>,
+    room: Vec<TxnId>,
+}
+
+impl Model for Requests {
+    ghost use Rattle.fdb_proxy.specs.Requests.{Requests};
+    ghost use Rattle.fdb_proxy.specs.RequestFields.{requests_of, AreRequests};
+
+    ghost Value = { Requests };
+
+    ghost view = { requests_of };
+
+    ghost invariant = { AreRequests };
+}
+
+impl Requests {
+    ghost use Rattle.std.specs.Prelude.{◌≡◌, ◌==◌, ◌≤◌, ◌++◌, [], ◌∷◌, take, drop, length, map, IsOk, IfOk, IfErr, OnOk, OnErr};
+    ghost use Rattle.fdb_txn.specs.Limits.{place_limit};
+    ghost use Rattle.fdb_txn.specs.book.Transactions.{Transaction};
+    ghost use Rattle.fdb_proxy.specs.Requests.{Holds, place_of};
+
+    /// No request. It takes no memory.
+    pub(crate) fn new(alloc: Global) -> Self
+        ensures { Holds result [] [] }
+    {
+        Requests {
+            list: Vec::new(alloc),
+            taken: 0,
+            names: Vec::new(alloc),
+            room: Vec::new(alloc),
+        }
+    }
+
+    /// Makes room for one more request. Nothing else changes, also where memory runs out.
+    pub(crate) fn reserve(&mut self) -> Result<(), AllocError>
+        ensures ok { OnOk result (1 ≤ self.new.spare) }
+        ensures same { Holds self.new self.old.batch self.old.waiting }
+        ensures ready { 1 ≤ self.old.spare → IsOk result }
+    {
+        self.list.reserve(1)?;
+        self.names.reserve(self.list.len() + 1)?;
+        self.room.reserve(self.taken)
+    }
+
+    /// One more waits, the last one. It takes no memory where there is room for one more. Where memory runs out, the
+    /// error hands the transaction back and nothing changes.
+    pub(crate) fn submit(&mut self, sealed: Sealed) -> Result<(), AllocFailed<Sealed>>
+        ensures ok { OnOk result (Holds self.new self.old.batch (self.old.waiting ++ sealed ∷ [])) }
+        ensures err { OnErr result (Holds self.new self.old.batch self.old.waiting) }
+        ensures back { IfErr result (λ failed. failed.value ≡ sealed) }
+        ensures ready { 1 ≤ self.old.spare → IsOk result }
+    {
+        if self.reserve().is_err() {
+            return Err(AllocFailed { value: sealed });
+        }
+        self.list.push_reserved(sealed);
+        Ok(())
+    }
+
+    /// The place of the first request with the name, counted from the first place of the batch.
+    pub(crate) fn place_of(&self, id: TxnId) -> Option<usize>
+        ensures { result ≡ place_of id (self.now.batch ++ self.now.waiting) }
+    {
+        place_in(&self.list, id)
+    }
+
+    /// The transactions of the batch, by place.
+    pub(crate) fn batch(&self) -> &[Sealed]
+        ensures value { result.now ≡ self.now.batch }
+        ensures within { length self.now.batch ≤ place_limit }
+    {
+        &self.list[..self.taken]
+    }
+
+    /// Whether nobody waits for a batch.
+    pub(crate) fn nobody_waits(&self) -> bool
+        ensures { result ≡ (length self.now.waiting == 0) }
+    {
+        self.list.len() == self.taken
+    }
+
+    /// The first 4,096 of those that wait become the batch, all of them where there are no more. Answers a copy of it.
+    /// Where memory runs out, nothing changes.
+    pub(crate) fn seal(&mut self) -> Result<Batch, AllocError>
+        requires { self.old.batch ≡ [] }
+        ensures batch { IfOk result (λ batch. batch ≡ take place_limit self.old.waiting) }
+        ensures ok { OnOk result
+            (Holds self.new (take place_limit self.old.waiting) (drop place_limit self.old.waiting)) }
+        ensures err { OnErr result (Holds self.new self.old.batch self.old.waiting) }
+    {
+        let count = PLACE_LIMIT.min(self.list.len());
+        let places = copies(*self.list.allocator(), &self.list[..count])?;
+        self.room.reserve(count)?;
+        self.taken = count;
+        Ok(Batch::new(places))
+    }
+
+    /// The batch is given up: its transactions wait again, before all others. It takes no memory.
+    pub(crate) fn unseal(&mut self)
+        ensures { Holds self.new [] (self.old.batch ++ self.old.waiting) }
+    {
+        self.taken = 0;
+    }
+
+    /// Those that wait are dropped. Answers their names, in order. It takes no memory.
+    pub(crate) fn refuse_all(&mut self) -> Items<TxnId>
+        ensures names { result ≡ map (λ (t : Transaction). t.id) self.old.waiting }
+        ensures left { Holds self.new self.old.batch [] }
+    {
+        let alloc = *self.list.allocator();
+        if self.nobody_waits() {
+            return Items::new(alloc);
+        }
+        push_names(&mut self.names, &self.list[self.taken..]);
+        self.list.truncate(self.taken);
+        let room = mem::replace(&mut self.room, Vec::new(alloc));
+        Items::from_vec(mem::replace(&mut self.names, room))
+    }
+
+    /// The batch is done: its transactions are dropped. It takes no memory.
+    pub(crate) fn finish(&mut self)
+        ensures { Holds self.new [] self.old.waiting }
+    {
+        drop(self.list.drain(..self.taken));
+        self.taken = 0;
+    }
+}
+
+fn place_in(transactions: &[Sealed], id: TxnId) -> Option<usize>
+    ensures { result ≡ place_of id transactions.now }
+{
+    transactions
+        .iter()
+        .position(|transaction| transaction.id() == id)
+}
+
+// Adds the names of the transactions, for which there is room.
+fn push_names(names: &mut Vec<TxnId>, transactions: &[Sealed])
+    requires { vec_len names.old + length transactions.now ≤ vec_capacity names.old }
+    ensures { names.new.items ≡ names.old.items ++ map (λ (t : Transaction). t.id) transactions.now }
+{
+    for transaction in transactions {
+        names.push_reserved(transaction.id());
+    }
+}
+
+fn copies(alloc: Global, transactions: &[Sealed]) -> Result<Items<Sealed>, AllocError>
+    ensures { IfOk result (λ copies. copies ≡ transactions.now) }
+{
+    let mut copies = Items::new(alloc);
+    for transaction in transactions {
+        copies.push(transaction.clone()?)?;
+    }
+    Ok(copies)
+}

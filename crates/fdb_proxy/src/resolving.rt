@@ -1,0 +1,154 @@
+// A batch that waits for verdicts.
+ghost use Rattle.std.specs.Prelude.{◌≡◌, ◌<◌, ◌^◌, ◌&&◌, None, Some, List, ℕ, length, replicate, slice_get, IfOk, OnErr, IsTrue, if◌then◌else◌};
+ghost use Rattle.fdb_keys.specs.Answers.{AnswersExactly};
+ghost use Rattle.fdb_keys.specs.declared.refusal.Refusal.TheVariants.{Stale};
+ghost use Rattle.fdb_resolver.specs.declared.verdict.Verdict.{Verdict};
+ghost use Rattle.fdb_proxy.specs.Deciding.{Said, outcomes_by};
+ghost use Rattle.fdb_proxy.specs.Resolving.{are_on, are_on_part, is_awaited, with_verdicts, asks, has_not_come, first_missing};
+
+use crate::deciding::decide_all;
+use crate::outcome::Outcome;
+use crate::position::Position;
+use fdb_keys::{Items, Refusal};
+use fdb_resolver::{Item, Part, Verdict, Verdicts};
+use std::alloc::{AllocError, Global};
+
+/// A batch with its position, the part of each resolver, and what came of each one's verdicts.
+#[derive(Debug, Drop)]
+pub(crate) struct Resolving {
+    pub(crate) position: Position,
+    pub(crate) parts: Items<Part>,
+    pub(crate) verdicts: Items<Option<Items<(u32, Verdict)>>>,
+}
+
+impl Resolving {
+    /// The batch with its parts, before any verdicts came.
+    pub(crate) fn new(
+        alloc: Global,
+        position: Position,
+        parts: Items<Part>,
+    ) -> Result<Self, AllocError>
+        ensures { IfOk result (λ batch.
+            batch ≡ record { position = position; parts = parts; verdicts = replicate (length parts) None }) }
+    {
+        let mut verdicts = Items::new(alloc);
+        for _part in parts.as_slice() {
+            verdicts.push(None)?;
+        }
+        Ok(Resolving {
+            position,
+            parts,
+            verdicts,
+        })
+    }
+
+    /// A copy of the parts.
+    pub(crate) fn copy_parts(&self) -> Result<Items<Part>, AllocError>
+        ensures { IfOk result (λ parts. parts ≡ self.now.parts) }
+    {
+        let parts = self.parts.clone()?;
+        Ok(parts)
+    }
+
+    /// Whether the batch waits for these verdicts.
+    pub(crate) fn is_awaited(&self, verdicts: &Verdicts) -> bool
+        ensures { result ≡ is_awaited self.now verdicts.now }
+    {
+        let resolver = verdicts.resolver as usize;
+        verdicts.index == self.position.index
+            && are_on_part(self.parts.as_slice(), resolver, verdicts.answers.as_slice())
+            && has_not_come(self.verdicts.as_slice(), resolver)
+    }
+
+    /// The verdicts came, for which the batch waits.
+    pub(crate) fn receive(&mut self, verdicts: Verdicts)
+        requires { IsTrue (is_awaited self.old verdicts) }
+        ensures { self.new ≡ with_verdicts self.old verdicts }
+    {
+        let resolver = verdicts.resolver as usize;
+        self.verdicts.set(resolver, Some(verdicts.answers));
+    }
+
+    /// The least resolver that is asked about some place and whose verdicts haven't come.
+    pub(crate) fn first_missing(&self) -> Option<usize>
+        ensures { result ≡ first_missing 0 self.now.parts self.now.verdicts }
+    {
+        first_missing(self.parts.as_slice(), self.verdicts.as_slice())
+    }
+
+    /// What becomes of as many places, by the verdicts that came.
+    pub(crate) fn outcomes(&self, alloc: Global, count: usize) -> Result<Items<Outcome>, AllocError>
+        requires { count < 2 ^ 32 }
+        ensures outcomes { IfOk result
+            (λ outcomes. outcomes ≡ outcomes_by self.now.position.version self.now.verdicts count) }
+        ensures each { IfOk result (λ outcomes. length outcomes ≡ count) }
+    {
+        let outcomes = decide_all(
+            alloc,
+            self.position.version,
+            self.verdicts.as_slice(),
+            count,
+        )?;
+        Ok(outcomes)
+    }
+}
+
+/// Takes verdicts, where the batch waits for them.
+pub(crate) fn take_verdicts(batch: &mut Resolving, verdicts: Verdicts) -> Result<(), Refusal>
+    ensures answers { AnswersExactly result (if is_awaited batch.old verdicts then None else Some Stale)
+        (λ _. batch.new ≡ with_verdicts batch.old verdicts) }
+    ensures refused { OnErr result (batch.new ≡ batch.old) }
+{
+    if !batch.is_awaited(&verdicts) {
+        return Err(Refusal::Stale);
+    }
+    batch.receive(verdicts);
+    Ok(())
+}
+
+// Whether the verdicts are on just these places, in their order.
+fn are_on(items: &[Item], said: &[(u32, Verdict)]) -> bool
+    ensures { result ≡ are_on items.now said.now }
+{
+    if items.len() != said.len() {
+        return false;
+    }
+    for (at, item) in items.iter().enumerate() {
+        if item.place != said[at].0 {
+            return false;
+        }
+    }
+    true
+}
+
+// Whether the verdicts are on just the places of the resolver's part.
+fn are_on_part(parts: &[Part], resolver: usize, said: &[(u32, Verdict)]) -> bool
+    ensures { result ≡ are_on_part (slice_get parts.now resolver) said.now }
+{
+    resolver < parts.len() && are_on(parts[resolver].items.as_slice(), said)
+}
+
+// Whether there is such a resolver, and its verdicts haven't come.
+fn has_not_come(verdicts: &[Option<Items<(u32, Verdict)>>], resolver: usize) -> bool
+    ensures { result ≡ has_not_come (slice_get verdicts.now resolver) }
+{
+    resolver < verdicts.len() && verdicts[resolver].is_none()
+}
+
+// Whether the resolver is asked about some place, and its verdicts haven't come.
+fn is_missing(part: &Part, verdicts: &[Option<Items<(u32, Verdict)>>], resolver: usize) -> bool
+    ensures { result ≡ (asks part.now && has_not_come (slice_get verdicts.now resolver)) }
+{
+    !part.items.is_empty() && has_not_come(verdicts, resolver)
+}
+
+fn first_missing(parts: &[Part], verdicts: &[Option<Items<(u32, Verdict)>>]) -> Option<usize>
+    ensures { result ≡ first_missing 0 parts.now verdicts.now }
+{
+    for (resolver, part) in parts.iter().enumerate() {
+        if is_missing(part, verdicts, resolver) {
+            return Some(resolver);
+        }
+    }
+    None
+}
