@@ -1,4 +1,5 @@
 pub mod Checking
 pub mod Comparing
 pub mod Holding
+pub mod Judging
 pub mod Values

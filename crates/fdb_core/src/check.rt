@@ -1,5 +1,6 @@
 // A check runs the committed transactions anew, one at a time, and compares.
 pub(crate) mod compare;
+pub(crate) mod judge;
 pub(crate) mod parts;
 pub(crate) mod serial;
 pub(crate) mod shards;

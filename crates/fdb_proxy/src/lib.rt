@@ -20,6 +20,8 @@ mod ticketing;
 
 pub use commit_core::CommitCore;
 pub use config::{Config, ENTRY_LIMIT};
+pub use deciding::outcomes_of;
 pub use grv_core::GrvCore;
 pub use outcome::Outcome;
+pub use parting::parts_of;
 pub use position::Position;

@@ -6,7 +6,7 @@ ghost use Rattle.fdb_resolver.specs.declared.verdict.Verdict.{Verdict};
 ghost use Rattle.fdb_proxy.specs.Deciding.{Said, outcomes_by};
 ghost use Rattle.fdb_proxy.specs.Resolving.{are_on, are_on_part, is_awaited, with_verdicts, asks, has_not_come, first_missing};
 
-use crate::deciding::decide_all;
+use crate::deciding::outcomes_of;
 use crate::outcome::Outcome;
 use crate::position::Position;
 use fdb_keys::{Items, Refusal};
@@ -83,7 +83,7 @@ impl Resolving {
             (λ outcomes. outcomes ≡ outcomes_by self.now.position.version self.now.verdicts count) }
         ensures each { IfOk result (λ outcomes. length outcomes ≡ count) }
     {
-        let outcomes = decide_all(
+        let outcomes = outcomes_of(
             alloc,
             self.position.version,
             self.verdicts.as_slice(),

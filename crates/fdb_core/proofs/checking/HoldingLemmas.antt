@@ -1,5 +1,5 @@
 -- Where a shard has the run's map.
-use Rattle.std.proofs.Common.{◌≡◌, ◌∙◌, sym, subst, ◌↔◌, ℕ, ◌+◌, ◌≤◌, arith, true, false, nat_lt, List, [], ◌∷◌, take, length, Option, Some, None, Result, Ok, Err, MatchResult, inl, inr, ⊎_elim, refl}
+use Rattle.std.proofs.Common.{◌≡◌, ◌∙◌, sym, subst, ◌↔◌, ℕ, suc, ◌+◌, ◌≤◌, arith, true, false, nat_lt, List, [], ◌∷◌, take, length, Option, Some, None, Result, Ok, Err, MatchResult, inl, inr, ⊎_elim, refl}
 use Rattle.std.specs.List.{AllByRecursion, slice_get}
 use Rattle.std.specs.Ordering.{nat_cmp}
 use Rattle.std.specs.Cmp.Lexicographic.{slice_cmp}
@@ -13,12 +13,13 @@ use Rattle.fdb_mutations.proofs.PairsLemmas.{same_values}
 use Rattle.fdb_storage.specs.Shards.{Shard, HasCopied, value_at}
 use Rattle.fdb_txn.specs.declared.entry.Entry.{Entry}
 use Rattle.fdb_txn.specs.book.Book.{last_version, seen_of, seen_before}
+use Rattle.fdb_txn.specs.book.History.{AreEntries}
 use Rattle.fdb_txn.specs.rules.SerialMap.{serial_map, serial_map_at}
 use Rattle.fdb_core.specs.declared.check.serial.Replay.{Replay}
 use Rattle.fdb_core.specs.declared.roles.client.Placed.{Placed}
 use Rattle.fdb_core.specs.declared.roles.shard.ShardRole.{ShardRole}
 use Rattle.fdb_core.specs.declared.world.CheckFault.{CheckFault}
-use Rattle.fdb_core.specs.check.Checking.{IsPlainBook, HasCome, HaveHeld, Agrees, Stops}
+use Rattle.fdb_core.specs.check.Checking.{HasCome, HaveHeld, Agrees, Stops}
 use Rattle.fdb_core.specs.check.Comparing.{StopsBy}
 use Rattle.fdb_core.specs.check.Holding.{HasTheMap, HoldsTheRun, HasTheMapThere, ShardDiffers, StopsByShard, is_between}
 use Rattle.fdb_core.proofs.common.AllLemmas.{all-both}
@@ -36,22 +37,22 @@ has-map shard held map copied = (
     given : (x : Point) → in_range shard.range x ≡ true → get held x ≡ value_at shard shard.version x
     given x inside = copied.inside x inside inside (get-empty (slice_cmp nat_cmp) x)
 
-module _ (book : List Entry) (plain : IsPlainBook book) (n : ℕ) where
+module _ (splits : List Point) (book : List Entry) (entries : AreEntries (suc (length splits)) 0 book) (n : ℕ) where
   -- a shard between two entries holds the run just where it has the run's map after the first of them
   here : (until : Option ℕ) → IsUntil book n until → (role : ShardRole)
       → is_between (last_version (take n book)) until role ≡ true
-      → serial_map_at [] role.core.version (seen_of book).places ≡ serial_map [] (seen_before book n).places
-  here until next role between = map-here book plain n until role.core.version next between
+      → serial_map_at splits role.core.version (seen_of book).places ≡ serial_map splits (seen_before book n).places
+  here until next role between = map-here splits book entries n until role.core.version next between
 
   holds-there : (from : ℕ) (until : Option ℕ) (map : Map) → IsUntil book n until → from ≡ last_version (take n book)
-      → map ≡ serial_map [] (seen_before book n).places → (role : ShardRole) → HasTheMapThere from until map role
-      → is_between (last_version (take n book)) until role ≡ true → HoldsTheRun book role
+      → map ≡ serial_map splits (seen_before book n).places → (role : ShardRole) → HasTheMapThere from until map role
+      → is_between (last_version (take n book)) until role ≡ true → HoldsTheRun splits book role
   holds-there from until map next is_last same role has between =
       subst (λ (m : Map). HasTheMap m role.core) (same ∙ sym (here until next role between))
       (has (subst (λ (v : ℕ). is_between v until role ≡ true) (sym is_last) between))
 
   there-holds : (from : ℕ) (until : Option ℕ) (map : Map) → IsUntil book n until → from ≡ last_version (take n book)
-      → map ≡ serial_map [] (seen_before book n).places → (role : ShardRole) → HoldsTheRun book role
+      → map ≡ serial_map splits (seen_before book n).places → (role : ShardRole) → HoldsTheRun splits book role
       → HasTheMapThere from until map role
   there-holds from until map next is_last same role holds between =
       subst (λ (m : Map). HasTheMap m role.core)
@@ -60,8 +61,8 @@ module _ (book : List Entry) (plain : IsPlainBook book) (n : ℕ) where
   -- a fault that is found between two entries is one of the check
   pub stops-shards : (acknowledged : List Placed) (shards : List ShardRole) (from : ℕ) (until : Option ℕ) (map : Map)
       (fault : CheckFault)
-      → IsUntil book n until → from ≡ last_version (take n book) → map ≡ serial_map [] (seen_before book n).places
-      → StopsByShard (HasTheMapThere from until map) shards fault → Stops book acknowledged shards fault
+      → IsUntil book n until → from ≡ last_version (take n book) → map ≡ serial_map splits (seen_before book n).places
+      → StopsByShard (HasTheMapThere from until map) shards fault → Stops splits book acknowledged shards fault
   stops-shards acknowledged shards from until map fault next is_last same = ⊎_elim (λ none. inl (inl none))
       (λ (differs : ShardDiffers (HasTheMapThere from until map) shards fault). inr (
         differs.0,
@@ -74,52 +75,52 @@ module _ (book : List Entry) (plain : IsPlainBook book) (n : ℕ) where
   -- the shards up to the next entry are compared
   pub held-next : (shards : List ShardRole) (entry : Entry) (from : ℕ) (map : Map)
       → slice_get book n ≡ Some entry → from ≡ last_version (take n book)
-      → map ≡ serial_map [] (seen_before book n).places → HaveHeld book shards n
-      → AllByRecursion (HasTheMapThere from (Some entry.version) map) shards → HaveHeld book shards (n + 1)
+      → map ≡ serial_map splits (seen_before book n).places → HaveHeld splits book shards n
+      → AllByRecursion (HasTheMapThere from (Some entry.version) map) shards → HaveHeld splits book shards (n + 1)
   held-next shards entry from map there is_last same =
       all-both (λ (role : ShardRole). nat_lt role.core.version (last_version (take n book)) ≡ true
-      → HoldsTheRun book role)
+      → HoldsTheRun splits book role)
       (HasTheMapThere from (Some entry.version) map)
-      (λ (role : ShardRole). nat_lt role.core.version (last_version (take (n + 1) book)) ≡ true → HoldsTheRun book role)
+      (λ (role : ShardRole). nat_lt role.core.version (last_version (take (n + 1) book)) ≡ true → HoldsTheRun splits book role)
       (λ role earlier has before. ⊎_elim earlier
       (λ (later : nat_lt role.core.version (last_version (take n book)) ≡ false).
       let below = ltb-true role.core.version (last_version (take (n + 1) book)) before in
       let above = ltb-false role.core.version (last_version (take n book)) later in
-      holds-there from (Some entry.version) map (until-next book plain n entry there) is_last same role has
+      holds-there from (Some entry.version) map (until-next splits book entries n entry there) is_last same role has
       (and_from _ _ (le-leb (last_version (take n book)) role.core.version above)
-      (lt-ltb role.core.version entry.version (omega (arith, below, last-next book plain n entry there)))))
+      (lt-ltb role.core.version entry.version (omega (arith, below, last-next splits book entries n entry there)))))
       (cases_Bool (nat_lt role.core.version (last_version (take n book)))))
       shards
 
   -- and those after the last one
   pub held-last : length book ≤ n → (shards : List ShardRole) (from : ℕ) (map : Map) → from ≡ last_version (take n book)
-      → map ≡ serial_map [] (seen_before book n).places → HaveHeld book shards n
-      → AllByRecursion (HasTheMapThere from None map) shards → AllByRecursion (HoldsTheRun book) shards
+      → map ≡ serial_map splits (seen_before book n).places → HaveHeld splits book shards n
+      → AllByRecursion (HasTheMapThere from None map) shards → AllByRecursion (HoldsTheRun splits book) shards
   held-last all shards from map is_last same =
       all-both (λ (role : ShardRole). nat_lt role.core.version (last_version (take n book)) ≡ true
-      → HoldsTheRun book role)
-      (HasTheMapThere from None map) (HoldsTheRun book)
+      → HoldsTheRun splits book role)
+      (HasTheMapThere from None map) (HoldsTheRun splits book)
       (λ role earlier has. ⊎_elim earlier
       (λ (later : nat_lt role.core.version (last_version (take n book)) ≡ false).
-      holds-there from None map (until-end book plain n all) is_last same role has
+      holds-there from None map (until-end splits book entries n all) is_last same role has
       (and_from _ _ (le-leb (last_version (take n book)) role.core.version
       (ltb-false role.core.version (last_version (take n book)) later)) refl))
       (cases_Bool (nat_lt role.core.version (last_version (take n book)))))
       shards
 
 -- before the first entry there is no shard to compare
-pub held-first : (book : List Entry) (shards : List ShardRole) → HaveHeld book shards 0
-held-first book [] = tt
-held-first book (role ∷ shards) = (
+pub held-first : (splits : List Point) (book : List Entry) (shards : List ShardRole) → HaveHeld splits book shards 0
+held-first splits book [] = tt
+held-first splits book (role ∷ shards) = (
   λ before. let never = ltb-true role.core.version 0 before in absurd (omega (arith, never)),
-  held-first book shards,
+  held-first splits book shards,
 )
 
 -- an entry is gone through after its shards
-pub goes-next : {T : Type 0} (book : List Entry) (acknowledged : List Placed) (shards : List ShardRole) (n : ℕ)
+pub goes-next : {T : Type 0} (splits : List Point) (book : List Entry) (acknowledged : List Placed) (shards : List ShardRole) (n : ℕ)
     (new : Replay) (result : Result T CheckFault)
-    → HaveHeld book shards n → MatchResult result (λ _. HasCome book acknowledged n new)
-    (StopsBy (Agrees book) acknowledged)
-    → MatchResult result (λ _. HasCome book acknowledged n new × HaveHeld book shards n) (Stops book acknowledged shards)
-goes-next book acknowledged shards n new (Ok done) held come = (come, held)
-goes-next book acknowledged shards n new (Err fault) held stops = inl stops
+    → HaveHeld splits book shards n → MatchResult result (λ _. HasCome splits book acknowledged n new)
+    (StopsBy (Agrees splits book) acknowledged)
+    → MatchResult result (λ _. HasCome splits book acknowledged n new × HaveHeld splits book shards n) (Stops splits book acknowledged shards)
+goes-next splits book acknowledged shards n new (Ok done) held come = (come, held)
+goes-next splits book acknowledged shards n new (Err fault) held stops = inl stops

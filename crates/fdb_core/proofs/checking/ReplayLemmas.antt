@@ -4,6 +4,7 @@ use Rattle.std.specs.List.{slice_get}
 use Rattle.std.proofs.lemmas.List.{map-append}
 use Rattle.std.proofs.lemmas.List.Sums.{fold-append}
 use Rattle.std.proofs.lemmas.Option.{slice_get-get_or}
+use Rattle.fdb_keys.specs.Points.{Point}
 use Rattle.fdb_mutations.specs.declared.mutation.Mutation.{Mutation}
 use Rattle.fdb_mutations.specs.Maps.{Map}
 use Rattle.fdb_mutations.specs.Mutations.{effect, effects}
@@ -92,42 +93,42 @@ after-next map old new batch outcomes p t other there within before after =
     ∙ ap (map_after map batch outcomes) (sym (add-one p))
 
 -- the run goes on by a place just as by its outcome
-serial_map-place : (earlier : List Place) (place : Place) (p : ℕ)
-    → serial_map [] (place ∷ earlier) ≡ effects (serial_map [] earlier)
-    (if is_commit (outcome_at [] earlier place p) then place.transaction.mutations else [])
-serial_map-place earlier place p =
-    by_cases (committed [] earlier place)
-    ∙ ap (λ (commits : Bool). effects (serial_map [] earlier) (if commits then place.transaction.mutations else []))
-    (sym (commit-at [] earlier place p))
+serial_map-place : (splits : List Point) (earlier : List Place) (place : Place) (p : ℕ)
+    → serial_map splits (place ∷ earlier) ≡ effects (serial_map splits earlier)
+    (if is_commit (outcome_at splits earlier place p) then place.transaction.mutations else [])
+serial_map-place splits earlier place p =
+    by_cases (committed splits earlier place)
+    ∙ ap (λ (commits : Bool). effects (serial_map splits earlier) (if commits then place.transaction.mutations else []))
+    (sym (commit-at splits earlier place p))
   where
     by_cases : (commits : Bool)
-        → (if commits then effects (serial_map [] earlier) place.transaction.mutations else serial_map [] earlier)
-        ≡ effects (serial_map [] earlier) (if commits then place.transaction.mutations else [])
+        → (if commits then effects (serial_map splits earlier) place.transaction.mutations else serial_map splits earlier)
+        ≡ effects (serial_map splits earlier) (if commits then place.transaction.mutations else [])
     by_cases true = refl
     by_cases false = refl
 
 -- the run's map right before a place of a batch
-pub place-map : (version : ℕ) (moves : List Stamped) (batch : List Transaction) (earlier : List Place) (n p : ℕ)
+pub place-map : (splits : List Point) (version : ℕ) (moves : List Stamped) (batch : List Transaction) (earlier : List Place) (n p : ℕ)
     (there : Place × List Place)
     → place_in version moves batch earlier p ≡ Some there
-    → serial_map [] there.1 ≡ map_after (serial_map [] earlier) batch (outcomes_from [] version moves batch earlier n) p
+    → serial_map splits there.1 ≡ map_after (serial_map splits earlier) batch (outcomes_from splits version moves batch earlier n) p
 unfolding writes_by
-place-map version moves [] earlier n p there at = cc
-place-map version moves (t ∷ ts) earlier n zero there at = let same : there ≡ (placed version moves t, earlier) = cc in
-    ap (λ (one : Place × List Place). serial_map [] one.1) same
-place-map version moves (t ∷ ts) earlier n (suc p) there at =
-    place-map version moves ts (place ∷ earlier) (suc n) p there at
-    ∙ after-writes (serial_map [] (place ∷ earlier)) ts (outcomes_from [] version moves ts (place ∷ earlier) (suc n)) p
-    ∙ ap (λ (map : Map). effects map others) (serial_map-place earlier place n)
-    ∙ sym (effects-append (serial_map [] earlier)
-    (if is_commit (outcome_at [] earlier place n) then t.mutations else []) others)
-    ∙ sym (after-writes (serial_map [] earlier) (t ∷ ts) (outcomes_from [] version moves (t ∷ ts) earlier n) (suc p))
+place-map splits version moves [] earlier n p there at = cc
+place-map splits version moves (t ∷ ts) earlier n zero there at = let same : there ≡ (placed version moves t, earlier) = cc in
+    ap (λ (one : Place × List Place). serial_map splits one.1) same
+place-map splits version moves (t ∷ ts) earlier n (suc p) there at =
+    place-map splits version moves ts (place ∷ earlier) (suc n) p there at
+    ∙ after-writes (serial_map splits (place ∷ earlier)) ts (outcomes_from splits version moves ts (place ∷ earlier) (suc n)) p
+    ∙ ap (λ (map : Map). effects map others) (serial_map-place splits earlier place n)
+    ∙ sym (effects-append (serial_map splits earlier)
+    (if is_commit (outcome_at splits earlier place n) then t.mutations else []) others)
+    ∙ sym (after-writes (serial_map splits earlier) (t ∷ ts) (outcomes_from splits version moves (t ∷ ts) earlier n) (suc p))
   where
     place : Place
     place = placed version moves t
 
     others : List Mutation
-    others = writes_by (take p ts) (take p (outcomes_from [] version moves ts (place ∷ earlier) (suc n)))
+    others = writes_by (take p ts) (take p (outcomes_from splits version moves ts (place ∷ earlier) (suc n)))
 
 -- there is a place for each transaction of a batch, and no other
 pub place-there : (version : ℕ) (moves : List Stamped) (batch : List Transaction) (earlier : List Place) (p : ℕ)

@@ -9,14 +9,14 @@ use Rattle.fdb_mutations.specs.Maps.{Map}
 use Rattle.fdb_storage.specs.Limits.{shard_limit}
 use Rattle.fdb_txn.specs.declared.spot.Spot.{Spot}
 use Rattle.fdb_txn.specs.declared.spot.Spot.TheVariants as spot
-use Rattle.fdb_txn.specs.book.Book.{Place, seen_of, seen_before, last_version}
-use Rattle.fdb_txn.specs.rules.SerialMap.{serial_map, serial_map_at}
+use Rattle.fdb_txn.specs.book.Book.{Place, last_version}
+use Rattle.fdb_txn.specs.rules.SerialMap.{serial_map}
 use Rattle.fdb_core.specs.declared.cluster.Cluster.{Cluster}
 use Rattle.fdb_core.specs.declared.roles.shard.ShardRole.{ShardRole}
 use Rattle.fdb_client.specs.declared.program.Transcript.{Transcript}
 use Rattle.fdb_core.specs.declared.world.CheckFault.{CheckFault}
 use Rattle.fdb_core.specs.declared.world.CheckFault.TheVariants.{NoMemory}
-use Rattle.fdb_core.specs.check.Checking.{IsPlainBook, AgreesAt, Agrees, Finds}
+use Rattle.fdb_core.specs.check.Checking.{CanBeRun, AgreesAt, Agrees, Finds}
 use Rattle.fdb_core.specs.check.Comparing.{Differs}
 use Rattle.fdb_core.specs.check.Holding.{HoldsTheRun, ShardDiffers}
 use Rattle.fdb_core.specs.headline.Headline.{AnsweredOn, IsSerializedAtSpot}
@@ -27,37 +27,34 @@ use Rattle.fdb_core.proofs.common.AllLemmas.{all-at}
 use Rattle.fdb_core.proofs.refinement.RunLaws.{entries-rising, serial-front}
 
 module _ (k : Cluster) (refines : Refines k) where
-  -- its book is one that a check runs anew
-  plain-book : IsPlainBook k.book.items
-  plain-book = record { no_moves = refines.book.no_moves; entries = refines.book.entries }
+  abbrev splits : List Point
+  splits = k.config.resolver_splits
+
+  -- its book is one that a check can run anew
+  can-be-run : CanBeRun splits k.book.items
+  can-be-run = subst (λ (by : List Point). CanBeRun by k.book.items) (sym refines.plain.resolver_splits)
+      (record { splits_are = refl; entries = refines.book.entries })
 
   -- who is at a spot agrees with the book there
   agrees-where-stands : (transcript : Transcript) (at : Spot)
-      → IsSerializedAtSpot k.config.resolver_splits k.book.items transcript at
-      → AgreesAt k.book.items transcript at
+      → IsSerializedAtSpot splits k.book.items transcript at → AgreesAt splits k.book.items transcript at
   agrees-where-stands transcript (spot.Entry i p version) stands = λ found at.
       let same : stands.0 ≡ found = same_Some stands.0 found (sym stands.1 ∙ at) in
-      subst (λ (there : Place × List Place). AnsweredOn (serial_map [] there.1) transcript) same
-      (subst (λ (splits : List Point). AnsweredOn (serial_map splits stands.0.1) transcript)
-      refines.plain.resolver_splits stands.5)
-  agrees-where-stands transcript (spot.ReadOnly version) stands =
-      subst (λ (splits : List Point). AnsweredOn (serial_map_at splits version (seen_of k.book.items).places)
-      transcript) refines.plain.resolver_splits stands.3
+      subst (λ (there : Place × List Place). AnsweredOn (serial_map splits there.1) transcript) same stands.5
+  agrees-where-stands transcript (spot.ReadOnly version) stands = stands.3
 
   -- each of its shards has the run's map
-  shard-holds : (i : ℕ) (role : ShardRole) → slice_get k.shards.items i ≡ Some role → HoldsTheRun k.book.items role
+  shard-holds : (i : ℕ) (role : ShardRole) → slice_get k.shards.items i ≡ Some role
+      → HoldsTheRun splits k.book.items role
   shard-holds i role there x inside =
       let its = refines.logs.each_shard i role there in
       let reached : role.core.version ≤ last_version (take role.applied k.book.items) =
       subst (λ (v : ℕ). role.core.version ≤ v) its.version (le_refl role.core.version) in
       its.serves role.core.version x its.serving (le_refl role.core.version)
       (subst (λ (range : Range). in_range range x ≡ true) its.range inside)
-      ∙ ap (λ (splits : List Point).
-      get (serial_map_at splits role.core.version (seen_before k.book.items role.applied).places) x)
-      refines.plain.resolver_splits
       ∙ sym (ap (λ (map : Map). get map x)
-      (serial-front [] k.book.items (entries-rising 1 k.book.items refines.book.entries) role.applied role.core.version
-      reached))
+      (serial-front splits k.book.items (entries-rising 1 k.book.items refines.book.entries) role.applied
+      role.core.version reached))
 
   -- there are few
   few-shards : length k.shards.items ≤ shard_limit
@@ -65,17 +62,17 @@ module _ (k : Cluster) (refines : Refines k) where
 
   -- so whatever is found is the number of acknowledged transactions, or want of memory
   sound-finds : Invariant (machine_of k) → (result : Result ℕ CheckFault)
-      → Finds result k.book.items k.acknowledged.items k.shards.items
+      → Finds result splits k.book.items k.acknowledged.items k.shards.items
       → MatchResult result (λ count. count ≡ length k.acknowledged.items) (λ fault. fault ≡ NoMemory)
   sound-finds sound (Ok count) finds = finds.0
   sound-finds sound (Err fault) finds = ⊎_elim
-      (⊎_elim (λ waits_for. waits_for) (λ (differs : Differs (Agrees k.book.items) k.acknowledged.items fault).
+      (⊎_elim (λ waits_for. waits_for) (λ (differs : Differs (Agrees splits k.book.items) k.acknowledged.items fault).
       let there = slice_get_read k.acknowledged.items (length k.acknowledged.items) differs.0 differs.1 refl differs.2
       (sym differs.3) in
       let stands = all-at (IsSerializedIn (machine_of k)) k.acknowledged.items differs.0 differs.1 sound.acknowledged
       there in
       absurd (differs.4.1 (agrees-where-stands differs.1.transcript differs.1.spot stands))))
-      (λ (differs : ShardDiffers (HoldsTheRun k.book.items) k.shards.items fault).
+      (λ (differs : ShardDiffers (HoldsTheRun splits k.book.items) k.shards.items fault).
       absurd (differs.4 (shard-holds differs.0 differs.1 differs.2)))
       finds
 
@@ -89,8 +86,8 @@ few-compared k false holds compared = few-shards k (holds refl).0
 pub world-finds : (k : Cluster) (failed : Bool) (world : Option Machine) (result : Result ℕ CheckFault)
     → (if failed then None else Some (machine_of k)) ≡ world
     → (failed ≡ false → Refines k × Invariant (machine_of k))
-    → (IsPlainBook k.book.items
-    → Finds result k.book.items k.acknowledged.items (if not failed then k.shards.items else []))
+    → (CanBeRun k.config.resolver_splits k.book.items
+    → Finds result k.config.resolver_splits k.book.items k.acknowledged.items (if not failed then k.shards.items else []))
     → IfSome world
     (λ machine. MatchResult result (λ count. count ≡ length machine.acknowledged) (λ fault. fault ≡ NoMemory))
 world-finds k true world result is holds finds =
@@ -101,4 +98,4 @@ world-finds k false world result is holds finds =
     let sound = holds refl in
     subst (λ (now : Option Machine). IfSome now
     (λ machine. MatchResult result (λ count. count ≡ length machine.acknowledged) (λ fault. fault ≡ NoMemory))) is
-    (sound-finds k sound.0 sound.1 result (finds (plain-book k sound.0)))
+    (sound-finds k sound.0 sound.1 result (finds (can-be-run k sound.0)))

@@ -10,11 +10,11 @@ use Rattle.fdb_txn.specs.book.Transactions.{Transaction}
 use Rattle.fdb_txn.specs.book.Book.{Stamped, Place, Seen, placed, add_places, seen_of, last_version}
 use Rattle.fdb_txn.specs.rules.Owners.{window}
 use Rattle.fdb_txn.specs.rules.Admission.{has_points, admits}
-use Rattle.fdb_txn.specs.book.History.{IsHistory, AreEntries, ReadsBelow}
+use Rattle.fdb_txn.specs.book.History.{IsHistory, AreEntries}
 use Rattle.fdb_txn.specs.rules.Resolvers.{part_writes, IsStateOf}
 use Rattle.fdb_txn.specs.laws.SerialMapLaws.{version_after}
 use Rattle.fdb_txn.proofs.rules.AskedLemmas.{points_from-in_set}
-use Rattle.fdb_txn.proofs.book.HistoryLemmas.{all-weaken, places_are_history, seen_of-push}
+use Rattle.fdb_txn.proofs.book.HistoryLemmas.{places_are_history, seen_of-push}
 use Rattle.fdb_txn.proofs.rules.ResolverLemmas.{state_takes_place, state_forgets}
 use Rattle.fdb_resolver.specs.declared.part.Item.{Item}
 use Rattle.fdb_resolver.specs.declared.part.Part.{Part}
@@ -147,7 +147,7 @@ module _ (version : ℕ) (moves : List Stamped) (still : moves ≡ []) (floor : 
         (cases_Bool (is_judged t))
 
 -- entries after others follow on the last of those
-entries-after : (resolvers last : ℕ) (before : List Entry) (entry : Entry)
+pub entries-after : (resolvers last : ℕ) (before : List Entry) (entry : Entry)
     → AreEntries resolvers last (before ++ entry ∷ [])
     → AreEntries resolvers (version_after last before) (entry ∷ [])
 entries-after resolvers last [] entry entries = entries
@@ -162,17 +162,13 @@ module _ (before : List Entry) (entry : Entry) (old : Resolver) (next : IsNext b
   pub rises : entry.prev < entry.version
   rises = let above = follows.0 in let on = follows.1 in omega (arith, above, on)
 
-  pub reads_below : ReadsBelow entry
-  reads_below = all-weaken _ (λ (t : Transaction). t.read < entry.version) (λ (t : Transaction) may. may.0) entry.batch
-      follows.3
-
   abbrev moves : List Stamped
   moves = moves_through (seen_of before) entry
 
-  pub still_before : (seen_of before).moves ≡ []
+  still_before : (seen_of before).moves ≡ []
   still_before = no_moves-seen before (no_moves-front before entry next.still).0
 
-  pub moveless : entry.moves ≡ []
+  moveless : entry.moves ≡ []
   moveless = (no_moves-front before entry next.still).1
 
   still : moves ≡ []

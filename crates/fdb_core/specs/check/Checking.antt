@@ -1,6 +1,7 @@
 -- What a check of the acknowledged transactions and of the shard finds.
-use Rattle.std.specs.Prelude.{◌≡◌, ◌<◌, ℕ, Bool, true, nat_lt, List, [], take, length, Some, Result, MatchResult, ◌⊎◌}
+use Rattle.std.specs.Prelude.{◌≡◌, ◌<◌, ℕ, suc, Bool, true, nat_lt, List, take, length, Some, None, Result, MatchResult, ◌⊎◌}
 use Rattle.std.specs.List.{AllByRecursion}
+use Rattle.fdb_keys.specs.Points.{Point}
 use Rattle.fdb_mutations.specs.Maps.{Map}
 use Rattle.fdb_mutations.specs.Mutations.{effects}
 use Rattle.fdb_txn.specs.declared.entry.Entry.{Entry}
@@ -10,8 +11,10 @@ use Rattle.fdb_txn.specs.book.Transactions.{Transaction}
 use Rattle.fdb_txn.specs.book.Book.{Place, seen_of, last_version, seen_before}
 use Rattle.fdb_txn.specs.book.History.{AreEntries}
 use Rattle.fdb_txn.specs.book.Places.{place_at}
+use Rattle.fdb_txn.specs.Limits.{resolver_limit}
 use Rattle.fdb_txn.specs.rules.Messages.{mutations_in}
 use Rattle.fdb_txn.specs.rules.SerialMap.{serial_map, serial_map_at}
+use Rattle.fdb_txn.specs.rules.Splits.{splits_fault}
 use Rattle.fdb_core.specs.declared.check.serial.Replay.{Replay}
 use Rattle.fdb_core.specs.declared.check.compare.Moment.TheVariants.{Before}
 use Rattle.fdb_core.specs.declared.roles.client.Placed.{Placed}
@@ -22,7 +25,7 @@ use Rattle.fdb_core.specs.declared.world.CheckFault.{CheckFault}
 use Rattle.fdb_core.specs.check.Comparing.{AnsweredAt, StopsBy}
 use Rattle.fdb_core.specs.headline.Headline.{AnsweredOn}
 use Rattle.fdb_core.specs.check.Holding.{HoldsTheRun, ShardDiffers}
-use Rattle.fdb_core.specs.refinement.Resolving.{NoMovesIn, ResolverAt}
+use Rattle.fdb_core.specs.check.Judging.{IsJudgeAt}
 use Rattle.fdb_core.specs.refinement.Roles.{body_by}
 
 -- the map after the first places of a batch
@@ -34,62 +37,65 @@ abbrev pub AnsweredIn : Map → List Transaction → List Outcome → ℕ → �
 AnsweredIn map batch outcomes entry count placed = (p : ℕ) → p < count
     → AnsweredAt (Before entry p) (map_after map batch outcomes p) placed
 
--- the books that a check runs anew: entries of which none moves anything
-pub record IsPlainBook (book : List Entry) : Type 0 where
-  pub no_moves : NoMovesIn book
-  pub entries : AreEntries 1 0 book
+-- what a check can run anew: splits of the keys among resolvers, and the entries of a book with these
+pub record CanBeRun (splits : List Point) (book : List Entry) : Type 0 where
+  pub splits_are : splits_fault resolver_limit splits ≡ None
+  pub entries : AreEntries (suc (length splits)) 0 book
 
 -- The transcript was answered as on the run's map right before its place, if the book has that place, or as on that
 -- at its read version.
-abbrev pub AgreesAt : List Entry → Transcript → Spot → Type 0
-AgreesAt book transcript (spot.Entry entry place version) =
+abbrev pub AgreesAt : List Point → List Entry → Transcript → Spot → Type 0
+AgreesAt splits book transcript (spot.Entry entry place version) =
     (there : Place × List Place) → place_at book entry place ≡ Some there
-    → AnsweredOn (serial_map [] there.1) transcript
-AgreesAt book transcript (spot.ReadOnly version) = AnsweredOn (serial_map_at [] version (seen_of book).places)
-    transcript
+    → AnsweredOn (serial_map splits there.1) transcript
+AgreesAt splits book transcript (spot.ReadOnly version) =
+    AnsweredOn (serial_map_at splits version (seen_of book).places) transcript
 
-abbrev pub Agrees : List Entry → Placed → Type 0
-Agrees book placed = AgreesAt book placed.transcript placed.spot
+abbrev pub Agrees : List Point → List Entry → Placed → Type 0
+Agrees splits book placed = AgreesAt splits book placed.transcript placed.spot
 
 -- the spot is in one of the first n entries, or at a version below that of the last of them
 abbrev pub is_before : List Entry → ℕ → Spot → Bool
 is_before book n (spot.Entry index place version) = nat_lt index n
 is_before book n (spot.ReadOnly version) = nat_lt version (last_version (take n book))
 
--- A check has come to entry n: its resolver took the entries before, it has the run's map after them, and who stands
--- before was answered as in that run.
-pub record HasCome (book : List Entry) (acknowledged : List Placed) (n : ℕ) (replay : Replay) : Type 0 where
-  pub resolver : ResolverAt (take n book) replay.resolver
-  pub map : replay.map ≡ serial_map [] (seen_before book n).places
-  pub compared : AllByRecursion (λ placed. is_before book n placed.spot ≡ true → Agrees book placed) acknowledged
+-- A check has come to entry n: its judge took the entries before, it has the run's map after them, and who stands before
+-- was answered as in that run.
+pub record HasCome (splits : List Point) (book : List Entry) (acknowledged : List Placed) (n : ℕ) (replay : Replay)
+    : Type 0 where
+  pub judge : IsJudgeAt splits (take n book) replay.judge
+  pub map : replay.map ≡ serial_map splits (seen_before book n).places
+  pub compared : AllByRecursion (λ placed. is_before book n placed.spot ≡ true → Agrees splits book placed) acknowledged
 
 -- a check comes to entry n, or memory runs out, or it finds an acknowledged transaction that was answered otherwise
-abbrev pub ComesTo : {T : Type 0} → Result T CheckFault → List Entry → List Placed → ℕ → Replay → Type 0
-ComesTo result book acknowledged n replay =
-    MatchResult result (λ _. HasCome book acknowledged n replay) (StopsBy (Agrees book) acknowledged)
+abbrev pub ComesTo : {T : Type 0} → Result T CheckFault → List Point → List Entry → List Placed → ℕ → Replay → Type 0
+ComesTo result splits book acknowledged n replay =
+    MatchResult result (λ _. HasCome splits book acknowledged n replay) (StopsBy (Agrees splits book) acknowledged)
 
 -- each shard whose version lies below that of the last of the first n entries has the run's values there
-abbrev pub HaveHeld : List Entry → List ShardRole → ℕ → Type 0
-HaveHeld book shards n =
+abbrev pub HaveHeld : List Point → List Entry → List ShardRole → ℕ → Type 0
+HaveHeld splits book shards n =
     AllByRecursion (λ (role : ShardRole). nat_lt role.core.version (last_version (take n book)) ≡ true
-    → HoldsTheRun book role) shards
+    → HoldsTheRun splits book role) shards
 
 -- memory ran out, or the fault names an acknowledged transaction that was answered otherwise, or a shard that has other
 -- values
-abbrev pub Stops : List Entry → List Placed → List ShardRole → CheckFault → Type 0
-Stops book acknowledged shards fault =
-    StopsBy (Agrees book) acknowledged fault ⊎ ShardDiffers (HoldsTheRun book) shards fault
+abbrev pub Stops : List Point → List Entry → List Placed → List ShardRole → CheckFault → Type 0
+Stops splits book acknowledged shards fault =
+    StopsBy (Agrees splits book) acknowledged fault ⊎ ShardDiffers (HoldsTheRun splits book) shards fault
 
 -- a check comes to entry n, with the shards compared up to there, or it stops
-abbrev pub GoesTo : {T : Type 0} → Result T CheckFault → List Entry → List Placed → List ShardRole → ℕ → Replay → Type 0
-GoesTo result book acknowledged shards n replay =
-    MatchResult result (λ _. HasCome book acknowledged n replay × HaveHeld book shards n) (Stops book acknowledged shards)
+abbrev pub GoesTo : {T : Type 0} → Result T CheckFault → List Point → List Entry → List Placed → List ShardRole → ℕ
+    → Replay → Type 0
+GoesTo result splits book acknowledged shards n replay =
+    MatchResult result (λ _. HasCome splits book acknowledged n replay × HaveHeld splits book shards n)
+    (Stops splits book acknowledged shards)
 
 -- What a check finds: that each acknowledged transaction was answered as in the run, and that each shard has the run's
 -- values at its version; or one for which that isn't so. Or memory runs out.
-abbrev pub Finds : Result ℕ CheckFault → List Entry → List Placed → List ShardRole → Type 0
-Finds result book acknowledged shards =
+abbrev pub Finds : Result ℕ CheckFault → List Point → List Entry → List Placed → List ShardRole → Type 0
+Finds result splits book acknowledged shards =
     MatchResult result
-    (λ count. (count ≡ length acknowledged) × AllByRecursion (Agrees book) acknowledged
-    × AllByRecursion (HoldsTheRun book) shards)
-    (Stops book acknowledged shards)
+    (λ count. (count ≡ length acknowledged) × AllByRecursion (Agrees splits book) acknowledged
+    × AllByRecursion (HoldsTheRun splits book) shards)
+    (Stops splits book acknowledged shards)

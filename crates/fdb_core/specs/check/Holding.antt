@@ -1,5 +1,5 @@
 -- What shards have, beside the run.
-use Rattle.std.specs.Prelude.{◌≡◌, ℕ, Bool, true, ◌&&◌, nat_le, List, [], Option, Some, Result, MatchResult, ◌⊎◌, slice_get}
+use Rattle.std.specs.Prelude.{◌≡◌, ℕ, Bool, true, ◌&&◌, nat_le, List, Option, Some, Result, MatchResult, ◌⊎◌, slice_get}
 use Rattle.std.specs.List.{AllByRecursion}
 use Rattle.std.specs.FinMap.{get}
 use Rattle.fdb_keys.specs.Points.{Point}
@@ -19,8 +19,8 @@ abbrev pub HasTheMap : Map → Shard → Type 0
 HasTheMap map shard = (x : Point) → in_range shard.range x ≡ true → value_at shard shard.version x ≡ get map x
 
 -- at its version the shard has the run's values in its range
-abbrev pub HoldsTheRun : List Entry → ShardRole → Type 0
-HoldsTheRun book role = HasTheMap (serial_map_at [] role.core.version (seen_of book).places) role.core
+abbrev pub HoldsTheRun : List Point → List Entry → ShardRole → Type 0
+HoldsTheRun splits book role = HasTheMap (serial_map_at splits role.core.version (seen_of book).places) role.core
 
 -- the shard's version is from one on and below another, where there is one
 abbrev pub is_between : ℕ → Option ℕ → ShardRole → Bool

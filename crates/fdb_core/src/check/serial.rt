@@ -1,60 +1,66 @@
 // The comparison of what was answered with the run of one transaction at a time.
-ghost use Rattle.std.specs.Prelude.{◌≡◌, ◌<◌, ◌≤◌, ◌+◌, ◌++◌, true, List, [], ◌∷◌, length, None, IfOk, IfErr, OnOk, if◌then◌else◌};
+ghost use Rattle.std.specs.Prelude.{◌≡◌, ◌<◌, ◌≤◌, ◌+◌, ◌++◌, suc, true, List, [], ◌∷◌, length, None, IfOk, IfErr, OnOk, if◌then◌else◌};
 ghost use Rattle.fdb_keys.specs.Answers.{Answers};
+ghost use Rattle.fdb_keys.specs.Points.{Point};
 ghost use Rattle.fdb_mutations.specs.Mutations.{effects};
 ghost use Rattle.fdb_txn.specs.declared.entry.Entry.{Entry};
 ghost use Rattle.fdb_txn.specs.book.Book.{seen_of};
+ghost use Rattle.fdb_txn.specs.book.History.{AreEntries};
 ghost use Rattle.fdb_storage.specs.Limits.{shard_limit};
-ghost use Rattle.fdb_core.specs.check.Checking.{AnsweredIn, map_after, IsPlainBook, HasCome, ComesTo, HaveHeld, GoesTo, Finds};
-ghost use Rattle.fdb_core.specs.check.Comparing.{AnsweredAt, Checks};
-ghost use Rattle.fdb_core.specs.refinement.Resolving.{ResolverAt, IsNext};
-ghost use Rattle.fdb_core.specs.refinement.Roles.{is_commit};
 ghost use Rattle.fdb_proxy.specs.Verdicts.{outcomes_on};
+ghost use Rattle.fdb_core.specs.declared.roles.client.Placed.{Placed};
+ghost use Rattle.fdb_core.specs.check.Checking.{AnsweredIn, map_after, CanBeRun, HasCome, ComesTo, HaveHeld, GoesTo, Finds};
+ghost use Rattle.fdb_core.specs.check.Comparing.{AnsweredAt, Checks};
+ghost use Rattle.fdb_core.specs.check.Judging.{IsJudgeAt};
+ghost use Rattle.fdb_core.specs.refinement.Roles.{is_commit};
 
 use crate::book::last_version;
 use crate::check::compare::{Moment, compare};
+use crate::check::judge::Judge;
 use crate::check::shards::compare_shards;
 use crate::cluster::Cluster;
 use crate::roles::client::Placed;
-use crate::roles::commit_proxy::deciding::decide_batch;
-use crate::roles::resolver::{first_resolver, judge_entry};
 use crate::roles::shard::ShardRole;
 use crate::world::CheckFault;
-use fdb_keys::{Items, Refusal};
+use fdb_keys::{Items, Key, Refusal};
 use fdb_mutations::{Mutation, PlainMap};
 use fdb_proxy::Outcome;
-use fdb_resolver::ResolverCore;
 use fdb_txn::{Entry, Sealed};
 use std::alloc::Global;
 
-// The run so far: its one resolver, and the map.
+// The run so far: what judges the entries, and the map.
 #[derive(Drop)]
 struct Replay {
-    resolver: ResolverCore,
+    judge: Judge,
     map: PlainMap,
 }
 
-// What becomes of the places of an entry, by the one resolver's rule.
-fn outcomes_of(
-    alloc: Global,
-    resolver: &mut ResolverCore,
-    index: usize,
-    entry: &Entry,
-) -> Result<Items<Outcome>, CheckFault>
-    ensures count { IfOk result (λ outcomes. length outcomes ≡ length entry.now.batch) }
-    ensures outcomes { (before : List Entry) → IsNext before resolver.old entry.now
-        → IfOk result (λ outcomes. outcomes ≡ outcomes_on [] (seen_of before) entry.now) }
-    ensures resolver { (before : List Entry) → IsNext before resolver.old entry.now
-        → OnOk result (ResolverAt (before ++ entry.now ∷ []) resolver.new) }
+// The run before its first entry. It fails where memory runs out, and where these are no splits into at most 64 pieces,
+// as those of a world's configuration are.
+fn new_replay(alloc: Global, splits: &[Key]) -> Result<Replay, CheckFault>
+    ensures begins { (book : List Entry) (acknowledged : List Placed)
+        → IfOk result (HasCome splits.now book acknowledged 0) }
     ensures err { IfErr result (λ fault. fault ≡ CheckFault.NoMemory) }
 {
-    let batch = entry.batch.as_slice();
-    // The entries of a world's book are fewer than such numbers.
-    let number = index.min(u32::MAX as usize) as u32;
-    let Ok(verdicts) = judge_entry(alloc, resolver, number, entry) else {
+    let Ok(judge) = Judge::new(alloc, splits) else {
         return Err(CheckFault::NoMemory);
     };
-    match decide_batch(alloc, entry.version, verdicts.as_slice(), batch.len()) {
+    Ok(Replay {
+        judge,
+        map: PlainMap::new(alloc),
+    })
+}
+
+// What becomes of the places of an entry, by the rule over all resolvers.
+fn outcomes_of(judge: &mut Judge, entry: &Entry) -> Result<Items<Outcome>, CheckFault>
+    ensures count { IfOk result (λ outcomes. length outcomes ≡ length entry.now.batch) }
+    ensures outcomes { (splits : List Point) (before : List Entry) → IsJudgeAt splits before judge.old
+        → AreEntries (suc (length splits)) 0 (before ++ entry.now ∷ [])
+        → IfOk result (λ outcomes. (outcomes ≡ outcomes_on splits (seen_of before) entry.now)
+        × IsJudgeAt splits (before ++ entry.now ∷ []) judge.new) }
+    ensures err { IfErr result (λ fault. fault ≡ CheckFault.NoMemory) }
+{
+    match judge.take(entry) {
         Ok(outcomes) => Ok(outcomes),
         Err(_) => Err(CheckFault::NoMemory),
     }
@@ -121,8 +127,9 @@ fn run_entry(
     index: usize,
 ) -> Result<(), CheckFault>
     requires { index < length book.now }
-    ensures { IsPlainBook book.now → HasCome book.now acknowledged.now index replay.old
-        → ComesTo result book.now acknowledged.now (index + 1) replay.new }
+    ensures { (splits : List Point) → AreEntries (suc (length splits)) 0 book.now
+        → HasCome splits book.now acknowledged.now index replay.old
+        → ComesTo result splits book.now acknowledged.now (index + 1) replay.new }
 {
     let entry = &book[index];
     let before = Moment::Between {
@@ -130,7 +137,7 @@ fn run_entry(
         until: Some(entry.version),
     };
     compare(alloc, &replay.map, acknowledged, before)?;
-    let outcomes = outcomes_of(alloc, &mut replay.resolver, index, entry)?;
+    let outcomes = outcomes_of(&mut replay.judge, entry)?;
     run_batch(
         alloc,
         &mut replay.map,
@@ -152,9 +159,9 @@ fn run_next(
 ) -> Result<(), CheckFault>
     requires within { index < length book.now }
     requires few { length shards.now ≤ shard_limit }
-    ensures { IsPlainBook book.now → HasCome book.now acknowledged.now index replay.old
-        → HaveHeld book.now shards.now index
-        → GoesTo result book.now acknowledged.now shards.now (index + 1) replay.new }
+    ensures { (splits : List Point) → AreEntries (suc (length splits)) 0 book.now
+        → HasCome splits book.now acknowledged.now index replay.old → HaveHeld splits book.now shards.now index
+        → GoesTo result splits book.now acknowledged.now shards.now (index + 1) replay.new }
 {
     let entry = &book[index];
     let from = last_version(book, index);
@@ -171,8 +178,9 @@ fn run_entries(
     book: &[Entry],
 ) -> Result<(), CheckFault>
     requires { length shards.now ≤ shard_limit }
-    ensures { IsPlainBook book.now → HasCome book.now acknowledged.now 0 replay.old
-        → GoesTo result book.now acknowledged.now shards.now (length book.now) replay.new }
+    ensures { (splits : List Point) → AreEntries (suc (length splits)) 0 book.now
+        → HasCome splits book.now acknowledged.now 0 replay.old
+        → GoesTo result splits book.now acknowledged.now shards.now (length book.now) replay.new }
 {
     for index in 0..book.len() {
         run_next(alloc, replay, acknowledged, shards, book, index)?;
@@ -183,18 +191,16 @@ fn run_entries(
 // Runs the book anew from its beginning, and compares on the way.
 fn check_book(
     alloc: Global,
+    splits: &[Key],
     book: &[Entry],
     acknowledged: &[Placed],
     shards: &[ShardRole],
 ) -> Result<u64, CheckFault>
     requires { length shards.now ≤ shard_limit }
     ensures count { IfOk result (λ count. count ≡ length acknowledged.now) }
-    ensures finds { IsPlainBook book.now → Finds result book.now acknowledged.now shards.now }
+    ensures finds { CanBeRun splits.now book.now → Finds result splits.now book.now acknowledged.now shards.now }
 {
-    let mut replay = Replay {
-        resolver: first_resolver(alloc),
-        map: PlainMap::new(alloc),
-    };
+    let mut replay = new_replay(alloc, splits)?;
     run_entries(alloc, &mut replay, acknowledged, shards, book)?;
     let from = last_version(book, book.len());
     compare_shards(alloc, &replay.map, shards, from, None)?;
@@ -204,16 +210,23 @@ fn check_book(
 }
 
 /// Compares every acknowledged transcript with the run of one transaction at a time, and each shard at its
-/// version where `with_shards` says so. Answers the number of acknowledged transactions. For each book without
-/// moves whose versions rise from entry to entry, and whose transactions read below the versions of their
-/// entries, a fault is found just where something differs.
+/// version where `with_shards` says so. Answers the number of acknowledged transactions. Where the configuration splits
+/// the keys among at most 64 resolvers, a fault is found just where something differs, for each book whose versions
+/// rise from entry to entry, whose moves go to resolvers that exist, and whose transactions read below the versions of
+/// their entries.
 pub(crate) fn check_all(cluster: &Cluster, with_shards: bool) -> Result<u64, CheckFault>
     requires { with_shards ≡ true → length cluster.now.shards.items ≤ shard_limit }
     ensures count { IfOk result (λ count. count ≡ length cluster.now.acknowledged.items) }
-    ensures finds { IsPlainBook cluster.now.book.items
-        → Finds result cluster.now.book.items cluster.now.acknowledged.items
-        (if with_shards then cluster.now.shards.items else []) }
+    ensures finds { CanBeRun cluster.now.config.resolver_splits cluster.now.book.items
+        → Finds result cluster.now.config.resolver_splits cluster.now.book.items
+        cluster.now.acknowledged.items (if with_shards then cluster.now.shards.items else []) }
 {
     let shards: &[ShardRole] = if with_shards { &cluster.shards } else { &[] };
-    check_book(cluster.alloc, &cluster.book, &cluster.acknowledged, shards)
+    check_book(
+        cluster.alloc,
+        cluster.config.resolver_splits.as_slice(),
+        &cluster.book,
+        &cluster.acknowledged,
+        shards,
+    )
 }

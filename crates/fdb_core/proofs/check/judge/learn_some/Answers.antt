@@ -1,0 +1,7 @@
+use Rattle.fdb_core.proofs.checking.JudgingLemmas.{learns}
+use Rattle.fdb_core.proofs.check.judge.learn_some.Goals as goal
+
+pub returns-clause-answers : goal.returns-clause-answers
+returns-clause-answers c =
+    learns c.learn.result c.args.owners.now c.learn.new.self c.args.version c.args.moves.now c.requires.later
+    c.learn.ensures.answers

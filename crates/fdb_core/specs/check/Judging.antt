@@ -1,0 +1,75 @@
+-- What the check's judge keeps of the entries that it took, and what it makes of the next one.
+use Rattle.std.specs.Prelude.{◌≡◌, ◌<◌, ◌≤◌, ◌-◌, ℕ, false, List, length, slice_get, Option, Some, None}
+use Rattle.std.specs.List.{All}
+use Rattle.fdb_keys.specs.Points.{Point}
+use Rattle.fdb_interval.specs.Versions.{version_at}
+use Rattle.fdb_txn.specs.declared.entry.Entry.{Entry}
+use Rattle.fdb_txn.specs.declared.entry.Move.{Move}
+use Rattle.fdb_txn.specs.book.Transactions.{Transaction}
+use Rattle.fdb_txn.specs.book.Book.{seen_of, last_version}
+use Rattle.fdb_txn.specs.rules.Owners.{window}
+use Rattle.fdb_txn.specs.rules.Resolvers.{IsStateOf}
+use Rattle.fdb_owners.specs.Ownership.{Ownership, resolvers_of}
+use Rattle.fdb_owners.specs.OwnersLaws.{AgreesWith}
+use Rattle.fdb_resolver.specs.declared.part.Part.{Part}
+use Rattle.fdb_resolver.specs.declared.verdict.Verdicts.{Verdicts}
+use Rattle.fdb_resolver.specs.Resolvers.{Resolver, part_fault, IsAnswer, HasTaken}
+use Rattle.fdb_proxy.specs.Deciding.{Said}
+use Rattle.fdb_core.specs.refinement.Logs.{Each}
+
+-- who owned which keys, the version of the last entry, and the resolvers by number
+pub record Judge : Type 0 where
+  pub owners : Ownership
+  pub last : ℕ
+  pub resolvers : List Resolver
+
+-- what holds of every judge
+pub record IsJudge (judge : Judge) : Type 0 where
+  pub learnt : judge.owners.last ≤ judge.last
+  pub floor : judge.owners.floor ≤ judge.last - window
+  pub count : length judge.resolvers ≡ resolvers_of judge.owners
+
+-- Resolver i took these entries. From the begin of the window on it answers as the last versions of their places.
+pub record IsResolverAt (splits : List Point) (before : List Entry) (i : ℕ) (resolver : Resolver) : Type 0 where
+  pub index : resolver.index ≡ i
+  pub last : resolver.last ≡ last_version before
+  pub works : resolver.is_failed ≡ false
+  pub state : IsStateOf splits i (seen_of before).places (last_version before - window) (version_at resolver.versions)
+
+-- the judge took these entries, with the keys split so at first
+pub record IsJudgeAt (splits : List Point) (before : List Entry) (judge : Judge) : Type 0 where
+  pub splits_are : judge.owners.splits ≡ splits
+  pub last : judge.last ≡ last_version before
+  pub owners : AgreesWith judge.owners (seen_of before).moves
+  pub resolvers : Each (IsResolverAt splits before) judge.resolvers
+
+-- the entry may stand after one of this version, where there are so many resolvers
+pub record MayFollow (last resolvers : ℕ) (entry : Entry) : Type 0 where
+  pub later : last < entry.version
+  pub linked : entry.prev ≡ last
+  pub moves : All (λ (move : Move). move.to < resolvers) entry.moves
+  pub reads : All (λ (t : Transaction). t.read < entry.version) entry.batch
+
+-- each resolver may take its part
+abbrev pub MayTake : List Resolver → List Part → Type 0
+MayTake resolvers parts =
+    (i : ℕ) (resolver : Resolver) (part : Part) → slice_get resolvers i ≡ Some resolver → slice_get parts i ≡ Some part
+    → part_fault resolver part ≡ None
+
+-- a resolver took its part, and said this of it
+pub record HasSaid (old : Resolver) (part : Part) (new : Resolver) (said : Option Said) : Type 0 where
+  pub verdicts : Verdicts
+  pub said_them : said ≡ Some verdicts.answers
+  pub answer : IsAnswer old part verdicts
+  pub taken : HasTaken old part verdicts new
+
+-- the first n resolvers did so, each with its part
+pub record HaveSaid (n : ℕ) (old : List Resolver) (parts : List Part) (new : List Resolver) (said : List (Option Said))
+    : Type 0 where
+  pub count : length new ≡ length old
+  pub as_many : length said ≡ n
+  pub each : (i : ℕ) (resolver : Resolver) (part : Part) → i < n
+      → slice_get old i ≡ Some resolver → slice_get parts i ≡ Some part
+      → (after : Resolver) × (one : Option Said)
+      × (slice_get new i ≡ Some after) × (slice_get said i ≡ Some one) × HasSaid resolver part after one
+  pub others : (i : ℕ) → n ≤ i → slice_get new i ≡ slice_get old i
