@@ -211,9 +211,9 @@ fn check_book(
 
 /// Compares every acknowledged transcript with the run of one transaction at a time, and each shard at its
 /// version where `with_shards` says so. Answers the number of acknowledged transactions. Where the configuration splits
-/// the keys among at most 64 resolvers, a fault is found just where something differs, for each book whose versions
-/// rise from entry to entry, whose moves go to resolvers that exist, and whose transactions read below the versions of
-/// their entries.
+/// the keys among at most 64 resolvers, a fault is found just where something differs, for each book whose entries
+/// follow on one another from version 0 on, whose moves go to resolvers that exist, and whose transactions read below
+/// the versions of their entries and have in their write sets what their mutations name.
 pub(crate) fn check_all(cluster: &Cluster, with_shards: bool) -> Result<u64, CheckFault>
     requires { with_shards ≡ true → length cluster.now.shards.items ≤ shard_limit }
     ensures count { IfOk result (λ count. count ≡ length cluster.now.acknowledged.items) }
