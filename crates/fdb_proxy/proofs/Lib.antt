@@ -1,6 +1,7 @@
 pub mod CloneLemmas
 pub mod DecidingLemmas
 pub mod LoggingLemmas
+pub mod MessageLemmas
 pub mod OutcomeLemmas
 pub mod PartingLemmas
 pub mod RequestLemmas

@@ -1,8 +1,11 @@
--- Which verdicts are missing, resolver by resolver.
+-- Which verdicts are missing, resolver by resolver, and on which places they are.
 use Rattle.std.proofs.Common.{◌≡◌, ◌∙◌, refl, sym, ap, ℕ, zero, suc, Bool, true, false, ◌&&◌, List, [], ◌∷◌, drop, length, slice_get, ◌==◌, Option, Some, None, if◌then◌else◌}
-use Rattle.std.proofs.lemmas.Bool.{and_parts}
+use Rattle.std.proofs.lemmas.Bool.{and_parts, and_from, eq-eqb}
+use Rattle.fdb_keys.specs.Points.{Point}
 use Rattle.fdb_resolver.specs.declared.part.Item.{Item}
 use Rattle.fdb_resolver.specs.declared.part.Part.{Part}
+use Rattle.fdb_resolver.specs.declared.verdict.Verdict.{Verdict}
+use Rattle.fdb_resolver.specs.Rule.{AreVerdicts, versions_with}
 use Rattle.fdb_proxy.specs.Deciding.{Said}
 use Rattle.fdb_proxy.specs.Resolving.{are_on, asks, has_not_come, first_missing}
 
@@ -49,3 +52,13 @@ on-lengths [] [] is = refl
 on-lengths [] (one ∷ said) is = cc
 on-lengths (item ∷ items) [] is = cc
 on-lengths (item ∷ items) (one ∷ said) is = ap suc (on-lengths items said (and_parts (item.place == one.0) (are_on items said) is).1)
+
+-- a resolver's verdicts on the items of its part are on just their places
+pub verdicts-are-on : (version : ℕ) (f : Point → ℕ) (items : List Item) (answers : List (ℕ × Verdict))
+    → AreVerdicts version f items answers → are_on items answers ≡ true
+verdicts-are-on version f [] [] are = refl
+verdicts-are-on version f [] (answer ∷ answers) are = absurd are
+verdicts-are-on version f (item ∷ items) [] are = absurd are
+verdicts-are-on version f (item ∷ items) (answer ∷ answers) are = and_from (item.place == answer.0)
+    (are_on items answers) (eq-eqb item.place answer.0 (sym are.0))
+    (verdicts-are-on version (versions_with version item answer.1 f) items answers are.2)

@@ -5,6 +5,7 @@ pub mod Configs
 pub mod Deciding
 pub mod Flags
 pub mod Logging
+pub mod MessageLaws
 pub mod Parting
 pub mod RequestFields
 pub mod Requests

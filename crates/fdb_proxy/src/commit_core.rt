@@ -51,7 +51,7 @@ impl CommitCore {
     ghost use Rattle.fdb_keys.specs.Answers.{Answers, AnswersExactly, AnswersOrHandsBack, AnswersExactlyOrHandsBack};
     ghost use Rattle.fdb_txn.specs.Limits.{place_limit};
     ghost use Rattle.fdb_txn.specs.book.Transactions.{Transaction};
-    ghost use Rattle.fdb_proxy.specs.CommitProxies.{new_fault, IsNewProxy, failed_fault, name_fault, submit_fault, submitting, seal_fault, sealing, unsealing, IsTicketFor, learn_fault, HasLearntTicket, HasFailed, parts_fault, parts_in, verdict_fault, hearing, decide_fault, outcomes_in, deciding, messages_fault, messages_of, logged_fault, acknowledging, all_logged_fault, done_fault, answers_in, finishing};
+    ghost use Rattle.fdb_proxy.specs.CommitProxies.{new_fault, IsNewProxy, is_idle, failed_fault, name_fault, submit_fault, submitting, seal_fault, sealing, unsealing, IsTicketFor, learn_fault, HasLearntTicket, HasFailed, parts_fault, parts_in, verdict_fault, hearing, decide_fault, outcomes_in, deciding, messages_fault, messages_of, logged_fault, acknowledging, all_logged_fault, done_fault, answers_in, finishing};
 
     /// The commit proxy with the number, of so many roles as the configuration says. Nobody waits there yet. Refused as
     /// `BadConfig` where the configuration isn't legal and where it has no proxy with the number, and as `NoMemory`.
@@ -76,6 +76,13 @@ impl CommitCore {
             stage: Stage::Idle,
             is_failed: false,
         })
+    }
+
+    /// Whether no batch is in flight. It takes no memory.
+    pub fn is_idle(&self) -> bool
+        ensures { result ≡ is_idle self.now.proxy.stage }
+    {
+        matches!(self.stage, Stage::Idle)
     }
 
     /// Makes room for one more request, so that the next `submit` takes no memory. Nothing else changes. Refused as
@@ -202,7 +209,7 @@ impl CommitCore {
     pub fn verdict(&mut self, verdicts: Verdicts) -> Result<(), Refusal>
         ensures answers { AnswersExactly result (verdict_fault self.old.proxy verdicts)
             (λ _. self.new.proxy ≡ hearing self.old.proxy verdicts) }
-        ensures refused { OnErr result (self.new.proxy ≡ self.old.proxy) }
+        ensures refused { OnErr result (self.new ≡ self.old) }
     {
         self.check_works()?;
         match &mut self.stage {
@@ -218,7 +225,7 @@ impl CommitCore {
     pub fn decide(&mut self) -> Result<Items<Outcome>, Refusal>
         ensures answers { Answers result (decide_fault self.old.proxy) (λ outcomes.
             (outcomes ≡ outcomes_in self.old.proxy) × (self.new.proxy ≡ deciding self.old.proxy)) }
-        ensures refused { OnErr result (self.new.proxy ≡ self.old.proxy) }
+        ensures refused { OnErr result (self.new ≡ self.old) }
     {
         self.check_works()?;
         let Stage::Resolving(batch) = &self.stage else {
@@ -260,7 +267,7 @@ impl CommitCore {
     pub fn logged(&mut self, ack: LogAck) -> Result<(), Refusal>
         ensures answers { AnswersExactly result (logged_fault self.old.proxy ack)
             (λ _. self.new.proxy ≡ acknowledging self.old.proxy ack) }
-        ensures refused { OnErr result (self.new.proxy ≡ self.old.proxy) }
+        ensures refused { OnErr result (self.new ≡ self.old) }
     {
         self.check_works()?;
         match &mut self.stage {

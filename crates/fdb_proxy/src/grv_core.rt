@@ -46,6 +46,13 @@ impl GrvCore {
         Ok(())
     }
 
+    /// Those who ask, in the order in which they did, each with the version that it has seen. It takes no memory.
+    pub fn askers(&self) -> &[(u32, u64)]
+        ensures { result.now ≡ self.now }
+    {
+        self.asked.as_slice()
+    }
+
     /// Answers all who asked, in the order in which they did: each client with its read version, which is the greater
     /// one of the committed version and of the version that it has seen. Nobody asks any more then. It takes no memory.
     pub fn grant(&mut self, committed: u64) -> Items<(u32, u64)>

@@ -1,4 +1,6 @@
-//! What the rule over the book says of resolvers' verdicts, for the proofs of the crates that use the proxies.
+//! What the rule over the book says of resolvers' verdicts and of the messages for logs, for the proofs of the crates
+//! that use the proxies.
+ghost use Rattle.fdb_proxy.specs.MessageLaws.{MessagesHoldTheCommitted};
 ghost use Rattle.fdb_proxy.specs.VerdictLaws.{BatchesAreJudgedByTheRule, EntriesAreJudgedByTheRule, ItemsWhereAsked, BatchesAreDecidedByTheRule, EntriesAreDecidedByTheRule};
 
 /// A resolver that is sent its part of a batch, and has forgotten what lies below the window, says of the batch
@@ -18,4 +20,10 @@ pub fn parts_have_items_where_their_resolver_is_asked()
 pub fn verdicts_of_the_asked_decide_as_the_rule()
     ensures batches { BatchesAreDecidedByTheRule }
     ensures entries { EntriesAreDecidedByTheRule }
+{}
+
+/// Once the rule's outcomes of an entry are decided, each log is sent just the mutations of the entry's committed
+/// transactions of which it keeps a tag.
+pub fn logs_are_sent_what_the_committed_write()
+    ensures { MessagesHoldTheCommitted }
 {}

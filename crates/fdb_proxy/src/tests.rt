@@ -69,6 +69,7 @@ fn read_versions_are_not_below_what_was_seen(rt: HostRuntime) -> Result<(), Fail
     let mut core = GrvCore::new(rt.alloc());
     core.ask(4, 0)?;
     core.ask(2, 150)?;
+    assert_eq!(rt; core.askers(), [(4, 0), (2, 150)].as_slice());
     let granted = core.grant(100);
     assert_eq!(rt; granted.as_slice(), [(4, 100), (2, 150)].as_slice());
     assert!(rt; core.grant(100).is_empty());

@@ -298,7 +298,9 @@ fn batch_that_was_given_up_is_sealed_again(rt: HostRuntime) -> Result<(), Fail> 
     assert_eq!(rt; code_of(submit(&mut core, rt.alloc(), 4)), 0);
     assert_eq!(rt; code_of(submit(&mut core, rt.alloc(), 2)), 0);
     assert!(rt; is_of_sessions(core.seal(), &[4, 2]));
+    assert!(rt; !core.is_idle());
     core.unseal();
+    assert!(rt; core.is_idle());
     assert!(rt; is_of_sessions(core.seal(), &[4, 2]));
     drop(core);
     Ok(())

@@ -1,0 +1,56 @@
+-- The mutations of the places that commit by the rule are those of the committed transactions.
+use Rattle.std.proofs.Common.{◌≡◌, refl, ap, ap₂, ℕ, suc, Bool, true, false, ◌&&◌, List, [], ◌∷◌, ◌++◌, map, length, if◌then◌else◌}
+use Rattle.std.specs.List.{range_with_len}
+use Rattle.fdb_keys.specs.Points.{Point}
+use Rattle.fdb_txn.specs.declared.entry.Entry.{Entry}
+use Rattle.fdb_txn.specs.book.Transactions.{Transaction}
+use Rattle.fdb_txn.specs.book.Book.{Stamped, Place, Seen, placed}
+use Rattle.fdb_txn.specs.rules.Admission.{is_fresh, no_conflict, admits, all_below, committed}
+use Rattle.fdb_txn.specs.rules.Messages.{Body, at_place, committed_from, committed_in}
+use Rattle.fdb_storage.specs.LogMessages.{tagged}
+use Rattle.fdb_proxy.specs.declared.outcome.Outcome.TheVariants as outcome
+use Rattle.fdb_proxy.specs.Logging.{is_commit, answers_by, body_by, message_with}
+use Rattle.fdb_proxy.specs.MessageLaws.{MessagesHoldTheCommitted}
+use Rattle.fdb_proxy.specs.Verdicts.{outcome_at, outcomes_from, moves_through, outcomes_on}
+
+-- a place's outcome is a commit just where the place is committed
+commit-at : (splits : List Point) (earlier : List Place) (place : Place) (p : ℕ)
+    → is_commit (outcome_at splits earlier place p) ≡ committed splits earlier place
+commit-at splits earlier place p =
+    by_cases (is_fresh place) (no_conflict splits (length splits) earlier place)
+    (all_below (length splits) (λ i. admits splits i earlier place))
+  where
+    by_cases : (fresh free others : Bool)
+        → is_commit (if fresh
+        then (if fresh && free && others then outcome.Commit place.version p else outcome.Conflict)
+        else outcome.Old) ≡ (fresh && free && others)
+    by_cases false free others = refl
+    by_cases true false others = refl
+    by_cases true true false = refl
+    by_cases true true true = refl
+
+-- the same as `body-committed`, from place p on
+body-from : (splits : List Point) (version : ℕ) (moves : List Stamped) (batch : List Transaction) (earlier : List Place)
+    (p : ℕ)
+    → body_by p batch (answers_by batch (outcomes_from splits version moves batch earlier p))
+    ≡ committed_from splits version moves p batch earlier
+body-from splits version moves [] earlier p = refl
+body-from splits version moves (t ∷ ts) earlier p =
+    ap₂ (λ (commits : Bool) (others : Body). (if commits then at_place p t.mutations else []) ++ others)
+    (commit-at splits earlier (placed version moves t) p)
+    (body-from splits version moves ts (placed version moves t ∷ earlier) (suc p))
+
+-- the mutations by the rule's outcomes are those of the committed transactions
+pub body-committed : (splits : List Point) (before : Seen) (entry : Entry)
+    → body_by 0 entry.batch (answers_by entry.batch (outcomes_on splits before entry))
+    ≡ committed_in splits before entry
+body-committed splits before entry = body-from splits entry.version (moves_through before entry) entry.batch
+    before.places 0
+
+-- and so each log's message has those of which it keeps a tag
+pub messages_hold_the_committed : MessagesHoldTheCommitted
+messages_hold_the_committed splits shard_splits logs i before entry acknowledged =
+    ap (λ (body : Body).
+    map (message_with logs (record { index = i; version = entry.version; prev = entry.prev })
+    (map (tagged shard_splits) body)) (range_with_len 0 logs))
+    (body-committed splits before entry)
