@@ -1,4 +1,5 @@
 pub mod AgreeLemmas
+pub mod BodyLemmas
 pub mod ComparingLemmas
 pub mod HoldingLemmas
 pub mod JudgingLemmas

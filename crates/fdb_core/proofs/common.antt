@@ -2,3 +2,4 @@ pub mod AllLemmas
 pub mod SumLemmas
 pub mod FaultLemmas
 pub mod CloneLemmas
+pub mod ListLemmas

@@ -1,4 +1,5 @@
 pub mod LogLaws
+pub mod NameLemmas
 pub mod OnceLaws
 pub mod RealTimeLaws
 pub mod SerializedLemmas

@@ -1,3 +1,4 @@
+pub mod Bodies
 pub mod Checking
 pub mod Comparing
 pub mod Holding

@@ -1,1 +1,3 @@
 pub mod Invariant
+pub mod Once
+pub mod Places

@@ -1,10 +1,11 @@
 pub mod Cluster
+pub mod CommitProxies
 pub mod Logs
 pub mod RangeFaults
 pub mod Reads
+pub mod Receiving
 pub mod Resolving
-pub mod Roles
 pub mod Sessions
 pub mod ShardReads
-pub mod Views
 pub mod Starts
+pub mod Views

@@ -1,23 +1,26 @@
 // The parts of a world: the machine's bookkeeping, and what the roles keep for themselves.
-ghost use Rattle.std.specs.Prelude.{◌≡◌, None, [], ◌∷◌, IfOk};
+ghost use Rattle.std.specs.Prelude.{◌≡◌, None, IfOk};
 ghost use Rattle.fdb_keys.specs.Answers.{Answers};
-ghost use Rattle.fdb_core.specs.machine.Worlds.{config_fault, start};
+ghost use Rattle.fdb_core.specs.machine.Worlds.{start};
 ghost use Rattle.fdb_core.specs.refinement.Cluster.{machine_of, Refines};
+ghost use Rattle.fdb_proxy.specs.Configs.{config_fault};
 
 use crate::roles::client::Placed;
 use crate::roles::client::sessions::Sessions;
-use crate::roles::commit_proxy::CommitProxy;
+use crate::roles::commit_proxy::{CommitProxyRole, new_commit_proxies};
+use crate::roles::grv_proxy::new_grv_proxies;
 use crate::roles::log::{LogRole, new_logs};
-use crate::roles::resolver::ResolverRole;
+use crate::roles::resolver::{ResolverRole, new_resolvers};
 use crate::roles::sequencer::first_sequencer;
 use crate::roles::shard::{ShardRole, new_shards};
 use fdb_keys::{Items, Refusal};
 use fdb_log::LogMsg;
-use fdb_proxy::{Config, Outcome};
+use fdb_proxy::{Config, GrvCore};
+use fdb_resolver::Part;
 use fdb_sequencer::SequencerCore;
 use fdb_storage::ShardMap;
 use fdb_txn::Entry;
-use std::alloc::{AllocError, Global};
+use std::alloc::Global;
 
 #[derive(Drop)]
 pub(crate) struct Cluster {
@@ -27,20 +30,20 @@ pub(crate) struct Cluster {
     // For each entry the number of its proxy, and whether it is decided.
     pub(crate) entry_proxies: Vec<u32>,
     pub(crate) decided: Vec<bool>,
-    pub(crate) commit_proxies: Vec<CommitProxy>,
+    // For each entry the parts for the resolvers, and once it is decided the messages for the logs.
+    pub(crate) parts: Vec<Items<Part>>,
+    pub(crate) messages: Vec<Option<Items<LogMsg>>>,
+    pub(crate) commit_proxies: Vec<CommitProxyRole>,
     pub(crate) resolvers: Vec<ResolverRole>,
     pub(crate) logs: Vec<LogRole>,
     pub(crate) shard_map: ShardMap,
     pub(crate) shards: Vec<ShardRole>,
-    pub(crate) grv_proxies: Vec<Items<u32>>,
+    pub(crate) grv_proxies: Vec<GrvCore>,
     // What each session is at.
     pub(crate) sessions: Sessions,
     pub(crate) acknowledged: Vec<Placed>,
     // It gives the versions, and keeps the greatest one that was reported.
     pub(crate) sequencer: SequencerCore,
-    // What the one commit proxy decided of its batch, and for each entry its messages for the logs, once it is decided.
-    pub(crate) outcomes: Items<Outcome>,
-    pub(crate) messages: Vec<Option<Items<LogMsg>>>,
 }
 
 impl Cluster {
@@ -52,17 +55,21 @@ impl Cluster {
         ensures refines { IfOk result Refines }
     {
         let count = config.shard_splits.len() as u32 + 1;
-        let commit_proxies = one(alloc, CommitProxy::new(alloc))?;
-        let resolvers = one(alloc, ResolverRole::new(alloc))?;
+        let resolver_count = config.resolver_splits.len() as u32 + 1;
+        let sequencer = first_sequencer(alloc, config.proxies, resolver_count);
+        let commit_proxies = new_commit_proxies(alloc, &config)?;
+        let resolvers = new_resolvers(alloc, resolver_count)?;
         let logs = new_logs(alloc, config.logs, count)?;
         let shards = new_shards(alloc, &shard_map, count)?;
-        let grv_proxies = one(alloc, Items::new(alloc))?;
+        let grv_proxies = new_grv_proxies(alloc, config.proxies)?;
         Ok(Cluster {
             alloc,
             config,
             book: Vec::new(alloc),
             entry_proxies: Vec::new(alloc),
             decided: Vec::new(alloc),
+            parts: Vec::new(alloc),
+            messages: Vec::new(alloc),
             commit_proxies,
             resolvers,
             logs,
@@ -70,18 +77,8 @@ impl Cluster {
             shards,
             grv_proxies,
             sessions: Sessions::new(alloc),
-            sequencer: first_sequencer(alloc),
+            sequencer,
             acknowledged: Vec::new(alloc),
-            outcomes: Items::new(alloc),
-            messages: Vec::new(alloc),
         })
     }
-}
-
-fn one<T: Drop>(alloc: Global, item: T) -> Result<Vec<T>, AllocError>
-    ensures { IfOk result (λ list. list.items ≡ item ∷ []) }
-{
-    let mut list = Vec::new(alloc);
-    list.push(item)?;
-    Ok(list)
 }

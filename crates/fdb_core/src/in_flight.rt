@@ -31,7 +31,7 @@ impl Cluster {
             return Err(Refusal::WrongState);
         }
         Ok(InFlight {
-            entry: commit_proxy.entry(),
+            entry: commit_proxy.entry,
             resolvers: self.resolvers.len() as u32,
             logs: self.logs.len() as u32,
         })

@@ -1,7 +1,7 @@
 ghost use Rattle.fdb_keys.specs.Answers.{Answers};
 ghost use Rattle.fdb_core.specs.headline.Headline.{IsStrictlySerializable};
 ghost use Rattle.fdb_core.specs.headline.Serving.{RolesKeep};
-ghost use Rattle.fdb_core.specs.machine.Worlds.{config_fault};
+ghost use Rattle.fdb_proxy.specs.Configs.{config_fault};
 
 use crate::step::{Answered, Step};
 use crate::world::World;

@@ -7,19 +7,20 @@ mod resolver;
 mod shard;
 
 ghost use Rattle.std.specs.Prelude.{◌≡◌};
+ghost use Rattle.fdb_core.specs.invariant.Invariant.{Invariant};
 ghost use Rattle.fdb_core.specs.refinement.Cluster.{machine_of, Refines};
 ghost use Rattle.fdb_core.specs.machine.Steps.{Unless, ran_out, next, answer_of, after};
 
 use crate::cluster::Cluster;
 use crate::roles::client::read::Read;
-use crate::roles::commit_proxy::Sender;
 use crate::step::{Answered, Step};
 use fdb_keys::Refusal;
 
 impl Cluster {
     /// Takes the step.
     pub(crate) fn step(&mut self, step: &Step) -> Result<Answered, Refusal>
-        requires { Refines self.old }
+        requires refines { Refines self.old }
+        requires named { Invariant (machine_of self.old) }
         ensures answer { Unless (ran_out result) (result ≡ answer_of (next (machine_of self.old) step.now)) }
         ensures after { Unless (ran_out result)
             (machine_of self.new ≡ after (machine_of self.old) (next (machine_of self.old) step.now)) }
@@ -54,10 +55,10 @@ impl Cluster {
             Step::Submit { session, proxy } => self.submit(*session, *proxy),
             Step::Seal { proxy, advance } => self.seal(*proxy, *advance),
             Step::Resolve { entry, resolver } => self.resolve(*entry, *resolver),
-            Step::Verdict { entry, resolver } => self.receive(*entry, Sender::Resolver(*resolver)),
+            Step::Verdict { entry, resolver } => self.receive_verdicts(*entry, *resolver),
             Step::Decide { proxy } => self.decide(*proxy),
             Step::Push { entry, log } => self.push(*entry, *log),
-            Step::Logged { entry, log } => self.receive(*entry, Sender::Log(*log)),
+            Step::Logged { entry, log } => self.receive_acknowledgement(*entry, *log),
             Step::Report { proxy } => self.report(*proxy),
             Step::Answer { proxy } => self.answer(*proxy),
             Step::Pull { shard, limit } => self.pull(*shard, *limit),

@@ -7,8 +7,7 @@ use crate::in_flight::InFlight;
 use crate::step::{Answered, Step};
 use fdb_client::Txn;
 use fdb_keys::Refusal;
-use fdb_log::LOG_LIMIT;
-use fdb_proxy::{Config, ENTRY_LIMIT};
+use fdb_proxy::Config;
 use fdb_storage::ShardMap;
 use fdb_txn::TxnId;
 use std::alloc::Global;
@@ -63,24 +62,18 @@ impl World {
     ghost use Rattle.fdb_core.specs.headline.Headline.{IsStrictlySerializable};
     ghost use Rattle.fdb_core.specs.headline.Serving.{RolesKeep};
     ghost use Rattle.fdb_core.specs.headline.Traces.{IsTraceOf};
-    ghost use Rattle.fdb_core.specs.machine.Worlds.{config_fault, start, IsStep};
+    ghost use Rattle.fdb_proxy.specs.Configs.{config_fault};
+    ghost use Rattle.fdb_core.specs.machine.Worlds.{start, IsStep};
 
-    /// The world before its first step. Refused as `BadConfig` for a configuration that it does not
-    /// serve: for now it serves one proxy of each kind, one resolver, 1 to 16 logs, 1 to 64 shards and a book of 1 to
-    /// 1,048,576 entries. Splits are keys that rise, none of them empty.
+    /// The world before its first step.
+    ///
+    /// Refused as `BadConfig` unless there are 1 to 16 proxies of each kind, 1 to 16 logs, 1 to 64 resolvers, 1 to 64
+    /// shards and a book of 1 to 1,048,576 entries; splits are keys that rise, none of them empty; and as `NoMemory`.
     pub fn new(alloc: Global, config: Config) -> Result<Self, Refusal>
         ensures started { Answers result (config_fault config) (λ world. world.machine ≡ Some (start config)) }
         ensures roles { IfOk result RolesKeep }
     {
-        if config.proxies != 1 || !config.resolver_splits.is_empty() {
-            return Err(Refusal::BadConfig);
-        }
-        if config.logs < 1 || config.logs > LOG_LIMIT {
-            return Err(Refusal::BadConfig);
-        }
-        if config.book < 1 || config.book > ENTRY_LIMIT {
-            return Err(Refusal::BadConfig);
-        }
+        config.check()?;
         let shard_map = ShardMap::new(alloc, config.shard_splits.as_slice())?;
         let cluster = Cluster::new(alloc, config, shard_map)?;
         Ok(World {

@@ -30,12 +30,13 @@ use Rattle.fdb_core.specs.check.Checking.{AnsweredIn, map_after, AgreesAt, Agree
 use Rattle.fdb_core.specs.check.Comparing.{is_below, is_at, AnsweredAt, Differs, StopsBy}
 use Rattle.fdb_core.specs.check.Judging.{IsJudgeAt}
 use Rattle.fdb_core.specs.headline.Headline.{AnsweredOn}
-use Rattle.fdb_core.specs.refinement.Roles.{body_by}
+use Rattle.fdb_core.specs.check.Bodies.{body_by}
 use Rattle.fdb_proxy.specs.Verdicts.{moves_through, outcomes_on}
+use Rattle.fdb_proxy.proofs.MessageLemmas.{body-committed}
 use Rattle.fdb_core.proofs.common.AllLemmas.{all-both}
-use Rattle.fdb_core.proofs.refinement.BatchLaws.{body-committed, length-outcomes_on}
+use Rattle.fdb_core.proofs.checking.BodyLemmas.{length-outcomes_on}
 use Rattle.fdb_core.proofs.checking.ReplayLemmas.{place-map, place-there, place-within}
-use Rattle.fdb_core.proofs.refinement.RoleTies.{take-next, entries-take, seen_before-next, last-push}
+use Rattle.fdb_core.proofs.refinement.BookLemmas.{take-next, entries-take, seen_before-next, last-push}
 use Rattle.fdb_core.proofs.refinement.RunLaws.{entries-rising, map-between}
 
 -- a fault that names one of whom the claim isn't true also does so for whatever would make it true

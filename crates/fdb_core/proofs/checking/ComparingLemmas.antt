@@ -13,7 +13,7 @@ use Rattle.fdb_client.specs.Programs.{program, exec, replies_of}
 use Rattle.fdb_core.specs.check.Values.{value_after_op}
 use Rattle.fdb_client.proofs.ProgramLemmas.{program-push, replies-push}
 use Rattle.fdb_core.proofs.checking.ValueLemmas.{get-copy}
-use Rattle.fdb_core.proofs.refinement.RoleTies.{take-next}
+use Rattle.fdb_core.proofs.refinement.BookLemmas.{take-next}
 
 -- a read that isn't a snapshot read was answered as on the copy just where it was told what the operations leave at its
 -- key

@@ -17,10 +17,11 @@ use Rattle.fdb_txn.specs.rules.SerialMap.{serial_map}
 use Rattle.fdb_txn.proofs.rules.MessagesLemmas.{mutations-if}
 use Rattle.fdb_proxy.specs.declared.outcome.Outcome.{Outcome}
 use Rattle.fdb_core.specs.check.Checking.{map_after}
-use Rattle.fdb_core.specs.refinement.Roles.{body_by, is_commit}
+use Rattle.fdb_core.specs.check.Bodies.{body_by}
+use Rattle.fdb_proxy.specs.Logging.{is_commit}
 use Rattle.fdb_proxy.specs.Verdicts.{outcome_at, outcomes_from}
-use Rattle.fdb_core.proofs.refinement.BatchLaws.{commit-at}
-use Rattle.fdb_core.proofs.refinement.RoleTies.{take-next}
+use Rattle.fdb_core.proofs.checking.BodyLemmas.{commit-at}
+use Rattle.fdb_core.proofs.refinement.BookLemmas.{take-next}
 
 -- mutations one after another
 effects-append : (map : Map) (first later : List Mutation)

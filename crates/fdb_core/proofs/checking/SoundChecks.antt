@@ -1,5 +1,5 @@
 -- A check of a sound world finds no difference.
-use Rattle.std.proofs.Common.{◌≡◌, ◌∙◌, sym, ap, subst, refl, length, take, ℕ, ◌≤◌, le_refl, arith, Bool, true, false, not, if◌then◌else◌, List, [], Option, Some, None, ⊎_elim, Result, Ok, Err, MatchResult, slice_get}
+use Rattle.std.proofs.Common.{◌≡◌, ◌∙◌, sym, ap, subst, refl, length, take, ℕ, suc, ◌≤◌, le_refl, arith, Bool, true, false, not, if◌then◌else◌, List, [], Option, Some, None, ⊎_elim, Result, Ok, Err, MatchResult, slice_get}
 use Rattle.std.specs.Prelude.{IfSome}
 use Rattle.std.proofs.lemmas.Option.{same_Some, slice_get_read}
 use Rattle.std.specs.FinMap.{get}
@@ -10,13 +10,14 @@ use Rattle.fdb_storage.specs.Limits.{shard_limit}
 use Rattle.fdb_txn.specs.declared.spot.Spot.{Spot}
 use Rattle.fdb_txn.specs.declared.spot.Spot.TheVariants as spot
 use Rattle.fdb_txn.specs.book.Book.{Place, last_version}
+use Rattle.fdb_txn.specs.book.History.{AreEntries}
 use Rattle.fdb_txn.specs.rules.SerialMap.{serial_map}
 use Rattle.fdb_core.specs.declared.cluster.Cluster.{Cluster}
 use Rattle.fdb_core.specs.declared.roles.shard.ShardRole.{ShardRole}
 use Rattle.fdb_client.specs.declared.program.Transcript.{Transcript}
 use Rattle.fdb_core.specs.declared.world.CheckFault.{CheckFault}
 use Rattle.fdb_core.specs.declared.world.CheckFault.TheVariants.{NoMemory}
-use Rattle.fdb_core.specs.check.Checking.{CanBeRun, AgreesAt, Agrees, Finds}
+use Rattle.fdb_core.specs.check.Checking.{AgreesAt, Agrees, Finds}
 use Rattle.fdb_core.specs.check.Comparing.{Differs}
 use Rattle.fdb_core.specs.check.Holding.{HoldsTheRun, ShardDiffers}
 use Rattle.fdb_core.specs.headline.Headline.{AnsweredOn, IsSerializedAtSpot}
@@ -29,11 +30,6 @@ use Rattle.fdb_core.proofs.refinement.RunLaws.{entries-rising, serial-front}
 module _ (k : Cluster) (refines : Refines k) where
   abbrev splits : List Point
   splits = k.config.resolver_splits
-
-  -- its book is one that a check can run anew
-  can-be-run : CanBeRun splits k.book.items
-  can-be-run = subst (λ (by : List Point). CanBeRun by k.book.items) (sym refines.plain.resolver_splits)
-      (record { splits_are = refl; entries = refines.book.entries })
 
   -- who is at a spot agrees with the book there
   agrees-where-stands : (transcript : Transcript) (at : Spot)
@@ -53,12 +49,12 @@ module _ (k : Cluster) (refines : Refines k) where
       its.serves role.core.version x its.serving (le_refl role.core.version)
       (subst (λ (range : Range). in_range range x ≡ true) its.range inside)
       ∙ sym (ap (λ (map : Map). get map x)
-      (serial-front splits k.book.items (entries-rising 1 k.book.items refines.book.entries) role.applied
+      (serial-front splits k.book.items (entries-rising (suc (length splits)) k.book.items refines.book.entries) role.applied
       role.core.version reached))
 
   -- there are few
   few-shards : length k.shards.items ≤ shard_limit
-  few-shards = omega (arith, refines.logs.shard_count, refines.plain.few_shards)
+  few-shards = omega (arith, refines.logs.shard_count, refines.legal.few_shards)
 
   -- so whatever is found is the number of acknowledged transactions, or want of memory
   sound-finds : Invariant (machine_of k) → (result : Result ℕ CheckFault)
@@ -86,7 +82,7 @@ few-compared k false holds compared = few-shards k (holds refl).0
 pub world-finds : (k : Cluster) (failed : Bool) (world : Option Machine) (result : Result ℕ CheckFault)
     → (if failed then None else Some (machine_of k)) ≡ world
     → (failed ≡ false → Refines k × Invariant (machine_of k))
-    → (CanBeRun k.config.resolver_splits k.book.items
+    → (AreEntries (suc (length k.config.resolver_splits)) 0 k.book.items
     → Finds result k.config.resolver_splits k.book.items k.acknowledged.items (if not failed then k.shards.items else []))
     → IfSome world
     (λ machine. MatchResult result (λ count. count ≡ length machine.acknowledged) (λ fault. fault ≡ NoMemory))
@@ -98,4 +94,4 @@ world-finds k false world result is holds finds =
     let sound = holds refl in
     subst (λ (now : Option Machine). IfSome now
     (λ machine. MatchResult result (λ count. count ≡ length machine.acknowledged) (λ fault. fault ≡ NoMemory))) is
-    (sound-finds k sound.0 sound.1 result (finds (can-be-run k sound.0)))
+    (sound-finds k sound.0 sound.1 result (finds sound.0.book.entries))

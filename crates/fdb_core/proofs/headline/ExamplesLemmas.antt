@@ -16,7 +16,7 @@ use Rattle.fdb_txn.proofs.rules.MessagesLemmas.{get-effects}
 use Rattle.fdb_txn.specs.rules.Admission.{committed}
 use Rattle.fdb_client.specs.declared.program.Reply.TheVariants as reply
 use Rattle.fdb_keys.specs.Ranges.{Range}
-use Rattle.fdb_core.specs.headline.Examples.{reads_and_sets, OnlyTheFirstIsSerialized, ReadOnlyAtItsVersion, AfterAVersion, AnEmptyShardDoesNotServe, OnlyOrdinaryReadsCount, BegunByServing, ForgetfulRolesDoNotKeep, ReadOffTheTrace, plain, one_asks, Traced, ShardsGoOnAndForget}
+use Rattle.fdb_core.specs.headline.Examples.{reads_and_sets, OnlyTheFirstIsSerialized, ReadOnlyAtItsVersion, AfterAVersion, AnEmptyShardDoesNotServe, OnlyOrdinaryReadsCount, BegunByServing, ForgetfulRolesDoNotKeep, empty_part, ReadOffTheTrace, plain, one_asks, Traced, ShardsGoOnAndForget}
 use Rattle.fdb_core.specs.declared.step.Answered.TheVariants as answered
 use Rattle.fdb_core.specs.machine.GrvProxySteps.{asks, grants}
 use Rattle.fdb_core.specs.machine.Machine.{Transition}
@@ -96,6 +96,10 @@ pub forgetful_roles_do_not_keep : ForgetfulRolesDoNotKeep
 unfolding point_lt insertion.inserted
 forgetful_roles_do_not_keep = (
   (λ state. let never : false ≡ true = state (codes "a") 0 (omega arith) in cc),
+  (λ keeps. let wrong : 0 ≡ 1 = keeps.0 in omega (arith, wrong)),
+  (λ keeps.
+      let part = (keeps.1 0 _ _ refl refl).each 0 empty_part refl in
+      ⊎_elim (λ asked. cc (asked.1.2)) (λ unasked. let wrong : true ≡ false = unasked.0 in cc) part.items),
   (λ keeps. let wrong : 0 ≡ 1 = ap sent_of (keeps.kept 0 refl) in omega (arith, wrong)),
 )
   where

@@ -46,7 +46,7 @@ strictly_serializable config steps given system stands keep = record {
         subst (λ (c : Config). AllServe c (readings_of steps given).book system.shards)
         (ap (λ (n : Machine). n.config) is ∙ config-kept config steps given)
         (subst (λ (book : List Entry). AllServe m.config book system.shards)
-        (ap (λ (n : Machine). n.book) is ∙ sym told.book_told) keep.5)
+        (ap (λ (n : Machine). n.book) is ∙ sym told.book_told) keep.6)
 
 -- where a world stands for a trace, it then stands for that trace with the next step and its answer
 pub serializable-step : (config : Config) (steps : List Step) (given : List (Result Answered Refusal))

@@ -25,7 +25,7 @@ use Rattle.fdb_storage.proofs.LogMessagesLemmas.{messages_above_a_version}
 use Rattle.fdb_core.specs.headline.Replays.{IsUnpopped, GoOnFrom, ReplaysTellTheRun}
 use Rattle.fdb_core.specs.refinement.Cluster.{IsRising}
 use Rattle.fdb_core.proofs.refinement.LogTies.{messages-take, through-messages, take-both}
-use Rattle.fdb_core.proofs.refinement.RoleTies.{entries-take}
+use Rattle.fdb_core.proofs.refinement.BookLemmas.{entries-take}
 use Rattle.fdb_core.proofs.refinement.RunLaws.{entries-rising, serial-front, versions-ordered}
 
 module _ (splits : List Point) (range : Range) (book : List Entry) (entries : AreEntries (suc (length splits)) 0 book)

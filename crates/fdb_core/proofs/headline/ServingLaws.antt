@@ -1,14 +1,9 @@
 -- What the roles keep is what the book says of them.
-use Rattle.std.proofs.Common.{◌≡◌, ◌∙◌, sym, ap, refl, subst, arith, ℕ, zero, suc, ◌-◌, ◌≤◌, false, List, [], ◌∷◌, map, take, length, slice_get, Some}
+use Rattle.std.proofs.Common.{◌≡◌, ◌∙◌, sym, ap, refl, subst, arith, ℕ, zero, suc, ◌≤◌, false, List, [], ◌∷◌, map, length, slice_get, Some}
 use Rattle.std.specs.FinMap.{get}
 use Rattle.std.proofs.lemmas.List.{length-map}
 use Rattle.std.proofs.lemmas.Option.{same_Some}
 use Rattle.fdb_sequencer.proofs.TicketLemmas.{passed_is_stale}
-use Rattle.fdb_keys.specs.Points.{Point}
-use Rattle.fdb_interval.specs.Versions.{version_at}
-use Rattle.fdb_txn.specs.book.Book.{last_version, seen_before}
-use Rattle.fdb_txn.specs.rules.Owners.{window}
-use Rattle.fdb_txn.specs.rules.Resolvers.{IsStateOf}
 use Rattle.fdb_core.specs.declared.cluster.Cluster.{Cluster}
 use Rattle.fdb_mutations.specs.Maps.{Map}
 use Rattle.fdb_log.specs.Messages.{log_of}
@@ -19,23 +14,10 @@ use Rattle.fdb_core.specs.refinement.Logs.{progress_of}
 use Rattle.fdb_core.specs.machine.Roles.{ShardProgress}
 use Rattle.fdb_core.specs.refinement.Cluster.{machine_of, system_of, Refines}
 use Rattle.fdb_core.specs.machine.Machine.{Machine}
-use Rattle.fdb_core.specs.headline.Serving.{EachKeeps, SequencerKeeps, ResolverKeeps, MessagesKeep, LogKeeps, ShardReaches, ShardServes, RolesKeep}
+use Rattle.fdb_core.specs.headline.Serving.{EachKeeps, SequencerKeeps, ResolverKeeps, PartsKeep, MessagesKeep, LogKeeps, ShardReaches, ShardServes, RolesKeep}
 use Rattle.fdb_core.proofs.refinement.LogTies.{kept-tag}
 use Rattle.fdb_core.proofs.refinement.RunLaws.{entries-rising, serial-front}
 use Rattle.fdb_core.specs.declared.roles.resolver.ResolverRole.{ResolverRole}
-use Rattle.fdb_core.specs.refinement.Resolving.{taken_by}
-
--- of one role alone
-each-one : {A B : Type 0} (P : ℕ → A → B → Type 0) (a : A) (b : B) → P 0 a b → EachKeeps P (a ∷ []) (b ∷ [])
-each-one {A} {B} P a b keeps = (refl, at)
-  where
-    at : (i : ℕ) (far : A) (kept : B) → slice_get (a ∷ []) i ≡ Some far → slice_get (b ∷ []) i ≡ Some kept
-        → P i far kept
-    at zero far kept at_far at_kept =
-        let same_far : a ≡ far = cc in
-        let same_kept : b ≡ kept = cc in
-        subst (λ (x : A). P 0 x kept) same_far (subst (λ (y : B). P 0 a y) same_kept keeps)
-    at (suc i) far kept at_far at_kept = cc
 
 -- what is seen of a list is seen of one of its items
 seen-at : {A B : Type 0} (f : A → B) (xs : List A) (i : ℕ) (y : B) → slice_get (map f xs) i ≡ Some y
@@ -57,7 +39,7 @@ each-seen {A} {B} {C} f g P xs all i b c at also =
 
 -- each role of the world keeps what the book says of it
 pub roles_keep : (k : Cluster) → Refines k → RolesKeep (system_of false k)
-roles_keep k refines = (sequencer, resolver, messages, logs, reaches, (count, serves))
+roles_keep k refines = (sequencer, resolvers, parts, messages, logs, reaches, (count, serves))
   where
     m : Machine
     m = machine_of k
@@ -72,21 +54,19 @@ roles_keep k refines = (sequencer, resolver, messages, logs, reaches, (count, se
           ok.committed,
         )
 
-    resolver : EachKeeps (ResolverKeeps m) m.resolvers (map (λ (role : ResolverRole). role.core) k.resolvers.items)
-    resolver =
-        let role = refines.resolvers.role in
-        let ok = refines.resolvers.ok in
-        let keeps : ResolverKeeps m 0 role.taken role.core = (
-          ok.state.index,
-          ok.state.works,
-          ok.state.last,
-          subst (λ (splits : List Point). IsStateOf splits 0 (seen_before k.book.items role.taken).places
-              (last_version (take role.taken k.book.items) - window) (version_at role.core.versions))
-              (sym refines.plain.resolver_splits) ok.state.state,
-        ) in
-        subst (λ (roles : List ResolverRole). EachKeeps (ResolverKeeps m) (taken_by roles)
-        (map (λ (one : ResolverRole). one.core) roles)) (sym refines.resolvers.one)
-        (each-one (ResolverKeeps m) role.taken role.core keeps)
+    resolvers : EachKeeps (ResolverKeeps m) m.resolvers (map (λ (role : ResolverRole). role.core) k.resolvers.items)
+    resolvers = (
+      length-map k.resolvers.items (λ (role : ResolverRole). role.core)
+          ∙ sym (length-map k.resolvers.items (λ (role : ResolverRole). role.taken)),
+      each-seen (λ (role : ResolverRole). role.taken) (λ (role : ResolverRole). role.core) (ResolverKeeps m)
+          k.resolvers.items
+          (λ i role there.
+          let state = (refines.resolvers.each i role there).state in
+          (state.index, state.works, state.last, state.state)),
+    )
+
+    parts : PartsKeep m k.parts.items
+    parts = (refines.parts.count, refines.parts.each)
 
     messages : MessagesKeep m k.messages.items
     messages = (refines.book.each_pooled, λ i entry there. refines.book.made i entry there)
@@ -149,5 +129,5 @@ roles_keep k refines = (sequencer, resolver, messages, logs, reaches, (count, se
         ∙ its.serves v x from_there until_there inside
         ∙ ap (λ (map : Map). get map x)
         (sym (serial-front k.config.resolver_splits k.book.items
-        (entries-rising 1 k.book.items refines.book.entries) role.applied v
+        (entries-rising (suc (length k.config.resolver_splits)) k.book.items refines.book.entries) role.applied v
         (subst (λ (version : ℕ). v ≤ version) its.version until_there)))

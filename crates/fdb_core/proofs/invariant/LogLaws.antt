@@ -1,5 +1,5 @@
 -- Every log has taken each entry with an acknowledged place.
-use Rattle.std.proofs.Common.{◌≡◌, sym, ap, subst, ⊎_elim, ℕ, Bool, true, false, List, [], ◌∷◌, length, Some}
+use Rattle.std.proofs.Common.{◌≡◌, sym, ap, subst, ⊎_elim, ℕ, Bool, true, List, [], ◌∷◌, Some}
 use Rattle.std.specs.List.{AllByRecursion, slice_get}
 use Rattle.std.proofs.lemmas.Bool.{both_ways}
 use Rattle.fdb_txn.specs.declared.spot.Spot.{Spot}
@@ -11,21 +11,21 @@ use Rattle.fdb_core.specs.declared.roles.client.Placed.{Placed}
 use Rattle.fdb_proxy.specs.declared.outcome.Outcome.{Outcome}
 use Rattle.fdb_proxy.specs.declared.outcome.Outcome.TheVariants as outcome
 use Rattle.fdb_core.specs.headline.Promises.{IsTakenByAll, AcknowledgedAreLogged}
-use Rattle.fdb_core.specs.machine.CommitProxySteps.{is_idle, is_reported, placed_from}
+use Rattle.fdb_core.specs.machine.CommitProxySteps.{is_logging, is_reported, placed_from}
 use Rattle.fdb_core.specs.machine.Machine.{Machine}
-use Rattle.fdb_core.specs.machine.Roles.{CommitProxy}
+use Rattle.fdb_core.specs.machine.Roles.{CommitProxy, Stage}
 use Rattle.fdb_core.specs.machine.Sessions.{Sessions}
 use Rattle.fdb_core.specs.machine.Worlds.{start, idle_proxy}
 use Rattle.fdb_core.proofs.common.AllLemmas.{all-at, all-push, all-replicate, all-set}
 use Rattle.fdb_core.proofs.headline.TraceLaws.{traces_tell}
 use Rattle.fdb_core.proofs.machine.LogLemmas.{AcknowledgementCame, Grew, FlagsTell, Took, flags-all, flags-grew, flags-none, flags-set, took-grew}
-use Rattle.fdb_core.proofs.refinement.SealLemmas.{sealed_proxy}
+use Rattle.fdb_core.proofs.machine.Sealing.{sealed_proxy}
 use Rattle.fdb_core.proofs.machine.Steps.{KeptBySteps, kept-by_trace}
 
--- a proxy whose batch is in flight has set the flags of logs that took its entry, and once it reported all took it
+-- a proxy whose batch is decided has set the flags of logs that took its entry, and once it reported all took it
 abbrev ProxyTold : List ℕ → CommitProxy → Type 0
 ProxyTold logs commit_proxy =
-    (is_idle commit_proxy.stage ≡ false
+    (is_logging commit_proxy.stage ≡ true
     → FlagsTell commit_proxy.entry commit_proxy.acknowledgements_received logs)
     × (is_reported commit_proxy.stage ≡ true → Took commit_proxy.entry logs)
 
@@ -65,21 +65,28 @@ proxy-at : (m : Machine) → AreLogged m → (proxy : ℕ) (commit_proxy : Commi
 proxy-at m logged proxy commit_proxy at = all-at (ProxyTold m.logs) m.commit_proxies proxy commit_proxy
     logged.commit_proxies at
 
--- an acknowledgement that came is that of a log that took the entry
-told-more : (logs : List ℕ) (entry : ℕ) (old new : List Bool) → AcknowledgementCame logs entry old new
-    → FlagsTell entry old logs → FlagsTell entry new logs
-told-more logs entry old new came tell = ⊎_elim
-    (λ stays. subst (λ (flags : List Bool). FlagsTell entry flags logs) (sym stays) tell)
-    (λ one. subst (λ (flags : List Bool). FlagsTell entry flags logs) (sym one.4)
-    (flags-set entry old logs one.0 one.1 one.2 one.3 tell))
+-- where a proxy logs its batch, or goes on to that, the flags are set of logs that took its entry
+told-more : (logs : List ℕ) (commit_proxy : CommitProxy) (stage : Stage) (received : List Bool)
+    → AcknowledgementCame logs commit_proxy stage received → ProxyTold logs commit_proxy → is_logging stage ≡ true
+    → FlagsTell commit_proxy.entry received logs
+told-more logs commit_proxy stage received came told logging = ⊎_elim
+    (λ undecided. absurd (both_ways (is_logging stage) undecided logging))
+    (⊎_elim
+    (λ none. subst (λ (flags : List Bool). FlagsTell entry flags logs) (sym none) (flags-none entry logs))
+    (λ one. subst (λ (flags : List Bool). FlagsTell entry flags logs) (sym one.5)
+    (flags-set entry commit_proxy.acknowledgements_received logs one.1 one.2 one.3 one.4 (told.0 one.0))))
     came
+  where
+    entry : ℕ
+    entry = commit_proxy.entry
 
 logged_steps : KeptBySteps AreLogged
 logged_steps = record {
   roles = λ m taken answer resolvers logs shards quiet grew logged. record {
     commit_proxies = all-weaken (ProxyTold m.logs) (ProxyTold logs)
         (λ commit_proxy told. (
-          (λ busy. flags-grew commit_proxy.entry commit_proxy.acknowledgements_received m.logs logs grew (told.0 busy)),
+          (λ logging. flags-grew commit_proxy.entry commit_proxy.acknowledgements_received m.logs logs grew
+              (told.0 logging)),
           (λ reported. took-grew commit_proxy.entry m.logs logs grew (told.1 reported)),
         )) m.commit_proxies logged.commit_proxies;
     acknowledged = all-weaken (PlacedTaken m.logs) (PlacedTaken logs) (λ placed. spot-grew m.logs logs grew placed)
@@ -99,30 +106,29 @@ logged_steps = record {
   };
   sealed = λ m proxy advance commit_proxy at idle few room logged. record {
     commit_proxies = all-set (ProxyTold m.logs) m.commit_proxies proxy (sealed_proxy m commit_proxy)
-        logged.commit_proxies ((λ busy. flags-none (length m.book) m.logs), (λ reported. cc));
+        logged.commit_proxies ((λ logging. cc), (λ reported. cc));
     acknowledged = logged.acknowledged;
   };
   went_on = λ m taken answer proxy commit_proxy stage decided verdicts acknowledgements quiet came at busy goes_on
       unreported logged. record {
         commit_proxies = all-set (ProxyTold m.logs) m.commit_proxies proxy _ logged.commit_proxies (
-          (λ still. told-more m.logs commit_proxy.entry commit_proxy.acknowledgements_received acknowledgements came
-              ((proxy-at m logged proxy commit_proxy at).0 busy)),
+          told-more m.logs commit_proxy stage acknowledgements came (proxy-at m logged proxy commit_proxy at),
           (λ reported. absurd (both_ways (is_reported stage) unreported reported)),
         );
         acknowledged = logged.acknowledged;
       };
   reported_version = λ m proxy commit_proxy entry at logging there whole logged.
-      let flags = (proxy-at m logged proxy commit_proxy at).0 (ap is_idle logging) in
+      let flags = (proxy-at m logged proxy commit_proxy at).0 (ap is_logging logging) in
       record {
         commit_proxies = all-set (ProxyTold m.logs) m.commit_proxies proxy _ logged.commit_proxies (
-          (λ busy. flags),
+          (λ still. cc),
           (λ reported. flags-all 0 commit_proxy.entry commit_proxy.acknowledgements_received m.logs whole flags),
         );
         acknowledged = logged.acknowledged;
       };
   told = λ m proxy commit_proxy entry at reported there logged. record {
     commit_proxies = all-set (ProxyTold m.logs) m.commit_proxies proxy _ logged.commit_proxies
-        ((λ busy. cc), (λ still. cc));
+        ((λ logging. cc), (λ still. cc));
     acknowledged = all-append (PlacedTaken m.logs) m.acknowledged _ logged.acknowledged
         (taken-placed m.logs commit_proxy.entry commit_proxy.in_flight _
         ((proxy-at m logged proxy commit_proxy at).1 (ap is_reported reported)));
@@ -131,7 +137,7 @@ logged_steps = record {
 
 logged-start : (config : Config) → AreLogged (start config)
 logged-start config = record {
-  commit_proxies = all-replicate (ProxyTold (start config).logs) idle_proxy config.proxies ((λ busy. cc), (λ reported. cc));
+  commit_proxies = all-replicate (ProxyTold (start config).logs) idle_proxy config.proxies ((λ logging. cc), (λ reported. cc));
   acknowledged = tt;
 }
 

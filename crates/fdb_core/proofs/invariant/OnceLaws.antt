@@ -11,32 +11,28 @@ use Rattle.fdb_txn.specs.declared.entry.Entry.{Entry}
 use Rattle.fdb_txn.specs.declared.txn_id.TxnId.{TxnId}
 use Rattle.fdb_txn.specs.book.Transactions.{Transaction}
 use Rattle.fdb_proxy.specs.declared.config.Config.{Config}
-use Rattle.fdb_core.specs.machine.Roles.{Submission, CommitProxy}
+use Rattle.fdb_core.specs.machine.Roles.{CommitProxy}
 use Rattle.fdb_client.specs.declared.program.Transcript.{Transcript}
 use Rattle.fdb_core.specs.declared.step.Answered.{Answered}
 use Rattle.fdb_core.specs.declared.step.Step.{Step}
-use Rattle.fdb_txn.specs.book.Once.{NoIdTwice, same_name, times_named, times_in_book}
+use Rattle.fdb_txn.specs.book.Once.{NoIdTwice, times_named, times_in_book}
 use Rattle.fdb_core.specs.headline.Traces.{machine_of_trace}
+use Rattle.fdb_core.specs.invariant.Once.{up_to, once_for, waiting_in, times_waiting, times_opened, Once, OnceAmong, IsOnce}
 use Rattle.fdb_client.specs.Parts.{with_op}
 use Rattle.fdb_core.specs.machine.GrvProxySteps.{has_no_number}
 use Rattle.fdb_core.specs.machine.Machine.{Machine}
-use Rattle.fdb_core.specs.machine.Sessions.{Session, SessionState, Idle, Asking, Open, Waiting, Sessions, session_of, with_state, open_of, open_at, next_number, greatest_number, has_used_up, serve, tell_all}
+use Rattle.fdb_core.specs.machine.Sessions.{SessionState, Idle, Asking, Open, Waiting, session_of, with_state, open_of, open_at, next_number, greatest_number, has_used_up, serve, tell_all}
 use Rattle.fdb_core.specs.machine.Worlds.{start, idle_proxy}
 use Rattle.fdb_client.specs.Programs.{commit_request_of}
 use Rattle.fdb_core.proofs.common.SumLemmas.{sum-set, sum-made, none_or_some}
-use Rattle.fdb_core.proofs.invariant.SessionPlaces.{AllStand, session_steps, session-start, open-own, asks_once}
+use Rattle.fdb_core.proofs.invariant.SessionPlaces.{session_steps, session-start, open-own, asks_once}
 use Rattle.fdb_core.proofs.machine.SessionLemmas.{put-cases, served-none, served-once, told-none, told-some, times_among, times_of, able, next-within}
 use Rattle.fdb_core.proofs.machine.SessionMaps.{session-new}
 use Rattle.fdb_core.proofs.machine.Steps.{KeptBySteps, kept-by_trace}
-use Rattle.fdb_core.proofs.refinement.SealLemmas.{sealed_entry, sealed_proxy, sealed_machine}
+use Rattle.fdb_core.proofs.machine.Sealing.{sealed_entry, sealed_proxy, sealed_machine}
 
--- 1 where the number is one of those up to the last one, else 0
-abbrev up_to : ℕ → Option ℕ → ℕ
-up_to number None = 0
-up_to number (Some last) = cond (nat_le number last) 1 0
-
--- it is 1 at most
-up_to-one : (number : ℕ) (last : Option ℕ) → up_to number last ≤ 1
+-- a number is counted once at most among those up to the last one
+pub up_to-one : (number : ℕ) (last : Option ℕ) → up_to number last ≤ 1
 up_to-one number None = omega arith
 up_to-one number (Some last) = cond_both (nat_le number last) 1 0 (λ n. n ≤ 1) (λ _. omega arith) (λ _. omega arith)
 
@@ -69,39 +65,8 @@ counts-next number (Some last) within left = up number last (next_number (Some l
         (λ _. omega (arith, counts-equal number next))
 
 module _ (id : TxnId) where
-  -- how often there is a transaction of the name: 1 or 0 for one transaction, then at a proxy, at all of them, and
-  -- as the open one of a session at the state
-  abbrev once_for : TxnId → ℕ
-  once_for other = cond (same_name id other) 1 0
-
-  abbrev waiting_in : CommitProxy → ℕ
-  waiting_in commit_proxy = sum_by (λ (submission : Submission). once_for submission.sealed.id) commit_proxy.waiting
-
-  abbrev times_waiting : List CommitProxy → ℕ
-  times_waiting commit_proxies = sum_by waiting_in commit_proxies
-
-  abbrev times_opened : SessionState → ℕ
-  times_opened Idle = 0
-  times_opened Asking = 0
-  times_opened (Open transcript) = once_for transcript.id
-  times_opened Waiting = 0
-
--- In the book, at the proxies and as the open one of its session there is one transaction of the name at most, and none
--- before it has begun.
-record Once (id : TxnId) (book : List Entry) (commit_proxies : List CommitProxy) (session : Session) : Type 0 where
-  within : unwrap_or session.last_number 0 ≤ greatest_number
-  stands : times_in_book id book + times_waiting id commit_proxies + times_opened id session.state
-      ≤ up_to id.number session.last_number
-
-abbrev OnceAmong : TxnId → List Entry → List CommitProxy → Sessions → Type 0
-OnceAmong id book commit_proxies sessions = Once id book commit_proxies (session_of sessions id.session)
-
-abbrev IsOnce : TxnId → Machine → Type 0
-IsOnce id m = AllStand m × OnceAmong id m.book m.commit_proxies m.sessions
-
-module _ (id : TxnId) where
   -- an open transaction counts as one
-  opened-once : (state : SessionState) (transcript : Transcript) → open_of state ≡ Some transcript
+  pub opened-once : (state : SessionState) (transcript : Transcript) → open_of state ≡ Some transcript
       → times_opened id state ≡ once_for id transcript.id
   opened-once Idle transcript opened = cc
   opened-once Asking transcript opened = cc
@@ -175,11 +140,10 @@ module _ (id : TxnId) where
       let after = sealed_machine m proxy advance commit_proxy in
       OnceAmong id after.book after.commit_proxies after.sessions
   sealed-once m proxy advance commit_proxy once at =
-      let weight : Submission → ℕ = λ s. once_for id s.sealed.id in
+      let weight : Transcript → ℕ = λ transcript. once_for id transcript.id in
       let entry = sealed_entry m advance commit_proxy in
       let sealed : times_named id entry.batch ≡ sum_by weight (take place_limit commit_proxy.waiting)
-      = sum-made (λ (t : Transaction). once_for id t.id) (λ (submission : Submission). submission.sealed)
-      (take place_limit commit_proxy.waiting) in
+      = sum-made (λ (t : Transaction). once_for id t.id) commit_request_of (take place_limit commit_proxy.waiting) in
       record {
         within = once.within;
         stands = omega (
@@ -195,16 +159,14 @@ module _ (id : TxnId) where
   -- an open transaction waits at a proxy
   submitted-once : (m : Machine) (client proxy : ℕ) (commit_proxy : CommitProxy) (transcript : Transcript)
       → slice_get m.commit_proxies proxy ≡ Some commit_proxy → open_at m.sessions client ≡ Some transcript
-      → IsOnce id m →
-      let waits : Submission = record { sealed = commit_request_of transcript; transcript = transcript } in
-      OnceAmong id m.book (slice_set m.commit_proxies proxy
-      (record commit_proxy { waiting = commit_proxy.waiting ++ waits ∷ [] })) (with_state m.sessions client Waiting)
+      → IsOnce id m
+      → OnceAmong id m.book (slice_set m.commit_proxies proxy
+      (record commit_proxy { waiting = commit_proxy.waiting ++ transcript ∷ [] })) (with_state m.sessions client Waiting)
   submitted-once m client proxy commit_proxy transcript at opened once =
-      let waits : Submission = record { sealed = commit_request_of transcript; transcript = transcript } in
       let own = open-own m client transcript (once.0.0 client) opened in
       let set = sum-set (waiting_in id) m.commit_proxies proxy commit_proxy
-      (record commit_proxy { waiting = commit_proxy.waiting ++ waits ∷ [] }) at in
-      let push = sum_by_push (λ (s : Submission). once_for id s.sealed.id) commit_proxy.waiting waits in
+      (record commit_proxy { waiting = commit_proxy.waiting ++ transcript ∷ [] }) at in
+      let push = sum_by_push (λ (t : Transcript). once_for id t.id) commit_proxy.waiting transcript in
       changed-once m client Waiting m.book _ once.1
       (λ same. omega (
         arith,
@@ -218,7 +180,7 @@ module _ (id : TxnId) where
       (arith, once.1.stands, set, push, named-elsewhere transcript.id (λ same. differs (sym own ∙ same))))
 
   -- every step keeps it
-  once_steps : KeptBySteps (IsOnce id)
+  pub once_steps : KeptBySteps (IsOnce id)
   once_steps = record {
     roles = λ m taken answer resolvers logs shards quiet grew once. once;
     asked = λ m session proxy there at free once. (
@@ -271,7 +233,7 @@ module _ (id : TxnId) where
   }
 
   -- before the first step there is none
-  once-start : (config : Config) → IsOnce id (start config)
+  pub once-start : (config : Config) → IsOnce id (start config)
   once-start config =
       let no_lanes : times_waiting id (replicate config.proxies idle_proxy) ≡ 0
       = omega (arith, sum_by-replicate (waiting_in id) config.proxies idle_proxy) in (

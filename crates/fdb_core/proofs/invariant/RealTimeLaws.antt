@@ -10,7 +10,7 @@ use Rattle.fdb_txn.specs.declared.spot.Spot.TheVariants as spot
 use Rattle.fdb_txn.specs.declared.txn_id.TxnId.{TxnId}
 use Rattle.fdb_txn.proofs.book.HistoryLemmas.{all-append, all-weaken}
 use Rattle.fdb_proxy.specs.declared.config.Config.{Config}
-use Rattle.fdb_core.specs.machine.Roles.{Submission, CommitProxy}
+use Rattle.fdb_core.specs.machine.Roles.{CommitProxy}
 use Rattle.fdb_core.specs.declared.roles.client.Placed.{Placed}
 use Rattle.fdb_client.specs.declared.program.Transcript.{Transcript}
 use Rattle.fdb_core.specs.declared.step.Answered.{Answered}
@@ -25,7 +25,7 @@ use Rattle.fdb_core.specs.machine.CommitProxySteps.{placed_from}
 use Rattle.fdb_core.specs.machine.Machine.{Machine}
 use Rattle.fdb_core.specs.machine.Worlds.{start, idle_proxy}
 use Rattle.fdb_core.specs.invariant.Invariant.{Invariant, IsReported}
-use Rattle.fdb_core.proofs.common.AllLemmas.{all-push, all-set, all-at, all-drop, all-take, all-map, all-replicate}
+use Rattle.fdb_core.proofs.common.AllLemmas.{all-push, all-set, all-at, all-drop, all-take, all-replicate}
 use Rattle.fdb_core.proofs.headline.TraceLaws.{after_steps-parts}
 use Rattle.fdb_core.proofs.machine.SessionLemmas.{put-cases, each-put, last-put, last-told, open-has, open-put, open-told, open-new, open-weaken, next-within}
 use Rattle.fdb_core.proofs.machine.SessionMaps.{session-there}
@@ -86,8 +86,7 @@ begins-still old new same id begins = (begins.0, (begins.1.0, same id.session �
 
 -- what holds of each transaction that a commit proxy has
 abbrev AllAtProxy : (Transcript → Type 0) → CommitProxy → Type 0
-AllAtProxy Q commit_proxy = AllByRecursion (λ (submission : Submission). Q submission.transcript) commit_proxy.waiting
-    × AllByRecursion Q commit_proxy.in_flight
+AllAtProxy Q commit_proxy = AllByRecursion Q commit_proxy.waiting × AllByRecursion Q commit_proxy.in_flight
 
 -- what holds of each transaction that is open, at a commit proxy or acknowledged
 abbrev All : (Transcript → Type 0) → Sessions → List CommitProxy → List Placed → Type 0
@@ -103,7 +102,7 @@ all-more : (Q R : Transcript → Type 0) (sessions : Sessions) (commit_proxies :
 all-more Q R sessions commit_proxies acknowledged more all = (
   open-weaken Q R more sessions all.0,
   all-weaken (AllAtProxy Q) (AllAtProxy R) (λ (proxy : CommitProxy) has. (
-    all-weaken _ _ (λ (submission : Submission). more submission.transcript) proxy.waiting has.0,
+    all-weaken Q R more proxy.waiting has.0,
     all-weaken Q R more proxy.in_flight has.1,
   )) commit_proxies all.1,
   all-weaken _ _ (λ (placed : Placed). more placed.transcript) acknowledged all.2,
@@ -216,9 +215,7 @@ module _ (P : Sessions → TxnId → ℕ → Type 0) (low : ℕ) where
           let waiting = (proxy-has m kept proxy commit_proxy at).0 in
           let proxies = set-proxy m kept proxy _ (
             all-drop _ place_limit commit_proxy.waiting waiting,
-            all-map _ (Has m.sessions) (λ (submission : Submission). submission.transcript)
-                (λ submission has. has) _
-                (all-take _ place_limit commit_proxy.waiting waiting),
+            all-take _ place_limit commit_proxy.waiting waiting,
           ) in
           (kept.0, (kept.1.0, proxies, kept.1.2));
       went_on = λ m taken answer proxy commit_proxy stage decided verdicts acknowledgements quiet came at busy goes_on

@@ -32,7 +32,7 @@ use Rattle.fdb_core.specs.invariant.Invariant.{IsReplied, IsSerializedIn, IsRepo
 use Rattle.fdb_proxy.specs.Verdicts.{moves_through, outcomes_from, outcomes_on}
 use Rattle.fdb_client.proofs.ProgramsAgree.{programs_agree}
 use Rattle.fdb_client.proofs.ReadSetLemmas.{in_executed_ranges}
-use Rattle.fdb_core.proofs.refinement.RoleTies.{last-push}
+use Rattle.fdb_core.proofs.refinement.BookLemmas.{last-push}
 
 -- a transaction is serialized at its spot, which is reported
 abbrev pub Stands : Machine → Placed → Type 0

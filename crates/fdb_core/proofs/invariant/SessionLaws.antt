@@ -6,13 +6,14 @@ use Rattle.std.proofs.lemmas.Bool.{or_left, or_right, or_cases}
 use Rattle.fdb_keys.specs.declared.refusal.Refusal.TheVariants.{WrongState}
 use Rattle.fdb_client.specs.declared.program.Transcript.{Transcript}
 use Rattle.fdb_core.specs.headline.Sessions.{is_of, asks_at, waits_at, is_somewhere, times_asking_at, times_asking, times_waiting_at, times_waiting, IsWhereItsStateSays, SessionsAreWhereTheirStatesSay, AsksAreRefused}
+use Rattle.fdb_core.specs.invariant.Places.{asks_as, waits_as, Stands}
 use Rattle.fdb_core.specs.machine.GrvProxySteps.{asks}
 use Rattle.fdb_core.specs.machine.Machine.{Machine, Transition, refused_where}
-use Rattle.fdb_core.specs.machine.Roles.{Submission, CommitProxy}
+use Rattle.fdb_core.specs.machine.Roles.{CommitProxy}
 use Rattle.fdb_core.specs.machine.Sessions.{SessionState, Idle, Asking, Open, Waiting, session_of, is_busy}
 use Rattle.fdb_core.proofs.common.SumLemmas.{Counts, counts-test, counts-any, counts-or, passes-counted}
 use Rattle.fdb_core.proofs.headline.TraceLaws.{traces_tell}
-use Rattle.fdb_core.proofs.invariant.SessionPlaces.{asks_as, waits_as, one-place, Stands, sessions_stand}
+use Rattle.fdb_core.proofs.invariant.SessionPlaces.{one-place, sessions_stand}
 
 -- a state by what is counted of it
 asks-is : (state : SessionState) → 0 < asks_as state → state ≡ Asking
@@ -36,13 +37,11 @@ module _ (session : ℕ) where
   waits-counted : Counts (times_waiting session)
       (λ (commit_proxies : List CommitProxy). list_any (waits_at session) commit_proxies)
   waits-counted = counts-any (times_waiting_at session) (waits_at session) (λ commit_proxy.
-      let waits : Submission → Bool = λ submission. is_of session submission.transcript in
-      counts-or {X = List Submission × List Transcript} (λ both. count_by waits both.0)
-      (λ both. count_by (is_of session) both.1) (λ both. list_any waits both.0)
-      (λ both. list_any (is_of session) both.1)
-      (λ both. counts-any (λ (submission : Submission). cond (waits submission) 1 0) waits (counts-test waits) both.0)
-      (λ both. counts-any (λ (t : Transcript). cond (is_of session t) 1 0) (is_of session)
-      (counts-test (is_of session)) both.1)
+      let among = counts-any (λ (t : Transcript). cond (is_of session t) 1 0) (is_of session)
+      (counts-test (is_of session)) in
+      counts-or {X = List Transcript × List Transcript} (λ both. count_by (is_of session) both.0)
+      (λ both. count_by (is_of session) both.1) (λ both. list_any (is_of session) both.0)
+      (λ both. list_any (is_of session) both.1) (λ both. among both.0) (λ both. among both.1)
       (commit_proxy.waiting, commit_proxy.in_flight))
 
   -- a session that stands as its state says is where its state says

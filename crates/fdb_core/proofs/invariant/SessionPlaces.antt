@@ -1,5 +1,5 @@
 -- Each session stands as its state says, through every step.
-use Rattle.std.proofs.Common.{◌≡◌, ◌≢◌, ◌∙◌, ◌<◌, ◌≤◌, refl, sym, ap, subst, arith, ⊎_elim, ℕ, ◌+◌, true, false, cond, List, [], ◌∷◌, ◌++◌, take, fold, Option, Some, None, Result, sum_by}
+use Rattle.std.proofs.Common.{◌≡◌, ◌≢◌, ◌∙◌, ◌<◌, ◌≤◌, refl, sym, ap, subst, arith, ⊎_elim, ℕ, ◌+◌, false, cond, List, [], ◌∷◌, ◌++◌, fold, Option, Some, None, Result}
 use Rattle.std.specs.Prelude.{◌==◌, IfSome}
 use Rattle.std.specs.List.{AllByRecursion, slice_get, slice_set, count_by}
 use Rattle.std.proofs.lemmas.List.Sums.{sum_by_push, sum_by-take-drop}
@@ -11,28 +11,21 @@ use Rattle.fdb_proxy.specs.declared.config.Config.{Config}
 use Rattle.fdb_client.specs.declared.program.Transcript.{Transcript}
 use Rattle.fdb_core.specs.declared.step.Answered.{Answered}
 use Rattle.fdb_core.specs.declared.step.Step.{Step}
-use Rattle.fdb_core.specs.headline.Sessions.{is_of, times_asking_at, times_asking, times_waiting_at, times_waiting}
+use Rattle.fdb_core.specs.headline.Sessions.{is_of, times_asking_at, times_waiting_at}
 use Rattle.fdb_core.specs.headline.Traces.{machine_of_trace}
+use Rattle.fdb_core.specs.invariant.Places.{asks_as, waits_as, StandsAs, Stands, HasNoneIdle, AllStand}
 use Rattle.fdb_client.specs.Parts.{with_op}
 use Rattle.fdb_core.specs.machine.CommitProxySteps.{is_idle}
 use Rattle.fdb_core.specs.machine.Machine.{Machine}
-use Rattle.fdb_core.specs.machine.Roles.{Submission, CommitProxy}
-use Rattle.fdb_core.specs.machine.Sessions.{Session, SessionState, Idle, Asking, Open, Waiting, session_of, with_state, is_asking, is_waiting, is_busy, open_of, open_at, serve, tell_all}
+use Rattle.fdb_core.specs.machine.Roles.{CommitProxy}
+use Rattle.fdb_core.specs.machine.Sessions.{Session, SessionState, Idle, Asking, Open, Waiting, session_of, with_state, is_busy, open_of, open_at, serve, tell_all}
 use Rattle.fdb_core.specs.machine.Worlds.{start, idle_proxy}
-use Rattle.fdb_client.specs.Programs.{commit_request_of}
 use Rattle.fdb_core.proofs.common.AllLemmas.{all-at, all-set, all-replicate}
-use Rattle.fdb_core.proofs.common.SumLemmas.{sum-set, sum-at, sum-made, none_or_some}
+use Rattle.fdb_core.proofs.common.SumLemmas.{sum-set, sum-at, none_or_some}
 use Rattle.fdb_core.proofs.machine.SessionLemmas.{state-put, served-none, served-once, told-none, told-some}
 use Rattle.fdb_core.proofs.machine.SessionMaps.{session-new}
 use Rattle.fdb_core.proofs.machine.Steps.{KeptBySteps, kept-by_trace}
-use Rattle.fdb_core.proofs.refinement.SealLemmas.{sealed_proxy, sealed_machine}
-
--- how often a session at the state asks, and how many of its transactions wait
-abbrev pub asks_as : SessionState → ℕ
-asks_as state = cond (is_asking state) 1 0
-
-abbrev pub waits_as : SessionState → ℕ
-waits_as state = cond (is_waiting state) 1 0
+use Rattle.fdb_core.proofs.machine.Sealing.{sealed_proxy, sealed_machine}
 
 -- it is in one place at most
 pub one-place : (state : SessionState) → asks_as state + waits_as state ≤ 1
@@ -56,24 +49,6 @@ open-nowhere Asking transcript opened = cc
 open-nowhere (Open other) transcript opened = refl
 open-nowhere Waiting transcript opened = cc
 
--- The session, with its state, asks and waits as often as the state says, and an open transaction is its own.
-pub record StandsAs (session : ℕ) (state : SessionState) (grv_proxies : List (List ℕ))
-    (commit_proxies : List CommitProxy) : Type 0 where
-  pub named : IfSome (open_of state) (λ (transcript : Transcript). transcript.id.session ≡ session)
-  pub asks : times_asking session grv_proxies ≡ asks_as state
-  pub waits : times_waiting session commit_proxies ≡ waits_as state
-
-abbrev pub Stands : ℕ → Machine → Type 0
-Stands session m = StandsAs session (session_of m.sessions session).state m.grv_proxies m.commit_proxies
-
--- a commit proxy without a batch has none in flight
-abbrev pub HasNoneIdle : CommitProxy → Type 0
-HasNoneIdle commit_proxy = is_idle commit_proxy.stage ≡ true → commit_proxy.in_flight ≡ []
-
--- so stand all sessions
-abbrev pub AllStand : Machine → Type 0
-AllStand m = ((session : ℕ) → Stands session m) × AllByRecursion HasNoneIdle m.commit_proxies
-
 -- an open transaction is its session's
 pub open-own : (m : Machine) (session : ℕ) (transcript : Transcript) → Stands session m
     → open_at m.sessions session ≡ Some transcript → transcript.id.session ≡ session
@@ -92,16 +67,14 @@ asks-more session asker there =
           omega (arith, more, none),
     )
 
-waits-more : (session : ℕ) (commit_proxy : CommitProxy) (submission : Submission) →
-    let new = record commit_proxy { waiting = commit_proxy.waiting ++ submission ∷ [] } in
-    (submission.transcript.id.session ≡ session
-    → times_waiting_at session new ≡ times_waiting_at session commit_proxy + 1)
-    × (submission.transcript.id.session ≢ session
-    → times_waiting_at session new ≡ times_waiting_at session commit_proxy)
-waits-more session commit_proxy submission =
-    let own = submission.transcript.id.session in
-    let more = sum_by_push (λ (s : Submission). cond {A = ℕ} (is_of session s.transcript) 1 0) commit_proxy.waiting
-    submission in (
+waits-more : (session : ℕ) (commit_proxy : CommitProxy) (transcript : Transcript) →
+    let new = record commit_proxy { waiting = commit_proxy.waiting ++ transcript ∷ [] } in
+    (transcript.id.session ≡ session → times_waiting_at session new ≡ times_waiting_at session commit_proxy + 1)
+    × (transcript.id.session ≢ session → times_waiting_at session new ≡ times_waiting_at session commit_proxy)
+waits-more session commit_proxy transcript =
+    let own = transcript.id.session in
+    let more = sum_by_push (λ (t : Transcript). cond {A = ℕ} (is_of session t) 1 0) commit_proxy.waiting transcript
+    in (
       λ same. let one : cond {A = ℕ} (own == session) 1 0 ≡ 1 = rw (eq-eqb own session same) refl in
           omega (arith, more, one),
       λ differs. let none : cond {A = ℕ} (own == session) 1 0 ≡ 0 = rw (ne_eqb own session differs) refl in
@@ -179,16 +152,15 @@ module _ (session : ℕ) where
 
   -- or waits
   submitted-stands : (m : Machine) (client proxy : ℕ) (commit_proxy : CommitProxy) (transcript : Transcript)
-      (submission : Submission)
       → slice_get m.commit_proxies proxy ≡ Some commit_proxy → open_at m.sessions client ≡ Some transcript
-      → submission.transcript.id.session ≡ client → Stands session m
+      → transcript.id.session ≡ client → Stands session m
       → StandsAs session (session_of (with_state m.sessions client Waiting) session).state m.grv_proxies
       (slice_set m.commit_proxies proxy
-      (record commit_proxy { waiting = commit_proxy.waiting ++ submission ∷ [] }))
-  submitted-stands m client proxy commit_proxy transcript submission at opened own stands =
-      let new = record commit_proxy { waiting = commit_proxy.waiting ++ submission ∷ [] } in
+      (record commit_proxy { waiting = commit_proxy.waiting ++ transcript ∷ [] }))
+  submitted-stands m client proxy commit_proxy transcript at opened own stands =
+      let new = record commit_proxy { waiting = commit_proxy.waiting ++ transcript ∷ [] } in
       let set = sum-set (times_waiting_at session) m.commit_proxies proxy commit_proxy new at in
-      let more = waits-more session commit_proxy submission in
+      let more = waits-more session commit_proxy transcript in
       state-put (λ (state : SessionState). StandsAs session state m.grv_proxies
       (slice_set m.commit_proxies proxy new)) m.sessions client Waiting session
       (λ same.
@@ -222,15 +194,11 @@ module _ (session : ℕ) where
       → slice_get m.commit_proxies proxy ≡ Some commit_proxy → commit_proxy.in_flight ≡ [] → Stands session m
       → Stands session (sealed_machine m proxy advance commit_proxy)
   sealed-stands m proxy advance commit_proxy at none =
-      let weight : Submission → ℕ = λ submission. cond (is_of session submission.transcript) 1 0 in
-      let sealing = take place_limit commit_proxy.waiting in
-      let flying : count_by (is_of session) (sealed_proxy m commit_proxy).in_flight ≡ sum_by weight sealing
-      = sum-made (λ (t : Transcript). cond (is_of session t) 1 0) (λ (submission : Submission). submission.transcript)
-      sealing in
+      let weight : Transcript → ℕ = λ transcript. cond (is_of session transcript) 1 0 in
       let before : count_by (is_of session) commit_proxy.in_flight ≡ 0
       = ap (λ (ts : List Transcript). count_by (is_of session) ts) none in
       with-commit_proxy m proxy commit_proxy (sealed_proxy m commit_proxy) at
-      (omega (arith, flying, before, sum_by-take-drop weight commit_proxy.waiting place_limit))
+      (omega (arith, before, sum_by-take-drop weight commit_proxy.waiting place_limit))
 
   -- those of the batch are told
   told-stands : (m : Machine) (proxy : ℕ) (commit_proxy new : CommitProxy)
@@ -291,8 +259,7 @@ session_steps = record {
   read_only = λ m client proxy transcript opened empty all.
       (λ session. opened-stands session m client transcript Idle opened (all.0 session) (λ same. tt) refl, all.1);
   submitted = λ m client proxy commit_proxy transcript at opened writes all. (
-    λ session. submitted-stands session m client proxy commit_proxy transcript
-        (record { sealed = commit_request_of transcript; transcript = transcript }) at opened
+    λ session. submitted-stands session m client proxy commit_proxy transcript at opened
         (open-own m client transcript (all.0 client) opened) (all.0 session),
     with-none_idle m proxy _ (all-at HasNoneIdle m.commit_proxies proxy commit_proxy all.1 at) all,
   );

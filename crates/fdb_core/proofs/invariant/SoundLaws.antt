@@ -4,9 +4,10 @@ use Rattle.std.specs.List.{AllByRecursion, slice_get, slice_set}
 use Rattle.fdb_keys.specs.declared.refusal.Refusal.{Refusal}
 use Rattle.fdb_txn.specs.Limits.{place_limit}
 use Rattle.fdb_txn.specs.declared.entry.Entry.{Entry}
+use Rattle.fdb_txn.specs.declared.txn_id.TxnId.{TxnId}
 use Rattle.fdb_txn.proofs.book.HistoryLemmas.{all-append, all-weaken, entries_go_on}
 use Rattle.fdb_proxy.specs.declared.config.Config.{Config}
-use Rattle.fdb_core.specs.machine.Roles.{Submission, CommitProxy, Reported, ShardProgress}
+use Rattle.fdb_core.specs.machine.Roles.{CommitProxy, Reported, ShardProgress}
 use Rattle.fdb_core.specs.declared.roles.client.Placed.{Placed}
 use Rattle.fdb_client.specs.declared.program.Transcript.{Transcript}
 use Rattle.fdb_core.specs.declared.step.Answered.{Answered}
@@ -19,14 +20,16 @@ use Rattle.fdb_core.specs.machine.Machine.{Machine}
 use Rattle.fdb_core.specs.machine.Sessions.{Sessions, EachOpen, Idle, Asking, Open, Waiting, open_at}
 use Rattle.fdb_core.specs.machine.Worlds.{start, idle_proxy}
 use Rattle.fdb_client.specs.Programs.{commit_request_of}
-use Rattle.fdb_core.specs.invariant.Invariant.{IsReplied, IsSerializedIn, IsReported, Waits, CommitProxyIsSound, Invariant}
-use Rattle.fdb_core.proofs.common.AllLemmas.{all-at, all-set, all-push, all-drop, all-take, all-map, all-replicate}
+use Rattle.fdb_core.specs.invariant.Once.{IsOnce}
+use Rattle.fdb_core.specs.invariant.Invariant.{IsReplied, IsSerializedIn, IsReported, CommitProxyIsSound, Invariant}
+use Rattle.fdb_core.proofs.common.AllLemmas.{all-at, all-set, all-push, all-drop, all-take, all-replicate}
+use Rattle.fdb_core.proofs.invariant.OnceLaws.{once_steps, once-start}
 use Rattle.fdb_core.proofs.invariant.SerializedLemmas.{Stands, spot-stays, batch_serialized, read_only_serialized}
-use Rattle.fdb_core.proofs.invariant.SoundLemmas.{told-push, sealed-batch, sealed-in_flight, version-within, found-front, told-entry, commit_proxy-kept}
+use Rattle.fdb_core.proofs.invariant.SoundLemmas.{told-push, sealed-batch, version-within, found-front, told-entry, commit_proxy-kept}
+use Rattle.fdb_core.proofs.machine.Sealing.{last-at, sealed_entry, sealed_proxy, sealed_machine}
 use Rattle.fdb_core.proofs.machine.SessionLemmas.{open-has, open-put, open-served, open-told, open-new, open-weaken}
 use Rattle.fdb_core.proofs.machine.Steps.{KeptBySteps, kept-by_trace}
-use Rattle.fdb_core.proofs.refinement.RoleTies.{last-push}
-use Rattle.fdb_core.proofs.refinement.SealLemmas.{last-at, sealed_entry, sealed_proxy, sealed_machine}
+use Rattle.fdb_core.proofs.refinement.BookLemmas.{last-push}
 
 module _ (m : Machine) (sound : Invariant m) where
   -- where the book, what is pending and the committed version stay, a machine is sound by its transactions
@@ -35,7 +38,7 @@ module _ (m : Machine) (sound : Invariant m) where
       {acknowledged : List Placed}
       → EachOpen (IsReplied m) sessions → AllByRecursion (CommitProxyIsSound m) commit_proxies
       → AllByRecursion (IsSerializedIn m) acknowledged → AllByRecursion (IsReported m) acknowledged
-      → Invariant (record m {
+      → let after = record m {
         decided = decided;
         resolvers = resolvers;
         logs = logs;
@@ -44,8 +47,9 @@ module _ (m : Machine) (sound : Invariant m) where
         sessions = sessions;
         commit_proxies = commit_proxies;
         acknowledged = acknowledged;
-      })
-  same_book opened commit_proxies acknowledged reported = record {
+      } in
+      ((id : TxnId) → IsOnce id after) → Invariant after
+  same_book opened commit_proxies acknowledged reported once = record {
     entries = sound.entries;
     pending = sound.pending;
     committed = sound.committed;
@@ -53,6 +57,7 @@ module _ (m : Machine) (sound : Invariant m) where
     commit_proxies = commit_proxies;
     acknowledged = acknowledged;
     reported = reported;
+    once = once;
   }
 
   -- what is found in its lists is sound
@@ -88,13 +93,15 @@ in_flight-at m commit_proxy entry sound busy there =
 -- the batch of a new entry is that of those who waited first at an idle proxy
 sound-sealed : (m : Machine) (proxy advance : ℕ) (commit_proxy : CommitProxy) → Invariant m
     → slice_get m.commit_proxies proxy ≡ Some commit_proxy
+    → ((id : TxnId) → IsOnce id (sealed_machine m proxy advance commit_proxy))
     → Invariant (sealed_machine m proxy advance commit_proxy)
-sound-sealed m proxy advance commit_proxy sound at = record {
+sound-sealed m proxy advance commit_proxy sound at once = record {
   entries = entries_go_on (suc (length m.config.resolver_splits)) 0 m.book entry sound.entries (
     above,
     refl,
     sound.pending,
-    sealed-batch m entry.version sealing (omega (arith, above, sound.committed)) waits,
+    sealed-batch m entry.version (take place_limit commit_proxy.waiting) (omega (arith, above, sound.committed))
+        (all-take (IsReplied m) place_limit commit_proxy.waiting (commit_proxy-at m sound proxy commit_proxy at).0),
     tt,
   );
   pending = tt;
@@ -102,16 +109,15 @@ sound-sealed m proxy advance commit_proxy sound at = record {
   opened = open-weaken (IsReplied m) (IsReplied after) told m.sessions sound.opened;
   commit_proxies = all-set (CommitProxyIsSound after) m.commit_proxies proxy (sealed_proxy m commit_proxy)
       (all-weaken (CommitProxyIsSound m) (CommitProxyIsSound after) kept m.commit_proxies sound.commit_proxies) (
-        all-drop (Waits after) place_limit commit_proxy.waiting now.0,
-        all-map (Waits after) (IsReplied after) (λ (submission : Submission). submission.transcript)
-            (λ submission waiting. waiting.1) sealing
-            (all-take (Waits after) place_limit commit_proxy.waiting now.0),
-        λ _. (entry, last-at m.book entry, sealed-in_flight m sealing waits, λ reported. cc),
+        all-drop (IsReplied after) place_limit commit_proxy.waiting now.0,
+        all-take (IsReplied after) place_limit commit_proxy.waiting now.0,
+        λ _. (entry, last-at m.book entry, refl, λ reported. cc),
       );
   acknowledged = all-weaken (IsSerializedIn m) (IsSerializedIn after)
       (λ placed. spot-stays m entry placed.transcript placed.spot above)
       m.acknowledged sound.acknowledged;
   reported = sound.reported;
+  once = once;
 }
   where
     entry : Entry
@@ -119,9 +125,6 @@ sound-sealed m proxy advance commit_proxy sound at = record {
 
     after : Machine
     after = sealed_machine m proxy advance commit_proxy
-
-    sealing : List Submission
-    sealing = take place_limit commit_proxy.waiting
 
     above : last_version m.book < entry.version
     above = omega arith
@@ -133,9 +136,6 @@ sound-sealed m proxy advance commit_proxy sound at = record {
     kept = commit_proxy-kept m after (le_refl m.committed) told
         (λ i other there. found-front m.book (entry ∷ []) i other there)
 
-    waits : AllByRecursion (Waits m) sealing
-    waits = all-take (Waits m) place_limit commit_proxy.waiting (commit_proxy-at m sound proxy commit_proxy at).0
-
     now : CommitProxyIsSound after commit_proxy
     now = kept commit_proxy (commit_proxy-at m sound proxy commit_proxy at)
 
@@ -143,11 +143,12 @@ sound-sealed m proxy advance commit_proxy sound at = record {
 sound-reported : (m : Machine) (proxy : ℕ) (commit_proxy : CommitProxy) (entry : Entry) → Invariant m
     → slice_get m.commit_proxies proxy ≡ Some commit_proxy → is_idle commit_proxy.stage ≡ false
     → slice_get m.book commit_proxy.entry ≡ Some entry
-    → Invariant (record m {
+    → let after = record m {
       committed = max m.committed entry.version;
       commit_proxies = slice_set m.commit_proxies proxy (record commit_proxy { stage = Reported });
-    })
-sound-reported m proxy commit_proxy entry sound at busy there = record {
+    } in
+    ((id : TxnId) → IsOnce id after) → Invariant after
+sound-reported m proxy commit_proxy entry sound at busy there once = record {
   entries = sound.entries;
   pending = sound.pending;
   committed = omega (
@@ -163,6 +164,7 @@ sound-reported m proxy commit_proxy entry sound at busy there = record {
   acknowledged = sound.acknowledged;
   reported = all-weaken (IsReported m) (IsReported raised) (λ placed is. (le_trans is.0 up, is.1)) m.acknowledged
       sound.reported;
+  once = once;
 }
   where
     raised : Machine
@@ -187,43 +189,52 @@ sound-reported m proxy commit_proxy entry sound at busy there = record {
 pub sound_steps : KeptBySteps Invariant
 sound_steps = record {
   roles = λ m taken answer resolvers logs shards quiet grew sound.
-      same_book m sound sound.opened sound.commit_proxies sound.acknowledged sound.reported;
+      same_book m sound sound.opened sound.commit_proxies sound.acknowledged sound.reported
+      (λ id. (once_steps id).roles m taken answer resolvers logs shards quiet grew (sound.once id));
   asked = λ m session proxy there at free sound.
       same_book m sound (open-put (IsReplied m) m.sessions session Asking sound.opened tt) sound.commit_proxies
-      sound.acknowledged sound.reported;
+      sound.acknowledged sound.reported
+      (λ id. (once_steps id).asked m session proxy there at free (sound.once id));
   granted = λ m proxy there at left sound.
       same_book m sound
       (open-served (IsReplied m) m.committed (λ id. (le_refl m.committed, refl)) there m.sessions sound.opened)
-      sound.commit_proxies sound.acknowledged sound.reported;
+      sound.commit_proxies sound.acknowledged sound.reported
+      (λ id. (once_steps id).granted m proxy there at left (sound.once id));
   operated = λ m taken session transcript operation does opened sound.
       same_book m sound
       (open-put (IsReplied m) m.sessions session (Open (with_op transcript operation _)) sound.opened
       (told-push m transcript operation _ refl (opened-at m sound session transcript opened)))
-      sound.commit_proxies sound.acknowledged sound.reported;
+      sound.commit_proxies sound.acknowledged sound.reported
+      (λ id. (once_steps id).operated m taken session transcript operation does opened (sound.once id));
   read_only = λ m session proxy transcript opened empty sound.
       let told = opened-at m sound session transcript opened in
       same_book m sound (open-put (IsReplied m) m.sessions session Idle sound.opened tt) sound.commit_proxies
       (all-push (IsSerializedIn m) m.acknowledged _ sound.acknowledged
       (read_only_serialized m transcript sound.committed told empty))
-      (all-push (IsReported m) m.acknowledged _ sound.reported (told.0, le_refl transcript.read_version));
+      (all-push (IsReported m) m.acknowledged _ sound.reported (told.0, le_refl transcript.read_version))
+      (λ id. (once_steps id).read_only m session proxy transcript opened empty (sound.once id));
   submitted = λ m session proxy commit_proxy transcript at opened writes sound.
       let was = commit_proxy-at m sound proxy commit_proxy at in
-      let waits : Submission = record { sealed = commit_request_of transcript; transcript = transcript } in
-      let waiting = all-push (Waits m) commit_proxy.waiting waits was.0
-      (refl, opened-at m sound session transcript opened) in
+      let waiting = all-push (IsReplied m) commit_proxy.waiting transcript was.0
+      (opened-at m sound session transcript opened) in
       same_book m sound (open-put (IsReplied m) m.sessions session Waiting sound.opened tt)
       (with-commit_proxy m sound proxy _ (waiting, was.1, was.2))
-      sound.acknowledged sound.reported;
-  sealed = λ m proxy advance commit_proxy at idle few room sound. sound-sealed m proxy advance commit_proxy sound at;
+      sound.acknowledged sound.reported
+      (λ id. (once_steps id).submitted m session proxy commit_proxy transcript at opened writes (sound.once id));
+  sealed = λ m proxy advance commit_proxy at idle few room sound. sound-sealed m proxy advance commit_proxy sound at
+      (λ id. (once_steps id).sealed m proxy advance commit_proxy at idle few room (sound.once id));
   went_on = λ m taken answer proxy commit_proxy stage decided verdicts acknowledgements quiet came at busy goes_on
       unreported sound.
       let was = commit_proxy-at m sound proxy commit_proxy at in
       let flies = was.2 busy in
       same_book m sound sound.opened
       (with-commit_proxy m sound proxy _ (was.0, was.1, λ _. (flies.0, flies.1, flies.2, λ reported. cc)))
-      sound.acknowledged sound.reported;
+      sound.acknowledged sound.reported
+      (λ id. (once_steps id).went_on m taken answer proxy commit_proxy stage decided verdicts acknowledgements quiet
+      came at busy goes_on unreported (sound.once id));
   reported_version = λ m proxy commit_proxy entry at logging there whole sound. sound-reported m proxy commit_proxy entry
-      sound at (ap is_idle logging) there;
+      sound at (ap is_idle logging) there
+      (λ id. (once_steps id).reported_version m proxy commit_proxy entry at logging there whole (sound.once id));
   told = λ m proxy commit_proxy entry at reported there sound.
       let was = commit_proxy-at m sound proxy commit_proxy at in
       let flies = in_flight-at m commit_proxy entry was (ap is_idle reported) there in
@@ -234,7 +245,8 @@ sound_steps = record {
       (all-append (IsSerializedIn m) m.acknowledged _ sound.acknowledged
       (all-weaken (Stands m) (IsSerializedIn m) (λ placed stands. stands.0) _ stand))
       (all-append (IsReported m) m.acknowledged _ sound.reported
-      (all-weaken (Stands m) (IsReported m) (λ placed stands. stands.1) _ stand));
+      (all-weaken (Stands m) (IsReported m) (λ placed stands. stands.1) _ stand))
+      (λ id. (once_steps id).told m proxy commit_proxy entry at reported there (sound.once id));
 }
 
 -- the machine before its first step is sound
@@ -247,6 +259,7 @@ sound-start config = record {
   commit_proxies = all-replicate (CommitProxyIsSound (start config)) idle_proxy config.proxies (tt, tt, λ never. cc);
   acknowledged = tt;
   reported = tt;
+  once = λ id. once-start id config;
 }
 
 -- and so it is after any trace

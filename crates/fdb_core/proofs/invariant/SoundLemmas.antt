@@ -1,6 +1,6 @@
 -- What it takes to keep the machine sound: tests that accepted steps passed, transcripts, the book, and parts that
 -- change.
-use Rattle.std.proofs.Common.{◌≡◌, ◌∙◌, refl, sym, ap, ap₂, subst, arith, ◌<◌, ◌≤◌, le_refl, le_trans, ℕ, zero, suc, List, [], ◌∷◌, ◌++◌, map, Some}
+use Rattle.std.proofs.Common.{◌≡◌, ◌∙◌, sym, ap, subst, arith, ◌<◌, ◌≤◌, le_refl, le_trans, ℕ, zero, suc, List, [], ◌∷◌, ◌++◌, map, Some}
 use Rattle.std.specs.List.{AllByRecursion, slice_get}
 use Rattle.fdb_mutations.specs.Maps.{Map}
 use Rattle.fdb_txn.specs.declared.entry.Entry.{Entry}
@@ -10,18 +10,23 @@ use Rattle.fdb_txn.specs.rules.SerialMap.{serial_map_at}
 use Rattle.fdb_txn.specs.laws.SerialMapLaws.{version_after}
 use Rattle.fdb_txn.specs.book.Transactions.{Transaction, NamesWrites}
 use Rattle.fdb_txn.proofs.book.HistoryLemmas.{earlier_maps_stay}
-use Rattle.fdb_core.specs.machine.Roles.{CommitProxy, Submission}
+use Rattle.fdb_core.specs.machine.Roles.{CommitProxy}
 use Rattle.fdb_client.specs.declared.program.Op.{Op}
 use Rattle.fdb_client.specs.declared.program.Reply.{Reply}
 use Rattle.fdb_client.specs.declared.program.Transcript.{Transcript}
 use Rattle.fdb_core.specs.machine.Machine.{Machine}
 use Rattle.fdb_client.specs.Programs.{program, copy, reply_on, exec, commit_request_of, replies_of}
 use Rattle.fdb_client.specs.Parts.{with_op}
-use Rattle.fdb_core.specs.invariant.Invariant.{IsReplied, Waits, CommitProxyIsSound}
+use Rattle.fdb_core.specs.invariant.Invariant.{IsReplied, CommitProxyIsSound, Invariant}
+use Rattle.fdb_core.specs.invariant.Places.{AllStand}
 use Rattle.fdb_core.proofs.common.AllLemmas.{all-map}
 use Rattle.fdb_txn.proofs.book.HistoryLemmas.{all-weaken}
 use Rattle.fdb_client.proofs.WriteSetLemmas.{commit_request_of-names}
 use Rattle.fdb_client.proofs.ProgramLemmas.{program-push, replies-push}
+
+-- all sessions of a sound machine stand as their states say
+pub sessions-stand : (m : Machine) → Invariant m → AllStand m
+sessions-stand m sound = (sound.once (record { session = 0; number = 0 })).0
 
 -- a transcript stays told with one more operation that is replied from the copy after the earlier ones
 pub told-push : (m : Machine) (transcript : Transcript) (op : Op) (reply : Reply)
@@ -40,25 +45,12 @@ told-push m transcript op reply is told = (
     there = serial_map_at m.config.resolver_splits transcript.read_version (seen_of m.book).places
 
 -- those who wait may be the batch of an entry of a version above the committed one
-pub sealed-batch : (m : Machine) (version : ℕ) (submissions : List Submission) → m.committed < version
-    → AllByRecursion (Waits m) submissions
-    → AllByRecursion (λ (t : Transaction). (t.read < version) × NamesWrites t)
-    (map (λ (submission : Submission). submission.sealed) submissions)
-sealed-batch m version submissions above waits =
-    all-map (Waits m) May (λ (submission : Submission). submission.sealed)
-    (λ submission waiting. subst May (sym waiting.0)
-    (omega (arith, waiting.1.0, above), commit_request_of-names submission.transcript)) submissions waits
-  where
-    May : Transaction → Type 0
-    May t = (t.read < version) × NamesWrites t
-
--- and what is judged of them is what is submitted of their transcripts
-pub sealed-in_flight : (m : Machine) (submissions : List Submission) → AllByRecursion (Waits m) submissions
-    → map (λ (submission : Submission). submission.sealed) submissions ≡ map commit_request_of
-    (map (λ (submission : Submission). submission.transcript) submissions)
-sealed-in_flight m [] waits = refl
-sealed-in_flight m (submission ∷ submissions) waits = ap₂ (λ first others. first ∷ others) waits.0.0
-    (sealed-in_flight m submissions waits.1)
+pub sealed-batch : (m : Machine) (version : ℕ) (transcripts : List Transcript) → m.committed < version
+    → AllByRecursion (IsReplied m) transcripts
+    → AllByRecursion (λ (t : Transaction). (t.read < version) × NamesWrites t) (map commit_request_of transcripts)
+sealed-batch m version transcripts above waits =
+    all-map (IsReplied m) (λ (t : Transaction). (t.read < version) × NamesWrites t) commit_request_of
+    (λ transcript told. (omega (arith, told.0, above), commit_request_of-names transcript)) transcripts waits
 
 -- what is found in a list is found there with more after it
 pub found-front : {A : Type 0} (xs ys : List A) (i : ℕ) (x : A) → slice_get xs i ≡ Some x
@@ -102,8 +94,7 @@ pub commit_proxy-kept : (m after : Machine) → m.committed ≤ after.committed
     → ((i : ℕ) (entry : Entry) → slice_get m.book i ≡ Some entry → slice_get after.book i ≡ Some entry)
     → (commit_proxy : CommitProxy) → CommitProxyIsSound m commit_proxy → CommitProxyIsSound after commit_proxy
 commit_proxy-kept m after raised told found commit_proxy sound = (
-  all-weaken (Waits m) (Waits after) (λ (submission : Submission) waits. (waits.0, told submission.transcript waits.1))
-      commit_proxy.waiting sound.0,
+  all-weaken (IsReplied m) (IsReplied after) told commit_proxy.waiting sound.0,
   all-weaken (IsReplied m) (IsReplied after) told commit_proxy.in_flight sound.1,
   λ busy. let there = sound.2 busy in
       (there.0, found commit_proxy.entry there.0 there.1, there.2, λ reported. le_trans (there.3 reported) raised),

@@ -2,7 +2,9 @@
 use Rattle.std.proofs.Common.{◌≡◌, refl, ℕ, zero, suc, ◌+◌, ◌<◌, ◌≤◌, le_refl, Bool, true, false, List, [], ◌∷◌, length, replicate, Some, None, ◌⊎◌, arith}
 use Rattle.std.specs.Prelude.{⊤}
 use Rattle.std.specs.List.{AllByRecursion, slice_get, slice_set}
+use Rattle.fdb_core.specs.machine.CommitProxySteps.{is_logging}
 use Rattle.fdb_core.specs.machine.Machine.{first_missing}
+use Rattle.fdb_core.specs.machine.Roles.{CommitProxy, Stage}
 
 -- each log took what it had taken, or more
 abbrev pub Grew : List ℕ → List ℕ → Type 0
@@ -75,8 +77,12 @@ flags-all n entry (true ∷ flags) (log ∷ logs) whole tell =
     (tell.0 refl, flags-all (suc n) entry flags logs whole tell.1)
 flags-all n entry (false ∷ flags) (log ∷ logs) whole tell = cc
 
--- no acknowledgement came, or that of a log that took the entry
-abbrev pub AcknowledgementCame : List ℕ → ℕ → List Bool → List Bool → Type 0
-AcknowledgementCame logs entry old new =
-    (new ≡ old)
-    ⊎ ((log : ℕ) × (taken : ℕ) × (slice_get logs log ≡ Some taken) × (entry < taken) × (new ≡ slice_set old log true))
+-- where a proxy goes on to a stage, its batch isn't decided yet, or no log acknowledged it yet, or one more log did,
+-- which took the entry
+abbrev pub AcknowledgementCame : List ℕ → CommitProxy → Stage → List Bool → Type 0
+AcknowledgementCame logs commit_proxy stage received =
+    (is_logging stage ≡ false)
+    ⊎ ((received ≡ replicate (length logs) false)
+    ⊎ ((is_logging commit_proxy.stage ≡ true)
+    × (log : ℕ) × (taken : ℕ) × (slice_get logs log ≡ Some taken) × (commit_proxy.entry < taken)
+    × (received ≡ slice_set commit_proxy.acknowledgements_received log true)))

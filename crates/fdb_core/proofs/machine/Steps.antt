@@ -13,7 +13,7 @@ use Rattle.fdb_txn.specs.rules.SerialMap.{serial_map_at}
 use Rattle.fdb_log.specs.Messages.{log_of}
 use Rattle.fdb_sequencer.specs.Limits.{version_limit}
 use Rattle.fdb_sequencer.specs.Sequencer.{next_version}
-use Rattle.fdb_core.specs.machine.Roles.{CommitProxy, Stage, Idle, Resolving, Logging, Reported, ShardProgress, Submission, Sender, FromResolver, FromLog}
+use Rattle.fdb_core.specs.machine.Roles.{CommitProxy, Stage, Idle, Resolving, Logging, Reported, ShardProgress, Sender, FromResolver, FromLog}
 use Rattle.fdb_client.specs.declared.program.Op.{Op}
 use Rattle.fdb_client.specs.declared.program.Op.TheVariants as op
 use Rattle.fdb_client.specs.declared.program.Transcript.{Transcript}
@@ -35,7 +35,7 @@ use Rattle.fdb_client.specs.Programs.{program, copy, reply_on, commit_request_of
 use Rattle.fdb_core.proofs.headline.TraceLaws.{kept-after_steps}
 use Rattle.fdb_core.proofs.machine.LogLemmas.{Grew, AcknowledgementCame, grew-same, grew-set}
 use Rattle.fdb_core.proofs.machine.AcceptedTransitions.{IfAccepted, past-found, past-test, past-fault, past-wait, past-turn, past-choice, past-open}
-use Rattle.fdb_core.proofs.refinement.SealLemmas.{sealed_machine}
+use Rattle.fdb_core.proofs.machine.Sealing.{sealed_machine}
 
 -- the operation of a client's step, with its session
 abbrev pub operation_of : Step → Option (ℕ × Op)
@@ -97,11 +97,10 @@ pub record HoldsOfSteps (R : Machine → Step → Answered → Machine → Type 
   pub submitted : (m : Machine) (session proxy : ℕ) (commit_proxy : CommitProxy) (transcript : Transcript)
       → slice_get m.commit_proxies proxy ≡ Some commit_proxy → open_at m.sessions session ≡ Some transcript
       → is_read_only transcript ≡ false
-      → let submission : Submission = record { sealed = commit_request_of transcript; transcript = transcript } in
-      R m (step.Submit session proxy) answered.Done (record m {
+      → R m (step.Submit session proxy) answered.Done (record m {
         sessions = with_state m.sessions session Waiting;
         commit_proxies = slice_set m.commit_proxies proxy
-            (record commit_proxy { waiting = commit_proxy.waiting ++ submission ∷ [] });
+            (record commit_proxy { waiting = commit_proxy.waiting ++ transcript ∷ [] });
       })
   -- a proxy made those who wait the batch of the next entry, where a version and a place in the book are left (Seal)
   pub sealed : (m : Machine) (proxy advance : ℕ) (commit_proxy : CommitProxy)
@@ -112,12 +111,12 @@ pub record HoldsOfSteps (R : Machine → Step → Answered → Machine → Type 
       (answered.Issued (length m.book) (next_version prev advance) prev
       (length (take place_limit commit_proxy.waiting)))
       (sealed_machine m proxy advance commit_proxy)
-  -- a proxy went on with its batch, which isn't reported; a log whose acknowledgement came took the entry (Verdict,
+  -- a proxy went on with its batch, which isn't reported; of logs those acknowledged it that took its entry (Verdict,
   -- Decide, Logged)
   pub went_on : (m : Machine) (taken : Step) (answer : Answered) (proxy : ℕ) (commit_proxy : CommitProxy)
       (stage : Stage) (decided verdicts_received acknowledgements_received : List Bool)
       → is_quiet taken ≡ true
-      → AcknowledgementCame m.logs commit_proxy.entry commit_proxy.acknowledgements_received acknowledgements_received
+      → AcknowledgementCame m.logs commit_proxy stage acknowledgements_received
       → slice_get m.commit_proxies proxy ≡ Some commit_proxy → is_idle commit_proxy.stage ≡ false
       → is_idle stage ≡ false → is_reported stage ≡ false
       → R m taken answer (record m {
@@ -145,7 +144,8 @@ pub record HoldsOfSteps (R : Machine → Step → Answered → Machine → Type 
       R m (step.Answer proxy) (answered.Answers (replies_from commit_proxy.in_flight outcomes)) (record m {
         acknowledged = m.acknowledged ++ placed_from commit_proxy.entry commit_proxy.in_flight outcomes;
         sessions = tell_all commit_proxy.in_flight m.sessions;
-        commit_proxies = slice_set m.commit_proxies proxy (record commit_proxy { in_flight = []; stage = Idle });
+        commit_proxies = slice_set m.commit_proxies proxy
+            (record commit_proxy { in_flight = []; stage = Idle; acknowledgements_received = [] });
       })
 
 -- a stage by its tests
@@ -171,7 +171,8 @@ module _ (R : Machine → Step → Answered → Machine → Type 0) (holds : Hol
       (record m { commit_proxies = slice_set m.commit_proxies proxy (with_received commit_proxy sender) })
   received m taken proxy commit_proxy i (FromResolver resolver) quiet at awaited has there later =
       let stage = (stage-is commit_proxy.stage).1 (and_parts _ _ (and_parts _ _ awaited).0).0 in
-      holds.went_on m taken answered.Done proxy commit_proxy commit_proxy.stage m.decided _ _ quiet (inl refl) at
+      holds.went_on m taken answered.Done proxy commit_proxy commit_proxy.stage m.decided _ _ quiet
+      (inl (ap is_logging stage)) at
       (ap is_idle stage) (ap is_idle stage) (ap is_reported stage)
   received m taken proxy commit_proxy i (FromLog log) quiet at awaited has there later =
       let parts = and_parts _ _ (and_parts _ _ awaited).0 in
@@ -179,7 +180,7 @@ module _ (R : Machine → Step → Answered → Machine → Type 0) (holds : Hol
       let its : commit_proxy.entry ≡ i = eqb-true commit_proxy.entry i parts.1 in
       let after : commit_proxy.entry < has = let above = leb-false has i later in omega (arith, its, above) in
       holds.went_on m taken answered.Done proxy commit_proxy commit_proxy.stage m.decided _ _ quiet
-      (inr (log, has, there, after, refl)) at (ap is_idle stage) (ap is_idle stage) (ap is_reported stage)
+      (inr (inr (ap is_logging stage, log, has, there, after, refl))) at (ap is_idle stage) (ap is_idle stage) (ap is_reported stage)
 
   -- an operation that reads goes to the session's open transaction
   reads-operated : (m : Machine) (taken : Step) (session : ℕ) (operation : Op)
@@ -249,7 +250,7 @@ module _ (R : Machine → Step → Answered → Machine → Type 0) (holds : Hol
       let before = seen_before m.book commit_proxy.entry in
       past-wait _ (first_missing (λ resolver. is_needed m.config.resolver_splits resolver before entry) 0
       commit_proxy.verdicts_received) _ (λ _.
-      holds.went_on m (step.Decide proxy) _ proxy commit_proxy Logging _ _ _ refl (inl refl) at
+      holds.went_on m (step.Decide proxy) _ proxy commit_proxy Logging _ _ _ refl (inr (inl refl)) at
       (ap is_idle ((stage-is commit_proxy.stage).1 (not-false _ resolving))) refl refl))))
   holds-next m (step.Push i log) =
       past-found _ (slice_get m.book i) _ (λ entry _. past-found _ (slice_get m.logs log) _ (λ taken at.

@@ -50,10 +50,8 @@ pub submits-to_commit : (m : Machine) (session proxy : ℕ) (commit_proxy : Comm
       answer = answered.Done;
       next = record m {
         sessions = with_state m.sessions session Waiting;
-        commit_proxies = slice_set m.commit_proxies proxy (record commit_proxy {
-          waiting = commit_proxy.waiting
-              ++ record { sealed = commit_request_of transcript; transcript = transcript } ∷ [];
-        });
+        commit_proxies = slice_set m.commit_proxies proxy
+            (record commit_proxy { waiting = commit_proxy.waiting ++ transcript ∷ [] });
       };
     })
 unfolding submits

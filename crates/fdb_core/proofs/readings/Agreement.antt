@@ -1,5 +1,5 @@
 -- What the machine has in its fields is what the trace tells.
-use Rattle.std.proofs.Common.{◌≡◌, ◌≢◌, ◌≤◌, refl, sym, subst, arith, ⊎_elim, ℕ, suc, ◌+◌, Bool, true, false, cond, List, [], ◌∷◌, ◌++◌, map, length, Some}
+use Rattle.std.proofs.Common.{◌≡◌, ◌≢◌, ◌≤◌, refl, sym, subst, arith, ⊎_elim, ℕ, suc, ◌+◌, Bool, true, false, cond, List, [], ◌∷◌, ◌++◌, length, Some}
 use Rattle.std.specs.Prelude.{◌==◌, nat_lt, sum_by}
 use Rattle.std.specs.List.{slice_get, slice_set, count_by}
 use Rattle.std.proofs.lemmas.Bool.{eq-eqb, ne_eqb, le-ltb, lt-ltb, ltb-true}
@@ -22,24 +22,19 @@ use Rattle.fdb_core.specs.invariant.Invariant.{Invariant}
 use Rattle.fdb_core.specs.machine.ClientSteps.{answered_by}
 use Rattle.fdb_core.specs.machine.CommitProxySteps.{is_idle}
 use Rattle.fdb_core.specs.machine.Machine.{Machine}
-use Rattle.fdb_core.specs.machine.Roles.{CommitProxy, Submission}
+use Rattle.fdb_core.specs.machine.Roles.{CommitProxy}
 use Rattle.fdb_core.specs.machine.Sessions.{Sessions}
 use Rattle.fdb_client.specs.Programs.{reply_on}
 use Rattle.fdb_core.proofs.common.SumLemmas.{sum-set}
 use Rattle.fdb_core.proofs.invariant.SoundLemmas.{found-front}
 use Rattle.fdb_core.proofs.machine.Steps.{is_quiet, operation_of}
-use Rattle.fdb_core.proofs.invariant.SessionPlaces.{AllStand}
 use Rattle.fdb_core.proofs.readings.GrantLemmas.{NumbersBegun}
 use Rattle.fdb_core.proofs.readings.SessionLists.{OpenTold, item-after-set}
-
--- the transactions of submissions
-abbrev pub transcripts_of : List Submission → List Transcript
-transcripts_of submissions = map (λ (submission : Submission). submission.transcript) submissions
 
 -- A commit proxy has those who are told to wait there, and unless it has none the batch of its last Seal.
 pub record AtProxy (book : List Entry) (waiting : List Transcript) (sealed : SealedBatch) (commit_proxy : CommitProxy) :
     Type 0 where
-  pub waiting_told : waiting ≡ transcripts_of commit_proxy.waiting
+  pub waiting_told : waiting ≡ commit_proxy.waiting
   pub batch_told : is_idle commit_proxy.stage ≡ false
       → (entry : Entry) × (slice_get book commit_proxy.entry ≡ Some entry) × (sealed ≡ record
       { entry = commit_proxy.entry; version = entry.version; transcripts = commit_proxy.in_flight })
@@ -77,7 +72,7 @@ TellsMachine r m = Tells r m.book m.sessions m.acknowledged m.committed m.pendin
 -- what a step tells beside what was told before is what the machine goes on to
 abbrev pub TellsOn : Machine → Step → Answered → Machine → Type 0
 TellsOn m taken answer after =
-    (r : Readings) → Invariant m → AllStand m → TellsMachine r m → TellsMachine (read r taken answer) after
+    (r : Readings) → Invariant m → TellsMachine r m → TellsMachine (read r taken answer) after
 
 -- a quiet step tells nothing
 pub quiet-tells : (r : Readings) (taken : Step) (answer : Answered) → is_quiet taken ≡ true → r ≡ read r taken answer

@@ -2,7 +2,6 @@
 use Rattle.std.proofs.Common.{◌≡◌, ◌∙◌, refl, sym, ap, subst, ⊎_elim, ℕ, max, true, List, [], ◌∷◌, map, length, take, Option, Some, None, Result, Ok, Err}
 use Rattle.std.specs.List.{AllByRecursion, slice_get}
 use Rattle.std.specs.FinMap.{get}
-use Rattle.std.proofs.lemmas.List.{length-map, take-map}
 use Rattle.std.proofs.lemmas.Option.{same_Some}
 use Rattle.fdb_keys.specs.declared.refusal.Refusal.{Refusal}
 use Rattle.fdb_keys.specs.Points.{Point}
@@ -149,10 +148,7 @@ answered_steps = record {
         ap (λ (b : List Entry). length b) (sym tells.book_told),
         ap last_version (sym tells.book_told),
         refl,
-        sym (ap (λ (waits : List Transcript). length (take place_limit waits)) was.waiting_told
-            ∙ ap (λ (batch : List Transcript). length batch)
-            (take-map (λ submission. submission.transcript) place_limit commit_proxy.waiting)
-            ∙ length-map (take place_limit commit_proxy.waiting) (λ submission. submission.transcript)),
+        sym (ap (λ (waits : List Transcript). length (take place_limit waits)) was.waiting_told),
       );
   went_on = λ m taken answer proxy commit_proxy stage decided verdicts acknowledgements quiet came at busy goes_on
       unreported r tells. quiet-answered _ r taken answer quiet;

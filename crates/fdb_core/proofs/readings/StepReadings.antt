@@ -1,8 +1,7 @@
 -- Every accepted step tells, with its answer, what it does to the machine.
 use Rattle.std.proofs.Common.{◌≡◌, ◌≢◌, ◌∙◌, ◌≤◌, le_refl, refl, sym, ap, ap₂, subst, ⊎_elim, ℕ, max, false, List, [], ◌∷◌, ◌++◌, take, drop, map, length, fold, Some}
-use Rattle.std.specs.List.{AllByRecursion, slice_get, slice_set}
+use Rattle.std.specs.List.{slice_get, slice_set}
 use Rattle.std.proofs.lemmas.Option.{same_Some}
-use Rattle.std.proofs.lemmas.List.{map-append, take-map, drop-map}
 use Rattle.fdb_txn.specs.Limits.{place_limit}
 use Rattle.fdb_txn.specs.declared.entry.Entry.{Entry}
 use Rattle.fdb_txn.specs.declared.spot.Spot.TheVariants as spot
@@ -11,28 +10,27 @@ use Rattle.fdb_txn.specs.rules.SerialMap.{serial_map_at}
 use Rattle.fdb_core.specs.declared.roles.client.Placed.{Placed}
 use Rattle.fdb_client.specs.declared.program.Transcript.{Transcript}
 use Rattle.fdb_core.specs.headline.Readings.{Readings, SealedBatch, begins, waits_at, seals_entry, of_session, others_than, with_one_more, with_at, all_acknowledged_by}
-use Rattle.fdb_core.specs.invariant.Invariant.{Invariant, Waits, CommitProxyIsSound}
+use Rattle.fdb_core.specs.invariant.Places.{AllStand}
 use Rattle.fdb_client.specs.Parts.{with_op}
 use Rattle.fdb_core.specs.machine.ClientSteps.{add_operation}
 use Rattle.fdb_core.specs.machine.CommitProxySteps.{is_idle, replies_from}
 use Rattle.fdb_core.specs.headline.Traces.{alone}
 use Rattle.fdb_core.specs.machine.Machine.{Machine}
 use Rattle.fdb_core.specs.machine.Sessions.{Session, Sessions, Idle as Free, Asking, Open, Waiting, with_state, open_of, open_at, serve, tell_all}
-use Rattle.fdb_core.specs.machine.Roles.{CommitProxy, Submission, Reported, Idle}
+use Rattle.fdb_core.specs.machine.Roles.{CommitProxy, Reported, Idle}
 use Rattle.fdb_proxy.specs.Verdicts.{outcomes_on}
 use Rattle.fdb_client.specs.Programs.{program, copy, reply_on, commit_request_of}
 use Rattle.fdb_sequencer.specs.Sequencer.{next_version}
-use Rattle.fdb_core.proofs.common.AllLemmas.{all-at, all-take}
-use Rattle.fdb_core.proofs.invariant.SessionPlaces.{AllStand, asks_once, asker-not-open, in_flight_once, flying-not-open}
-use Rattle.fdb_core.proofs.invariant.SoundLemmas.{sealed-in_flight}
+use Rattle.fdb_core.proofs.invariant.SessionPlaces.{asks_once, asker-not-open, in_flight_once, flying-not-open}
+use Rattle.fdb_core.proofs.invariant.SoundLemmas.{sessions-stand}
 use Rattle.fdb_core.proofs.common.SumLemmas.{none_or_some}
+use Rattle.fdb_core.proofs.machine.Sealing.{last-at, sealed_entry, sealed_proxy, sealed_machine}
 use Rattle.fdb_core.proofs.machine.SessionLemmas.{able, told-none, told-some, times_of}
 use Rattle.fdb_core.proofs.machine.Steps.{HoldsOfSteps}
-use Rattle.fdb_core.proofs.readings.Agreement.{AtProxy, TellsMachine, TellsOn, transcripts_of, quiet-tells, operation-tells, changed-there, changed-elsewhere, one-changes, book-grows, AnsweredOnce, flies, once-goes_on, once-answered, once-sealed}
+use Rattle.fdb_core.proofs.readings.Agreement.{AtProxy, TellsMachine, TellsOn, quiet-tells, operation-tells, changed-there, changed-elsewhere, one-changes, book-grows, AnsweredOnce, flies, once-goes_on, once-answered, once-sealed}
 use Rattle.fdb_core.proofs.readings.AnswerReadings.{acknowledged-placed}
 use Rattle.fdb_core.proofs.readings.GrantLemmas.{NumbersBegun, AreReady, ready-others, numbers-begins, opened-begins, numbers-put, numbers-told}
 use Rattle.fdb_core.proofs.readings.SessionLists.{OpenTold, found-told, others-told, more-told}
-use Rattle.fdb_core.proofs.refinement.SealLemmas.{last-at, sealed_entry, sealed_proxy, sealed_machine}
 
 -- where the proxies stay, and what is told of the sessions and of reports is what changes of the machine
 with-clients : (r : Readings) (m : Machine) (told_opened : List Transcript) (sessions : Sessions)
@@ -119,29 +117,27 @@ told-open m proxy commit_proxy opened at all told session = ⊎_elim
 
 -- a transaction that waits at a proxy
 submitted-told : (r : Readings) (m : Machine) (session proxy : ℕ) (commit_proxy : CommitProxy)
-    (transcript : Transcript) (submission : Submission)
+    (transcript : Transcript)
     → TellsMachine r m → slice_get m.commit_proxies proxy ≡ Some commit_proxy
-    → open_at m.sessions session ≡ Some transcript → transcript ≡ submission.transcript
+    → open_at m.sessions session ≡ Some transcript
     → TellsMachine (waits_at r session proxy) (record m {
       sessions = with_state m.sessions session Waiting;
       commit_proxies = slice_set m.commit_proxies proxy
-          (record commit_proxy { waiting = commit_proxy.waiting ++ submission ∷ [] });
+          (record commit_proxy { waiting = commit_proxy.waiting ++ transcript ∷ [] });
     })
-submitted-told r m session proxy commit_proxy transcript submission tells at opened same =
+submitted-told r m session proxy commit_proxy transcript tells at opened =
     let was = tells.proxies_told proxy commit_proxy at in
     let found = found-told r.opened m.sessions tells.opened_told session transcript opened in
     let waits = with_at proxy (r.waiting proxy ++ of_session session r.opened) r.waiting in
-    let there_waits : waits proxy ≡ transcripts_of (commit_proxy.waiting ++ submission ∷ []) =
+    let there_waits : waits proxy ≡ commit_proxy.waiting ++ transcript ∷ [] =
     changed-there proxy (r.waiting proxy ++ of_session session r.opened) r.waiting
-    ∙ ap₂ (λ (first found : List Transcript). first ++ found) was.waiting_told
-    (found ∙ ap (λ (t : Transcript). t ∷ []) same)
-    ∙ sym (map-append (λ (s : Submission). s.transcript) commit_proxy.waiting (submission ∷ [])) in
+    ∙ ap₂ (λ (first found : List Transcript). first ++ found) was.waiting_told found in
     with-clients (record r { waiting = waits }) (record m {
       commit_proxies = slice_set m.commit_proxies proxy
-          (record commit_proxy { waiting = commit_proxy.waiting ++ submission ∷ [] });
+          (record commit_proxy { waiting = commit_proxy.waiting ++ transcript ∷ [] });
     })
     (others_than session r.opened) (with_state m.sessions session Waiting) _ _ _ _
-    (with-proxy r m waits r.answered proxy (record commit_proxy { waiting = commit_proxy.waiting ++ submission ∷ [] })
+    (with-proxy r m waits r.answered proxy (record commit_proxy { waiting = commit_proxy.waiting ++ transcript ∷ [] })
     tells
     (λ other differs. sym (changed-elsewhere proxy _ r.waiting other differs))
     (record { waiting_told = there_waits; batch_told = was.batch_told })
@@ -153,12 +149,11 @@ submitted-told r m session proxy commit_proxy transcript submission tells at ope
 
 -- a proxy that seals
 sealed-told : (r : Readings) (m : Machine) (proxy advance : ℕ) (commit_proxy : CommitProxy)
-    → TellsMachine r m → Invariant m → slice_get m.commit_proxies proxy ≡ Some commit_proxy
-    → commit_proxy.stage ≡ Idle
+    → TellsMachine r m → slice_get m.commit_proxies proxy ≡ Some commit_proxy → commit_proxy.stage ≡ Idle
     → TellsMachine
     (seals_entry r proxy (length m.book) (next_version (last_version m.book) advance) (last_version m.book))
     (sealed_machine m proxy advance commit_proxy)
-sealed-told r m proxy advance commit_proxy tells sound at idle = record {
+sealed-told r m proxy advance commit_proxy tells at idle = record {
   book_told = λ i. tells.book_told i ++ entry_told i ∷ [];
   opened_told = tells.opened_told;
   acknowledged_told = tells.acknowledged_told;
@@ -174,8 +169,7 @@ sealed-told r m proxy advance commit_proxy tells sound at idle = record {
         sym (changed-elsewhere proxy _ r.sealed other differs),
       ))
       (record {
-        waiting_told = changed-there proxy _ r.waiting ∙ ap (drop place_limit) was.waiting_told
-            ∙ drop-map (λ (s : Submission). s.transcript) place_limit commit_proxy.waiting;
+        waiting_told = changed-there proxy _ r.waiting ∙ ap (drop place_limit) was.waiting_told;
         batch_told = λ busy. (
           entry,
           last-at m.book entry,
@@ -196,19 +190,8 @@ sealed-told r m proxy advance commit_proxy tells sound at idle = record {
     was : AtProxy m.book (r.waiting proxy) (r.sealed proxy) commit_proxy
     was = tells.proxies_told proxy commit_proxy at
 
-    sealing : List Submission
-    sealing = take place_limit commit_proxy.waiting
-
-    batch_told : take place_limit (r.waiting proxy) ≡ transcripts_of sealing
+    batch_told : take place_limit (r.waiting proxy) ≡ take place_limit commit_proxy.waiting
     batch_told = ap (take place_limit) was.waiting_told
-        ∙ take-map (λ (s : Submission). s.transcript) place_limit commit_proxy.waiting
-
-    waits : AllByRecursion (Waits m) sealing
-    waits = all-take (Waits m) place_limit commit_proxy.waiting
-        (all-at (CommitProxyIsSound m) m.commit_proxies proxy commit_proxy sound.commit_proxies at).0
-
-    judged : map commit_request_of (take place_limit (r.waiting proxy)) ≡ entry.batch
-    judged = ap (map commit_request_of) batch_told ∙ sym (sealed-in_flight m sealing waits)
 
     entry_told : Path Entry (record {
       version = entry.version;
@@ -220,7 +203,7 @@ sealed-told r m proxy advance commit_proxy tells sound at idle = record {
       version = entry.version;
       prev = entry.prev;
       moves = sym tells.no_moves i;
-      batch = judged i;
+      batch = map commit_request_of (batch_told i);
     }
 
 -- a proxy with a batch in flight: its entry is the one that is found in the book
@@ -237,14 +220,15 @@ batch-at r m proxy commit_proxy entry tells at busy there =
 
 pub tells_steps : HoldsOfSteps TellsOn
 tells_steps = record {
-  roles = λ m taken answer resolvers logs shards quiet grew r sound all tells.
+  roles = λ m taken answer resolvers logs shards quiet grew r sound tells.
       subst (λ (told : Readings). TellsMachine told m) (quiet-tells r taken answer quiet) tells;
-  asked = λ m session proxy there at free r sound all tells.
+  asked = λ m session proxy there at free r sound tells.
       with-clients r m (others_than session r.opened) (with_state m.sessions session Asking) _ _ _ _ tells
       (others-told r.opened m.sessions tells.opened_told session Asking refl)
       (numbers-put r.begun m.sessions session Asking tells.begun_told)
       tells.acknowledged_told tells.reported_told;
-  granted = λ m proxy there at left r sound all tells.
+  granted = λ m proxy there at left r sound tells.
+      let all = sessions-stand m sound in
       granted-told m.committed there r m tells
       (λ session. (
         asks_once m session (all.0 session) proxy there at,
@@ -253,7 +237,7 @@ tells_steps = record {
           able session m.sessions there left some,
         ),
       ));
-  operated = λ m taken session transcript operation does opened r sound all tells.
+  operated = λ m taken session transcript operation does opened r sound tells.
       let on = copy (serial_map_at m.config.resolver_splits transcript.read_version (seen_of m.book).places)
       (program transcript.ops) in
       let after = add_operation m session transcript operation (reply_on on operation) in
@@ -263,19 +247,18 @@ tells_steps = record {
       (numbers-put r.begun m.sessions session (Open (with_op transcript operation (reply_on on operation)))
       tells.begun_told)
       tells.acknowledged_told tells.reported_told);
-  read_only = λ m session proxy transcript opened empty r sound all tells.
+  read_only = λ m session proxy transcript opened empty r sound tells.
       let found = found-told r.opened m.sessions tells.opened_told session transcript opened in
       with-clients r m (others_than session r.opened) (with_state m.sessions session Free) _ _ _ _ tells
       (others-told r.opened m.sessions tells.opened_told session Free refl)
       (numbers-put r.begun m.sessions session Free tells.begun_told)
       (λ k. tells.acknowledged_told k ++ map (told_at transcript.read_version) (found k)) tells.reported_told;
-  submitted = λ m session proxy commit_proxy transcript at opened writes r sound all tells.
-      submitted-told r m session proxy commit_proxy transcript
-      (record { sealed = commit_request_of transcript; transcript = transcript }) tells at opened refl;
-  sealed = λ m proxy advance commit_proxy at idle few room r sound all tells.
-      sealed-told r m proxy advance commit_proxy tells sound at idle;
+  submitted = λ m session proxy commit_proxy transcript at opened writes r sound tells.
+      submitted-told r m session proxy commit_proxy transcript tells at opened;
+  sealed = λ m proxy advance commit_proxy at idle few room r sound tells.
+      sealed-told r m proxy advance commit_proxy tells at idle;
   went_on = λ m taken answer proxy commit_proxy stage decided verdicts acknowledgements quiet came at busy goes_on unreported
-      r sound all tells.
+      r sound tells.
       let was = tells.proxies_told proxy commit_proxy at in
       subst (λ (told : Readings). TellsMachine told (record m {
         commit_proxies = slice_set m.commit_proxies proxy (record commit_proxy {
@@ -287,7 +270,7 @@ tells_steps = record {
       (proxy-goes_on r m proxy commit_proxy _ at tells
       (record { waiting_told = was.waiting_told; batch_told = λ _. was.batch_told busy })
       (λ entry. rw (goes_on, busy) (le_refl _)));
-  reported_version = λ m proxy commit_proxy entry at logging there whole r sound all tells.
+  reported_version = λ m proxy commit_proxy entry at logging there whole r sound tells.
       let was = tells.proxies_told proxy commit_proxy at in
       let batch = batch-at r m proxy commit_proxy entry tells at (ap is_idle logging) there in
       with-clients r
@@ -297,11 +280,13 @@ tells_steps = record {
       (record { waiting_told = was.waiting_told; batch_told = λ _. was.batch_told (ap is_idle logging) })
       (λ one. rw (ap is_idle logging) (le_refl _)))
       tells.opened_told tells.begun_told tells.acknowledged_told (λ k. max (tells.reported_told k) (batch k).version);
-  told = λ m proxy commit_proxy entry at reported there r sound all tells.
+  told = λ m proxy commit_proxy entry at reported there r sound tells.
+      let all = sessions-stand m sound in
       let was = tells.proxies_told proxy commit_proxy at in
       let batch = batch-at r m proxy commit_proxy entry tells at (ap is_idle reported) there in
       let outcomes = outcomes_on m.config.resolver_splits (seen_before m.book commit_proxy.entry) entry in
-      let done : CommitProxy = record commit_proxy { in_flight = []; stage = Idle } in
+      let done : CommitProxy =
+      record commit_proxy { in_flight = []; stage = Idle; acknowledgements_received = [] } in
       with-clients (record r { answered = r.answered ++ (r.sealed proxy).entry ∷ [] })
       (record m { commit_proxies = slice_set m.commit_proxies proxy done }) _ _ _ _ _ _
       (with-proxy r m r.waiting (r.answered ++ (r.sealed proxy).entry ∷ []) proxy done tells

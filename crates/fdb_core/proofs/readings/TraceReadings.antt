@@ -29,7 +29,6 @@ use Rattle.fdb_core.proofs.common.AllLemmas.{all-at, all-replicate}
 use Rattle.fdb_core.proofs.headline.TraceLaws.{after_step-answered, traces_tell}
 use Rattle.fdb_core.proofs.invariant.OnceLaws.{machine-once}
 use Rattle.fdb_core.proofs.invariant.RealTimeLaws.{MachineHasBegun, after-first}
-use Rattle.fdb_core.proofs.invariant.SessionPlaces.{AllStand, session_steps, session-start}
 use Rattle.fdb_core.proofs.invariant.SoundLaws.{sound_steps, sound-start, sound-trace}
 use Rattle.fdb_core.proofs.machine.AcceptedTransitions.{IfAccepted}
 use Rattle.fdb_core.proofs.machine.SessionMaps.{session-new}
@@ -38,23 +37,15 @@ use Rattle.fdb_core.proofs.readings.Agreement.{AtProxy, flies, TellsMachine, Tel
 use Rattle.fdb_core.proofs.readings.GrantLemmas.{last_of, next-begun}
 use Rattle.fdb_core.proofs.readings.StepReadings.{tells_steps}
 
--- what the machine keeps to be what is told
-abbrev IsGood : Machine → Type 0
-IsGood m = Invariant m × AllStand m
-
-good-next : (m : Machine) (taken : Step) → IsGood m → IsGood (after m (next m taken))
-good-next m taken good =
-    (kept-next Invariant sound_steps m taken good.0, kept-next AllStand session_steps m taken good.1)
-
 -- a step that is answered as the machine answers it tells what the machine goes on to
-step-tells : (m : Machine) (r : Readings) (taken : Step) → IsGood m → TellsMachine r m
+step-tells : (m : Machine) (r : Readings) (taken : Step) → Invariant m → TellsMachine r m
     → TellsMachine (read_step r taken (answer_of (next m taken))) (after m (next m taken))
-step-tells m r taken good tells = by_result (next m taken) (holds-next TellsOn tells_steps m taken)
+step-tells m r taken sound tells = by_result (next m taken) (holds-next TellsOn tells_steps m taken)
   where
     by_result : (result : Result Transition Refusal)
         → IfAccepted (λ transition. TellsOn m taken transition.answer transition.next) result
         → TellsMachine (read_step r taken (answer_of result)) (after m result)
-    by_result (Ok transition) leads = leads r good.0 good.1 tells
+    by_result (Ok transition) leads = leads r sound tells
     by_result (Err refusal) leads = tells
 
 -- once memory ran out nothing is told any more
@@ -73,15 +64,15 @@ nothing-more m r (taken ∷ steps) (answer ∷ given) world ran =
 
 -- so the steps of a run tell what the machine goes on to
 run-tells : (m : Machine) (r : Readings) (steps : List Step) (given : List (Result Answered Refusal))
-    (world : Option Machine) → IsGood m → TellsMachine r m → IsRun (Some m) steps given world
+    (world : Option Machine) → Invariant m → TellsMachine r m → IsRun (Some m) steps given world
     → TellsMachine (read_steps r steps given) (after_steps m steps given)
-run-tells m r [] [] world good tells ran = tells
-run-tells m r [] (answer ∷ given) world good tells ran = absurd ran
-run-tells m r (taken ∷ steps) [] world good tells ran = absurd ran
-run-tells m r (taken ∷ steps) (answer ∷ given) world good tells ran = ⊎_elim
+run-tells m r [] [] world sound tells ran = tells
+run-tells m r [] (answer ∷ given) world sound tells ran = absurd ran
+run-tells m r (taken ∷ steps) [] world sound tells ran = absurd ran
+run-tells m r (taken ∷ steps) (answer ∷ given) world sound tells ran = ⊎_elim
     (λ went. let goes_on = subst (λ (mid : Option Machine). IsRun mid steps given world) went.1 ran.2 in
     let rest = run-tells (after m (next m taken)) (read_step r taken (answer_of (next m taken))) steps given world
-    (good-next m taken good) (step-tells m r taken good tells) goes_on in
+    (kept-next Invariant sound_steps m taken sound) (step-tells m r taken sound tells) goes_on in
     subst (λ (a : Result Answered Refusal). TellsMachine (read_steps (read_step r taken a) steps given)
     (after_steps (after_step m taken a) steps given)) (sym went.0)
     (subst (λ (mid : Machine). TellsMachine (read_steps (read_step r taken (answer_of (next m taken))) steps given)
@@ -118,7 +109,7 @@ pub trace-tells : (config : Config) (steps : List Step) (given : List (Result An
     → TellsMachine (readings_of steps given) (machine_of_trace config steps given)
 trace-tells config steps given world stands =
     run-tells (start config) nothing_read steps given world
-    (sound-start config, session-start config) (start-tells config) stands
+    (sound-start config) (start-tells config) stands
 
 -- the configuration stays
 config_steps : (config : Config) → KeptBySteps (λ m. m.config ≡ config)

@@ -39,19 +39,9 @@ use Rattle.fdb_core.specs.machine.Machine.{Machine, Transition, refused_where, i
 use Rattle.fdb_core.specs.machine.RoleSteps.{pushes}
 use Rattle.fdb_core.specs.refinement.Cluster.{IsRising}
 use Rattle.fdb_core.specs.refinement.Logs.{Each, LogRefines, ShardRefines, TagRefines}
-use Rattle.fdb_core.proofs.refinement.RoleTies.{take-next, take-take, entries-take}
+use Rattle.fdb_core.proofs.common.ListLemmas.{each-set}
+use Rattle.fdb_core.proofs.refinement.BookLemmas.{take-next, take-take, entries-take}
 use Rattle.fdb_core.proofs.refinement.RunLaws.{entries-rising, serial-front, versions-ordered, versions-apart}
-
--- what each item has, each has after one was put that has it
-pub each-set : {A : Type 0} (P : ℕ → A → Type 0) (xs : List A) (i : ℕ) (x : A) → Each P xs → P i x
-    → Each P (slice_set xs i x)
-each-set P [] zero x all is j y there = cc
-each-set P [] (suc i) x all is j y there = cc
-each-set P (z ∷ zs) zero x all is zero y there = let same : x ≡ y = cc in subst (P 0) same is
-each-set P (z ∷ zs) zero x all is (suc j) y there = all (suc j) y there
-each-set P (z ∷ zs) (suc i) x all is zero y there = all 0 y there
-each-set {A} P (z ∷ zs) (suc i) x all is (suc j) y there =
-    each-set (λ (n : ℕ) (item : A). P (suc n) item) zs i x (λ n item at. all (suc n) item at) is j y there
 
 -- a front of a front, whichever is shorter
 pub take-both : {A : Type 0} (n m : ℕ) (xs : List A) → take n (take m xs) ≡ take (min n m) xs
@@ -194,12 +184,16 @@ module _ (config : Config) (book : List Entry) where
       greater = omega (arith, later)
 
 -- A shard applies what its log has for it.
-module _ (config : Config) (book : List Entry) (entries : AreEntries 1 0 book) (s l limit : ℕ) (shard : ShardRole)
-    (log : LogRole) (has : LogRefines config book l log) (is : ShardRefines config book s shard)
+module _ (config : Config) (book : List Entry)
+    (entries : AreEntries (suc (length config.resolver_splits)) 0 book) (s l limit : ℕ) (shard : ShardRole) (log : LogRole)
+    (has : LogRefines config book l log) (is : ShardRefines config book s shard)
     (keeps_it : keeps log.core s ≡ true) (behind : shard.applied ≤ log.taken)
     (unpopped : popped_through log.core s ≤ shard.core.version) where
   abbrev pub splits : List Point
   splits = config.resolver_splits
+
+  abbrev resolvers : ℕ
+  resolvers = suc (length config.resolver_splits)
 
   abbrev pub range : Range
   range = piece config.shard_splits s
@@ -230,8 +224,8 @@ module _ (config : Config) (book : List Entry) (entries : AreEntries 1 0 book) (
       ∙ above-higher (popped_through log.core s) shard.core.version (messages_for splits range (take log.taken book))
       unpopped
       ∙ ap₂ (λ (low : ℕ) (all : List Entry). above low (messages_for splits range all)) is.version taken-is
-      ∙ messages_above_a_version 1 splits range front (take (log.taken - shard.applied) (drop shard.applied book))
-      (subst (AreEntries 1 0) taken-is (entries-take 1 0 log.taken book entries))
+      ∙ messages_above_a_version resolvers splits range front (take (log.taken - shard.applied) (drop shard.applied book))
+      (subst (AreEntries resolvers 0) taken-is (entries-take resolvers 0 log.taken book entries))
 
   pub given-is : given_after log.core s shard.core.version limit ≡ messages_after splits range (seen_of front) more
   given-is =
@@ -259,8 +253,9 @@ module _ (config : Config) (book : List Entry) (entries : AreEntries 1 0 book) (
       ∙ sym (fold-append (λ (before : ℕ) (entry : Entry). entry.version) 0 front more)
       ∙ ap last_version whole
 
-  entries-whole : AreEntries 1 0 (front ++ more)
-  entries-whole = subst (AreEntries 1 0) (sym whole) (entries-take 1 0 (shard.applied + count) book entries)
+  entries-whole : AreEntries resolvers 0 (front ++ more)
+  entries-whole = subst (AreEntries resolvers 0) (sym whole)
+      (entries-take resolvers 0 (shard.applied + count) book entries)
 
   -- the shard then answers from the run of these entries
   pub shard-pulled : (new : Shard) → HasApplied shard.core (peek_of log.core s shard.core.version limit) new
@@ -282,7 +277,7 @@ module _ (config : Config) (book : List Entry) (entries : AreEntries 1 0 book) (
         ∙ is.serves v x above_floor old inside
         ∙ sym (ap (λ (map : Map). get map x)
         (ap (λ (all : List Entry). serial_map_at splits v (seen_of all).places) (sym whole)
-        ∙ serial-front splits (front ++ more) (entries-rising 1 (front ++ more) entries-whole) shard.applied v
+        ∙ serial-front splits (front ++ more) (entries-rising resolvers (front ++ more) entries-whole) shard.applied v
         (subst (λ (version : ℕ). v ≤ version) (is.version ∙ ap last_version (sym front-of)) old)
         ∙ ap (λ (all : List Entry). serial_map_at splits v (seen_of all).places) front-of)))
         (λ from_version.
@@ -291,7 +286,7 @@ module _ (config : Config) (book : List Entry) (entries : AreEntries 1 0 book) (
         (is.serves shard.core.version x is.serving (le_refl shard.core.version) inside
         ∙ ap (λ (version : ℕ). get (serial_map_at splits version (seen_of front).places) x) is.version)
         given-is
-        ∙ shards_go_on 1 splits range front more entries-whole v x inside
+        ∙ shards_go_on resolvers splits range front more entries-whole v x inside
         (subst (λ (version : ℕ). version ≤ v) is.version from_version)
         ∙ ap (λ (all : List Entry). get (serial_map_at splits v (seen_of all).places) x) whole)
         (cases_lt v shard.core.version);
@@ -303,7 +298,7 @@ module _ (config : Config) (book : List Entry) (entries : AreEntries 1 0 book) (
       later : shard.core.version ≤ new.version
       later = subst (λ (v : ℕ). shard.core.version ≤ v) (sym version)
           (subst (λ (v : ℕ). v ≤ last_version (take (shard.applied + count) book)) (sym is.version)
-          (versions-ordered book (entries-rising 1 book entries) shard.applied (shard.applied + count) (omega arith)))
+          (versions-ordered book (entries-rising resolvers book entries) shard.applied (shard.applied + count) (omega arith)))
 
       front-of : take shard.applied (front ++ more) ≡ front
       front-of = ap (take shard.applied) whole
@@ -318,9 +313,9 @@ prev-from resolvers last (first ∷ book) zero entry entries there =
 prev-from resolvers last (first ∷ book) (suc i) entry entries there =
     prev-from resolvers first.version book i entry entries.4 there
 
-pub prev-is : (book : List Entry) (i : ℕ) (entry : Entry) → AreEntries 1 0 book → slice_get book i ≡ Some entry
-    → entry.prev ≡ last_version (take i book)
-prev-is book i entry entries there = prev-from 1 0 book i entry entries there
+pub prev-is : (resolvers : ℕ) (book : List Entry) (i : ℕ) (entry : Entry) → AreEntries resolvers 0 book
+    → slice_get book i ≡ Some entry → entry.prev ≡ last_version (take i book)
+prev-is resolvers book i entry entries there = prev-from resolvers 0 book i entry entries there
 
 -- tests of numbers that mean the same are the same
 same-test : (a b c d : ℕ) → (a < b → c < d) → (c < d → a < b) → nat_lt a b ≡ nat_lt c d
@@ -347,8 +342,9 @@ turn_fault taken i entry =
 
 -- a log refuses its message of entry i where that isn't the next one
 pub push_fault-turn : (config : Config) (book : List Entry) (l : ℕ) (role : LogRole) (i : ℕ) (entry : Entry)
-    (message : LogMsg) → AreEntries 1 0 book → LogRefines config book l role → slice_get book i ≡ Some entry
-    → message.log ≡ l → message.prev ≡ entry.prev → push_fault role.core message ≡ turn_fault role.taken i entry
+    (message : LogMsg)
+    → AreEntries (suc (length config.resolver_splits)) 0 book → LogRefines config book l role
+    → slice_get book i ≡ Some entry → message.log ≡ l → message.prev ≡ entry.prev → push_fault role.core message ≡ turn_fault role.taken i entry
 push_fault-turn config book l role i entry message entries is there log prev =
     cond-false (not (message.log == role.core.log)) (Some Unknown) _
     (ap not (eq-eqb message.log role.core.log (log ∙ sym is.number)))
@@ -360,10 +356,10 @@ push_fault-turn config book l role i entry message entries is there log prev =
     else (if nat_lt role.taken i then Some (NotYet version) else None)) prev
   where
     rising : IsRising book
-    rising = entries-rising 1 book entries
+    rising = entries-rising (suc (length config.resolver_splits)) book entries
 
     before : message.prev ≡ last_version (take i book)
-    before = prev ∙ prev-is book i entry entries there
+    before = prev ∙ prev-is (suc (length config.resolver_splits)) book i entry entries there
 
     inside : i ≤ length book
     inside = le_of_lt (slice_get_within book i entry there)
@@ -437,7 +433,7 @@ pub tags-applied : (logs : List LogRole) (shards : List ShardRole) (s : ℕ) (ol
     → new.popped ≡ old.popped → Each (TagRefines logs) shards → Each (TagRefines logs) (slice_set shards s new)
 tags-applied logs shards s old new at within same before =
     each-set (TagRefines logs) shards s new before
-    (λ log found. (within log found, (before s old at log found).1 ∙ sym same))
+    (λ _ log found. (within log found, (before s old at log found).1 ∙ sym same))
 
 -- a shard pops its tag at its log
 pub tags-popped : (logs : List LogRole) (shards : List ShardRole) (s : ℕ) (old new : ShardRole) (log popped : LogRole)

@@ -1,5 +1,5 @@
 -- A log takes its message of an entry.
-use Rattle.std.proofs.Common.{◌≡◌, ◌∙◌, refl, sym, ap, subst, ℕ, ◌+◌, ◌^◌, get_or, ◌<◌, Bool, true, false, List, length, Option, Some, None, Ok, Err, arith}
+use Rattle.std.proofs.Common.{◌≡◌, ◌∙◌, refl, sym, ap, subst, ℕ, suc, ◌+◌, ◌^◌, get_or, ◌<◌, Bool, true, false, List, length, Option, Some, None, Ok, Err, arith}
 use Rattle.std.specs.Prelude.{if◌then◌else◌}
 use Rattle.std.specs.List.{slice_get, slice_set}
 use Rattle.std.specs.Vec.{with_item}
@@ -23,7 +23,8 @@ use Rattle.fdb_core.specs.refinement.Cluster.{machine_of, messages_on, Refines}
 use Rattle.fdb_core.specs.refinement.Logs.{LogRefines, LogsRefine, logs_taken}
 use Rattle.fdb_core.proofs.common.AllLemmas.{within-item}
 use Rattle.fdb_core.proofs.machine.Transitions.{pushes-transition}
-use Rattle.fdb_core.proofs.refinement.LogTies.{each-set, kept-tag, log-next, made-at, push_fault-turn, turn_fault, in_turn-now, push-refused, push-undecided, set-same, tags-taken, prev-is}
+use Rattle.fdb_core.proofs.common.ListLemmas.{each-set}
+use Rattle.fdb_core.proofs.refinement.LogTies.{kept-tag, log-next, made-at, push_fault-turn, turn_fault, in_turn-now, push-refused, push-undecided, set-same, tags-taken, prev-is}
 use Rattle.fdb_core.proofs.refinement.RunLaws.{entries-rising, versions-ordered}
 
 module _ (k : Cluster) (before : Refines k) (i l : ℕ) (entry : Entry) (role : LogRole)
@@ -76,8 +77,8 @@ module _ (k : Cluster) (before : Refines k) (i l : ℕ) (entry : Entry) (role : 
       message-rises =
           let prev : message.prev ≡ entry.prev = ap (λ (it : LogMsg). it.prev) message-is in
           let version : message.version ≡ entry.version = ap (λ (it : LogMsg). it.version) message-is in
-          let before-it = prev-is k.book.items i entry before.book.entries there in
-          let rises = entries-rising 1 k.book.items before.book.entries i entry there in
+          let before-it = prev-is (suc (length k.config.resolver_splits)) k.book.items i entry before.book.entries there in
+          let rises = entries-rising (suc (length k.config.resolver_splits)) k.book.items before.book.entries i entry there in
           omega (arith, prev, version, before-it, rises)
 
       pub fault-is : push_fault role.core message ≡ turn_fault role.taken i entry
@@ -96,7 +97,7 @@ module _ (k : Cluster) (before : Refines k) (i l : ℕ) (entry : Entry) (role : 
         pub room : role.taken + 1 < 2 ^ 32
         room =
             let within = slice_get_within k.book.items i entry there in
-            omega (arith, within, due, before.room, before.plain.book)
+            omega (arith, within, due, before.room, before.legal.book)
 
         pub accepted : pushes (machine_of k) i l ≡ Ok (record {
           answer = answered.Done;
@@ -121,9 +122,9 @@ module _ (k : Cluster) (before : Refines k) (i l : ℕ) (entry : Entry) (role : 
               let tie = before.logs.each_tag tag shard.0 shard.1 role
               (ap (slice_get k.logs.items) number ∙ at) in
               let is = before.logs.each_shard tag shard.0 shard.1 in
-              let reached = versions-ordered k.book.items (entries-rising 1 k.book.items before.book.entries)
+              let reached = versions-ordered k.book.items (entries-rising (suc (length k.config.resolver_splits)) k.book.items before.book.entries)
               shard.0.applied role.taken tie.0 in
-              let rises = entries-rising 1 k.book.items before.book.entries role.taken entry
+              let rises = entries-rising (suc (length k.config.resolver_splits)) k.book.items before.book.entries role.taken entry
               (ap (slice_get k.book.items) due ∙ there) in
               let low = is.popped in
               omega (arith, tie.1, low, is.version, reached, rises)
@@ -139,21 +140,24 @@ module _ (k : Cluster) (before : Refines k) (i l : ℕ) (entry : Entry) (role : 
 
           pub tied : Refines (record k { logs = with_item k.logs l new })
           tied = record {
-            plain = before.plain;
+            legal = before.legal;
             room = before.room;
             sequencer = before.sequencer;
             book = before.book;
+            parts = before.parts;
             resolvers = before.resolvers;
             logs = record {
               log_count = length-set k.logs.items l new ∙ before.logs.log_count;
               shard_count = before.logs.shard_count;
-              each_log = each-set (LogRefines k.config k.book.items) k.logs.items l new before.logs.each_log refined;
+              each_log = each-set (LogRefines k.config k.book.items) k.logs.items l new before.logs.each_log
+                  (λ _. refined);
               each_shard = before.logs.each_shard;
               each_tag = tags-taken k.logs.items l role new k.shards.items at (omega arith) taken.popped
                   before.logs.each_tag;
             };
             shard_map = before.shard_map;
             commit_proxies = before.commit_proxies;
+            grv_proxies = before.grv_proxies;
             opened = before.opened;
           }
 
@@ -168,15 +172,17 @@ module _ (k : Cluster) (before : Refines k) (i l : ℕ) (entry : Entry) (role : 
 
     pub stays : Refines (record k { logs = with_item k.logs l put })
     stays = record {
-      plain = before.plain;
+      legal = before.legal;
       room = before.room;
       sequencer = before.sequencer;
       book = before.book;
+      parts = before.parts;
       resolvers = before.resolvers;
       logs = subst (λ (logs : List LogRole). LogsRefine k.config k.book.items logs k.shards.items) (sym put-same)
           before.logs;
       shard_map = before.shard_map;
       commit_proxies = before.commit_proxies;
+      grv_proxies = before.grv_proxies;
       opened = before.opened;
     }
 

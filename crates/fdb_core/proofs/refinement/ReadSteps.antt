@@ -1,5 +1,5 @@
 -- What a read at the shards comes to for the machine.
-use Rattle.std.proofs.Common.{◌≡◌, ◌∙◌, ◌≤◌, refl, sym, ap, subst, ℕ, List, Option, Some, Result, Ok, Err}
+use Rattle.std.proofs.Common.{◌≡◌, ◌∙◌, ◌≤◌, refl, sym, ap, subst, ℕ, suc, List, length, Option, Some, Result, Ok, Err}
 use Rattle.std.specs.Prelude.{OnErr}
 use Rattle.std.specs.FinMap.{get}
 use Rattle.fdb_keys.specs.Answers.{Answers}
@@ -17,7 +17,8 @@ use Rattle.fdb_core.specs.declared.step.Answered.{Answered}
 use Rattle.fdb_core.specs.machine.ClientSteps.{reads, answered_by, read_fault, fault_after, reply_after}
 use Rattle.fdb_core.specs.machine.Sessions.{Sessions, EachOpen, Open, open_at, with_state}
 use Rattle.fdb_core.specs.machine.Steps.{Unless, ran_out, answer_of, after}
-use Rattle.fdb_core.specs.refinement.Cluster.{machine_of, ReadsWithin, Refines}
+use Rattle.fdb_core.specs.refinement.Cluster.{machine_of, Refines}
+use Rattle.fdb_core.specs.refinement.CommitProxies.{ReadsWithin}
 use Rattle.fdb_core.specs.refinement.ShardReads.{ShardReads, AreReadable, key_fault, range_fault, run_map}
 use Rattle.fdb_core.proofs.common.FaultLemmas.{answers-fault, unless-fault}
 use Rattle.fdb_core.proofs.machine.Transitions.{reads-transition, reads-refused}
@@ -38,7 +39,7 @@ same_reads k transcript shown book shards is entries roles = rw (is, entries, ro
 -- Each is readable: the run of the entries that it applied has, up to its version, what the run of all of them has.
 pub are_readable : (k : Cluster) (version : ℕ) → Refines k → AreReadable (reads_of k version)
 are_readable k version before = record {
-  splits = before.plain.splits;
+  splits = before.legal.splits;
   as_many = before.logs.shard_count;
   each = λ i role there.
       let it = before.logs.each_shard i role there in
@@ -49,7 +50,7 @@ are_readable k version before = record {
         serves = λ x above reached inside.
             it.serves version x above reached inside
             ∙ ap (λ (map : Map). get map x) (sym (serial-front k.config.resolver_splits k.book.items
-            (entries-rising 1 k.book.items before.book.entries) role.applied version
+            (entries-rising (suc (length k.config.resolver_splits)) k.book.items before.book.entries) role.applied version
             (subst (λ (greatest : ℕ). version ≤ greatest) it.version reached)));
       };
 }

@@ -1,5 +1,5 @@
 -- What is made of the entries of a book, and the run of its committed transactions.
-use Rattle.std.proofs.Common.{◌≡◌, ◌∙◌, sym, ap, refl, ℕ, zero, suc, ◌<◌, ◌≤◌, append_assoc, append-nil, take-append-drop, le_refl, le_of_lt, subst, List, [], ◌∷◌, ◌++◌, take, drop, fold, length, slice_get, Some, arith}
+use Rattle.std.proofs.Common.{◌≡◌, ◌∙◌, sym, ap, refl, ℕ, zero, suc, ◌<◌, ◌≤◌, take-append-drop, le_refl, le_of_lt, subst, List, [], ◌∷◌, take, drop, fold, length, slice_get, Some, arith}
 use Rattle.std.specs.List.{AllByRecursion}
 use Rattle.std.proofs.lemmas.List.Sums.{fold-append}
 use Rattle.fdb_keys.specs.Points.{Point}
@@ -12,70 +12,6 @@ use Rattle.fdb_txn.proofs.book.HistoryLemmas.{all-weaken, AtMost, add_places-new
 use Rattle.fdb_txn.proofs.rules.MessagesLemmas.{at_most-more}
 use Rattle.fdb_proxy.specs.Verdicts.{moves_through}
 use Rattle.fdb_core.specs.refinement.Cluster.{IsRising}
-use Rattle.fdb_core.specs.refinement.Roles.{along}
-
--- `along` from what was seen before, by recursion from the front
-along_from : {A : Type 0} → (Seen → Entry → A) → Seen → List Entry → List A
-along_from f seen [] = []
-along_from f seen (entry ∷ book) = f seen entry ∷ along_from f (add_entry seen entry) book
-
--- one step of `along`
-abbrev along_step : {A : Type 0} → (Seen → Entry → A) → Seen × List A → Entry → Seen × List A
-along_step f made entry = (add_entry made.0 entry, made.1 ++ f made.0 entry ∷ [])
-
--- the steps of `along` append what the recursion gives
-steps-along : {A : Type 0} (f : Seen → Entry → A) (seen : Seen) (made : List A) (book : List Entry)
-    → (fold (along_step f) (seen, made) book).1 ≡ made ++ along_from f seen book
-unfolding along_from
-steps-along f seen made [] = sym (append-nil made)
-steps-along f seen made (entry ∷ book) =
-    steps-along f (add_entry seen entry) (made ++ f seen entry ∷ []) book
-    ∙ append_assoc made (f seen entry ∷ []) (along_from f (add_entry seen entry) book)
-
--- `along` is the recursion
-along-is : {A : Type 0} (f : Seen → Entry → A) (book : List Entry) → along f book ≡ along_from f nothing book
-along-is f book = steps-along f nothing [] book
-
--- one for each entry
-length-from : {A : Type 0} (f : Seen → Entry → A) (seen : Seen) (book : List Entry)
-    → length (along_from f seen book) ≡ length book
-unfolding along_from
-length-from f seen [] = refl
-length-from f seen (entry ∷ book) = ap suc (length-from f (add_entry seen entry) book)
-
--- one for each entry
-pub length-along : {A : Type 0} (f : Seen → Entry → A) (book : List Entry) → length (along f book) ≡ length book
-length-along f book = ap length (along-is f book) ∙ length-from f nothing book
-
--- one more entry adds one at the end
-push-from : {A : Type 0} (f : Seen → Entry → A) (seen : Seen) (book : List Entry) (entry : Entry)
-    → along_from f seen (book ++ entry ∷ []) ≡ along_from f seen book ++ f (fold add_entry seen book) entry ∷ []
-unfolding along_from
-push-from f seen [] entry = refl
-push-from f seen (first ∷ book) entry = ap (λ made. f seen first ∷ made) (push-from f (add_entry seen first) book entry)
-
--- one more entry adds one at the end
-pub along-push : {A : Type 0} (f : Seen → Entry → A) (book : List Entry) (entry : Entry)
-    → along f (book ++ entry ∷ []) ≡ along f book ++ f (seen_of book) entry ∷ []
-along-push f book entry =
-    along-is f (book ++ entry ∷ []) ∙ push-from f nothing book entry
-    ∙ ap (λ made. made ++ f (seen_of book) entry ∷ []) (sym (along-is f book))
-
--- what stands at a number is made of the entry there and of what was seen before it
-slice_get-from : {A : Type 0} (f : Seen → Entry → A) (seen : Seen) (book : List Entry) (i : ℕ) (entry : Entry)
-    → slice_get book i ≡ Some entry
-    → slice_get (along_from f seen book) i ≡ Some (f (fold add_entry seen (take i book)) entry)
-unfolding along_from
-slice_get-from f seen [] i entry there = cc
-slice_get-from f seen (first ∷ book) zero entry there = let same : first ≡ entry = cc in
-    ap (λ (e : Entry). Some (f seen e)) same
-slice_get-from f seen (first ∷ book) (suc i) entry there = slice_get-from f (add_entry seen first) book i entry there
-
--- what stands at a number is made of the entry there and of what was seen before it
-pub slice_get-along : {A : Type 0} (f : Seen → Entry → A) (book : List Entry) (i : ℕ) (entry : Entry)
-    → slice_get book i ≡ Some entry → slice_get (along f book) i ≡ Some (f (seen_before book i) entry)
-slice_get-along f book i entry there = ap (λ made. slice_get made i) (along-is f book)
-    ∙ slice_get-from f nothing book i entry there
 
 -- each entry's version is greater than that of the entry before it, and the first one's greater than the least
 abbrev RisesFrom : ℕ → List Entry → Type 0

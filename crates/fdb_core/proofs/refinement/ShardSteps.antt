@@ -1,5 +1,5 @@
 -- A shard applies what its log has, forgets old versions, and has its log drop what it applied.
-use Rattle.std.proofs.Common.{◌≡◌, ◌∙◌, refl, sym, ap, subst, ℕ, ◌+◌, ◌^◌, ◌%◌, ◌<◌, ◌≤◌, min, max, le_refl, Bool, true, false, length, map, take, Some, None, Ok, Err, arith}
+use Rattle.std.proofs.Common.{◌≡◌, ◌∙◌, refl, sym, ap, subst, ℕ, suc, ◌+◌, ◌^◌, ◌%◌, ◌<◌, ◌≤◌, min, max, le_refl, Bool, true, false, length, map, take, Some, None, Ok, Err, arith}
 use Rattle.std.specs.Prelude.{◌==◌, nat_lt, if◌then◌else◌}
 use Rattle.std.specs.List.{slice_get, slice_set}
 use Rattle.std.specs.Vec.{with_item}
@@ -23,7 +23,8 @@ use Rattle.fdb_core.specs.machine.Roles.{ShardProgress}
 use Rattle.fdb_core.specs.machine.RoleSteps.{pulls, forgets, pops, version_of_shard}
 use Rattle.fdb_core.specs.refinement.Cluster.{machine_of, Refines}
 use Rattle.fdb_core.specs.refinement.Logs.{LogRefines, ShardRefines, TagRefines, logs_taken, progress_of}
-use Rattle.fdb_core.proofs.refinement.LogTies.{each-set, set-same, log-popped, shard-pulled, count, count-is, tags-applied, tags-popped}
+use Rattle.fdb_core.proofs.common.ListLemmas.{each-set}
+use Rattle.fdb_core.proofs.refinement.LogTies.{set-same, log-popped, shard-pulled, count, count-is, tags-applied, tags-popped}
 use Rattle.fdb_core.proofs.refinement.RunLaws.{entries-rising, versions-ordered}
 
 -- what the machine does, once the shard and its log are found
@@ -73,20 +74,23 @@ module _ (k : Cluster) (before : Refines k) (s : ℕ) (role : ShardRole)
       (popped : new.popped ≡ role.popped) where
     pub shard-put : Refines (record k { shards = with_item k.shards s new })
     shard-put = record {
-      plain = before.plain;
+      legal = before.legal;
       room = before.room;
       sequencer = before.sequencer;
       book = before.book;
+      parts = before.parts;
       resolvers = before.resolvers;
       logs = record {
         log_count = before.logs.log_count;
         shard_count = length-set k.shards.items s new ∙ before.logs.shard_count;
         each_log = before.logs.each_log;
-        each_shard = each-set (ShardRefines k.config k.book.items) k.shards.items s new before.logs.each_shard refined;
+        each_shard = each-set (ShardRefines k.config k.book.items) k.shards.items s new before.logs.each_shard
+            (λ _. refined);
         each_tag = tags-applied k.logs.items k.shards.items s role new at within popped before.logs.each_tag;
       };
       shard_map = before.shard_map;
       commit_proxies = before.commit_proxies;
+      grv_proxies = before.grv_proxies;
       opened = before.opened;
     }
 
@@ -179,7 +183,7 @@ module _ (k : Cluster) (before : Refines k) (s : ℕ) (role : ShardRole)
     -- the log took what the shard applied
     pub behind : role.core.version ≤ log.core.last
     behind =
-        let reached = versions-ordered k.book.items (entries-rising 1 k.book.items before.book.entries) role.applied
+        let reached = versions-ordered k.book.items (entries-rising (suc (length k.config.resolver_splits)) k.book.items before.book.entries) role.applied
         log.taken (tie log log_at).0 in
         omega (arith, its.version, log-is.last, reached)
 
@@ -240,25 +244,27 @@ module _ (k : Cluster) (before : Refines k) (s : ℕ) (role : ShardRole)
           shards = with_item k.shards s (record role { popped = role.core.version });
         })
     popped core drops = record {
-      plain = before.plain;
+      legal = before.legal;
       room = before.room;
       sequencer = before.sequencer;
       book = before.book;
+      parts = before.parts;
       resolvers = before.resolvers;
       logs = record {
         log_count = length-set k.logs.items (log_of (length k.logs.items) s) log-new ∙ before.logs.log_count;
         shard_count = length-set k.shards.items s shard-new ∙ before.logs.shard_count;
         each_log = each-set (LogRefines k.config k.book.items) k.logs.items (log_of (length k.logs.items) s) log-new
             before.logs.each_log
-            (log-popped k.config k.book.items (log_of (length k.logs.items) s) log s role.core.version core log-is
+            (λ _. log-popped k.config k.book.items (log_of (length k.logs.items) s) log s role.core.version core log-is
             unpopped drops);
         each_shard = each-set (ShardRefines k.config k.book.items) k.shards.items s shard-new before.logs.each_shard
-            shard-is;
+            (λ _. shard-is);
         each_tag = tags-popped k.logs.items k.shards.items s role shard-new log log-new at log_at refl refl
             (drops.popped ∙ greater) drops.others_popped before.logs.each_tag;
       };
       shard_map = before.shard_map;
       commit_proxies = before.commit_proxies;
+      grv_proxies = before.grv_proxies;
       opened = before.opened;
     }
       where
@@ -349,7 +355,7 @@ module _ (k : Cluster) (before : Refines k) (s limit version : ℕ) (role : Shar
     pull-room =
         let within = given-within k before s role at log log_at limit in
         let taken = (log-is k before s role at log log_at).within in
-        omega (arith, pull-count, within, taken, before.room, before.plain.book)
+        omega (arith, pull-count, within, taken, before.room, before.legal.book)
 
     module _ (core : Shard) (applied : HasApplied role.core peek core) (n : ℕ) (n_is : n ≡ length peek.messages) where
       abbrev put : ShardRole

@@ -1,36 +1,47 @@
--- Logs and shards that took nothing, one after another, and what they keep of no entries.
-use Rattle.std.proofs.Common.{◌≡◌, ◌∙◌, refl, sym, ap, ap₂, subst, ℕ, zero, suc, ◌+◌, ◌≤◌, List, [], ◌∷◌, ◌++◌, length, map, replicate, Bool, true, false, if◌then◌else◌, Some, None, slice_get, length-append, arith}
-use Rattle.std.specs.Prelude.{◌==◌, ◌&&◌, nat_le, nat_lt}
+-- The roles that took nothing, what they keep of no entries, and what a legal configuration says.
+use Rattle.std.proofs.Common.{◌≡◌, ◌∙◌, refl, sym, ap, ap₂, subst, ℕ, zero, suc, ◌+◌, ◌<◌, ◌≤◌, List, [], ◌∷◌, ◌++◌, length, map, replicate, Bool, true, false, if◌then◌else◌, Option, Some, None, slice_get, length-append, arith}
+use Rattle.std.specs.Prelude.{◌&&◌, nat_le, nat_lt}
+use Rattle.std.specs.List.{AllByRecursion}
 use Rattle.std.specs.Ordering.{nat_cmp}
 use Rattle.std.specs.Cmp.Lexicographic.{slice_cmp}
 use Rattle.std.specs.FinMap.{get-empty}
-use Rattle.std.proofs.lemmas.Bool.{and_parts, eqb-true, leb-true, ltb-true}
+use Rattle.std.specs.Option.{option_or}
+use Rattle.std.proofs.lemmas.Bool.{and_parts, leb-true, ltb-true}
 use Rattle.fdb_keys.specs.Points.{Point}
 use Rattle.fdb_keys.specs.declared.refusal.Refusal.TheVariants.{BadConfig}
-use Rattle.fdb_txn.specs.rules.Splits.{are_splits, piece}
+use Rattle.fdb_keys.specs.declared.refusal.Refusal.{Refusal}
+use Rattle.fdb_txn.specs.Limits.{resolver_limit}
+use Rattle.fdb_txn.specs.rules.Splits.{are_splits, piece, splits_fault}
+use Rattle.fdb_sequencer.specs.Limits.{proxy_limit}
+use Rattle.fdb_sequencer.specs.Sequencer.{is_count}
 use Rattle.fdb_log.specs.Limits.{log_limit}
 use Rattle.fdb_storage.specs.Limits.{shard_limit}
-use Rattle.fdb_proxy.specs.Configs.{entry_limit}
+use Rattle.fdb_proxy.specs.Askers.{Asker}
+use Rattle.fdb_proxy.specs.Configs.{config_fault, has_legal_counts, entry_limit}
 use Rattle.fdb_log.specs.Logs.{IsNewLog}
 use Rattle.fdb_log.specs.Messages.{log_of}
 use Rattle.fdb_storage.specs.Shards.{IsNewShard}
 use Rattle.fdb_proxy.specs.declared.config.Config.{Config}
 use Rattle.fdb_core.specs.declared.roles.log.LogRole.{LogRole}
 use Rattle.fdb_core.specs.declared.roles.shard.ShardRole.{ShardRole}
-use Rattle.fdb_core.specs.machine.Roles.{ShardProgress}
-use Rattle.fdb_core.specs.machine.Worlds.{config_fault, is_served, is_nil}
-use Rattle.fdb_core.specs.refinement.Cluster.{IsPlain}
+use Rattle.fdb_core.specs.declared.roles.commit_proxy.CommitProxyRole.{CommitProxyRole}
+use Rattle.fdb_core.specs.declared.roles.resolver.ResolverRole.{ResolverRole}
+use Rattle.fdb_core.specs.machine.Worlds.{idle_proxy}
+use Rattle.fdb_core.specs.refinement.Cluster.{IsLegal, CommitProxiesRefine, GrvProxiesRefine, HasSeenNone, sessions_of}
+use Rattle.fdb_core.specs.refinement.CommitProxies.{IsNewCommitProxy, seen_as}
 use Rattle.fdb_core.specs.refinement.Logs.{Each, LogRefines, ShardRefines, TagRefines, LogsRefine, logs_taken, progress_of}
+use Rattle.fdb_core.specs.refinement.Resolving.{ResolverRefines, ResolversRefine, taken_by}
 use Rattle.fdb_core.specs.refinement.Starts.{AreNewLogs, AreNewShards}
+use Rattle.fdb_core.proofs.common.ListLemmas.{each-push}
 
--- one more item that has what each has
-each-push : {A : Type 0} (P : ℕ → A → Type 0) (xs : List A) (x : A) → Each P xs → P (length xs) x
-    → Each P (xs ++ x ∷ [])
-each-push P [] x all is zero y there = let same : x ≡ y = cc in subst (P 0) same is
-each-push P [] x all is (suc i) y there = cc
-each-push P (z ∷ zs) x all is zero y there = all 0 y there
-each-push {A} P (z ∷ zs) x all is (suc i) y there =
-    each-push (λ (n : ℕ) (item : A). P (suc n) item) zs x (λ n item at. all (suc n) item at) is i y there
+-- what is made of items of which the same is made is so many of it
+all-same : {A B : Type 0} (f : A → B) (made : B) (n : ℕ) (xs : List A) → length xs ≡ n
+    → ((i : ℕ) (x : A) → slice_get xs i ≡ Some x → f x ≡ made) → map f xs ≡ replicate n made
+all-same f made n [] count each = ap (λ (m : ℕ). replicate m made) count
+all-same f made zero (x ∷ xs) count each = absurd (omega (arith, count))
+all-same f made (suc n) (x ∷ xs) count each =
+    ap₂ (λ first others. first ∷ others) (each 0 x refl)
+    (all-same f made n xs (omega (arith, count)) (λ i other at. each (suc i) other at))
 
 pub no-logs : (count tags : ℕ) → AreNewLogs 0 count tags []
 no-logs count tags = record { as_many = refl; each = λ i role there. cc }
@@ -109,75 +120,102 @@ module _ (config : Config) (logs : List LogRole) (shards : List ShardRole)
 
   -- the machine has as many that took nothing
   pub taken-start : logs_taken logs ≡ replicate config.logs 0
-  taken-start = all-zero config.logs logs new_logs.as_many (λ i role there. (new_logs.each i role there).1)
-    where
-      all-zero : (n : ℕ) (roles : List LogRole) → length roles ≡ n
-          → ((i : ℕ) (role : LogRole) → slice_get roles i ≡ Some role → role.taken ≡ 0)
-          → logs_taken roles ≡ replicate n 0
-      all-zero n [] count zero_each = sym (ap (λ (m : ℕ). replicate m 0) (sym count))
-      all-zero zero (role ∷ roles) count zero_each = absurd (omega (arith, count))
-      all-zero (suc n) (role ∷ roles) count zero_each =
-          ap₂ (λ (first : ℕ) (others : List ℕ). first ∷ others) (zero_each 0 role refl)
-          (all-zero n roles (omega (arith, count)) (λ i other at. zero_each (suc i) other at))
+  taken-start = all-same (λ (role : LogRole). role.taken) 0 config.logs logs new_logs.as_many
+      (λ i role there. (new_logs.each i role there).1)
 
   pub progress-start : map progress_of shards
       ≡ replicate (suc (length config.shard_splits)) (record { applied = 0; floor = 0; popped = 0 })
-  progress-start = all-zero (suc (length config.shard_splits)) shards new_shards.as_many
-      (λ i role there. let new = new_shards.each i role there in (new.1, new.0.floor, new.2))
-    where
-      all-zero : (n : ℕ) (roles : List ShardRole) → length roles ≡ n
-          → ((i : ℕ) (role : ShardRole) → slice_get roles i ≡ Some role
-          → (role.applied ≡ 0) × (role.core.floor ≡ 0) × (role.popped ≡ 0))
-          → map progress_of roles ≡ replicate n (record { applied = 0; floor = 0; popped = 0 })
-      all-zero n [] count zero_each =
-          sym (ap (λ (m : ℕ). replicate m (record { applied = 0; floor = 0; popped = 0 })) (sym count))
-      all-zero zero (role ∷ roles) count zero_each = absurd (omega (arith, count))
-      all-zero (suc n) (role ∷ roles) count zero_each =
-          let first = zero_each 0 role refl in
-          ap₂ (λ (one : ShardProgress) (others : List ShardProgress). one ∷ others)
-          (λ i. record { applied = first.0 i; floor = first.1 i; popped = first.2 i })
-          (all-zero n roles (omega (arith, count)) (λ i other at. zero_each (suc i) other at))
+  progress-start = all-same progress_of (record { applied = 0; floor = 0; popped = 0 })
+      (suc (length config.shard_splits)) shards new_shards.as_many
+      (λ i role there. let new = new_shards.each i role there in
+      λ j. record { applied = new.1 j; floor = new.0.floor j; popped = new.2 j })
 
--- the tests of a configuration that is served
-abbrev logs_served : Config → Bool
-logs_served config = nat_le 1 config.logs && nat_le config.logs log_limit
+-- commit proxies without batches
+module _ (config : Config) (roles : List CommitProxyRole) (count : length roles ≡ config.proxies)
+    (each : Each (λ (_ : ℕ). IsNewCommitProxy config) roles) where
+  pub commit_proxies-start : CommitProxiesRefine config [] 0 roles
+  commit_proxies-start = record { count = count; each = λ i role there. (each i role there).refines }
 
-abbrev shards_served : Config → Bool
-shards_served config = nat_lt (length config.shard_splits) shard_limit && are_splits config.shard_splits
+  pub seen-start : map seen_as roles ≡ replicate config.proxies idle_proxy
+  seen-start = all-same seen_as idle_proxy config.proxies roles count (λ i role there. (each i role there).machine)
 
-abbrev book_served : Config → Bool
-book_served config = nat_le 1 config.book && nat_le config.book entry_limit
+-- resolvers that took nothing
+module _ (splits : List Point) (roles : List ResolverRole) (count : length roles ≡ suc (length splits))
+    (each : Each (λ (i : ℕ) (role : ResolverRole).
+    ((splits : List Point) → ResolverRefines splits [] i role) × (role.taken ≡ 0)) roles) where
+  pub resolvers-start : ResolversRefine splits [] roles
+  resolvers-start = record {
+    count = omega (arith, count);
+    each = λ i role there. (each i role there).0 splits;
+  }
 
--- no splits
-nil-of : {A : Type 0} (xs : List A) → is_nil xs ≡ true → xs ≡ []
-nil-of [] is = refl
-nil-of (x ∷ xs) is = absurd (let none : suc (length xs) ≡ 0 = eqb-true (suc (length xs)) 0 is in omega (arith, none))
+  pub taken_by-start : taken_by roles ≡ replicate (suc (length splits)) 0
+  taken_by-start = all-same (λ (role : ResolverRole). role.taken) 0 (suc (length splits)) roles count
+      (λ i role there. (each i role there).1)
 
-served : (is : Bool) → (if is then None else Some BadConfig) ≡ None → is ≡ true
-served true none = refl
-served false none = cc
+-- read-version proxies at which nobody asks
+pub asked-start : (n : ℕ) → map sessions_of (replicate n []) ≡ replicate n []
+asked-start zero = refl
+asked-start (suc n) = ap (λ (others : List (List ℕ)). [] ∷ others) (asked-start n)
 
--- a configuration that is served is plain, and has one proxy of each kind
-pub served-plain : (config : Config) → config_fault config ≡ None → (config.proxies ≡ 1) × IsPlain config
-served-plain config none =
-    let books = and_parts ((config.proxies == 1) && is_nil config.resolver_splits && logs_served config
-    && shards_served config) (book_served config) (served (is_served config) none) in
-    let shards = and_parts ((config.proxies == 1) && is_nil config.resolver_splits && logs_served config)
-    (shards_served config) books.0 in
-    let logs = and_parts ((config.proxies == 1) && is_nil config.resolver_splits) (logs_served config) shards.0 in
-    let proxies = and_parts (config.proxies == 1) (is_nil config.resolver_splits) logs.0 in
-    let log_parts = and_parts (nat_le 1 config.logs) (nat_le config.logs log_limit) logs.1 in
-    let shard_parts = and_parts (nat_lt (length config.shard_splits) shard_limit) (are_splits config.shard_splits)
-    shards.1 in
-    let book_parts = and_parts (nat_le 1 config.book) (nat_le config.book entry_limit) books.1 in
-    let some : 1 ≤ config.logs = leb-true 1 config.logs log_parts.0 in (
-      eqb-true config.proxies 1 proxies.0,
-      record {
-        resolver_splits = nil-of config.resolver_splits proxies.1;
-        some_log = omega (arith, some);
-        few_logs = leb-true config.logs log_limit log_parts.1;
-        splits = shard_parts.1;
-        few_shards = ltb-true (length config.shard_splits) shard_limit shard_parts.0;
-        book = leb-true config.book entry_limit book_parts.1;
-      },
-    )
+pub grv_proxies-start : (config : Config) (asked : List (List Asker)) → asked ≡ replicate config.proxies []
+    → GrvProxiesRefine config asked
+grv_proxies-start config asked is = rw is (record {
+  count = length-replicate config.proxies;
+  each = λ i there at. nobody config.proxies i there at;
+})
+  where
+    length-replicate : (n : ℕ) → length (replicate {A = List Asker} n []) ≡ n
+    length-replicate zero = refl
+    length-replicate (suc n) = ap suc (length-replicate n)
+
+    nobody : (n i : ℕ) (there : List Asker) → slice_get (replicate n []) i ≡ Some there → AllByRecursion HasSeenNone there
+    nobody zero i there at = cc
+    nobody (suc n) zero there at = let same : [] ≡ there = cc in subst (AllByRecursion HasSeenNone) same tt
+    nobody (suc n) (suc i) there at = nobody n i there at
+
+-- a number that is one
+count-of : (limit n : ℕ) → is_count limit n ≡ true → (0 < n) × (n ≤ limit)
+count-of limit n is =
+    let parts = and_parts (nat_le 1 n) (nat_le n limit) is in
+    let some = leb-true 1 n parts.0 in
+    (omega (arith, some), leb-true n limit parts.1)
+
+-- splits that are so few
+few-of : (most : ℕ) (splits : List Point) → splits_fault most splits ≡ None
+    → (length splits < most) × (are_splits splits ≡ true)
+few-of most splits none =
+    let parts = and_parts (nat_lt (length splits) most) (are_splits splits) (legal_where (nat_lt (length splits) most
+    && are_splits splits) none) in
+    (ltb-true (length splits) most parts.0, parts.1)
+  where
+    legal_where : (test : Bool) → (if test then None else Some BadConfig) ≡ None → test ≡ true
+    legal_where true none = refl
+    legal_where false none = cc
+
+-- a configuration without a fault is legal
+pub legal-from : (config : Config) → config_fault config ≡ None → IsLegal config
+legal-from config none =
+    let parts = both (has_legal_counts config) (splits_fault resolver_limit config.resolver_splits)
+    (splits_fault shard_limit config.shard_splits) none in
+    let books = and_parts (is_count proxy_limit config.proxies && is_count log_limit config.logs)
+    (is_count entry_limit config.book) parts.0 in
+    let proxies = and_parts (is_count proxy_limit config.proxies) (is_count log_limit config.logs) books.0 in
+    let logs = count-of log_limit config.logs proxies.1 in
+    let shards = few-of shard_limit config.shard_splits parts.2 in
+    record {
+      few_proxies = (count-of proxy_limit config.proxies proxies.0).1;
+      few_resolvers = (few-of resolver_limit config.resolver_splits parts.1).0;
+      some_log = logs.0;
+      few_logs = logs.1;
+      splits = shards.1;
+      few_shards = shards.0;
+      book = (count-of entry_limit config.book books.1).1;
+    }
+  where
+    both : (test : Bool) (first second : Option Refusal)
+        → (if test then option_or first second else Some BadConfig) ≡ None
+        → (test ≡ true) × (first ≡ None) × (second ≡ None)
+    both true None second none = (refl, refl, none)
+    both true (Some why) second none = cc
+    both false first second none = cc

@@ -1,9 +1,8 @@
 -- The sequencer's ticket is what the machine says of the next entry.
-use Rattle.std.proofs.Common.{◌≡◌, ◌∙◌, ap, refl, subst, arith, ℕ, max, ◌<◌, ◌≤◌, Bool, true, false, List, [], length, Option, Some, None, Ok, Err, if◌then◌else◌}
-use Rattle.std.specs.Prelude.{◌||◌, nat_lt, nat_le, slice_get, slice_set}
+use Rattle.std.proofs.Common.{◌≡◌, ◌∙◌, refl, subst, arith, ℕ, ◌<◌, ◌≤◌, Bool, true, false, [], length, Option, Some, None, Ok, Err, if◌then◌else◌}
+use Rattle.std.specs.Prelude.{◌||◌, nat_lt, nat_le, slice_get}
 use Rattle.std.proofs.lemmas.Bool.{lt-leb, ltb-false}
 use Rattle.std.proofs.lemmas.Option.{slice_get_within}
-use Rattle.fdb_txn.specs.declared.entry.Entry.{Entry}
 use Rattle.fdb_keys.specs.declared.refusal.Refusal.{Refusal}
 use Rattle.fdb_keys.specs.declared.refusal.Refusal.TheVariants.{Exhausted}
 use Rattle.fdb_keys.specs.Answers.{AnswersExactly}
@@ -11,27 +10,22 @@ use Rattle.fdb_sequencer.specs.declared.ticket.Ticket.{Ticket}
 use Rattle.fdb_sequencer.specs.Limits.{ticket_limit, version_limit}
 use Rattle.fdb_sequencer.specs.Sequencer.{next_version, planned, plan_fault}
 use Rattle.fdb_core.specs.declared.cluster.Cluster.{Cluster}
-use Rattle.fdb_core.specs.machine.Roles.{CommitProxy, Stage, Idle, Resolving, Logging, Reported}
-use Rattle.fdb_core.specs.declared.step.Answered.TheVariants as answered
+use Rattle.fdb_core.specs.declared.roles.commit_proxy.CommitProxyRole.{CommitProxyRole}
 use Rattle.fdb_core.specs.refinement.Cluster.{machine_of, Refines}
+use Rattle.fdb_core.specs.refinement.CommitProxies.{seen_as}
+use Rattle.fdb_core.proofs.common.ListLemmas.{map-at}
 use Rattle.fdb_txn.specs.book.Book.{last_version}
-use Rattle.fdb_core.specs.machine.Machine.{Machine, first_missing}
-use Rattle.fdb_core.specs.machine.CommitProxySteps.{seals, reports, is_idle, is_logging}
+use Rattle.fdb_core.specs.machine.CommitProxySteps.{seals, is_idle}
 
-module _ (k : Cluster) (refines : Refines k) (proxy advance : ℕ) (commit_proxy : CommitProxy)
-    (there : slice_get k.commit_proxies.items proxy ≡ Some commit_proxy) where
+module _ (k : Cluster) (refines : Refines k) (proxy advance : ℕ) (role : CommitProxyRole)
+    (there : slice_get k.commit_proxies.items proxy ≡ Some role) where
   -- the version of the next entry
   abbrev pub next : ℕ
   next = next_version (last_version k.book.items) advance
 
-  -- there is one commit proxy
-  is_there : proxy < 1
-  is_there = one_lane k.commit_proxies.items proxy commit_proxy there (ap length refines.commit_proxies.one)
-    where
-      one_lane : (commit_proxies : List CommitProxy) (i : ℕ) (commit_proxy : CommitProxy)
-          → slice_get commit_proxies i ≡ Some commit_proxy → length commit_proxies ≡ 1 → i < 1
-      one_lane commit_proxies i commit_proxy at one = omega
-          (arith, one, slice_get_within commit_proxies i commit_proxy at)
+  -- the proxy is one of those of the configuration
+  is_there : proxy < k.config.proxies
+  is_there = omega (arith, slice_get_within k.commit_proxies.items proxy role there, refines.commit_proxies.count)
 
   -- the only reason to give it no ticket is that there are no versions left
   fault-is : plan_fault k.sequencer proxy advance ≡ (if nat_lt version_limit next then Some Exhausted else None)
@@ -40,7 +34,7 @@ module _ (k : Cluster) (refines : Refines k) (proxy advance : ℕ) (commit_proxy
       let proxies : nat_le k.sequencer.proxies proxy ≡ false = lt-leb k.sequencer.proxies proxy
       (omega (arith, is_there, ok.proxies)) in
       let tickets : nat_le ticket_limit k.sequencer.accepted ≡ false = lt-leb ticket_limit k.sequencer.accepted
-      (omega (arith, ok.accepted, refines.room, refines.plain.book)) in
+      (omega (arith, ok.accepted, refines.room, refines.legal.book)) in
       rw (proxies, tickets, ok.last) (by_test (nat_lt version_limit next))
     where
       by_test : (test : Bool)
@@ -108,32 +102,10 @@ module _ (k : Cluster) (refines : Refines k) (proxy advance : ℕ) (commit_proxy
       )
 
 -- a proxy without a batch in flight doesn't seal where there are no versions left
-pub seals-exhausted : (k : Cluster) (proxy advance : ℕ) (commit_proxy : CommitProxy)
-    → slice_get k.commit_proxies.items proxy ≡ Some commit_proxy → is_idle commit_proxy.stage ≡ true
+pub seals-exhausted : (k : Cluster) (proxy advance : ℕ) (role : CommitProxyRole)
+    → slice_get k.commit_proxies.items proxy ≡ Some role → is_idle (seen_as role).stage ≡ true
     → nat_lt version_limit (next_version (last_version k.book.items) advance) ≡ true
     → seals (machine_of k) proxy advance ≡ Err Exhausted
 unfolding seals
-seals-exhausted k proxy advance commit_proxy there idle late = rw (there, idle, late) refl
-
--- a commit proxy whose batch every log acknowledged reports its version
-pub reports-transition : (m : Machine) (proxy : ℕ) (commit_proxy : CommitProxy) (entry : Entry)
-    → slice_get m.commit_proxies proxy ≡ Some commit_proxy → commit_proxy.stage ≡ Logging
-    → slice_get m.book commit_proxy.entry ≡ Some entry
-    → first_missing (λ log. true) 0 commit_proxy.acknowledgements_received ≡ None
-    → reports m proxy ≡ Ok (record {
-      answer = answered.Version (max m.committed entry.version);
-      next = record m {
-        committed = max m.committed entry.version;
-        commit_proxies = slice_set m.commit_proxies proxy
-            (record commit_proxy { stage = Reported });
-      };
-    })
-unfolding reports
-reports-transition m proxy commit_proxy entry there logging at none = rw (there, ap is_logging logging, at, none) refl
-
--- a proxy whose batch is being logged is at that stage
-pub logging-is : (stage : Stage) → is_logging stage ≡ true → stage ≡ Logging
-logging-is Idle is = cc
-logging-is Resolving is = cc
-logging-is Logging is = refl
-logging-is Reported is = cc
+seals-exhausted k proxy advance role there idle late =
+    rw (map-at seen_as k.commit_proxies.items proxy role there, idle, late) refl

@@ -1,5 +1,5 @@
 -- What a check of the acknowledged transactions and of the shard finds.
-use Rattle.std.specs.Prelude.{◌≡◌, ◌<◌, ℕ, suc, Bool, true, nat_lt, List, take, length, Some, None, Result, MatchResult, ◌⊎◌}
+use Rattle.std.specs.Prelude.{◌≡◌, ◌<◌, ℕ, Bool, true, nat_lt, List, take, length, Some, Result, MatchResult, ◌⊎◌}
 use Rattle.std.specs.List.{AllByRecursion}
 use Rattle.fdb_keys.specs.Points.{Point}
 use Rattle.fdb_mutations.specs.Maps.{Map}
@@ -9,12 +9,9 @@ use Rattle.fdb_txn.specs.declared.spot.Spot.{Spot}
 use Rattle.fdb_txn.specs.declared.spot.Spot.TheVariants as spot
 use Rattle.fdb_txn.specs.book.Transactions.{Transaction}
 use Rattle.fdb_txn.specs.book.Book.{Place, seen_of, last_version, seen_before}
-use Rattle.fdb_txn.specs.book.History.{AreEntries}
 use Rattle.fdb_txn.specs.book.Places.{place_at}
-use Rattle.fdb_txn.specs.Limits.{resolver_limit}
 use Rattle.fdb_txn.specs.rules.Messages.{mutations_in}
 use Rattle.fdb_txn.specs.rules.SerialMap.{serial_map, serial_map_at}
-use Rattle.fdb_txn.specs.rules.Splits.{splits_fault}
 use Rattle.fdb_core.specs.declared.check.serial.Replay.{Replay}
 use Rattle.fdb_core.specs.declared.check.compare.Moment.TheVariants.{Before}
 use Rattle.fdb_core.specs.declared.roles.client.Placed.{Placed}
@@ -26,7 +23,7 @@ use Rattle.fdb_core.specs.check.Comparing.{AnsweredAt, StopsBy}
 use Rattle.fdb_core.specs.headline.Headline.{AnsweredOn}
 use Rattle.fdb_core.specs.check.Holding.{HoldsTheRun, ShardDiffers}
 use Rattle.fdb_core.specs.check.Judging.{IsJudgeAt}
-use Rattle.fdb_core.specs.refinement.Roles.{body_by}
+use Rattle.fdb_core.specs.check.Bodies.{body_by}
 
 -- the map after the first places of a batch
 abbrev pub map_after : Map → List Transaction → List Outcome → ℕ → Map
@@ -36,11 +33,6 @@ map_after map batch outcomes count = effects map (mutations_in (body_by 0 (take 
 abbrev pub AnsweredIn : Map → List Transaction → List Outcome → ℕ → ℕ → Placed → Type 0
 AnsweredIn map batch outcomes entry count placed = (p : ℕ) → p < count
     → AnsweredAt (Before entry p) (map_after map batch outcomes p) placed
-
--- what a check can run anew: splits of the keys among resolvers, and the entries of a book with these
-pub record CanBeRun (splits : List Point) (book : List Entry) : Type 0 where
-  pub splits_are : splits_fault resolver_limit splits ≡ None
-  pub entries : AreEntries (suc (length splits)) 0 book
 
 -- The transcript was answered as on the run's map right before its place, if the book has that place, or as on that
 -- at its read version.

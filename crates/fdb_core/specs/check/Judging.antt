@@ -1,14 +1,12 @@
 -- What the check's judge keeps of the entries that it took, and what it makes of the next one.
-use Rattle.std.specs.Prelude.{◌≡◌, ◌<◌, ◌≤◌, ◌-◌, ℕ, false, List, length, slice_get, Option, Some, None}
+use Rattle.std.specs.Prelude.{◌≡◌, ◌<◌, ◌≤◌, ◌-◌, ℕ, List, length, slice_get, Option, Some, None}
 use Rattle.std.specs.List.{All}
 use Rattle.fdb_keys.specs.Points.{Point}
-use Rattle.fdb_interval.specs.Versions.{version_at}
 use Rattle.fdb_txn.specs.declared.entry.Entry.{Entry}
 use Rattle.fdb_txn.specs.declared.entry.Move.{Move}
 use Rattle.fdb_txn.specs.book.Transactions.{Transaction}
 use Rattle.fdb_txn.specs.book.Book.{seen_of, last_version}
 use Rattle.fdb_txn.specs.rules.Owners.{window}
-use Rattle.fdb_txn.specs.rules.Resolvers.{IsStateOf}
 use Rattle.fdb_owners.specs.Ownership.{Ownership, resolvers_of}
 use Rattle.fdb_owners.specs.OwnersLaws.{AgreesWith}
 use Rattle.fdb_resolver.specs.declared.part.Part.{Part}
@@ -16,6 +14,7 @@ use Rattle.fdb_resolver.specs.declared.verdict.Verdicts.{Verdicts}
 use Rattle.fdb_resolver.specs.Resolvers.{Resolver, part_fault, IsAnswer, HasTaken}
 use Rattle.fdb_proxy.specs.Deciding.{Said}
 use Rattle.fdb_core.specs.refinement.Logs.{Each}
+use Rattle.fdb_core.specs.refinement.Resolving.{IsResolverAt}
 
 -- who owned which keys, the version of the last entry, and the resolvers by number
 pub record Judge : Type 0 where
@@ -28,13 +27,6 @@ pub record IsJudge (judge : Judge) : Type 0 where
   pub learnt : judge.owners.last ≤ judge.last
   pub floor : judge.owners.floor ≤ judge.last - window
   pub count : length judge.resolvers ≡ resolvers_of judge.owners
-
--- Resolver i took these entries. From the begin of the window on it answers as the last versions of their places.
-pub record IsResolverAt (splits : List Point) (before : List Entry) (i : ℕ) (resolver : Resolver) : Type 0 where
-  pub index : resolver.index ≡ i
-  pub last : resolver.last ≡ last_version before
-  pub works : resolver.is_failed ≡ false
-  pub state : IsStateOf splits i (seen_of before).places (last_version before - window) (version_at resolver.versions)
 
 -- the judge took these entries, with the keys split so at first
 pub record IsJudgeAt (splits : List Point) (before : List Entry) (judge : Judge) : Type 0 where

@@ -10,6 +10,7 @@ use Rattle.fdb_txn.specs.book.Book.{seen_of}
 use Rattle.fdb_txn.specs.rules.Resolvers.{IsStateOf}
 use Rattle.fdb_txn.specs.rules.Splits.{piece}
 use Rattle.fdb_log.specs.Logs.{Log}
+use Rattle.fdb_resolver.specs.declared.part.Part.{Part}
 use Rattle.fdb_proxy.specs.declared.config.Config.{Config}
 use Rattle.fdb_client.specs.declared.program.Op.TheVariants as op
 use Rattle.fdb_client.specs.declared.program.Reply.TheVariants as reply
@@ -24,7 +25,7 @@ use Rattle.fdb_core.specs.headline.Readings.{Readings, nothing_read, readings_of
 use Rattle.fdb_core.specs.machine.Machine.{Machine}
 use Rattle.fdb_client.specs.Programs.{commit_request_of}
 use Rattle.fdb_core.specs.headline.RealTime.{HasBegun, IsAfterVersion}
-use Rattle.fdb_core.specs.headline.Serving.{LogKeeps, ShardServes}
+use Rattle.fdb_core.specs.headline.Serving.{PartsKeep, LogKeeps, ShardServes}
 use Rattle.fdb_core.specs.headline.Traces.{machine_of_trace, IsTraceOf}
 use Rattle.fdb_core.specs.machine.Sessions.{Asking}
 use Rattle.fdb_core.specs.machine.Steps.{next}
@@ -158,11 +159,17 @@ empty_message_taken = record {
   messages = record { log = 0; index = 0; version = 100; prev = 0; body = [] } ∷ [];
 }
 
--- A resolver that took the entry and knows of no write, and a log that took it and has an empty message of it, keep
--- something else than the book says.
+-- the one resolver's part of the entry, which asks it about no place
+abbrev pub empty_part : Part
+empty_part = record { resolver = 0; index = 0; version = 100; prev = 0; items = [] }
+
+-- A resolver that took the entry and knows of no write, a pool without its parts or with one that asks the resolver
+-- about no place of it, and a log that took it and has an empty message of it, keep something else than the book says.
 abbrev pub ForgetfulRolesDoNotKeep : Type 0
 ForgetfulRolesDoNotKeep =
     (IsStateOf [] 0 (seen_of two_in_one_entry).places 0 (λ x. 0) → ⊥)
+    × (PartsKeep (record (start plain) { book = two_in_one_entry }) [] → ⊥)
+    × (PartsKeep (record (start plain) { book = two_in_one_entry }) ((empty_part ∷ []) ∷ []) → ⊥)
     × (LogKeeps (record (start plain) { book = two_in_one_entry }) 0 1 empty_message_taken → ⊥)
 
 -- both sessions ask and are served, read the key a, set it and submit; their batch is sealed, and they are told

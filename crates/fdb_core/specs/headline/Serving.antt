@@ -16,11 +16,14 @@ use Rattle.fdb_log.specs.Logs.{Log, keeps, popped_through, kept}
 use Rattle.fdb_log.specs.Messages.{above}
 use Rattle.fdb_storage.specs.LogMessages.{log_messages}
 use Rattle.fdb_storage.specs.Shards.{Shard, value_at}
+use Rattle.fdb_resolver.specs.declared.part.Part.{Part}
 use Rattle.fdb_resolver.specs.Resolvers.{Resolver}
 use Rattle.fdb_sequencer.specs.Sequencer.{Sequencer, accept_fault}
 use Rattle.fdb_sequencer.specs.declared.ticket.Ticket.{Ticket}
 use Rattle.fdb_txn.specs.declared.entry.Entry.{Entry}
 use Rattle.fdb_proxy.specs.declared.config.Config.{Config}
+use Rattle.fdb_proxy.specs.Parting.{AreParts}
+use Rattle.fdb_proxy.specs.Verdicts.{moves_through}
 use Rattle.fdb_core.specs.machine.Roles.{ShardProgress}
 use Rattle.fdb_core.specs.machine.RoleSteps.{version_of_shard}
 use Rattle.fdb_core.specs.machine.Machine.{Machine, is_set}
@@ -31,6 +34,8 @@ pub record System : Type 0 where
   pub machine : Option Machine
   pub sequencer : Sequencer
   pub resolvers : List Resolver
+  -- for each entry the parts for the resolvers
+  pub parts : List (List Part)
   -- for each entry the messages for the logs, once it is decided
   pub messages : List (Option (List LogMsg))
   pub logs : List Log
@@ -60,6 +65,15 @@ ResolverKeeps m i taken resolver =
     (resolver.index ≡ i) × (resolver.is_failed ≡ false) × (resolver.last ≡ last)
     × IsStateOf m.config.resolver_splits i (seen_before m.book taken).places (last - window)
     (version_at resolver.versions)
+
+-- The parts of an entry for the resolvers are made with it, one for each resolver: it has an item for a place exactly
+-- where the resolver is asked about the place, with its part of the reads and of the writes.
+abbrev pub PartsKeep : Machine → List (List Part) → Type 0
+PartsKeep m parts =
+    (length parts ≡ length m.book)
+    × ((i : ℕ) (entry : Entry) (of : List Part) → slice_get m.book i ≡ Some entry → slice_get parts i ≡ Some of
+    → AreParts m.config.resolver_splits (moves_through (seen_before m.book i) entry)
+    (record { index = i; version = entry.version; prev = entry.prev }) entry.batch of)
 
 -- The messages of an entry for the logs are made once it is decided. They hold just the mutations of its committed
 -- transactions, each with its place and its tags: each log's, those of which it keeps a tag.
@@ -114,6 +128,7 @@ abbrev pub RolesKeep : System → Type 0
 RolesKeep system = IfSome system.machine (λ (m : Machine).
     SequencerKeeps m system.sequencer
     × EachKeeps (ResolverKeeps m) m.resolvers system.resolvers
+    × PartsKeep m system.parts
     × MessagesKeep m system.messages
     × EachKeeps (LogKeeps m) m.logs system.logs
     × EachKeeps (ShardReaches m) m.shards system.shards

@@ -11,7 +11,7 @@ use Rattle.fdb_core.specs.declared.step.Step.{Step}
 use Rattle.fdb_core.specs.declared.step.Step.TheVariants as step
 use Rattle.fdb_core.specs.headline.Traces.{IsTraceOf}
 use Rattle.fdb_core.specs.machine.Machine.{Machine}
-use Rattle.fdb_core.specs.machine.Roles.{CommitProxy, Submission}
+use Rattle.fdb_core.specs.machine.Roles.{CommitProxy}
 use Rattle.fdb_core.specs.machine.Sessions.{SessionState, Asking, Waiting, session_of}
 use Rattle.fdb_core.specs.machine.Steps.{next}
 
@@ -26,9 +26,7 @@ module _ (session : ℕ) where
 
   -- one of its transactions waits at the commit proxy, or is in the batch that this has in flight
   abbrev pub waits_at : CommitProxy → Bool
-  waits_at commit_proxy =
-      list_any (λ (submission : Submission). is_of submission.transcript) commit_proxy.waiting || list_any is_of
-      commit_proxy.in_flight
+  waits_at commit_proxy = list_any is_of commit_proxy.waiting || list_any is_of commit_proxy.in_flight
 
   -- the session asks, or waits for an answer, at one of the proxies
   abbrev pub is_somewhere : List (List ℕ) → List CommitProxy → Bool
@@ -39,9 +37,7 @@ module _ (session : ℕ) where
   times_asking_at there = count_by (λ (asker : ℕ). asker == session) there
 
   abbrev pub times_waiting_at : CommitProxy → ℕ
-  times_waiting_at commit_proxy =
-      count_by (λ (submission : Submission). is_of submission.transcript) commit_proxy.waiting + count_by is_of
-      commit_proxy.in_flight
+  times_waiting_at commit_proxy = count_by is_of commit_proxy.waiting + count_by is_of commit_proxy.in_flight
 
   abbrev pub times_asking : List (List ℕ) → ℕ
   times_asking grv_proxies = sum_by times_asking_at grv_proxies

@@ -1,5 +1,5 @@
 -- Traces: steps with their answers, and the machine that they determine.
-use Rattle.std.specs.Prelude.{◌≡◌, ℕ, min, false, map, filter, slice_get, List, [], ◌∷◌, Option, Some, None, Result, Ok, Err}
+use Rattle.std.specs.Prelude.{◌≡◌, ℕ, min, false, filter, slice_get, List, [], ◌∷◌, Option, Some, None, Result, Ok, Err}
 use Rattle.fdb_keys.specs.declared.refusal.Refusal.{Refusal}
 use Rattle.fdb_proxy.specs.declared.config.Config.{Config}
 use Rattle.fdb_client.specs.declared.program.Transcript.{Transcript}
@@ -8,7 +8,7 @@ use Rattle.fdb_core.specs.declared.step.Step.{Step}
 use Rattle.fdb_core.specs.headline.Readings.{Readings, readings_of, is_of_session, times_begun}
 use Rattle.fdb_core.specs.machine.CommitProxySteps.{is_idle}
 use Rattle.fdb_core.specs.machine.Machine.{Machine}
-use Rattle.fdb_core.specs.machine.Roles.{CommitProxy, Submission}
+use Rattle.fdb_core.specs.machine.Roles.{CommitProxy}
 use Rattle.fdb_core.specs.machine.Sessions.{session_of, open_at, next_number, greatest_number}
 use Rattle.fdb_core.specs.machine.Steps.{next, after}
 use Rattle.fdb_core.specs.machine.Worlds.{start, IsRun}
@@ -54,7 +54,7 @@ pub record HasWhatIsTold (r : Readings) (m : Machine) : Type 0 where
   pub begun : (session : ℕ)
       → next_number (session_of m.sessions session).last_number ≡ min (times_begun session r.begun) greatest_number
   pub waiting : (proxy : ℕ) (commit_proxy : CommitProxy) → slice_get m.commit_proxies proxy ≡ Some commit_proxy
-      → map (λ (submission : Submission). submission.transcript) commit_proxy.waiting ≡ r.waiting proxy
+      → commit_proxy.waiting ≡ r.waiting proxy
   pub in_flight : (proxy : ℕ) (commit_proxy : CommitProxy) → slice_get m.commit_proxies proxy ≡ Some commit_proxy
       → is_idle commit_proxy.stage ≡ false
       → (commit_proxy.entry ≡ (r.sealed proxy).entry) × (commit_proxy.in_flight ≡ (r.sealed proxy).transcripts)

@@ -3,14 +3,16 @@ use Rattle.std.specs.Prelude.{◌≡◌, ◌<◌, ◌≤◌, suc, true, false, l
 use Rattle.std.specs.List.{AllByRecursion}
 use Rattle.fdb_txn.specs.declared.entry.Entry.{Entry}
 use Rattle.fdb_txn.specs.declared.entry.Move.{Move}
+use Rattle.fdb_txn.specs.declared.txn_id.TxnId.{TxnId}
 use Rattle.fdb_txn.specs.book.Book.{seen_of, last_version}
 use Rattle.fdb_txn.specs.book.History.{AreEntries}
 use Rattle.fdb_txn.specs.rules.SerialMap.{serial_map_at}
-use Rattle.fdb_core.specs.machine.Roles.{CommitProxy, Submission}
+use Rattle.fdb_core.specs.machine.Roles.{CommitProxy}
 use Rattle.fdb_core.specs.declared.roles.client.Placed.{Placed}
 use Rattle.fdb_client.specs.declared.program.Transcript.{Transcript}
 use Rattle.fdb_core.specs.headline.Headline.{IsSerialized}
 use Rattle.fdb_core.specs.headline.RealTime.{spot_version, IsAfterVersion}
+use Rattle.fdb_core.specs.invariant.Once.{IsOnce}
 use Rattle.fdb_core.specs.machine.Machine.{Machine}
 use Rattle.fdb_core.specs.machine.Sessions.{EachOpen}
 use Rattle.fdb_client.specs.Programs.{program, replies_of, exec, commit_request_of}
@@ -25,10 +27,6 @@ IsReplied m transcript =
     (serial_map_at m.config.resolver_splits transcript.read_version (seen_of m.book).places)
     (program transcript.ops))
 
--- a submission that waits is its transcript, sealed
-abbrev pub Waits : Machine → Submission → Type 0
-Waits m submission = (submission.sealed ≡ commit_request_of submission.transcript) × IsReplied m submission.transcript
-
 -- A batch in flight is that of the entry, in the same order; once it is reported, the committed version is at least
 -- the entry's.
 abbrev pub IsInFlight : Machine → CommitProxy → Type 0
@@ -39,7 +37,7 @@ IsInFlight m commit_proxy =
     × (is_reported commit_proxy.stage ≡ true → entry.version ≤ m.committed)
 
 abbrev pub CommitProxyIsSound : Machine → CommitProxy → Type 0
-CommitProxyIsSound m commit_proxy = AllByRecursion (Waits m) commit_proxy.waiting
+CommitProxyIsSound m commit_proxy = AllByRecursion (IsReplied m) commit_proxy.waiting
     × AllByRecursion (IsReplied m) commit_proxy.in_flight × IsInFlight m commit_proxy
 
 -- an acknowledged transaction is serialized at its spot
@@ -59,3 +57,4 @@ pub record Invariant (m : Machine) : Type 0 where
   pub commit_proxies : AllByRecursion (CommitProxyIsSound m) m.commit_proxies
   pub acknowledged : AllByRecursion (IsSerializedIn m) m.acknowledged
   pub reported : AllByRecursion (IsReported m) m.acknowledged
+  pub once : (id : TxnId) → IsOnce id m

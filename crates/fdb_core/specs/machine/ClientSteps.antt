@@ -121,7 +121,6 @@ submit_fault transcript = if is_read_only transcript then None else size_fault (
 unfoldable pub submits : Machine → ℕ → ℕ → Result Transition Refusal
 submits m session proxy = found (slice_get m.commit_proxies proxy) (λ commit_proxy.
     with_open (open_at m.sessions session) (λ transcript.
-    let sealed = commit_request_of transcript in
     if is_read_only transcript
     then Ok (record {
       answer = answered.ReadOnly transcript.read_version;
@@ -131,12 +130,11 @@ submits m session proxy = found (slice_get m.commit_proxies proxy) (λ commit_pr
             { spot = spot.ReadOnly transcript.read_version; transcript = transcript } ∷ [];
       };
     })
-    else refused_by (size_fault sealed) (Ok (record {
+    else refused_by (size_fault (commit_request_of transcript)) (Ok (record {
       answer = answered.Done;
       next = record m {
         sessions = with_state m.sessions session Waiting;
         commit_proxies = slice_set m.commit_proxies proxy
-            (record commit_proxy
-            { waiting = commit_proxy.waiting ++ record { sealed = sealed; transcript = transcript } ∷ [] });
+            (record commit_proxy { waiting = commit_proxy.waiting ++ transcript ∷ [] });
       };
     }))))

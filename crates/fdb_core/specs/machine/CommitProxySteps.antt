@@ -6,9 +6,10 @@ use Rattle.fdb_txn.specs.Limits.{place_limit}
 use Rattle.fdb_txn.specs.declared.spot.Spot.TheVariants as spot
 use Rattle.fdb_sequencer.specs.Limits.{version_limit}
 use Rattle.fdb_sequencer.specs.Sequencer.{next_version}
-use Rattle.fdb_core.specs.machine.Roles.{CommitProxy, Sender, FromResolver, FromLog, Submission, Stage, Idle, Resolving, Logging, Reported}
+use Rattle.fdb_core.specs.machine.Roles.{CommitProxy, Sender, FromResolver, FromLog, Stage, Idle, Resolving, Logging, Reported}
 use Rattle.fdb_core.specs.declared.roles.client.Placed.{Placed}
 use Rattle.fdb_client.specs.declared.program.Transcript.{Transcript}
+use Rattle.fdb_client.specs.Programs.{commit_request_of}
 use Rattle.fdb_proxy.specs.declared.outcome.Outcome.{Outcome}
 use Rattle.fdb_proxy.specs.declared.outcome.Outcome.TheVariants as outcome
 use Rattle.fdb_core.specs.declared.step.Answered.TheVariants as answered
@@ -42,15 +43,15 @@ is_reported Logging = false
 is_reported Reported = true
 
 -- the commit proxy whose first requests, at most as many as a batch may have, became the batch of the entry
-abbrev pub with_batch : CommitProxy → ℕ → ℕ → ℕ → CommitProxy
-with_batch commit_proxy entry resolvers logs =
+abbrev pub with_batch : CommitProxy → ℕ → ℕ → CommitProxy
+with_batch commit_proxy entry resolvers =
     record {
       waiting = drop place_limit commit_proxy.waiting;
-      in_flight = map (λ (submission : Submission). submission.transcript) (take place_limit commit_proxy.waiting);
+      in_flight = take place_limit commit_proxy.waiting;
       stage = Resolving;
       entry = entry;
       verdicts_received = replicate resolvers false;
-      acknowledgements_received = replicate logs false;
+      acknowledgements_received = [];
     }
 
 -- Seal: the first of those who wait, in order, become the batch of the next entry.
@@ -70,14 +71,12 @@ seals m proxy advance = found (slice_get m.commit_proxies proxy) (λ commit_prox
           version = version;
           prev = prev;
           moves = m.pending;
-          batch = map
-              (λ (submission : Submission). submission.sealed) sealing;
+          batch = map commit_request_of sealing;
         } ∷ [];
         entry_proxies = m.entry_proxies ++ proxy ∷ [];
         decided = m.decided ++ false ∷ [];
         pending = [];
-        commit_proxies = slice_set m.commit_proxies proxy
-            (with_batch commit_proxy index (length m.resolvers) (length m.logs));
+        commit_proxies = slice_set m.commit_proxies proxy (with_batch commit_proxy index (length m.resolvers));
       };
     })))))
 
@@ -127,7 +126,11 @@ decides m proxy = found (slice_get m.commit_proxies proxy) (λ commit_proxy.
       answer = answered.Decided (outcomes_on m.config.resolver_splits before entry);
       next = record m {
         decided = slice_set m.decided commit_proxy.entry true;
-        commit_proxies = slice_set m.commit_proxies proxy (record commit_proxy { stage = Logging });
+        commit_proxies = slice_set m.commit_proxies proxy (record commit_proxy {
+          stage = Logging;
+          verdicts_received = [];
+          acknowledgements_received = replicate (length m.logs) false;
+        });
       };
     })))))
 
@@ -175,6 +178,7 @@ answers m proxy = found (slice_get m.commit_proxies proxy) (λ commit_proxy.
       next = record m {
         acknowledged = m.acknowledged ++ placed_from commit_proxy.entry commit_proxy.in_flight outcomes;
         sessions = tell_all commit_proxy.in_flight m.sessions;
-        commit_proxies = slice_set m.commit_proxies proxy (record commit_proxy { in_flight = []; stage = Idle });
+        commit_proxies = slice_set m.commit_proxies proxy
+            (record commit_proxy { in_flight = []; stage = Idle; acknowledgements_received = [] });
       };
     })))))

@@ -1,12 +1,6 @@
 -- What the machine says of each role.
 use Rattle.std.specs.Prelude.{ℕ, Bool, List}
-use Rattle.fdb_txn.specs.book.Transactions.{Transaction}
 use Rattle.fdb_client.specs.declared.program.Transcript.{Transcript}
-
--- a transaction that waits for a batch: what is judged of it, and what it was answered while it ran
-pub record Submission : Type 0 where
-  pub sealed : Transaction
-  pub transcript : Transcript
 
 -- how far a commit proxy is with its batch: it has none; the batch has an entry; it is decided; its version is reported
 pub data Stage : Type 0 where
@@ -15,14 +9,16 @@ pub data Stage : Type 0 where
   Logging : Stage
   Reported : Stage
 
--- a commit proxy: those who wait there in order, and the batch in flight with its entry, the transcripts by place, and
--- for each resolver and each log whether its verdicts or its acknowledgement came
+-- a commit proxy: the transcripts of those who wait there, in order, and of the batch in flight, by place, with its
+-- entry
 pub record CommitProxy : Type 0 where
-  pub waiting : List Submission
+  pub waiting : List Transcript
   pub in_flight : List Transcript
   pub stage : Stage
   pub entry : ℕ
+  -- for each resolver whether its verdicts came, while the batch waits for them, and else none
   pub verdicts_received : List Bool
+  -- for each log whether its acknowledgement came, once the batch is decided, and before that none
   pub acknowledgements_received : List Bool
 
 -- who tells a commit proxy something of an entry: a resolver its verdicts, a log its acknowledgement

@@ -9,10 +9,10 @@ ghost use Rattle.fdb_txn.specs.book.History.{AreEntries};
 ghost use Rattle.fdb_storage.specs.Limits.{shard_limit};
 ghost use Rattle.fdb_proxy.specs.Verdicts.{outcomes_on};
 ghost use Rattle.fdb_core.specs.declared.roles.client.Placed.{Placed};
-ghost use Rattle.fdb_core.specs.check.Checking.{AnsweredIn, map_after, CanBeRun, HasCome, ComesTo, HaveHeld, GoesTo, Finds};
+ghost use Rattle.fdb_core.specs.check.Checking.{AnsweredIn, map_after, HasCome, ComesTo, HaveHeld, GoesTo, Finds};
 ghost use Rattle.fdb_core.specs.check.Comparing.{AnsweredAt, Checks};
 ghost use Rattle.fdb_core.specs.check.Judging.{IsJudgeAt};
-ghost use Rattle.fdb_core.specs.refinement.Roles.{is_commit};
+ghost use Rattle.fdb_proxy.specs.Logging.{is_commit};
 
 use crate::book::last_version;
 use crate::check::compare::{Moment, compare};
@@ -198,7 +198,8 @@ fn check_book(
 ) -> Result<u64, CheckFault>
     requires { length shards.now ≤ shard_limit }
     ensures count { IfOk result (λ count. count ≡ length acknowledged.now) }
-    ensures finds { CanBeRun splits.now book.now → Finds result splits.now book.now acknowledged.now shards.now }
+    ensures finds { AreEntries (suc (length splits.now)) 0 book.now
+        → Finds result splits.now book.now acknowledged.now shards.now }
 {
     let mut replay = new_replay(alloc, splits)?;
     run_entries(alloc, &mut replay, acknowledged, shards, book)?;
@@ -210,14 +211,15 @@ fn check_book(
 }
 
 /// Compares every acknowledged transcript with the run of one transaction at a time, and each shard at its
-/// version where `with_shards` says so. Answers the number of acknowledged transactions. Where the configuration splits
-/// the keys among at most 64 resolvers, a fault is found just where something differs, for each book whose entries
-/// follow on one another from version 0 on, whose moves go to resolvers that exist, and whose transactions read below
-/// the versions of their entries and have in their write sets what their mutations name.
+/// version where `with_shards` says so. Answers the number of acknowledged transactions. A fault is found just where
+/// something differs, for each book whose entries follow on one another from version 0 on, whose moves go to resolvers
+/// that exist, and whose transactions read below the versions of their entries and have in their write sets what their
+/// mutations name. Keys that are no splits among at most 64 resolvers, as no world's configuration has them, are
+/// answered as want of memory.
 pub(crate) fn check_all(cluster: &Cluster, with_shards: bool) -> Result<u64, CheckFault>
     requires { with_shards ≡ true → length cluster.now.shards.items ≤ shard_limit }
     ensures count { IfOk result (λ count. count ≡ length cluster.now.acknowledged.items) }
-    ensures finds { CanBeRun cluster.now.config.resolver_splits cluster.now.book.items
+    ensures finds { AreEntries (suc (length cluster.now.config.resolver_splits)) 0 cluster.now.book.items
         → Finds result cluster.now.config.resolver_splits cluster.now.book.items
         cluster.now.acknowledged.items (if with_shards then cluster.now.shards.items else []) }
 {

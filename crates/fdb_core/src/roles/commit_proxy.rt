@@ -1,238 +1,268 @@
-// A commit proxy with those who wait there and its batch in flight.
-pub(crate) mod batching;
-pub(crate) mod deciding;
-pub(crate) mod flags;
-pub(crate) mod logging;
+// A commit proxy of the world.
 pub(crate) mod replying;
 
-use crate::roles::client::Submission;
-use crate::roles::commit_proxy::batching::take_batch;
-use crate::roles::commit_proxy::flags::{is_set, set, unset};
+ghost use Rattle.std.specs.Prelude.{◌≡◌, length, take, drop, OnOk, IfOk};
+ghost use Rattle.fdb_txn.specs.Limits.{place_limit};
+ghost use Rattle.fdb_keys.specs.Answers.{Answers};
+ghost use Rattle.fdb_proxy.specs.Configs.{config_fault};
+ghost use Rattle.fdb_core.specs.refinement.CommitProxies.{IsNewCommitProxy};
+ghost use Rattle.fdb_core.specs.refinement.Logs.{Each};
+
 use fdb_client::Transcript;
-use fdb_keys::Items;
-use fdb_txn::Sealed;
+use fdb_keys::{Items, Refusal};
+use fdb_log::{LogAck, LogMsg};
+use fdb_proxy::{CommitCore, Config, Outcome};
+use fdb_resolver::{Part, Verdicts};
+use fdb_sequencer::Ticket;
+use fdb_txn::{Batch, PLACE_LIMIT, Sealed, TxnId};
 use std::alloc::{AllocError, Global};
-use std::marker::Model;
 use std::mem;
 
-// How far a commit proxy is with its batch: it has none; the batch has an entry; it is decided; its version is
-// reported.
-#[derive(Clone, Copy)]
-enum Stage {
-    Idle,
-    Resolving,
-    Logging,
-    Reported,
-}
-
-/// Who tells a commit proxy something of an entry: a resolver its verdicts, a log its acknowledgement.
+/// Who tells a commit proxy something of an entry.
 #[derive(Clone, Copy)]
 pub(crate) enum Sender {
+    /// The resolver tells its verdicts.
     Resolver(u32),
+    /// The log acknowledges the entry.
     Log(u32),
 }
 
-/// A commit proxy: those who wait there in order, and the batch in flight with its entry, the transcripts by
-/// place, and for each resolver and each log whether its verdicts or its acknowledgement came.
+/// A commit proxy with what the transactions were answered that wait there and that are in flight, in the order in
+/// which its core has them, and with the number of the batch's entry.
 #[derive(Drop)]
-pub(crate) struct CommitProxy {
-    waiting: Items<Submission>,
-    in_flight: Items<Transcript>,
-    stage: Stage,
-    entry: u32,
-    verdicts_received: Items<bool>,
-    acknowledgements_received: Items<bool>,
+pub(crate) struct CommitProxyRole {
+    pub(crate) core: CommitCore,
+    pub(crate) waiting: Items<Transcript>,
+    pub(crate) in_flight: Items<Transcript>,
+    pub(crate) entry: u32,
+    // The version of the batch in flight is reported.
+    pub(crate) is_reported: bool,
 }
 
-impl Model for CommitProxy {
-    ghost use Rattle.fdb_core.specs.machine.Roles.{CommitProxy};
-    ghost use Rattle.fdb_core.specs.refinement.Views.{stage_of};
-
-    ghost Value = { CommitProxy };
-
-    ghost view = { λ p. record {
-      waiting = p.waiting;
-      in_flight = p.in_flight;
-      stage = stage_of p.stage;
-      entry = p.entry;
-      verdicts_received = p.verdicts_received;
-      acknowledgements_received = p.acknowledgements_received;
-    } };
-}
-
-impl CommitProxy {
-    ghost use Rattle.std.specs.Prelude.{◌≡◌, true, [], ◌∷◌, ◌++◌, map, take, slice_set, IfOk, OnOk};
+impl CommitProxyRole {
+    ghost use Rattle.std.specs.Prelude.{◌≡◌, ◌≤◌, ◌<◌, ◌++◌, ⊤, true, false, [], ◌∷◌, List, ℕ, suc, length, None, Some, Err, map, drop, take, slice_get, OnOk, OnErr, if◌then◌else◌};
+    ghost use Rattle.std.specs.List.{AllByRecursion};
+    ghost use Rattle.fdb_keys.specs.Answers.{Answers, AnswersExactly};
+    ghost use Rattle.fdb_keys.specs.declared.refusal.Refusal.TheVariants.{Stale, WrongState};
     ghost use Rattle.fdb_txn.specs.Limits.{place_limit};
-    ghost use Rattle.fdb_core.specs.machine.CommitProxySteps.{is_idle, is_resolving, is_logging, is_reported, awaits, with_batch, with_received};
-    ghost use Rattle.fdb_core.specs.refinement.Views.{sender_of};
-    ghost use Rattle.fdb_core.specs.machine.Roles.{Idle, Logging, Reported};
-    ghost use Rattle.fdb_core.specs.machine.Worlds.{idle_proxy};
+    ghost use Rattle.fdb_txn.specs.book.Book.{seen_before, last_version};
+    ghost use Rattle.fdb_txn.specs.book.History.{AreEntries};
+    ghost use Rattle.fdb_txn.specs.declared.entry.Entry.{Entry};
+    ghost use Rattle.fdb_client.specs.Programs.{commit_request_of};
+    ghost use Rattle.fdb_storage.specs.LogMessages.{log_messages};
+    ghost use Rattle.fdb_proxy.specs.declared.config.Config.{Config};
+    ghost use Rattle.fdb_proxy.specs.CommitProxies.{waiting_for};
+    ghost use Rattle.fdb_proxy.specs.Configs.{config_fault};
+    ghost use Rattle.fdb_proxy.specs.Requests.{place_of};
+    ghost use Rattle.fdb_proxy.specs.Verdicts.{is_needed};
+    ghost use Rattle.fdb_core.specs.machine.CommitProxySteps.{is_idle, is_resolving, is_logging, is_reported, awaits, with_received};
+    ghost use Rattle.fdb_core.specs.machine.Machine.{first_missing};
+    ghost use Rattle.fdb_core.specs.machine.Roles.{FromResolver, FromLog};
+    ghost use Rattle.fdb_core.specs.refinement.CommitProxies.{seen_as, CommitProxyRefines, IsNewCommitProxy, IsNextTicket, Seals, Decides, IsDone, IsSaid};
 
-    /// A commit proxy without a batch, at which nobody waits.
-    pub(crate) fn new(alloc: Global) -> Self
-        ensures { result ≡ idle_proxy }
+    /// The commit proxy with the number, without a batch, at which nobody waits. Refused only as `NoMemory`.
+    pub(crate) fn new(alloc: Global, index: u32, config: &Config) -> Result<Self, Refusal>
+        requires legal { config_fault config.now ≡ None }
+        requires within { index < config.now.proxies }
+        ensures { Answers result None (IsNewCommitProxy config.now) }
     {
-        CommitProxy {
+        let core = CommitCore::new(alloc, index, config)?;
+        Ok(CommitProxyRole {
+            core,
             waiting: Items::new(alloc),
             in_flight: Items::new(alloc),
-            stage: Stage::Idle,
             entry: 0,
-            verdicts_received: Items::new(alloc),
-            acknowledgements_received: Items::new(alloc),
-        }
+            is_reported: false,
+        })
     }
 
     /// Whether no batch is in flight.
     pub(crate) fn is_idle(&self) -> bool
-        ensures { result ≡ is_idle self.now.stage }
+        ensures { result ≡ is_idle (seen_as self.now).stage }
     {
-        match self.stage {
-            Stage::Idle => true,
-            _ => false,
+        self.core.is_idle()
+    }
+
+    /// One more waits for a batch, with what it was answered. Refused only as `NoMemory`.
+    pub(crate) fn submit(&mut self, sealed: Sealed, transcript: Transcript) -> Result<(), Refusal>
+        ensures { (config : Config) (book : List Entry) (committed : ℕ)
+            → CommitProxyRefines config book committed self.old
+            → sealed ≡ commit_request_of transcript → transcript.read_version ≤ committed
+            → place_of transcript.id
+            (map commit_request_of self.old.in_flight ++ map commit_request_of self.old.waiting) ≡ None
+            → Answers result None (λ _. (seen_as self.new ≡ record (seen_as self.old)
+            { waiting = self.old.waiting ++ transcript ∷ [] }) × CommitProxyRefines config book committed self.new) }
+    {
+        match self.core.submit(sealed) {
+            Ok(()) => {
+                self.waiting.push(transcript)?;
+                Ok(())
+            }
+            Err(refused) => Err(refused.why),
         }
     }
 
-    /// Whether the batch in flight waits for verdicts.
-    pub(crate) fn is_resolving(&self) -> bool
-        ensures { result ≡ is_resolving self.now.stage }
+    // What the first of those who wait were answered, at most as many as a batch may have, is what those in flight were.
+    fn take_transcripts(&mut self, alloc: Global) -> Result<(), AllocError>
+        ensures { OnOk result (self.new ≡ record self.old {
+          waiting = drop place_limit self.old.waiting;
+          in_flight = take place_limit self.old.waiting;
+        }) }
     {
-        match self.stage {
-            Stage::Resolving => true,
-            _ => false,
-        }
-    }
-
-    /// Whether the batch in flight is decided, and its version isn't reported.
-    pub(crate) fn is_logging(&self) -> bool
-        ensures { result ≡ is_logging self.now.stage }
-    {
-        match self.stage {
-            Stage::Logging => true,
-            _ => false,
-        }
-    }
-
-    /// Whether the version of the batch in flight is reported.
-    pub(crate) fn is_reported(&self) -> bool
-        ensures { result ≡ is_reported self.now.stage }
-    {
-        match self.stage {
-            Stage::Reported => true,
-            _ => false,
-        }
-    }
-
-    /// The number of the entry of the batch in flight.
-    pub(crate) fn entry(&self) -> u32
-        ensures { result ≡ self.now.entry }
-    {
-        self.entry
-    }
-
-    /// The transcripts of the batch in flight, by place.
-    pub(crate) fn in_flight(&self) -> &[Transcript]
-        ensures { result.now ≡ self.now.in_flight }
-    {
-        self.in_flight.as_slice()
-    }
-
-    /// For each resolver whether its verdicts on the entry came.
-    pub(crate) fn verdicts_received(&self) -> &[bool]
-        ensures { result.now ≡ self.now.verdicts_received }
-    {
-        self.verdicts_received.as_slice()
-    }
-
-    /// For each log whether its acknowledgement of the entry came.
-    pub(crate) fn acknowledgements_received(&self) -> &[bool]
-        ensures { result.now ≡ self.now.acknowledgements_received }
-    {
-        self.acknowledgements_received.as_slice()
-    }
-
-    /// One more waits for a batch.
-    pub(crate) fn submit(&mut self, submission: Submission) -> Result<(), AllocError>
-        ensures { OnOk result (self.new ≡ record self.old { waiting = self.old.waiting ++ submission ∷ [] }) }
-    {
-        self.waiting.push(submission)?;
+        let mut first = mem::replace(&mut self.waiting, Items::new(alloc)).into_vec();
+        self.waiting = Items::from_vec(cut(alloc, &mut first)?);
+        self.in_flight = Items::from_vec(first);
         Ok(())
     }
 
-    /// The first of those who wait, at most as many as a batch may have, become the batch of the entry, of
-    /// which as many resolvers and logs are to say something. Answers what is judged of them, in order.
+    /// The first of those who wait, at most as many as a batch may have, become the batch of the ticket's entry. Answers
+    /// the batch, and the part of each resolver. Refused only as `NoMemory`.
     pub(crate) fn seal(
         &mut self,
         alloc: Global,
-        entry: u32,
-        resolvers: usize,
-        logs: usize,
-    ) -> Result<Items<Sealed>, AllocError>
-        ensures batch { IfOk result
-            (λ batch. batch ≡ map (λ submission. submission.sealed) (take place_limit self.old.waiting)) }
-        ensures after { OnOk result (self.new ≡ with_batch self.old entry resolvers logs) }
+        ticket: &Ticket,
+    ) -> Result<(Batch, Items<Part>), Refusal>
+        requires still { ticket.now.moves ≡ [] }
+        requires later { AllByRecursion (λ t. t.read < ticket.now.version) self.old.core.proxy.waiting }
+        ensures { (config : Config) (book : List Entry) (committed : ℕ)
+            → CommitProxyRefines config book committed self.old → is_idle (seen_as self.old).stage ≡ true
+            → IsNextTicket book ticket.now
+            → Answers result None
+            (λ given. Seals config book committed ticket.now self.old given.0 given.1 self.new) }
     {
-        let verdicts_received = unset(alloc, resolvers)?;
-        let acknowledgements_received = unset(alloc, logs)?;
-        let waiting = mem::replace(&mut self.waiting, Items::new(alloc));
-        let taken = take_batch(alloc, waiting)?;
-        *self = CommitProxy {
-            waiting: taken.rest,
-            in_flight: taken.transcripts,
-            stage: Stage::Resolving,
-            entry,
-            verdicts_received,
-            acknowledgements_received,
-        };
-        Ok(taken.batch)
+        let batch = self.core.seal()?;
+        self.core.learn(ticket)?;
+        let parts = self.core.parts()?;
+        self.take_transcripts(alloc)?;
+        self.entry = ticket.index;
+        Ok((batch, parts))
     }
 
-    /// Whether the proxy waits for what the sender says of the entry.
-    pub(crate) fn awaits(&self, entry: u32, sender: Sender) -> bool
-        ensures { result ≡ awaits self.now entry (sender_of sender) }
+    /// A resolver's verdicts came. Refused as `Stale` where the batch doesn't wait for them, and then nothing changes.
+    pub(crate) fn take_verdicts(&mut self, verdicts: Verdicts) -> Result<(), Refusal>
+        ensures answers { (config : Config) (book : List Entry) (committed : ℕ) (entry : Entry)
+            → CommitProxyRefines config book committed self.old
+            → IsSaid config.resolver_splits book verdicts entry →
+            let sender = FromResolver verdicts.resolver in
+            AnswersExactly result (if awaits (seen_as self.old) verdicts.index sender then None else Some Stale)
+            (λ _. (seen_as self.new ≡ with_received (seen_as self.old) sender)
+            × CommitProxyRefines config book committed self.new) }
+        ensures refused { OnErr result (self.new ≡ self.old) }
     {
-        match sender {
-            Sender::Resolver(resolver) => {
-                self.is_resolving()
-                    && self.entry == entry
-                    && !is_set(self.verdicts_received.as_slice(), resolver as usize)
-            }
-            Sender::Log(log) => {
-                self.is_logging()
-                    && self.entry == entry
-                    && !is_set(self.acknowledgements_received.as_slice(), log as usize)
-            }
+        self.core.verdict(verdicts)
+    }
+
+    /// Decides the batch. Answers what becomes of each place. Refused as `WrongState` unless the batch waits for verdicts,
+    /// as `NotYet` with the least resolver that is asked about some place and whose verdicts haven't come, and as
+    /// `NoMemory`. Then nothing changes.
+    pub(crate) fn decide(&mut self) -> Result<Items<Outcome>, Refusal>
+        ensures wrong { (config : Config) (book : List Entry) (committed : ℕ)
+            → CommitProxyRefines config book committed self.old → is_resolving (seen_as self.old).stage ≡ false
+            → result ≡ Err WrongState }
+        ensures decides { (config : Config) (book : List Entry) (committed : ℕ) (entry : Entry)
+            → CommitProxyRefines config book committed self.old → is_resolving (seen_as self.old).stage ≡ true
+            → slice_get book self.old.entry ≡ Some entry
+            → AreEntries (suc (length config.resolver_splits)) 0 book
+            → Answers result (waiting_for (first_missing
+            (λ resolver. is_needed config.resolver_splits resolver (seen_before book self.old.entry) entry) 0
+            (seen_as self.old).verdicts_received))
+            (λ outcomes. Decides config book committed entry self.old outcomes self.new) }
+        ensures refused { OnErr result (self.new ≡ self.old) }
+    {
+        self.core.decide()
+    }
+
+    /// The messages of the decided batch for the logs. Refused as `NoMemory`, and else only unless the batch is decided.
+    pub(crate) fn messages(&self) -> Result<Items<LogMsg>, Refusal>
+        ensures { (config : Config) (book : List Entry) (committed : ℕ) (entry : Entry)
+            → CommitProxyRefines config book committed self.now → is_logging (seen_as self.now).stage ≡ true
+            → slice_get book self.now.entry ≡ Some entry
+            → Answers result None (λ messages. messages ≡ log_messages config.resolver_splits config.shard_splits
+            config.logs self.now.entry (seen_before book self.now.entry) entry) }
+    {
+        self.core.messages()
+    }
+
+    /// A log's acknowledgement came. Refused as `Stale` where the batch doesn't wait for it, and then nothing changes.
+    pub(crate) fn take_acknowledgement(&mut self, ack: LogAck) -> Result<(), Refusal>
+        ensures answers { (config : Config) (book : List Entry) (committed : ℕ)
+            → CommitProxyRefines config book committed self.old → ack.log < config.logs →
+            let sender = FromLog ack.log in
+            AnswersExactly result (if awaits (seen_as self.old) ack.index sender then None else Some Stale)
+            (λ _. (seen_as self.new ≡ with_received (seen_as self.old) sender)
+            × CommitProxyRefines config book committed self.new) }
+        ensures refused { OnErr result (self.new ≡ self.old) }
+    {
+        self.core.logged(ack)
+    }
+
+    /// Whether all logs have acknowledged the batch, and its version isn't reported yet. Refused as `WrongState` unless
+    /// the batch is decided and isn't reported, and as `NotYet` with the least log whose acknowledgement hasn't come.
+    pub(crate) fn check_logged(&self) -> Result<(), Refusal>
+        ensures wrong { (config : Config) (book : List Entry) (committed : ℕ)
+            → CommitProxyRefines config book committed self.now → is_logging (seen_as self.now).stage ≡ false
+            → result ≡ Err WrongState }
+        ensures answers { (config : Config) (book : List Entry) (committed : ℕ)
+            → CommitProxyRefines config book committed self.now → is_logging (seen_as self.now).stage ≡ true
+            → AnswersExactly result
+            (waiting_for (first_missing (λ log. true) 0 (seen_as self.now).acknowledgements_received)) (λ _. ⊤) }
+    {
+        if self.is_reported {
+            return Err(Refusal::WrongState);
         }
+        self.core.all_logged()
     }
 
-    /// What the sender says of the entry came.
-    pub(crate) fn receive(&mut self, sender: Sender)
-        ensures { self.new ≡ with_received self.old (sender_of sender) }
-    {
-        match sender {
-            Sender::Resolver(resolver) => set(&mut self.verdicts_received, resolver as usize),
-            Sender::Log(log) => set(&mut self.acknowledgements_received, log as usize),
-        }
-    }
-
-    /// The batch in flight is decided.
-    pub(crate) fn decide(&mut self)
-        ensures { self.new ≡ record self.old { stage = Logging } }
-    {
-        self.stage = Stage::Logging;
-    }
-
-    /// The version of the batch in flight is reported.
+    /// The version of the batch is reported.
     pub(crate) fn report(&mut self)
-        ensures { self.new ≡ record self.old { stage = Reported } }
+        ensures { self.new ≡ record self.old { is_reported = true } }
     {
-        self.stage = Stage::Reported;
+        self.is_reported = true;
     }
 
-    /// The clients of the batch in flight are answered, and the proxy is idle again.
-    pub(crate) fn finish(&mut self, alloc: Global)
-        ensures { self.new ≡ record self.old { in_flight = []; stage = Idle } }
+    /// The batch, whose version is reported, is done. Answers its transcripts, and each one's name with what became of
+    /// it, by place.
+    pub(crate) fn finish(
+        &mut self,
+        alloc: Global,
+    ) -> Result<(Items<Transcript>, Items<(TxnId, Outcome)>), Refusal>
+        ensures { (config : Config) (book : List Entry) (committed : ℕ) (entry : Entry)
+            → CommitProxyRefines config book committed self.old → is_reported (seen_as self.old).stage ≡ true
+            → slice_get book self.old.entry ≡ Some entry
+            → AnswersExactly result None
+            (λ given. IsDone config book committed entry self.old given.0 given.1 self.new) }
     {
-        self.in_flight = Items::new(alloc);
-        self.stage = Stage::Idle;
+        let answers = self.core.done()?;
+        self.is_reported = false;
+        let transcripts = mem::replace(&mut self.in_flight, Items::new(alloc));
+        Ok((transcripts, answers))
     }
+}
+
+// Leaves at most as many as a batch may have, and gives the others.
+fn cut(alloc: Global, waiting: &mut Vec<Transcript>) -> Result<Vec<Transcript>, AllocError>
+    ensures rest { IfOk result (λ rest. rest.items ≡ drop place_limit waiting.old.items) }
+    ensures first { OnOk result (waiting.new.items ≡ take place_limit waiting.old.items) }
+{
+    if waiting.len() <= PLACE_LIMIT {
+        return Ok(Vec::new(alloc));
+    }
+    let rest = waiting.split_off(PLACE_LIMIT)?;
+    Ok(rest)
+}
+
+/// As many commit proxies as the configuration says, without batches. Refused only as `NoMemory`.
+pub(crate) fn new_commit_proxies(
+    alloc: Global,
+    config: &Config,
+) -> Result<Vec<CommitProxyRole>, Refusal>
+    requires legal { config_fault config.now ≡ None }
+    ensures { Answers result None (λ list. (length list.items ≡ config.now.proxies)
+        × Each (λ _. IsNewCommitProxy config.now) list.items) }
+{
+    let mut list = Vec::new(alloc);
+    for index in 0..config.proxies {
+        list.push(CommitProxyRole::new(alloc, index, config)?)?;
+    }
+    Ok(list)
 }

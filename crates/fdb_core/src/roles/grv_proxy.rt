@@ -1,34 +1,45 @@
 // Sessions begin transactions.
-ghost use Rattle.std.specs.Prelude.{◌≡◌, fold, map, IfOk, OnOk};
+ghost use Rattle.std.specs.Prelude.{◌≡◌, [], fold, map, replicate, IfOk, OnOk};
 ghost use Rattle.std.specs.List.{list_any};
+ghost use Rattle.fdb_proxy.specs.Askers.{Asker};
 ghost use Rattle.fdb_core.specs.machine.GrvProxySteps.{has_no_number};
-ghost use Rattle.fdb_core.specs.machine.Sessions.{serve};
+ghost use Rattle.fdb_core.specs.machine.Sessions.{Sessions, serve};
 
 use crate::roles::client::sessions::Sessions;
-use fdb_keys::Items;
+use fdb_proxy::GrvCore;
 use std::alloc::{AllocError, Global};
 
-/// Whether one of those who ask has used up all numbers of transactions.
-pub(crate) fn are_used_up(sessions: &Sessions, askers: &[u32]) -> bool
-    ensures { result ≡ list_any (has_no_number sessions.now) askers.now }
+/// So many read-version proxies, at which nobody asks.
+pub(crate) fn new_grv_proxies(alloc: Global, count: u32) -> Result<Vec<GrvCore>, AllocError>
+    ensures { IfOk result (λ list. list.items ≡ replicate count []) }
 {
-    askers.iter().any(|session| sessions.is_used_up(*session))
+    let mut list = Vec::new(alloc);
+    for _number in 0..count {
+        list.push(GrvCore::new(alloc))?;
+    }
+    Ok(list)
 }
 
-/// Each of those who ask begins a transaction at the read version.
+/// Whether one of those who ask has used up all numbers of transactions.
+pub(crate) fn are_used_up(sessions: &Sessions, askers: &[(u32, u64)]) -> bool
+    ensures { result ≡ list_any (λ (asker : Asker). has_no_number sessions.now asker.0) askers.now }
+{
+    askers
+        .iter()
+        .any(|(session, _)| sessions.is_used_up(*session))
+}
+
+/// Each of those who were granted a read version begins a transaction at it.
 pub(crate) fn serve_all(
     alloc: Global,
     sessions: &mut Sessions,
-    read_version: u64,
-    askers: &[u32],
-) -> Result<Items<(u32, u64)>, AllocError>
-    ensures granted { IfOk result (λ granted. granted ≡ map (λ session. (session, read_version)) askers.now) }
-    ensures sessions { OnOk result (sessions.new ≡ fold (serve read_version) sessions.old askers.now) }
+    granted: &[(u32, u64)],
+) -> Result<(), AllocError>
+    ensures { OnOk result (sessions.new
+        ≡ fold (λ (served : Sessions) (asker : Asker). serve asker.1 served asker.0) sessions.old granted.now) }
 {
-    let mut granted = Items::new(alloc);
-    for session in askers {
-        sessions.begin(alloc, read_version, *session)?;
-        granted.push((*session, read_version))?;
+    for (session, version) in granted {
+        sessions.begin(alloc, *version, *session)?;
     }
-    Ok(granted)
+    Ok(())
 }

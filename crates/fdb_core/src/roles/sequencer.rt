@@ -1,15 +1,19 @@
 // The sequencer takes what the world gives it, which it never refuses.
-ghost use Rattle.std.specs.Prelude.{◌≡◌, ◌≤◌, None};
+ghost use Rattle.std.specs.Prelude.{◌≡◌, ◌<◌, ◌≤◌, None};
+ghost use Rattle.fdb_txn.specs.Limits.{resolver_limit};
+ghost use Rattle.fdb_sequencer.specs.Limits.{proxy_limit};
 ghost use Rattle.fdb_sequencer.specs.Sequencer.{accept_fault, accepting, fresh, reporting};
 
 use fdb_sequencer::{SequencerCore, Ticket};
 use std::alloc::Global;
 
-/// The sequencer of one proxy and one resolver, before its first ticket.
-pub(crate) fn first_sequencer(alloc: Global) -> SequencerCore
-    ensures { result ≡ fresh 1 1 0 }
+/// The sequencer of so many proxies and resolvers, before its first ticket.
+pub(crate) fn first_sequencer(alloc: Global, proxies: u32, resolvers: u32) -> SequencerCore
+    requires proxies { (0 < proxies) × (proxies ≤ proxy_limit) }
+    requires resolvers { (0 < resolvers) × (resolvers ≤ resolver_limit) }
+    ensures { result ≡ fresh proxies resolvers 0 }
 {
-    match SequencerCore::new(alloc, 1, 1, 0) {
+    match SequencerCore::new(alloc, proxies, resolvers, 0) {
         Ok(sequencer) => sequencer,
         Err(_) => unreachable!(),
     }

@@ -2,14 +2,15 @@
 ghost use Rattle.std.specs.Prelude.{◌≡◌, Ok, [], ◌∷◌, ◌++◌};
 ghost use Rattle.fdb_txn.specs.declared.spot.Spot.TheVariants as spot;
 ghost use Rattle.fdb_core.specs.declared.step.Answered.TheVariants.{ReadOnly};
+ghost use Rattle.fdb_core.specs.invariant.Invariant.{Invariant};
 ghost use Rattle.fdb_core.specs.machine.ClientSteps.{reads, writes, adds_read, adds_write, submits};
 ghost use Rattle.fdb_core.specs.machine.Steps.{Unless, ran_out, answer_of, after};
 ghost use Rattle.fdb_core.specs.refinement.Cluster.{machine_of, Refines};
 ghost use Rattle.fdb_core.specs.refinement.Reads.{operation_of};
 
 use crate::cluster::Cluster;
+use crate::roles::client::Placed;
 use crate::roles::client::read::Read;
-use crate::roles::client::{Placed, Submission};
 use crate::roles::shard_reads::ShardReads;
 use crate::step::Answered;
 use fdb_client::{Finished, Transcript};
@@ -104,7 +105,8 @@ impl Cluster {
 
     #[tactic(auto, unfolding(crate::specs::machine::ClientSteps::submits))]
     pub(crate) fn submit(&mut self, session: u32, proxy: u32) -> Result<Answered, Refusal>
-        requires { Refines self.old }
+        requires refines { Refines self.old }
+        requires named { Invariant (machine_of self.old) }
         ensures answer { Unless (ran_out result)
             (result ≡ answer_of (submits (machine_of self.old) session proxy)) }
         ensures after { Unless (ran_out result)
@@ -120,7 +122,7 @@ impl Cluster {
             Finished::ToCommit(sealed, transcript) => {
                 self.sessions.wait(session)?;
                 let commit_proxy = &mut self.commit_proxies[at];
-                commit_proxy.submit(Submission::new(sealed, transcript))?;
+                commit_proxy.submit(sealed, transcript)?;
                 Ok(Answered::Done)
             }
         }

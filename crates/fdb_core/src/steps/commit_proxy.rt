@@ -1,26 +1,21 @@
 // The steps of the commit proxies.
-ghost use Rattle.std.specs.Prelude.{◌≡◌, ◌<◌, ◌^◌, true, length, None};
-ghost use Rattle.fdb_keys.specs.Answers.{Answers};
-ghost use Rattle.fdb_core.specs.refinement.Views.{sender_of};
-ghost use Rattle.fdb_core.specs.refinement.Cluster.{machine_of, IsDecision, Refines};
-ghost use Rattle.fdb_core.specs.refinement.Resolving.{sent_by};
+ghost use Rattle.std.specs.Prelude.{◌≡◌, MatchResult};
 ghost use Rattle.fdb_core.specs.machine.CommitProxySteps.{taken_by_sender, seals, receives, decides, reports, answers};
+ghost use Rattle.fdb_core.specs.machine.Roles.{FromResolver, FromLog};
 ghost use Rattle.fdb_core.specs.machine.Steps.{Unless, ran_out, answer_of, after};
+ghost use Rattle.fdb_core.specs.refinement.Cluster.{machine_of, Refines};
+ghost use Rattle.fdb_core.specs.refinement.Receiving.{IsReceiver, IsUnknown};
+ghost use Rattle.fdb_core.specs.refinement.Views.{sender_of};
 
 use crate::cluster::Cluster;
 use crate::roles::commit_proxy::Sender;
-use crate::roles::commit_proxy::deciding::decide_batch;
-use crate::roles::commit_proxy::flags::{first_unset, is_set};
-use crate::roles::commit_proxy::logging::messages_for;
 use crate::roles::commit_proxy::replying::{place_all, reply_all, tell_all};
-use crate::roles::resolver::{are_any_judged, sent_of};
 use crate::roles::sequencer::{issue, take_report};
 use crate::step::Answered;
-use fdb_keys::{Items, Refusal};
-use fdb_log::LogMsg;
-use fdb_proxy::Outcome;
+use fdb_keys::Refusal;
+use fdb_log::LogAck;
 use fdb_sequencer::Ticket;
-use fdb_txn::{Batch, Entry};
+use fdb_txn::Entry;
 
 impl Cluster {
     #[tactic(auto, unfolding(crate::specs::machine::CommitProxySteps::seals))]
@@ -42,10 +37,9 @@ impl Cluster {
         if self.config.book as usize <= self.book.len() {
             return Err(Refusal::BookFull);
         }
-        let (resolvers, logs) = (self.resolvers.len(), self.logs.len());
         let commit_proxy = &mut self.commit_proxies[at];
-        let batch = commit_proxy.seal(self.alloc, ticket.index, resolvers, logs)?;
-        let places = batch.len() as u32;
+        let (batch, parts) = commit_proxy.seal(self.alloc, &ticket)?;
+        let places = batch.as_slice().len() as u32;
         issue(&mut self.sequencer, &ticket);
         let Ticket {
             index,
@@ -54,7 +48,6 @@ impl Cluster {
             pending: moves,
             ..
         } = ticket;
-        let batch = Batch::new(batch);
         self.book.push(Entry {
             version,
             prev,
@@ -63,6 +56,7 @@ impl Cluster {
         })?;
         self.entry_proxies.push(proxy)?;
         self.decided.push(false)?;
+        self.parts.push(parts)?;
         self.messages.push(None)?;
         Ok(Answered::Issued {
             index,
@@ -88,35 +82,58 @@ impl Cluster {
         }
     }
 
-    #[tactic(auto, unfolding(crate::specs::machine::CommitProxySteps::receives))]
-    pub(crate) fn receive(&mut self, entry: u32, sender: Sender) -> Result<Answered, Refusal>
-        requires { Refines self.old }
-        ensures answer { Unless (ran_out result)
-            (result ≡ answer_of (receives (machine_of self.old) entry (sender_of sender))) }
-        ensures after { Unless (ran_out result)
-            (machine_of self.new ≡ after (machine_of self.old)
-            (receives (machine_of self.old) entry (sender_of sender))) }
-        ensures refines { Unless (ran_out result) (Refines self.new) }
+    // The proxy of the entry, to which goes what the sender, which took the entry, says of it.
+    fn receiver(&self, entry: u32, sender: Sender) -> Result<usize, Refusal>
+        ensures { MatchResult result (IsReceiver (machine_of self.now) entry (sender_of sender))
+            (IsUnknown (machine_of self.now) entry (sender_of sender)) }
     {
         let Some(taken) = self.taken_by(sender) else {
             return Err(Refusal::Unknown);
         };
-        if taken <= entry {
+        if taken <= entry || entry as usize >= self.entry_proxies.len() {
             return Err(Refusal::Unknown);
         }
-        let i = entry as usize;
-        if i >= self.entry_proxies.len() {
-            return Err(Refusal::Unknown);
-        }
-        let at = self.entry_proxies[i] as usize;
+        let at = self.entry_proxies[entry as usize] as usize;
         if at >= self.commit_proxies.len() {
             return Err(Refusal::Unknown);
         }
-        if !self.commit_proxies[at].awaits(entry, sender) {
-            return Err(Refusal::Stale);
-        }
+        Ok(at)
+    }
+
+    pub(crate) fn receive_verdicts(
+        &mut self,
+        entry: u32,
+        resolver: u32,
+    ) -> Result<Answered, Refusal>
+        requires { Refines self.old }
+        ensures answer { Unless (ran_out result)
+            (result ≡ answer_of (receives (machine_of self.old) entry (FromResolver resolver))) }
+        ensures after { Unless (ran_out result) (machine_of self.new
+            ≡ after (machine_of self.old) (receives (machine_of self.old) entry (FromResolver resolver))) }
+        ensures refines { Unless (ran_out result) (Refines self.new) }
+    {
+        let at = self.receiver(entry, Sender::Resolver(resolver))?;
+        let verdicts = self.resolvers[resolver as usize].sent_on(self.alloc, entry as usize)?;
         let commit_proxy = &mut self.commit_proxies[at];
-        commit_proxy.receive(sender);
+        commit_proxy.take_verdicts(verdicts)?;
+        Ok(Answered::Done)
+    }
+
+    pub(crate) fn receive_acknowledgement(
+        &mut self,
+        entry: u32,
+        log: u32,
+    ) -> Result<Answered, Refusal>
+        requires { Refines self.old }
+        ensures answer { Unless (ran_out result)
+            (result ≡ answer_of (receives (machine_of self.old) entry (FromLog log))) }
+        ensures after { Unless (ran_out result) (machine_of self.new
+            ≡ after (machine_of self.old) (receives (machine_of self.old) entry (FromLog log))) }
+        ensures refines { Unless (ran_out result) (Refines self.new) }
+    {
+        let at = self.receiver(entry, Sender::Log(log))?;
+        let commit_proxy = &mut self.commit_proxies[at];
+        commit_proxy.take_acknowledgement(LogAck { log, index: entry })?;
         Ok(Answered::Done)
     }
 
@@ -132,58 +149,12 @@ impl Cluster {
         if at >= self.commit_proxies.len() {
             return Err(Refusal::Unknown);
         }
-        let commit_proxy = &self.commit_proxies[at];
-        if !commit_proxy.is_resolving() {
-            return Err(Refusal::WrongState);
-        }
-        let i = commit_proxy.entry() as usize;
-        if i >= self.book.len() {
-            return Err(Refusal::Unknown);
-        }
-        let is_received = is_set(commit_proxy.verdicts_received(), 0);
-        if !is_received && are_any_judged(self.book[i].batch.as_slice()) {
-            return Err(Refusal::NotYet(0));
-        }
-        let (outcomes, messages) = self.decision(i, is_received)?;
-        let answer = outcomes.clone()?;
+        let i = self.commit_proxies[at].entry as usize;
+        let outcomes = self.commit_proxies[at].decide()?;
+        let messages = self.commit_proxies[at].messages()?;
         self.messages[i] = Some(messages);
         self.decided[i] = true;
-        self.outcomes = outcomes;
-        let commit_proxy = &mut self.commit_proxies[at];
-        commit_proxy.decide();
-        Ok(Answered::Decided(answer))
-    }
-
-    // The outcomes of an entry's places and its messages for the logs, by the verdicts that came.
-    fn decision(
-        &self,
-        i: usize,
-        is_received: bool,
-    ) -> Result<(Items<Outcome>, Items<LogMsg>), Refusal>
-        requires within { i < length self.now.book.items }
-        requires small { i < 2 ^ 32 }
-        requires logs { 0 < self.now.config.logs }
-        requires verdicts_received { is_received ≡ true → i < length (sent_by self.now.resolvers.items) }
-        ensures { Answers result None (IsDecision self.now.shard_map self.now.config.logs self.now.book.items
-            (sent_by self.now.resolvers.items) i is_received) }
-    {
-        let entry = &self.book[i];
-        let batch = entry.batch.as_slice();
-        let said = if is_received {
-            sent_of(&self.resolvers, i)
-        } else {
-            &[]
-        };
-        let outcomes = decide_batch(self.alloc, entry.version, said, batch.len())?;
-        let messages = messages_for(
-            self.alloc,
-            &self.shard_map,
-            self.config.logs,
-            i as u32,
-            entry,
-            outcomes.as_slice(),
-        )?;
-        Ok((outcomes, messages))
+        Ok(Answered::Decided(outcomes))
     }
 
     #[tactic(auto, unfolding(crate::specs::machine::CommitProxySteps::reports))]
@@ -198,17 +169,8 @@ impl Cluster {
         if at >= self.commit_proxies.len() {
             return Err(Refusal::Unknown);
         }
-        let commit_proxy = &self.commit_proxies[at];
-        if !commit_proxy.is_logging() {
-            return Err(Refusal::WrongState);
-        }
-        let i = commit_proxy.entry() as usize;
-        if i >= self.book.len() {
-            return Err(Refusal::Unknown);
-        }
-        if let Some(missing) = first_unset(commit_proxy.acknowledgements_received()) {
-            return Err(Refusal::NotYet(missing as u64));
-        }
+        self.commit_proxies[at].check_logged()?;
+        let i = self.commit_proxies[at].entry as usize;
         take_report(&mut self.sequencer, self.book[i].version);
         let commit_proxy = &mut self.commit_proxies[at];
         commit_proxy.report();
@@ -231,25 +193,16 @@ impl Cluster {
         if commit_proxy.is_idle() {
             return Err(Refusal::WrongState);
         }
-        let i = commit_proxy.entry() as usize;
-        if i >= self.book.len() {
-            return Err(Refusal::Unknown);
+        let (entry, is_reported) = (commit_proxy.entry, commit_proxy.is_reported);
+        if !is_reported {
+            return Err(Refusal::NotYet(self.book[entry as usize].version));
         }
-        if !commit_proxy.is_reported() {
-            return Err(Refusal::NotYet(self.book[i].version));
-        }
-        let transcripts = commit_proxy.in_flight();
-        let outcomes = self.outcomes.as_slice();
-        let told = reply_all(self.alloc, transcripts, outcomes)?;
-        place_all(
-            &mut self.acknowledged,
-            commit_proxy.entry(),
-            transcripts,
-            outcomes,
-        )?;
-        tell_all(&mut self.sessions, transcripts)?;
         let commit_proxy = &mut self.commit_proxies[at];
-        commit_proxy.finish(self.alloc);
+        let (transcripts, answers) = commit_proxy.finish(self.alloc)?;
+        let (transcripts, answers) = (transcripts.as_slice(), answers.as_slice());
+        let told = reply_all(self.alloc, answers)?;
+        place_all(&mut self.acknowledged, entry, transcripts, answers)?;
+        tell_all(&mut self.sessions, transcripts)?;
         Ok(Answered::Answers(told))
     }
 }

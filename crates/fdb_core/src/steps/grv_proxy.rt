@@ -7,8 +7,7 @@ ghost use Rattle.fdb_core.specs.refinement.Cluster.{machine_of, Refines};
 use crate::cluster::Cluster;
 use crate::roles::grv_proxy::{are_used_up, serve_all};
 use crate::step::Answered;
-use fdb_keys::{Items, Refusal};
-use std::mem;
+use fdb_keys::Refusal;
 
 impl Cluster {
     #[tactic(auto, unfolding(crate::specs::machine::GrvProxySteps::asks))]
@@ -28,7 +27,8 @@ impl Cluster {
         }
         self.sessions.ask(session)?;
         let there = &mut self.grv_proxies[at];
-        there.push(session)?;
+        // Sessions of a world begin at the committed version, whatever they have seen.
+        there.ask(session, 0)?;
         Ok(Answered::Done)
     }
 
@@ -44,16 +44,11 @@ impl Cluster {
         if at >= self.grv_proxies.len() {
             return Err(Refusal::Unknown);
         }
-        if are_used_up(&self.sessions, self.grv_proxies[at].as_slice()) {
+        if are_used_up(&self.sessions, self.grv_proxies[at].askers()) {
             return Err(Refusal::Exhausted);
         }
-        let there = mem::replace(&mut self.grv_proxies[at], Items::new(self.alloc));
-        let granted = serve_all(
-            self.alloc,
-            &mut self.sessions,
-            self.sequencer.committed(),
-            there.as_slice(),
-        )?;
+        let granted = self.grv_proxies[at].grant(self.sequencer.committed());
+        serve_all(self.alloc, &mut self.sessions, granted.as_slice())?;
         Ok(Answered::Granted(granted))
     }
 }

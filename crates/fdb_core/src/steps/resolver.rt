@@ -17,8 +17,7 @@ impl Cluster {
             (machine_of self.new ≡ after (machine_of self.old) (resolves (machine_of self.old) entry resolver)) }
         ensures refines { Unless (ran_out result) (Refines self.new) }
     {
-        let i = entry as usize;
-        let of = resolver as usize;
+        let (i, of) = (entry as usize, resolver as usize);
         if i >= self.book.len() || of >= self.resolvers.len() {
             return Err(Refusal::Unknown);
         }
@@ -29,9 +28,8 @@ impl Cluster {
         if taken < entry {
             return Err(Refusal::NotYet(self.book[i].prev));
         }
-        let part = &self.book[i];
         let role = &mut self.resolvers[of];
-        let answer = role.take(self.alloc, part)?;
+        let answer = role.take(self.alloc, &self.parts[i].as_slice()[of])?;
         Ok(Answered::Verdicts(answer))
     }
 }

@@ -1,5 +1,6 @@
 ghost use Rattle.std.specs.Prelude.{◌≡◌, ◌<◌, ◌≤◌, ◌++◌, ℕ, List, [], Some, None, true, false, IfOk, IfErr, OnOk, string_bytes};
-ghost use Rattle.fdb_core.specs.machine.Worlds.{config_fault, start};
+ghost use Rattle.fdb_proxy.specs.Configs.{config_fault};
+ghost use Rattle.fdb_core.specs.machine.Worlds.{start};
 ghost use Rattle.fdb_sim.specs.Streams.{FailsWith, IsLimitedError, IsStreamError};
 ghost use Rattle.fdb_sim.specs.script.Configs.{WritesConfig, line_fault};
 ghost use Rattle.fdb_sim.specs.script.Lines.{left, line_text, line_number};

@@ -1,7 +1,7 @@
 use crate::tests::playing::check_script;
 use std::test::Fail;
 
-const GAP_FILLED: &[u8] = b"config proxies 1 logs 1 resolvers - shards - book 100\n\
+const GAP_FILLED: &[u8] = b"config proxies 1 logs 1 resolvers m shards - book 100\n\
     ask 0 0\n\
     grant 0\n\
     write 0 set a 1\n\
@@ -57,7 +57,7 @@ fn a_gap_that_was_read_is_filled(rt: HostRuntime) -> Result<(), Fail> {
     check_script(&rt, rt.alloc(), GAP_FILLED, 0, GAP_FILLED_OUTPUT)
 }
 
-const GAP_UNTOUCHED: &[u8] = b"config proxies 1 logs 1 resolvers - shards - book 100\n\
+const GAP_UNTOUCHED: &[u8] = b"config proxies 1 logs 1 resolvers m shards - book 100\n\
     ask 0 0\n\
     grant 0\n\
     write 0 set a 1\n\
@@ -113,7 +113,7 @@ fn a_gap_that_was_not_scanned(rt: HostRuntime) -> Result<(), Fail> {
     check_script(&rt, rt.alloc(), GAP_UNTOUCHED, 0, GAP_UNTOUCHED_OUTPUT)
 }
 
-const GAP_SNAPSHOT_READ: &[u8] = b"config proxies 1 logs 1 resolvers - shards - book 100\n\
+const GAP_SNAPSHOT_READ: &[u8] = b"config proxies 1 logs 1 resolvers m shards - book 100\n\
     ask 0 0\n\
     grant 0\n\
     write 0 set a 1\n\
@@ -175,7 +175,7 @@ fn a_gap_that_a_snapshot_read_saw(rt: HostRuntime) -> Result<(), Fail> {
     )
 }
 
-const COMPARE_AND_CLEAR: &[u8] = b"config proxies 1 logs 1 resolvers - shards - book 100\n\
+const COMPARE_AND_CLEAR: &[u8] = b"config proxies 1 logs 1 resolvers m shards - book 100\n\
     ask 0 0\n\
     grant 0\n\
     write 0 set a 1\n\

@@ -3,7 +3,7 @@ use crate::tests::playing::check_script;
 use std::test::Fail;
 
 // An inverted range is refused, and an empty one adds nothing.
-const INVERTED_AND_EMPTY: &[u8] = b"config proxies 1 logs 1 resolvers - shards - book 100\n\
+const INVERTED_AND_EMPTY: &[u8] = b"config proxies 1 logs 1 resolvers m shards - book 100\n\
     ask 0 0\n\
     ask 1 0\n\
     grant 0\n\
@@ -37,7 +37,7 @@ const INVERTED_AND_EMPTY_OUTPUT: &[u8] = b"ok\n\
     checked 2\n";
 
 // A range that was added to the write set, with no mutation, conflicts with who read in it.
-const WRITE_RANGE_ALONE: &[u8] = b"config proxies 1 logs 1 resolvers - shards - book 100\n\
+const WRITE_RANGE_ALONE: &[u8] = b"config proxies 1 logs 1 resolvers m shards - book 100\n\
     ask 0 0\n\
     ask 1 0\n\
     grant 0\n\

@@ -1,9 +1,8 @@
 // Scripts with several logs and shards, and what a shard forgets and drops.
 use crate::tests::playing::check_script;
-use std::alloc::{AllocError, Global};
 use std::test::Fail;
 
-const FORGETTING: &[u8] = b"config proxies 1 logs 1 resolvers - shards - book 100\n\
+const FORGETTING: &[u8] = b"config proxies 1 logs 1 resolvers m shards - book 100\n\
     ask 0 0\n\
     grant 0\n\
     write 0 set a 1\n\
@@ -59,7 +58,7 @@ fn forgetting(rt: HostRuntime) -> Result<(), Fail> {
     check_script(&rt, rt.alloc(), FORGETTING, 0, FORGETTING_OUTPUT)
 }
 
-const TWO_LOGS_AND_SHARDS: &[u8] = b"config proxies 1 logs 2 resolvers - shards m book 100\n\
+const TWO_LOGS_AND_SHARDS: &[u8] = b"config proxies 1 logs 2 resolvers m shards m book 100\n\
     ask 0 0\n\
     grant 0\n\
     write 0 set a 1\n\
@@ -177,42 +176,4 @@ fn two_logs_by_steps(rt: HostRuntime) -> Result<(), Fail> {
         0,
         TWO_LOGS_BY_STEPS_OUTPUT,
     )
-}
-
-// A configuration with so many logs, and with shard splits of three digits that rise.
-fn config_with(alloc: Global, logs: u32, splits: u32) -> Result<String, AllocError> {
-    let mut line = format!(in alloc; "config proxies 1 logs {logs} resolvers - shards 100")?;
-    for split in 1..splits {
-        let key = split.saturating_add(100);
-        write!(line, ",{key}")?;
-    }
-    line.push_str(" book 100")?;
-    Ok(line)
-}
-
-const REFUSED: &[u8] = b"refused 9009 BadConfig\n";
-
-#[test]
-fn most_logs_and_shards(rt: HostRuntime) -> Result<(), Fail> {
-    let most = config_with(rt.alloc(), 16, 63)?;
-    check_script(&rt, rt.alloc(), most.as_bytes(), 0, b"ok\nchecked 0\n")?;
-    let logs = config_with(rt.alloc(), 17, 1)?;
-    check_script(&rt, rt.alloc(), logs.as_bytes(), 2, REFUSED)?;
-    let splits = config_with(rt.alloc(), 1, 64)?;
-    check_script(&rt, rt.alloc(), splits.as_bytes(), 2, REFUSED)
-}
-
-#[test]
-fn shard_splits_that_are_refused(rt: HostRuntime) -> Result<(), Fail> {
-    let lines = [
-        "config proxies 1 logs 0 resolvers - shards - book 100",
-        "config proxies 1 logs 1 resolvers - shards b,a book 100",
-        "config proxies 1 logs 1 resolvers - shards a,a book 100",
-        "config proxies 1 logs 1 resolvers - shards % book 100",
-        "config proxies 1 logs 1 resolvers - shards a,% book 100",
-    ];
-    for line in lines {
-        check_script(&rt, rt.alloc(), line.as_bytes(), 2, REFUSED)?;
-    }
-    Ok(())
 }

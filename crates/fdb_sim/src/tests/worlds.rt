@@ -19,38 +19,6 @@ fn one_of_each(alloc: Global) -> Config {
     }
 }
 
-fn is_bad(alloc: Global, config: Config) -> bool {
-    match World::new(alloc, config) {
-        Ok(_) => false,
-        Err(why) => why == Refusal::BadConfig,
-    }
-}
-
-fn is_bad_with(alloc: Global, proxies: u32, logs: u32, book: u32) -> bool {
-    let mut config = one_of_each(alloc);
-    config.proxies = proxies;
-    config.logs = logs;
-    config.book = book;
-    is_bad(alloc, config)
-}
-
-fn is_bad_split(alloc: Global, split: Key) -> Result<bool, Fail> {
-    let mut config = one_of_each(alloc);
-    config.resolver_splits.push(split)?;
-    Ok(is_bad(alloc, config))
-}
-
-#[test]
-fn world_has_one_proxy_of_each_kind_and_one_resolver(rt: HostRuntime) -> Result<(), Fail> {
-    assert!(rt; is_bad_with(rt.alloc(), 2, 1, 8));
-    assert!(rt; is_bad_with(rt.alloc(), 1, 17, 8));
-    assert!(rt; is_bad_with(rt.alloc(), 1, 1, 0));
-    assert!(rt; !is_bad_with(rt.alloc(), 1, 16, 8));
-    let split = Key::new(rt.alloc(), b"m")?;
-    assert!(rt; is_bad_split(rt.alloc(), split)?);
-    Ok(())
-}
-
 // Whether session 0 alone was served, with read version 0.
 fn is_first_grant(answer: &Result<Answered, Refusal>) -> bool {
     match answer {
@@ -95,8 +63,9 @@ fn first_grant_is_of_version_zero(rt: HostRuntime) {
 }
 
 #[test]
-fn new_world_has_one_proxy_and_no_transaction(rt: HostRuntime) -> Result<(), Fail> {
+fn new_world_has_no_batch_and_no_transaction(rt: HostRuntime) -> Result<(), Fail> {
     let world = World::new(rt.alloc(), one_of_each(rt.alloc()))?;
+    assert!(rt; world.in_flight(0) == Err(Refusal::WrongState));
     assert!(rt; world.in_flight(7) == Err(Refusal::Unknown));
     assert!(rt; world.check() == Ok(0));
     Ok(())

@@ -2,7 +2,7 @@ use crate::tests::playing::{check_script, push_long_line};
 use std::test::Fail;
 
 // Two sessions add to one key and flip bits of it, and read nothing.
-const IN_ORDER: &[u8] = b"config proxies 1 logs 1 resolvers - shards - book 100\n\
+const IN_ORDER: &[u8] = b"config proxies 1 logs 1 resolvers m shards - book 100\n\
     ask 0 0\n\
     grant 0\n\
     write 0 set a %01\n\

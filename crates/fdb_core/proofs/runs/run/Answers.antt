@@ -2,7 +2,8 @@ use Rattle.std.proofs.Common.{◌≡◌, ◌∙◌, sym, ap, ◌+◌, ◌<◌, �
 use Rattle.std.proofs.lemmas.List.{take_all, take_more}
 use Rattle.fdb_core.specs.declared.step.Step.{Step}
 use Rattle.fdb_core.specs.headline.Traces.{IsTraceOf}
-use Rattle.fdb_core.specs.machine.Worlds.{config_fault, start}
+use Rattle.fdb_proxy.specs.Configs.{config_fault}
+use Rattle.fdb_core.specs.machine.Worlds.{start}
 use Rattle.fdb_core.proofs.common.FaultLemmas.{answers-fault}
 use Rattle.fdb_core.proofs.headline.HeadlineLaws.{strictly_serializable}
 use Rattle.fdb_core.proofs.headline.RunsLemmas.{run-push}

@@ -1,6 +1,8 @@
 // What the clients of a batch are told.
-ghost use Rattle.std.specs.Prelude.{◌≡◌, [], ◌∷◌, ◌++◌, length, IfOk, OnOk};
-ghost use Rattle.fdb_core.specs.machine.CommitProxySteps.{placed_from, replies_from};
+ghost use Rattle.std.specs.Prelude.{◌≡◌, [], ◌∷◌, ◌++◌, length, map, IfOk, OnOk};
+ghost use Rattle.fdb_txn.specs.declared.txn_id.TxnId.{TxnId};
+ghost use Rattle.fdb_proxy.specs.declared.outcome.Outcome.{Outcome};
+ghost use Rattle.fdb_core.specs.machine.CommitProxySteps.{placed_from};
 ghost use Rattle.fdb_core.specs.machine.Sessions.{tell_all};
 
 use crate::roles::client::Placed;
@@ -8,21 +10,19 @@ use crate::roles::client::sessions::Sessions;
 use fdb_client::Transcript;
 use fdb_keys::Items;
 use fdb_proxy::Outcome;
-use fdb_txn::Spot;
+use fdb_txn::{Spot, TxnId};
 use std::alloc::{AllocError, Global};
 
 /// What each client is told, with its session.
 pub(crate) fn reply_all(
     alloc: Global,
-    transcripts: &[Transcript],
-    outcomes: &[Outcome],
+    answers: &[(TxnId, Outcome)],
 ) -> Result<Items<(u32, Outcome)>, AllocError>
-    requires { length transcripts.now ≡ length outcomes.now }
-    ensures { IfOk result (λ told. told ≡ replies_from transcripts.now outcomes.now) }
+    ensures { IfOk result (λ told. told ≡ map (λ (of : TxnId × Outcome). (of.0.session, of.1)) answers.now) }
 {
     let mut told = Items::new(alloc);
-    for (transcript, outcome) in transcripts.iter().zip(outcomes) {
-        told.push((transcript.id.session, *outcome))?;
+    for (id, outcome) in answers {
+        told.push((id.session, *outcome))?;
     }
     Ok(told)
 }
@@ -53,12 +53,13 @@ pub(crate) fn place_all(
     placed: &mut Vec<Placed>,
     index: u32,
     transcripts: &[Transcript],
-    outcomes: &[Outcome],
+    answers: &[(TxnId, Outcome)],
 ) -> Result<(), AllocError>
-    requires { length transcripts.now ≡ length outcomes.now }
-    ensures { OnOk result (placed.new.items ≡ placed.old.items ++ placed_from index transcripts.now outcomes.now) }
+    requires { length transcripts.now ≡ length answers.now }
+    ensures { OnOk result (placed.new.items
+        ≡ placed.old.items ++ placed_from index transcripts.now (map (λ (of : TxnId × Outcome). of.1) answers.now)) }
 {
-    for (transcript, outcome) in transcripts.iter().zip(outcomes) {
+    for (transcript, (_, outcome)) in transcripts.iter().zip(answers) {
         place(placed, index, transcript, outcome)?;
     }
     Ok(())

@@ -2,11 +2,12 @@
 // applied, and marks at the keys.
 use super::cut_snapshot::CutSnapshot;
 use super::marks::{Marks, only};
-use super::steps::{Ask, Change, Random, Span, Step};
+use super::steps::{Ask, Change, Span, Step};
 use super::{
     add, add_read, add_write, applies, begin, clear, clear_range, compare_and_clear, set, set_to,
     write,
 };
+use crate::tests::random::Random;
 use bytes::Bytes;
 use fdb_client::Txn;
 use fdb_keys::{Items, Key, KeyRange, Refusal};

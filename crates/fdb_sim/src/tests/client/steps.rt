@@ -1,5 +1,5 @@
 // Programs that are made from a seed. A key is one byte, from a to j.
-ghost use Rattle.std.specs.Prelude.{◌<◌};
+use crate::tests::random::Random;
 
 // The keys from the begin up to but not including the end.
 #[derive(Clone, Copy)]
@@ -37,32 +37,7 @@ pub(super) enum Step {
     AddWrite(Span),
 }
 
-// Numbers that look random and are the same at each run.
-#[derive(Drop)]
-pub(super) struct Random {
-    state: u64,
-}
-
 impl Random {
-    pub(super) fn new(seed: u64) -> Self {
-        Random { state: seed }
-    }
-
-    pub(super) fn below(&mut self, count: u8) -> u8
-        requires { 0 < count }
-        ensures { result < count }
-    {
-        self.state = self
-            .state
-            .wrapping_mul(6_364_136_223_846_793_005)
-            .wrapping_add(1_442_695_040_888_963_407);
-        ((self.state >> 33) % count as u64) as u8
-    }
-
-    pub(super) fn coin(&mut self) -> bool {
-        self.below(2) == 0
-    }
-
     fn key(&mut self) -> u8 {
         b'a' + self.below(10)
     }

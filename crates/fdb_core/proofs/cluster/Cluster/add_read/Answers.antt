@@ -8,6 +8,6 @@ returns-clause-refines c =
     let k = c.args.self.now in
     let there = open-given (open_at k.sessions c.args.session) c.in_ok-add_read.field-0 _
     c.in_ok-add_read.ensures.answers in
-    refines-sessions k _ _ _ c.requires
+    refines-sessions k _ _ _ c.requires c.requires.grv_proxies
     (rw there.2
     (opened-with_op k.sequencer.committed k.sessions c.args.session there.0 _ _ c.requires.opened there.1))

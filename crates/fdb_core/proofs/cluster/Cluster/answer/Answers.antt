@@ -1,104 +1,151 @@
-use Rattle.std.proofs.Common.{◌≡◌, ◌∙◌, sym, ap, ap₂, ◌<◌, length, get_or, ℕ, [], true, List, ◌++◌, Some, slice_get, slice_set, Ok, rules}
-use Rattle.std.proofs.lemmas.Option.{slice_get_within}
-use Rattle.fdb_txn.specs.declared.entry.Entry.{Entry}
-use Rattle.fdb_core.specs.declared.cluster.Cluster.{Cluster}
-use Rattle.fdb_core.specs.machine.Roles.{CommitProxy, Idle}
+use Rattle.std.proofs.Common.{◌≡◌, ◌∙◌, refl, sym, ap, ap₂, subst, ◌<◌, length, ℕ, ◌++◌, false, List, map, Some, None, Result, Ok, Err, slice_get, slice_set, rules}
+use Rattle.std.proofs.lemmas.Option.{slice_get_read}
+use Rattle.fdb_keys.specs.Answers.{AnswersExactly}
+use Rattle.fdb_keys.specs.declared.refusal.Refusal.{Refusal}
+use Rattle.fdb_txn.specs.declared.txn_id.TxnId.{TxnId}
 use Rattle.fdb_client.specs.declared.program.Transcript.{Transcript}
-use Rattle.fdb_core.specs.declared.step.Answered.TheVariants as answered
 use Rattle.fdb_proxy.specs.declared.outcome.Outcome.{Outcome}
-use Rattle.fdb_core.specs.refinement.Cluster.{machine_of, ReadsWithin}
-use Rattle.fdb_core.specs.machine.CommitProxySteps.{is_reported, placed_from, replies_from}
-use Rattle.fdb_core.specs.machine.Sessions.{tell_all}
-use Rattle.fdb_core.specs.machine.Steps.{answer_of, after}
+use Rattle.fdb_core.specs.declared.roles.client.Placed.{Placed}
+use Rattle.fdb_core.specs.declared.step.Answered.TheVariants as answered
+use Rattle.fdb_core.specs.machine.CommitProxySteps.{is_idle, placed_from}
+use Rattle.fdb_core.specs.machine.Sessions.{Sessions, tell_all}
+use Rattle.fdb_core.specs.refinement.Cluster.{machine_of}
+use Rattle.fdb_core.specs.refinement.CommitProxies.{ReadsWithin, seen_as}
+use Rattle.fdb_core.proofs.common.ListLemmas.{one-item}
 use Rattle.fdb_core.proofs.machine.SessionLemmas.{open-told}
-use Rattle.fdb_core.proofs.refinement.DecideLemmas.{one-item, proxy-and-entry}
-use Rattle.fdb_core.proofs.refinement.AnswerLemmas.{Answering, outcome-each, answers-transition}
+use Rattle.fdb_core.proofs.refinement.AnsweringTies.{told_of, outcome_of, in-book, early, IsAnswered}
+use Rattle.fdb_core.proofs.refinement.AnsweringTies.{finished as done-as}
 use Rattle.fdb_core.proofs.cluster.Cluster.answer.Goals as goal
-use Rattle.fdb_core.proofs.cluster.Cluster.answer.Goals.{After-reply_all-arg-1}
+use Rattle.fdb_core.proofs.cluster.Cluster.answer.Goals.{Else-is_idle, After-finish}
 
--- what was found where the clients are answered
-answering : (c : After-reply_all-arg-1) → (entry : Entry)
-    × Answering c.args.self.now c.args.proxy c.index-commit_proxy.result.now entry
-answering c =
+-- the proxy, which is busy
+there : (c : Else-is_idle)
+    → slice_get c.args.self.now.commit_proxies.items c.args.proxy ≡ Some c.index-commit_proxy.result.now
+there c =
     let k = c.args.self.now in
-    let commit_proxy = c.index-commit_proxy.result.now in
-    let within : c.args.proxy < length k.commit_proxies.items = search rules in
-    let in_book : c.entry-i.result < length k.book.items = search rules in
-    let read = proxy-and-entry k c.args.proxy c.entry-i.result commit_proxy within c.index-commit_proxy.ensures
-    c.entry-i.ensures in_book in
-    let reported : is_reported commit_proxy.stage ≡ true = search rules in
-    (read.1.0, record { proxy_there = read.0; reported = reported; entry_there = read.1.1 })
+    let inside : c.args.proxy < length k.commit_proxies.items = search rules in
+    slice_get_read k.commit_proxies.items (length k.commit_proxies.items) c.args.proxy
+    c.index-commit_proxy.result.now refl inside c.index-commit_proxy.ensures
 
--- one outcome for each transcript
-each : (c : After-reply_all-arg-1) → length c.in_flight-transcripts.result.now ≡ length c.as_slice-outcomes.result.now
-each c =
-    let found = answering c in
-    ap (λ (transcripts : List Transcript). length transcripts) c.in_flight-transcripts.ensures
-    ∙ outcome-each c.args.self.now c.args.proxy c.index-commit_proxy.result.now found.0 c.requires found.1
-    ∙ sym (ap (λ (outcomes : List Outcome). length outcomes) c.as_slice-outcomes.ensures)
+busy : (c : Else-is_idle) → is_idle (seen_as c.index-commit_proxy.result.now).stage ≡ false
+busy c = sym c.if-is_idle.ensures
 
-pub reply_all-requires : goal.reply_all-requires
-reply_all-requires c = each (goal.at.reply_all-requires c).After-reply_all-arg-1
+pub index-requires : goal.index-requires
+index-requires c =
+    let k = c.args.self.now in
+    let found = (goal.at.index-requires c).Else-is_idle in
+    let inside = in-book k c.requires c.args.proxy c.index-commit_proxy.result.now (there found) (busy found) in
+    search rules
+
+-- where the batch isn't reported, the machine says so
+pub returns-then-not-is_reported-clause-answer : goal.returns-then-not-is_reported-clause-answer
+returns-then-not-is_reported-clause-answer c =
+    let found = (goal.at.returns-then-not-is_reported-clause-answer c).Else-is_idle in
+    rw (early c.args.self.now c.requires c.args.proxy c.index-commit_proxy.result.now (there found) (busy found)
+    c.index.result.now c.index.ensures c.if-not-is_reported.true) refl
+
+pub returns-then-not-is_reported-clause-after : goal.returns-then-not-is_reported-clause-after
+returns-then-not-is_reported-clause-after c =
+    let found = (goal.at.returns-then-not-is_reported-clause-after c).Else-is_idle in
+    rw (early c.args.self.now c.requires c.args.proxy c.index-commit_proxy.result.now (there found) (busy found)
+    c.index.result.now c.index.ensures c.if-not-is_reported.true) refl
+
+-- what the call gives is the machine's answer
+finished : (c : After-finish)
+    → AnswersExactly c.finish.result None (λ (given : List Transcript × List (TxnId × Outcome)).
+    IsAnswered c.args.self.now c.args.proxy c.index-commit_proxy.result.now given.0 given.1 c.finish.new.self)
+finished c =
+    let k = c.args.self.now in
+    let role = c.index-commit_proxy.result.now in
+    let inside : c.args.proxy < length k.commit_proxies.items = search rules in
+    let at : slice_get k.commit_proxies.items c.args.proxy ≡ Some role =
+    slice_get_read k.commit_proxies.items (length k.commit_proxies.items) c.args.proxy role refl inside
+    c.index-commit_proxy.ensures in
+    done-as k c.requires c.args.proxy role at (sym c.if-is_idle.ensures) c.if-not-is_reported.false
+    c.finish.new.self c.finish.result c.index_mut-commit_proxy.result.now
+    (one-item k.commit_proxies.items c.args.proxy c.index_mut-commit_proxy.result.now role inside
+    c.index_mut-commit_proxy.ensures.value at)
+    c.finish.ensures
+
+-- so it never refuses
+never-refused : (c : After-finish) (why : Refusal) → c.finish.result ≡ Err why → ⊥
+never-refused c why is = subst (λ (result : Result (List Transcript × List (TxnId × Outcome)) Refusal).
+    AnswersExactly result None (λ given. IsAnswered c.args.self.now c.args.proxy c.index-commit_proxy.result.now
+    given.0 given.1 c.finish.new.self)) is (finished c)
+
+pub returns-in_err-transcripts-clause-answer : goal.returns-in_err-transcripts-clause-answer
+returns-in_err-transcripts-clause-answer c =
+    absurd (never-refused (goal.at.returns-in_err-transcripts-clause-answer c).After-finish _ c.in_err-transcripts.was)
+
+pub returns-in_err-transcripts-clause-after : goal.returns-in_err-transcripts-clause-after
+returns-in_err-transcripts-clause-after c =
+    absurd (never-refused (goal.at.returns-in_err-transcripts-clause-after c).After-finish _ c.in_err-transcripts.was)
+
+pub returns-in_err-transcripts-clause-refines : goal.returns-in_err-transcripts-clause-refines
+returns-in_err-transcripts-clause-refines c =
+    absurd (never-refused (goal.at.returns-in_err-transcripts-clause-refines c).After-finish _
+    c.in_err-transcripts.was)
+
+-- and what it gave is that
+done : (c : After-finish) (transcripts : List Transcript) (given : List (TxnId × Outcome))
+    → c.finish.result ≡ Ok (transcripts, given)
+    → IsAnswered c.args.self.now c.args.proxy c.index-commit_proxy.result.now transcripts given c.finish.new.self
+done c transcripts given is = subst (λ (result : Result (List Transcript × List (TxnId × Outcome)) Refusal).
+    AnswersExactly result None (λ it. IsAnswered c.args.self.now c.args.proxy c.index-commit_proxy.result.now
+    it.0 it.1 c.finish.new.self)) is (finished c)
 
 pub place_all-requires : goal.place_all-requires
-place_all-requires c = each (goal.at.place_all-requires c).After-reply_all-arg-1
+place_all-requires c =
+    let it = done (goal.at.place_all-requires c).After-finish c.in_ok-transcripts.transcripts
+    c.in_ok-transcripts.answers c.in_ok-transcripts.was in
+    ap length c.as_slice-transcripts.ensures ∙ it.each ∙ sym (ap length c.as_slice-answers.ensures)
 
 pub returns-clause-answer : goal.returns-clause-answer
 returns-clause-answer c =
-    let found = answering (goal.at.returns-clause-answer c).After-reply_all-arg-1 in
-    let told : c.in_ok-told.told ≡ replies_from c.index-commit_proxy.result.now.in_flight c.args.self.now.outcomes =
-    c.in_ok-told.ensures
-    ∙ ap₂ (λ (transcripts : List Transcript) (outcomes : List Outcome). replies_from transcripts outcomes)
-    c.in_flight-transcripts.ensures c.as_slice-outcomes.ensures in
-    sym (ap answer_of
-    (answers-transition c.args.self.now c.args.proxy c.index-commit_proxy.result.now found.0 c.requires found.1)
-    ∙ ap (λ (replies : List (ℕ × Outcome)). Ok (answered.Answers replies)) (sym told))
-
--- the proxy whose batch is answered is the one that was read
-finished : (k : Cluster) (proxy : ℕ) (read changed new : CommitProxy)
-    → slice_get k.commit_proxies.items proxy ≡ Some read
-    → changed ≡ get_or k.commit_proxies.items proxy changed → new ≡ record changed { in_flight = []; stage = Idle }
-    → new ≡ record read { in_flight = []; stage = Idle }
-finished k proxy read changed new there is after =
-    after ∙ ap (λ (p : CommitProxy). record p { in_flight = []; stage = Idle })
-    (one-item k.commit_proxies.items proxy changed read (slice_get_within k.commit_proxies.items proxy read there) is
-    there)
+    let it = done (goal.at.returns-clause-answer c).After-finish c.in_ok-transcripts.transcripts
+    c.in_ok-transcripts.answers c.in_ok-transcripts.was in
+    rw it.goes_on
+    (ap (λ (told : List (ℕ × Outcome)). Ok (answered.Answers told))
+    (c.in_ok-told.ensures ∙ ap (map told_of) c.as_slice-answers.ensures))
 
 pub returns-clause-after : goal.returns-clause-after
 returns-clause-after c =
     let k = c.args.self.now in
-    let commit_proxy = c.index-commit_proxy.result.now in
-    let found = answering (goal.at.returns-clause-after c).After-reply_all-arg-1 in
-    let new = finished k c.args.proxy commit_proxy c.index_mut-commit_proxy.result.now c.finish.new.self
-    found.1.proxy_there c.index_mut-commit_proxy.ensures.value c.finish.ensures in
-    let placed : c.place_all.new.placed.items ≡ k.acknowledged.items ++ placed_from commit_proxy.entry
-    commit_proxy.in_flight k.outcomes =
+    let it = done (goal.at.returns-clause-after c).After-finish c.in_ok-transcripts.transcripts
+    c.in_ok-transcripts.answers c.in_ok-transcripts.was in
+    let placed : c.place_all.new.placed.items ≡ k.acknowledged.items
+    ++ placed_from c.index-commit_proxy.result.now.entry c.in_ok-transcripts.transcripts
+    (map outcome_of c.in_ok-transcripts.answers) =
     c.in_ok-place_all.ensures
-    ∙ (λ i. k.acknowledged.items ++ placed_from (c.entry.ensures i) (c.in_flight-transcripts.ensures i)
-    (c.as_slice-outcomes.ensures i)) in
-    let told : c.tell_all.new.sessions ≡ tell_all commit_proxy.in_flight k.sessions =
+    ∙ ap₂ (λ (transcripts : List Transcript) (given : List (TxnId × Outcome)).
+    k.acknowledged.items ++ placed_from c.index-commit_proxy.result.now.entry transcripts (map outcome_of given))
+    c.as_slice-transcripts.ensures c.as_slice-answers.ensures in
+    let told : c.tell_all.new.sessions ≡ tell_all c.in_ok-transcripts.transcripts k.sessions =
     c.in_ok-tell_all.ensures
-    ∙ ap (λ (transcripts : List Transcript). tell_all transcripts k.sessions) c.in_flight-transcripts.ensures in
-    sym (ap (after (machine_of k)) (answers-transition k c.args.proxy commit_proxy found.0 c.requires found.1)
-    ∙ (λ i. record (machine_of k) {
-      acknowledged = sym placed i;
-      sessions = sym told i;
-      commit_proxies = slice_set k.commit_proxies.items c.args.proxy (sym new i);
-    }))
+    ∙ ap (λ (transcripts : List Transcript). tell_all transcripts k.sessions) c.as_slice-transcripts.ensures in
+    rw it.goes_on
+    (ap₂ (λ (acknowledged : List Placed) (sessions : Sessions). record (machine_of k) {
+      acknowledged = acknowledged;
+      sessions = sessions;
+      commit_proxies = map seen_as (slice_set k.commit_proxies.items c.args.proxy c.finish.new.self);
+    }) placed told)
 
 pub returns-clause-refines : goal.returns-clause-refines
 returns-clause-refines c =
     let k = c.args.self.now in
     let before = c.requires in
     record {
-      plain = before.plain;
+      legal = before.legal;
       room = before.room;
       sequencer = before.sequencer;
       book = before.book;
+      parts = before.parts;
       resolvers = before.resolvers;
       logs = before.logs;
       shard_map = before.shard_map;
-      commit_proxies = search rules;
+      commit_proxies = (done (goal.at.returns-clause-refines c).After-finish c.in_ok-transcripts.transcripts
+          c.in_ok-transcripts.answers c.in_ok-transcripts.was).tied;
+      grv_proxies = before.grv_proxies;
       opened = rw c.in_ok-tell_all.ensures
-          (open-told (ReadsWithin k.sequencer.committed) c.in_flight-transcripts.result.now k.sessions before.opened);
+          (open-told (ReadsWithin k.sequencer.committed) c.as_slice-transcripts.result.now k.sessions before.opened);
     }

@@ -47,4 +47,5 @@ returns-clause-after c = unless-map (ran_out c.read.result) _ _ (λ is. is.goes_
 
 pub returns-clause-refines : goal.returns-clause-refines
 returns-clause-refines c = unless-map (ran_out c.read.result) _ _
-    (λ is. refines-sessions c.args.self.now _ _ _ c.requires is.opened) (follows c)
+    (λ is. refines-sessions c.args.self.now _ _ _ c.requires c.requires.grv_proxies
+    is.opened) (follows c)

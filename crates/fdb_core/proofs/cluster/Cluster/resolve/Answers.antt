@@ -1,133 +1,80 @@
-use Rattle.std.proofs.Common.{◌≡◌, ◌∙◌, refl, sym, ap, ap₂, subst, take, ◌+◌, ◌<◌, length, get_or, ℕ, List, Some, Ok, slice_get, slice_set, arith, rules}
-use Rattle.std.proofs.lemmas.Option.{slice_get_read, slice_get_within}
-use Rattle.fdb_keys.specs.Points.{Point}
+use Rattle.std.proofs.Common.{◌≡◌, sym, ap, ◌<◌, length, Ok, Err, arith, rules}
+use Rattle.std.specs.Vec.{with_item}
 use Rattle.fdb_core.specs.declared.step.Answered.TheVariants as answered
-use Rattle.fdb_resolver.specs.declared.verdict.Verdict.{Verdict}
-use Rattle.fdb_core.specs.declared.cluster.Cluster.{Cluster}
-use Rattle.fdb_core.specs.declared.roles.resolver.ResolverRole.{ResolverRole}
 use Rattle.fdb_core.specs.machine.RoleSteps.{resolves}
-use Rattle.fdb_core.specs.refinement.Cluster.{machine_of, CommitProxiesRefine}
-use Rattle.fdb_txn.specs.book.Book.{seen_before}
-use Rattle.fdb_core.specs.refinement.Resolving.{TakesNext, taken_by}
-use Rattle.fdb_proxy.specs.Verdicts.{verdicts_on}
-use Rattle.fdb_core.proofs.refinement.DecideLemmas.{one-item}
-use Rattle.fdb_core.proofs.refinement.RoleTies.{resolver-is, resolver-number, resolver-awaits, resolvers-next, numbers-next, commit_proxies-resolved}
-use Rattle.fdb_core.proofs.machine.Transitions.{resolves-transition}
+use Rattle.fdb_core.specs.machine.Steps.{answer_of, after}
+use Rattle.fdb_core.specs.refinement.Cluster.{machine_of, Refines}
+use Rattle.fdb_core.proofs.refinement.ResolverTies.{ToResolve, to-resolve, found-within, found-part, found-lacks, found-resolved}
 use Rattle.fdb_core.proofs.cluster.Cluster.resolve.Goals as goal
-use Rattle.fdb_core.proofs.cluster.Cluster.resolve.Goals.{In_ok-answer}
+use Rattle.fdb_core.proofs.cluster.Cluster.resolve.Goals.{After-as_slice, In_ok-answer}
 
-there : (c : In_ok-answer) → slice_get c.args.self.now.book.items c.args.entry ≡ Some c.index-part.result.now
-there c =
-    let inside : c.args.entry < length c.args.self.now.book.items = search rules in
-    slice_get_read c.args.self.now.book.items (length c.args.self.now.book.items) c.args.entry c.index-part.result.now
-    refl inside c.index-part.ensures
-
-at : (c : In_ok-answer) → slice_get c.args.self.now.resolvers.items c.args.resolver ≡ Some c.index_mut-role.result.now
-at c =
-    let inside : c.args.resolver < length c.args.self.now.resolvers.items = search rules in
-    slice_get_read c.args.self.now.resolvers.items (length c.args.self.now.resolvers.items) c.args.resolver
-    c.index_mut-role.result.now refl inside c.index_mut-role.ensures.value
-
--- it is the next one for the resolver
-next_for : (k : Cluster) (resolver entry : ℕ) (read role : ResolverRole)
-    → slice_get k.resolvers.items resolver ≡ Some role → read ≡ get_or k.resolvers.items resolver read
-    → read.taken ≡ entry → role.taken ≡ entry
-next_for k resolver entry read role there is same =
-    ap (λ (r : ResolverRole). r.taken)
-    (sym (one-item k.resolvers.items resolver read role (slice_get_within k.resolvers.items resolver role there) is
-    there)) ∙ same
-
-due : (c : In_ok-answer) → c.index_mut-role.result.now.taken ≡ c.args.entry
-due c =
-    let same : c.index.result.now.taken ≡ c.args.entry = omega
-    (arith, c.if-entry-taken.false, c.if-taken-entry.false) in
-    next_for c.args.self.now c.args.resolver c.args.entry c.index.result.now c.index_mut-role.result.now (at c)
-    c.index.ensures same
-
-pub take-requires : goal.take-requires
-take-requires c =
+-- the entry, the resolver for which it is next, and the parts in the pool
+found : (c : After-as_slice)
+    → ToResolve c.args.self.now c.args.entry c.args.resolver c.index_mut-role.result.now c.as_slice.result.now
+found c =
     let k = c.args.self.now in
-    let inside : c.args.resolver < length k.resolvers.items = search rules in
-    let role_there = slice_get_read k.resolvers.items (length k.resolvers.items) c.args.resolver
-    c.index_mut-role.result.now refl inside c.index_mut-role.ensures.value in
-    let same : c.index.result.now.taken ≡ c.args.entry = omega
-    (arith, c.if-entry-taken.false, c.if-taken-entry.false) in
-    let next = next_for k c.args.resolver c.args.entry c.index.result.now c.index_mut-role.result.now role_there
-    c.index.ensures same in
     let within : c.args.entry < length k.book.items = search rules in
-    omega (arith, within, next, c.requires.room, c.requires.plain.book)
+    let exists : c.args.resolver < length k.resolvers.items = search rules in
+    let due : c.index.result.now.taken ≡ c.args.entry = omega (arith, c.if-entry-taken.false, c.if-taken-entry.false) in
+    to-resolve k c.requires c.args.entry c.args.resolver c.index.result.now c.index_mut-role.result.now
+    c.index-2.result.now c.as_slice.result.now within exists c.index.ensures c.index_mut-role.ensures.value
+    c.index-2.ensures c.as_slice.ensures due
 
--- it took its next entry
-takes : (c : In_ok-answer)
-    → TakesNext (take c.args.entry c.args.self.now.book.items) c.index-part.result.now c.index_mut-role.result.now
-    c.in_ok-answer.answer c.take.new.self
-takes c =
+pub bounds-as_slice-of : goal.bounds-as_slice-of
+bounds-as_slice-of c =
+    found-within c.args.self.now c.requires c.args.entry c.args.resolver c.index_mut-role.result.now
+    c.as_slice.result.now (found (goal.at.bounds-as_slice-of c).After-as_slice)
+
+pub take-requires-clause-part : goal.take-requires-clause-part
+take-requires-clause-part c =
+    found-part c.args.self.now c.requires c.args.entry c.args.resolver c.index_mut-role.result.now
+    c.as_slice.result.now (found (goal.at.take-requires-clause-part c).After-as_slice) c.index-as_slice-of.result
+    c.index-as_slice-of.is
+
+pub returns-in_err-answer-clause-answer : goal.returns-in_err-answer-clause-answer
+returns-in_err-answer-clause-answer c =
+    let same : c.from_residual.result ≡ Err c.in_err-answer.field-0.0 = search rules in
+    rw same (found-lacks c.args.self.now c.requires c.args.entry c.args.resolver c.index_mut-role.result.now
+    c.as_slice.result.now (found (goal.at.returns-in_err-answer-clause-answer c).After-as_slice)
+    c.index-as_slice-of.result c.index-as_slice-of.is c.in_err-answer.field-0.0 c.take.new.self
+    c.in_err-answer.ensures _)
+
+pub returns-in_err-answer-clause-after : goal.returns-in_err-answer-clause-after
+returns-in_err-answer-clause-after c =
+    let same : c.from_residual.result ≡ Err c.in_err-answer.field-0.0 = search rules in
+    rw same (found-lacks c.args.self.now c.requires c.args.entry c.args.resolver c.index_mut-role.result.now
+    c.as_slice.result.now (found (goal.at.returns-in_err-answer-clause-after c).After-as_slice)
+    c.index-as_slice-of.result c.index-as_slice-of.is c.in_err-answer.field-0.0 c.take.new.self
+    c.in_err-answer.ensures _)
+
+pub returns-in_err-answer-clause-refines : goal.returns-in_err-answer-clause-refines
+returns-in_err-answer-clause-refines c =
+    let same : c.from_residual.result ≡ Err c.in_err-answer.field-0.0 = search rules in
+    rw same (found-lacks c.args.self.now c.requires c.args.entry c.args.resolver c.index_mut-role.result.now
+    c.as_slice.result.now (found (goal.at.returns-in_err-answer-clause-refines c).After-as_slice)
+    c.index-as_slice-of.result c.index-as_slice-of.is c.in_err-answer.field-0.0 c.take.new.self
+    c.in_err-answer.ensures _)
+
+-- it took its part
+taken : (c : In_ok-answer)
+    → ToResolve c.args.self.now c.args.entry c.args.resolver c.index_mut-role.result.now c.as_slice.result.now →
     let k = c.args.self.now in
-    c.in_ok-answer.ensures (take c.args.entry k.book.items)
-    (resolver-awaits k.book.items k.resolvers.items c.args.resolver c.args.entry c.index-part.result.now
-    c.index_mut-role.result.now c.requires.resolvers c.requires.book.no_moves c.requires.book.entries (there c)
-    (at c) (due c))
+    let later = record k { resolvers = with_item k.resolvers c.args.resolver c.take.new.self } in
+    (resolves (machine_of k) c.args.entry c.args.resolver
+    ≡ Ok (record { answer = answered.Verdicts c.in_ok-answer.answer; next = machine_of later })) × Refines later
+taken c its = found-resolved c.args.self.now c.requires c.args.entry c.args.resolver c.index_mut-role.result.now
+    c.as_slice.result.now its c.index-as_slice-of.result c.index-as_slice-of.is
+    c.in_ok-answer.answer c.take.new.self c.in_ok-answer.ensures
 
--- what the machine does then
-transition : (c : In_ok-answer) → resolves (machine_of c.args.self.now) c.args.entry c.args.resolver ≡ Ok (record {
-  answer = answered.Verdicts
-      (verdicts_on c.args.self.now.config.resolver_splits c.args.resolver
-      (seen_before c.args.self.now.book.items c.args.entry) c.index-part.result.now);
-  next = record (machine_of c.args.self.now)
-      { resolvers = slice_set (taken_by c.args.self.now.resolvers.items) c.args.resolver (c.args.entry + 1) };
-})
-transition c =
-    let k = c.args.self.now in
-    resolves-transition (machine_of k) c.args.entry c.args.resolver c.index-part.result.now (there c)
-    (resolver-number k.book.items k.resolvers.items c.args.resolver c.args.entry c.index-part.result.now
-    c.index_mut-role.result.now c.requires.resolvers c.requires.book.no_moves c.requires.book.entries (there c)
-    (at c) (due c))
-
--- the verdicts are the definition's
 pub returns-clause-answer : goal.returns-clause-answer
-returns-clause-answer c =
-    let k = c.args.self.now in
-    let own = (resolver-is k.book.items k.resolvers.items c.args.resolver c.args.entry c.index-part.result.now
-    c.index_mut-role.result.now c.requires.resolvers c.requires.book.no_moves c.requires.book.entries (there c)
-    (at c) (due c)).0 in
-    rw (transition c)
-    (ap (λ (verdicts : List (ℕ × Verdict)). Ok (answered.Verdicts verdicts)) ((takes c).rule
-    ∙ ap₂ (λ (splits : List Point) (r : ℕ). verdicts_on splits r (seen_before k.book.items c.args.entry)
-    c.index-part.result.now) (sym c.requires.plain.resolver_splits) (sym own)))
+returns-clause-answer c = sym (ap answer_of (taken (goal.at.returns-clause-answer c).In_ok-answer
+    (found (goal.at.returns-clause-answer c).After-as_slice)).0)
 
 pub returns-clause-after : goal.returns-clause-after
 returns-clause-after c =
-    let k = c.args.self.now in
-    rw (transition c)
-    (ap (λ (numbers : List ℕ). record (machine_of k) { resolvers = numbers })
-    (numbers-next k.book.items k.resolvers.items c.args.resolver c.args.entry c.index-part.result.now
-    c.index_mut-role.result.now c.requires.resolvers c.requires.book.no_moves c.requires.book.entries (there c)
-    (at c) (due c)
-    c.in_ok-answer.answer c.take.new.self (takes c)))
+    sym (ap (after (machine_of c.args.self.now)) (taken (goal.at.returns-clause-after c).In_ok-answer
+    (found (goal.at.returns-clause-after c).After-as_slice)).0)
 
 pub returns-clause-refines : goal.returns-clause-refines
-returns-clause-refines c =
-    let k = c.args.self.now in
-    let before = c.requires in
-    let numbers = numbers-next k.book.items k.resolvers.items c.args.resolver c.args.entry c.index-part.result.now
-    c.index_mut-role.result.now before.resolvers before.book.no_moves before.book.entries (there c) (at c) (due c)
-    c.in_ok-answer.answer c.take.new.self (takes c) in
-    record {
-      plain = before.plain;
-      room = before.room;
-      sequencer = before.sequencer;
-      book = before.book;
-      resolvers = resolvers-next k.book.items k.resolvers.items c.args.resolver c.args.entry c.index-part.result.now
-          c.index_mut-role.result.now before.resolvers before.book.no_moves before.book.entries (there c) (at c) (due c)
-          c.in_ok-answer.answer c.take.new.self (takes c);
-      logs = before.logs;
-      shard_map = before.shard_map;
-      commit_proxies = subst
-          (λ (resolvers : List ℕ). CommitProxiesRefine k.book.items resolvers k.sequencer.committed
-          k.commit_proxies.items k.outcomes) (sym numbers)
-          (commit_proxies-resolved k.book.items k.resolvers.items c.args.resolver c.args.entry c.index-part.result.now
-          c.index_mut-role.result.now before.resolvers before.book.no_moves before.book.entries (there c) (at c)
-          (due c)
-          k.sequencer.committed k.commit_proxies.items k.outcomes before.commit_proxies);
-      opened = before.opened;
-    }
+returns-clause-refines c = (taken (goal.at.returns-clause-refines c).In_ok-answer
+    (found (goal.at.returns-clause-refines c).After-as_slice)).1

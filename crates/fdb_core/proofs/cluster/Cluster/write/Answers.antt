@@ -37,6 +37,6 @@ returns-clause-refines c =
     let there = open-given (open_at k.sessions c.args.session) c.in_ok-write.field-0 _ c.in_ok-write.ensures.answers in
     let given = answers-fault (mutation_fault c.args.mutation.now) c.in_ok-write.field-0 _ there.2 in
     let changed : c.write.new.self ≡ _ = given.1 in
-    refines-sessions k _ _ _ c.requires
+    refines-sessions k _ _ _ c.requires c.requires.grv_proxies
     (rw changed
     (opened-with_op k.sequencer.committed k.sessions c.args.session there.0 _ _ c.requires.opened there.1))

@@ -1,10 +1,9 @@
-use Rattle.std.proofs.Common.{◌≡◌, take, fold, map}
-use Rattle.fdb_core.specs.machine.Sessions.{serve}
+use Rattle.std.proofs.Common.{◌≡◌, fold, take}
+use Rattle.fdb_proxy.specs.Askers.{Asker}
+use Rattle.fdb_core.specs.machine.Sessions.{Sessions, serve}
 use Rattle.fdb_core.proofs.roles.grv_proxy.serve_all.Given as goal
 
 abbrev pub invariant-loop-session : goal.invariant-loop-session
 invariant-loop-session l =
-    record {
-      granted : l.granted ≡ map (λ session. (session, l.read_version)) (take l.session-index l.askers);
-      sessions : l.sessions ≡ fold (serve l.read_version) l.initial.sessions (take l.session-index l.askers);
-    }
+    l.sessions ≡ fold (λ (served : Sessions) (asker : Asker). serve asker.1 served asker.0) l.initial.sessions
+    (take l.session-index l.granted)

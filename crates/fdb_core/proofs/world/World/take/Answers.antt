@@ -33,3 +33,7 @@ invariant_of-self c = let taken = (goal.at.invariant_of-self c).After-ran_out-se
 pub returns-clause-roles : goal.returns-clause-roles
 returns-clause-roles c = roles-shown _ c.step-answer.new.self
     (refines (goal.at.returns-clause-roles c).After-ran_out-self-inside)
+
+-- the step is taken by a sound machine
+pub step-answer-requires-clause-named : goal.step-answer-requires-clause-named
+step-answer-requires-clause-named c = (c.self.invariant c.if-self.false).1

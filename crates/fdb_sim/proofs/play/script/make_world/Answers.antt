@@ -1,6 +1,7 @@
 use Rattle.std.proofs.Common.{◌≡◌, Some}
 use Rattle.fdb_sim.proofs.lemmas.Script.{refused_world}
-use Rattle.fdb_core.specs.machine.Worlds.{config_fault, start}
+use Rattle.fdb_proxy.specs.Configs.{config_fault}
+use Rattle.fdb_core.specs.machine.Worlds.{start}
 use Rattle.fdb_core.proofs.common.FaultLemmas.{answers-fault}
 use Rattle.fdb_sim.proofs.play.script.make_world.Goals as goal
 

@@ -1,7 +1,7 @@
-use Rattle.std.proofs.Common.{◌≡◌, ◌++◌, drop, length}
-use Rattle.fdb_core.specs.machine.CommitProxySteps.{replies_from}
+use Rattle.std.proofs.Common.{◌≡◌, map, take}
+use Rattle.fdb_txn.specs.declared.txn_id.TxnId.{TxnId}
+use Rattle.fdb_proxy.specs.declared.outcome.Outcome.{Outcome}
 use Rattle.fdb_core.proofs.roles.commit_proxy.replying.reply_all.Given as goal
 
-abbrev pub invariant-loop-transcript : goal.invariant-loop-transcript
-invariant-loop-transcript l = l.told ++ replies_from (drop (length l.yielded) l.transcripts)
-    (drop (length l.yielded) l.outcomes) ≡ replies_from l.transcripts l.outcomes
+abbrev pub invariant-loop-id : goal.invariant-loop-id
+invariant-loop-id l = l.told ≡ map (λ (of : TxnId × Outcome). (of.0.session, of.1)) (take l.id-index l.answers)

@@ -1,0 +1,207 @@
+-- A commit proxy whose core goes to another stage, and what comes to it while its batch is in flight.
+use Rattle.std.proofs.Common.{◌≡◌, ◌∙◌, refl, sym, ap, subst, ⊎_elim, ℕ, zero, suc, ◌<◌, ◌≤◌, Bool, true, false, not, ◌&&◌, ◌==◌, nat_lt, List, [], ◌∷◌, length, Option, Some, None, Result, Ok, Err, slice_set, if◌then◌else◌, arith}
+use Rattle.std.proofs.lemmas.Bool.{and_right, cases_eq, eq-eqb, ne_eqb, lt-ltb, true≢false}
+use Rattle.std.proofs.lemmas.List.{length-set}
+use Rattle.fdb_keys.specs.Answers.{AnswersExactly}
+use Rattle.fdb_keys.specs.declared.refusal.Refusal.{Refusal}
+use Rattle.fdb_keys.specs.declared.refusal.Refusal.TheVariants.{Stale}
+use Rattle.fdb_txn.specs.declared.entry.Entry.{Entry}
+use Rattle.fdb_txn.specs.book.Book.{seen_of, last_version}
+use Rattle.fdb_log.specs.declared.message.LogAck.{LogAck}
+use Rattle.fdb_proxy.specs.declared.config.Config.{Config}
+use Rattle.fdb_proxy.specs.declared.logging.Logging.{Logging as Decided}
+use Rattle.fdb_proxy.specs.declared.stage.Stage.{Stage as CoreStage}
+use Rattle.fdb_proxy.specs.declared.stage.Stage.TheVariants as core
+use Rattle.fdb_owners.specs.OwnersLaws.{AgreesWith}
+use Rattle.fdb_proxy.specs.CommitProxies.{CommitProxy as Core, ProxyWithRoom, waiting_for, logged_fault, acknowledging, all_logged_fault}
+use Rattle.fdb_proxy.specs.Flags.{first_unset}
+use Rattle.fdb_proxy.specs.Logging as logging
+use Rattle.fdb_proxy.specs.Logging.{with_acknowledgement}
+use Rattle.fdb_core.specs.declared.roles.commit_proxy.CommitProxyRole.{CommitProxyRole}
+use Rattle.fdb_core.specs.machine.CommitProxySteps.{awaits, with_received, is_logging}
+use Rattle.fdb_core.specs.machine.Machine.{is_set, first_missing}
+use Rattle.fdb_core.specs.machine.Roles.{Logging, Reported, FromLog}
+use Rattle.fdb_core.specs.refinement.CommitProxies.{CommitProxyRefines, StageRefines, IsLogging, stage_of, received_at, acknowledged_at, seen_as}
+
+-- what a call gave that was answered has what follows from it where there is no fault
+pub exactly-map : {T : Type 0} (result : Result T Refusal) (fault : Option Refusal) (P Q : T → Type 0)
+    → (fault ≡ None → (given : T) → P given → Q given) → AnswersExactly result fault P → AnswersExactly result fault Q
+exactly-map (Ok given) None P Q follows answers = follows refl given answers
+exactly-map (Ok given) (Some fault) P Q follows answers = answers
+exactly-map (Err why) None P Q follows answers = answers
+exactly-map (Err why) (Some fault) P Q follows answers = answers
+
+-- and so by an equal fault
+pub exactly-by : {T : Type 0} (result : Result T Refusal) (fault same : Option Refusal) (P Q : T → Type 0)
+    → fault ≡ same → (same ≡ None → (given : T) → P given → Q given) → AnswersExactly result fault P
+    → AnswersExactly result same Q
+exactly-by {T} result fault same P Q is follows answers =
+    exactly-map result same P Q follows (subst (λ (f : Option Refusal). AnswersExactly {T = T} result f P) is answers)
+
+-- a test in the one order and in the other
+pub same-test : (a b : ℕ) → (a == b) ≡ (b == a)
+same-test a b = ⊎_elim
+    (λ same. eq-eqb a b same ∙ sym (eq-eqb b a (sym same)))
+    (λ differs. ne_eqb a b differs ∙ sym (ne_eqb b a (λ same. differs (sym same))))
+    (cases_eq a b)
+
+-- no flag is left unset
+all-set : (n : ℕ) (list : List Bool) (i : ℕ) → first_unset n list ≡ None → i < length list → is_set list i ≡ true
+all-set n [] i none within = absurd (omega (arith, within))
+all-set n (true ∷ list) zero none within = refl
+all-set n (true ∷ list) (suc i) none within = all-set (suc n) list i none (omega (arith, within))
+all-set n (false ∷ list) i none within = cc
+
+-- the least flag that isn't set is the least that is missing of all
+unset-missing : (n : ℕ) (list : List Bool) → first_unset n list ≡ first_missing (λ i. true) n list
+unset-missing n [] = refl
+unset-missing n (true ∷ list) = unset-missing (suc n) list
+unset-missing n (false ∷ list) = refl
+
+pub awaited : (b : Bool) → (if b then None else Some Stale) ≡ None → b ≡ true
+awaited true none = refl
+awaited false none = cc
+
+module _ (config : Config) (book : List Entry) (committed : ℕ) (role : CommitProxyRole)
+    (ok : CommitProxyRefines config book committed role) where
+  -- at another stage, by a core that is else as it was
+  pub staged : (later : ProxyWithRoom) (stage : CoreStage) (reported : Bool)
+      → later.proxy ≡ record role.core.proxy { stage = stage }
+      → StageRefines config book reported role.entry role.core.proxy.batch stage
+      → CommitProxyRefines config book committed (record role { core = later; is_reported = reported })
+  staged later stage reported is refines = record {
+    works = ap (λ (p : Core). p.is_failed) is ∙ ok.works;
+    logs = ap (λ (p : Core). p.logs) is ∙ ok.logs;
+    shard_splits = ap (λ (p : Core). p.shard_splits) is ∙ ok.shard_splits;
+    splits = ap (λ (p : Core). p.owners.splits) is ∙ ok.splits;
+    owners = subst (λ (p : Core). AgreesWith p.owners
+        (seen_of book).moves) (sym is) ok.owners;
+    last = subst (λ (p : Core). p.last ≤ last_version book) (sym is) ok.last;
+    waiting = ap (λ (p : Core). p.waiting) is ∙ ok.waiting;
+    in_flight = ap (λ (p : Core). p.batch) is ∙ ok.in_flight;
+    reads = ok.reads;
+    stage = subst (λ (p : Core). StageRefines config book reported role.entry p.batch p.stage) (sym is) refines;
+  }
+
+  -- and so is the machine's
+  pub seen-staged : (later : ProxyWithRoom) (stage : CoreStage)
+      → later.proxy ≡ record role.core.proxy { stage = stage }
+      → seen_as (record role { core = later }) ≡ record (seen_as role) {
+        stage = stage_of role.is_reported stage;
+        verdicts_received = received_at stage;
+        acknowledgements_received = acknowledged_at stage;
+      }
+  seen-staged later stage is = λ i. record (seen_as role) {
+    stage = stage_of role.is_reported (is i).stage;
+    verdicts_received = received_at (is i).stage;
+    acknowledgements_received = acknowledged_at (is i).stage;
+  }
+
+  -- a log's acknowledgement
+  module _ (ack : LogAck) (exists : ack.log < config.logs) where
+    abbrev AcknowledgementIsAwaited : Bool
+    AcknowledgementIsAwaited = awaits (seen_as role) ack.index (FromLog ack.log)
+
+    same-awaited : (reported : Bool) (entry : Entry) (decided : Decided)
+        → decided.position.index ≡ role.entry → IsLogging config book reported role.entry entry decided
+        → logging.is_awaited decided ack
+        ≡ ((is_logging (if reported then Reported else Logging) && (role.entry == ack.index))
+        && not (is_set decided.acknowledged ack.log))
+    same-awaited true entry decided number is =
+        let count = is.count in
+        let set_there = all-set 0 decided.acknowledged ack.log (is.reported refl) (omega (arith, exists, count)) in
+        and_right ((ack.index == decided.position.index) && nat_lt ack.log (length decided.acknowledged)) _
+        (ap not set_there)
+    same-awaited false entry decided number is =
+        let count = is.count in
+        let there : nat_lt ack.log (length decided.acknowledged) ≡ true =
+        lt-ltb ack.log (length decided.acknowledged) (omega (arith, exists, count)) in
+        let same : (ack.index == decided.position.index) ≡ (role.entry == ack.index) =
+        ap (λ (n : ℕ). ack.index == n) number ∙ same-test ack.index role.entry in
+        rw (there, same) (by_test (role.entry == ack.index) (not (is_set decided.acknowledged ack.log)))
+      where
+        by_test : (b s : Bool) → ((b && true) && s) ≡ ((true && b) && s)
+        by_test true s = refl
+        by_test false s = refl
+
+    fault-acknowledged : logged_fault role.core.proxy ack
+        ≡ (if AcknowledgementIsAwaited then None else Some Stale)
+    fault-acknowledged = by_stage role.core.proxy.stage refl ok.stage
+      where
+        by_stage : (stage : CoreStage) → role.core.proxy.stage ≡ stage
+            → StageRefines config book role.is_reported role.entry role.core.proxy.batch stage
+            → logged_fault role.core.proxy ack ≡ (if AcknowledgementIsAwaited then None else Some Stale)
+        by_stage core.Idle is refines = rw (ok.works, is) refl
+        by_stage core.Sealed is refines = absurd refines
+        by_stage (core.Resolving batch) is refines = rw (ok.works, is) refl
+        by_stage (core.Logging decided) is refines =
+            rw (ok.works, is) (ap (λ (b : Bool). if b then None else Some Stale)
+            (same-awaited role.is_reported refines.0 decided refines.1.index refines.2))
+
+    -- once it came
+    after-acknowledged : (later : ProxyWithRoom) → AcknowledgementIsAwaited ≡ true
+        → later.proxy ≡ acknowledging role.core.proxy ack
+        → (seen_as (record role { core = later }) ≡ with_received (seen_as role) (FromLog ack.log))
+        × CommitProxyRefines config book committed (record role { core = later })
+    after-acknowledged later waits after = by_stage role.core.proxy.stage refl ok.stage
+      where
+        by_stage : (stage : CoreStage) → role.core.proxy.stage ≡ stage
+            → StageRefines config book role.is_reported role.entry role.core.proxy.batch stage
+            → (seen_as (record role { core = later }) ≡ with_received (seen_as role) (FromLog ack.log))
+            × CommitProxyRefines config book committed (record role { core = later })
+        by_stage core.Idle is refines = absurd (true≢false (sym (rw is at waits)))
+        by_stage core.Sealed is refines = absurd refines
+        by_stage (core.Resolving batch) is refines = absurd (true≢false (sym (rw is at waits)))
+        by_stage (core.Logging decided) is refines =
+            let stage = core.Logging (with_acknowledgement decided ack) in
+            let next : later.proxy ≡ record role.core.proxy { stage = stage } = after ∙ rw is refl in
+            let old = refines.2 in (
+              seen-staged later stage next ∙ rw is refl,
+              staged later stage role.is_reported next (
+                refines.0,
+                refines.1,
+                record {
+                  answers = old.answers;
+                  count = length-set decided.acknowledged ack.log true ∙ old.count;
+                  reported = λ reported. set-all 0 decided.acknowledged ack.log (old.reported reported);
+                },
+              ),
+            )
+          where
+            set-all : (n : ℕ) (list : List Bool) (i : ℕ) → first_unset n list ≡ None
+                → first_unset n (slice_set list i true) ≡ None
+            set-all n [] zero none = refl
+            set-all n [] (suc i) none = refl
+            set-all n (true ∷ list) zero none = none
+            set-all n (true ∷ list) (suc i) none = set-all (suc n) list i none
+            set-all n (false ∷ list) i none = cc
+
+    pub takes-acknowledgement : {T : Type 0} (result : Result T Refusal) (later : ProxyWithRoom)
+        → AnswersExactly result (logged_fault role.core.proxy ack)
+        (λ _. later.proxy ≡ acknowledging role.core.proxy ack)
+        → AnswersExactly result (if AcknowledgementIsAwaited then None else Some Stale)
+        (λ _. (seen_as (record role { core = later }) ≡ with_received (seen_as role) (FromLog ack.log))
+        × CommitProxyRefines config book committed (record role { core = later }))
+    takes-acknowledgement {T} result later answers =
+        exactly-by result (logged_fault role.core.proxy ack) (if AcknowledgementIsAwaited then None else Some Stale)
+        (λ (_ : T). later.proxy ≡ acknowledging role.core.proxy ack) _ fault-acknowledged
+        (λ none given after. after-acknowledged later (awaited AcknowledgementIsAwaited none) after) answers
+
+  -- whether all logs have acknowledged the batch
+  pub checks-logged : {T : Type 0} (result : Result T Refusal) (P : T → Type 0)
+      → role.is_reported ≡ false → is_logging (stage_of role.is_reported role.core.proxy.stage) ≡ true
+      → AnswersExactly result (all_logged_fault role.core.proxy) P
+      → AnswersExactly result (waiting_for
+      (first_missing (λ log. true) 0 (acknowledged_at role.core.proxy.stage))) P
+  checks-logged {T} result P unreported is_now answers =
+      subst (λ (fault : Option Refusal). AnswersExactly {T = T} result fault P) (fault_is role.core.proxy.stage refl) answers
+    where
+      fault_is : (stage : CoreStage) → role.core.proxy.stage ≡ stage
+          → all_logged_fault role.core.proxy ≡ waiting_for
+          (first_missing (λ log. true) 0 (acknowledged_at role.core.proxy.stage))
+      fault_is core.Idle is = absurd (true≢false (sym (rw is at is_now)))
+      fault_is core.Sealed is = absurd (true≢false (sym (rw is at is_now)))
+      fault_is (core.Resolving batch) is = absurd (true≢false (sym (rw is at is_now)))
+      fault_is (core.Logging decided) is =
+          rw (ok.works, is) (ap waiting_for
+          (unset-missing 0 decided.acknowledged))

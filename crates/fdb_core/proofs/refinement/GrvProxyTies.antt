@@ -1,0 +1,90 @@
+-- The read-version proxies, and what the machine does where sessions ask there and are granted.
+use Rattle.std.proofs.Common.{◌≡◌, ◌∙◌, refl, ap, ap₂, ℕ, max, Bool, true, false, List, [], ◌∷◌, ◌++◌, map, fold, Some, Ok, Err, slice_get, slice_set, arith}
+use Rattle.std.specs.Prelude.{◌||◌}
+use Rattle.std.specs.List.{AllByRecursion, list_any}
+use Rattle.std.proofs.lemmas.List.{length-set}
+use Rattle.fdb_keys.specs.declared.refusal.Refusal.TheVariants.{Exhausted}
+use Rattle.fdb_proxy.specs.declared.config.Config.{Config}
+use Rattle.fdb_proxy.specs.Askers.{Asker, granted}
+use Rattle.fdb_core.specs.declared.step.Answered.TheVariants as answered
+use Rattle.fdb_core.specs.machine.GrvProxySteps.{asks, grants, has_no_number}
+use Rattle.fdb_core.specs.machine.Machine.{Machine}
+use Rattle.fdb_core.specs.machine.Sessions.{Sessions, Asking, session_of, with_state, is_busy, serve}
+use Rattle.fdb_core.specs.refinement.Cluster.{GrvProxiesRefine, HasSeenNone, sessions_of}
+use Rattle.fdb_core.proofs.common.ListLemmas.{each-set}
+
+-- others ask at a proxy, who have seen none either
+pub grv_proxies-set : (config : Config) (asked : List (List Asker)) (i : ℕ) (there : List Asker)
+    → GrvProxiesRefine config asked → AllByRecursion HasSeenNone there
+    → GrvProxiesRefine config (slice_set asked i there)
+grv_proxies-set config asked i there ok none = record {
+  count = length-set asked i there ∙ ok.count;
+  each = each-set (λ (_ : ℕ) (askers : List Asker). AllByRecursion HasSeenNone askers) asked i there ok.each
+      (λ within. none);
+}
+
+-- one more session asks
+pub sessions-push : (there : List Asker) (session : ℕ)
+    → sessions_of (there ++ (session, 0) ∷ []) ≡ sessions_of there ++ session ∷ []
+sessions-push [] session = refl
+sessions-push (asker ∷ there) session = ap (λ (others : List ℕ). asker.0 ∷ others) (sessions-push there session)
+
+-- one of those who ask has used up its numbers where one of their sessions has
+pub used_up-is : (sessions : Sessions) (there : List Asker)
+    → list_any (λ (asker : Asker). has_no_number sessions asker.0) there
+    ≡ list_any (has_no_number sessions) (sessions_of there)
+used_up-is sessions [] = refl
+used_up-is sessions (asker ∷ there) =
+    ap (λ (test : Bool). has_no_number sessions asker.0 || test) (used_up-is sessions there)
+
+-- who has seen none is granted the committed version
+module _ (committed : ℕ) where
+  at_committed : (asker : Asker) → HasSeenNone asker → granted committed asker ≡ (asker.0, committed)
+  at_committed asker none =
+      let is : max committed asker.1 ≡ committed = omega (arith, none) in
+      ap (λ (version : ℕ). (asker.0, version)) is
+
+  pub granted-is : (there : List Asker) → AllByRecursion HasSeenNone there
+      → map (granted committed) there ≡ map (λ (session : ℕ). (session, committed)) (sessions_of there)
+  granted-is [] none = refl
+  granted-is (asker ∷ there) none =
+      ap₂ (λ (first : Asker) (others : List Asker). first ∷ others) (at_committed asker none.0)
+      (granted-is there none.1)
+
+  -- and each session that asks is served at it
+  pub served-is : (there : List Asker) (sessions : Sessions) → AllByRecursion HasSeenNone there
+      → fold (λ (served : Sessions) (asker : Asker). serve asker.1 served asker.0) sessions
+      (map (granted committed) there)
+      ≡ fold (serve committed) sessions (sessions_of there)
+  served-is [] sessions none = refl
+  served-is (asker ∷ there) sessions none =
+      ap (λ (one : Asker). fold (λ (served : Sessions) (asker : Asker). serve asker.1 served asker.0)
+      (serve one.1 sessions one.0) (map (granted committed) there)) (at_committed asker none.0)
+      ∙ served-is there (serve committed sessions asker.0) none.1
+
+-- what the machine does, once it knows who asks there
+module _ (m : Machine) (proxy : ℕ) (there : List ℕ) (at : slice_get m.grv_proxies proxy ≡ Some there) where
+  pub asks-transition : (session : ℕ) → is_busy (session_of m.sessions session).state ≡ false
+      → asks m session proxy ≡ Ok (record {
+        answer = answered.Done;
+        next = record m {
+          sessions = with_state m.sessions session Asking;
+          grv_proxies = slice_set m.grv_proxies proxy (there ++ session ∷ []);
+        };
+      })
+  unfolding asks
+  asks-transition session free = rw (at, free) refl
+
+  pub grants-exhausted : list_any (has_no_number m.sessions) there ≡ true → grants m proxy ≡ Err Exhausted
+  unfolding grants
+  grants-exhausted used_up = rw (at, used_up) refl
+
+  pub grants-transition : list_any (has_no_number m.sessions) there ≡ false → grants m proxy ≡ Ok (record {
+    answer = answered.Granted (map (λ (session : ℕ). (session, m.committed)) there);
+    next = record m {
+      sessions = fold (serve m.committed) m.sessions there;
+      grv_proxies = slice_set m.grv_proxies proxy [];
+    };
+  })
+  unfolding grants
+  grants-transition left = rw (at, left) refl

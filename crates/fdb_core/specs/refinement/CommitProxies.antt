@@ -1,0 +1,177 @@
+-- What ties a commit proxy of the world to the machine's and to the book.
+use Rattle.std.specs.Prelude.{◌≡◌, ◌≤◌, ◌<◌, ℕ, suc, Bool, true, false, List, [], ◌∷◌, ◌++◌, take, map, length, replicate, Option, Some, None, slice_get, if◌then◌else◌}
+use Rattle.std.specs.List.{AllByRecursion}
+use Rattle.std.specs.Option.{is_some}
+use Rattle.fdb_keys.specs.Points.{Point}
+use Rattle.fdb_txn.specs.declared.entry.Entry.{Entry}
+use Rattle.fdb_txn.specs.declared.txn_id.TxnId.{TxnId}
+use Rattle.fdb_txn.specs.book.Transactions.{Transaction}
+use Rattle.fdb_txn.specs.book.Book.{seen_of, seen_before, last_version}
+use Rattle.fdb_txn.specs.Limits.{place_limit}
+use Rattle.fdb_owners.specs.OwnersLaws.{AgreesWith}
+use Rattle.fdb_resolver.specs.declared.part.Part.{Part}
+use Rattle.fdb_resolver.specs.declared.verdict.Verdicts.{Verdicts}
+use Rattle.fdb_sequencer.specs.declared.ticket.Ticket.{Ticket}
+use Rattle.fdb_proxy.specs.declared.config.Config.{Config}
+use Rattle.fdb_proxy.specs.declared.outcome.Outcome.{Outcome}
+use Rattle.fdb_proxy.specs.declared.position.Position.{Position}
+use Rattle.fdb_proxy.specs.declared.logging.Logging.{Logging as Decided}
+use Rattle.fdb_proxy.specs.declared.resolving.Resolving.{Resolving as Unheard}
+use Rattle.fdb_proxy.specs.declared.stage.Stage.{Stage as CoreStage}
+use Rattle.fdb_proxy.specs.declared.stage.Stage.TheVariants as core
+use Rattle.fdb_proxy.specs.CommitProxies.{position_of}
+use Rattle.fdb_proxy.specs.Deciding.{Said}
+use Rattle.fdb_proxy.specs.Flags.{first_unset}
+use Rattle.fdb_proxy.specs.Logging.{answers_by}
+use Rattle.fdb_proxy.specs.Parting.{AreParts}
+use Rattle.fdb_proxy.specs.Verdicts.{moves_through, verdicts_on, outcomes_on}
+use Rattle.fdb_client.specs.declared.program.Transcript.{Transcript}
+use Rattle.fdb_client.specs.Programs.{commit_request_of}
+use Rattle.fdb_core.specs.declared.roles.commit_proxy.CommitProxyRole.{CommitProxyRole}
+use Rattle.fdb_core.specs.machine.CommitProxySteps.{with_batch}
+use Rattle.fdb_core.specs.machine.Roles.{CommitProxy, Stage, Idle, Resolving, Logging, Reported}
+use Rattle.fdb_core.specs.machine.Worlds.{idle_proxy}
+
+-- how far the machine's commit proxy is, by the core's stage and whether the batch's version is reported; between two
+-- steps no batch is without an entry
+abbrev pub stage_of : Bool → CoreStage → Stage
+stage_of is_reported core.Idle = Idle
+stage_of is_reported core.Sealed = Resolving
+stage_of is_reported (core.Resolving batch) = Resolving
+stage_of is_reported (core.Logging decided) = if is_reported then Reported else Logging
+
+-- for each resolver whether its verdicts came, while the batch waits for them
+abbrev pub received_at : CoreStage → List Bool
+received_at (core.Resolving batch) = map (λ (of : Option Said). is_some of) batch.verdicts
+received_at other = []
+
+-- for each log whether its acknowledgement came, once the batch is decided
+abbrev pub acknowledged_at : CoreStage → List Bool
+acknowledged_at (core.Logging decided) = decided.acknowledged
+acknowledged_at other = []
+
+-- the machine's commit proxy
+abbrev pub seen_as : CommitProxyRole → CommitProxy
+seen_as role =
+    record {
+      waiting = role.waiting;
+      in_flight = role.in_flight;
+      stage = stage_of role.is_reported role.core.proxy.stage;
+      entry = role.entry;
+      verdicts_received = received_at role.core.proxy.stage;
+      acknowledgements_received = acknowledged_at role.core.proxy.stage;
+    }
+
+-- the batch is that of entry i, which is at its position in the book
+pub record IsBatchOf (book : List Entry) (i : ℕ) (batch : List Transaction) (position : Position) (entry : Entry)
+    : Type 0 where
+  pub there : slice_get book i ≡ Some entry
+  pub index : position.index ≡ i
+  pub version : position.version ≡ entry.version
+  pub prev : position.prev ≡ entry.prev
+  pub places : batch ≡ entry.batch
+
+-- the parts of entry i, one for each resolver
+abbrev pub ArePartsOf : List Point → List Entry → ℕ → Entry → List Part → Type 0
+ArePartsOf splits book i entry parts =
+    AreParts splits (moves_through (seen_before book i) entry)
+    (record { index = i; version = entry.version; prev = entry.prev }) entry.batch parts
+
+-- the batch waits for verdicts: the rule's came, and no others
+pub record IsResolving (splits : List Point) (book : List Entry) (i : ℕ) (entry : Entry) (batch : Unheard) : Type 0
+  where
+    pub parts : ArePartsOf splits book i entry batch.parts
+    pub count : length batch.verdicts ≡ suc (length splits)
+    pub came : (r : ℕ) (said : Said) → slice_get batch.verdicts r ≡ Some (Some said)
+        → said ≡ verdicts_on splits r (seen_before book i) entry
+
+-- the batch is decided by the rule, and waits for so many logs, of which none is left once its version is reported
+pub record IsLogging (config : Config) (book : List Entry) (is_reported : Bool) (i : ℕ) (entry : Entry)
+    (decided : Decided) : Type 0 where
+  pub answers : decided.answers ≡ answers_by entry.batch (outcomes_on config.resolver_splits (seen_before book i) entry)
+  pub count : length decided.acknowledged ≡ config.logs
+  pub reported : is_reported ≡ true → first_unset 0 decided.acknowledged ≡ None
+
+-- the batch in flight, if there is one, is that of entry i
+abbrev pub StageRefines : Config → List Entry → Bool → ℕ → List Transaction → CoreStage → Type 0
+StageRefines config book is_reported i batch core.Idle = (batch ≡ []) × (is_reported ≡ false)
+StageRefines config book is_reported i batch core.Sealed = ⊥
+StageRefines config book is_reported i batch (core.Resolving resolving) =
+    (entry : Entry) × IsBatchOf book i batch resolving.position entry
+    × IsResolving config.resolver_splits book i entry resolving × (is_reported ≡ false)
+StageRefines config book is_reported i batch (core.Logging decided) =
+    (entry : Entry) × IsBatchOf book i batch decided.position entry
+    × IsLogging config book is_reported i entry decided
+
+-- a transaction reads at most at the committed version
+abbrev pub ReadsWithin : ℕ → Transcript → Type 0
+ReadsWithin committed transcript = transcript.read_version ≤ committed
+
+-- The core works, and knows the configuration and the book's moves. What waits there and what is in flight is what is
+-- judged of the transcripts.
+pub record CommitProxyRefines (config : Config) (book : List Entry) (committed : ℕ) (role : CommitProxyRole) : Type 0
+  where
+    pub works : role.core.proxy.is_failed ≡ false
+    pub logs : role.core.proxy.logs ≡ config.logs
+    pub shard_splits : role.core.proxy.shard_splits ≡ config.shard_splits
+    pub splits : role.core.proxy.owners.splits ≡ config.resolver_splits
+    pub owners : AgreesWith role.core.proxy.owners (seen_of book).moves
+    pub last : role.core.proxy.last ≤ last_version book
+    pub waiting : role.core.proxy.waiting ≡ map commit_request_of role.waiting
+    pub in_flight : role.core.proxy.batch ≡ map commit_request_of role.in_flight
+    pub reads : AllByRecursion (ReadsWithin committed) role.waiting
+    pub stage : StageRefines config book role.is_reported role.entry role.core.proxy.batch role.core.proxy.stage
+
+-- a commit proxy before its first batch
+pub record IsNewCommitProxy (config : Config) (role : CommitProxyRole) : Type 0 where
+  pub machine : seen_as role ≡ idle_proxy
+  pub refines : CommitProxyRefines config [] 0 role
+
+-- the ticket is that of the next entry, and nothing moves
+pub record IsNextTicket (book : List Entry) (ticket : Ticket) : Type 0 where
+  pub index : ticket.index ≡ length book
+  pub prev : ticket.prev ≡ last_version book
+  pub later : last_version book < ticket.version
+  pub moves : ticket.moves ≡ []
+  pub pending : ticket.pending ≡ []
+
+-- the entry of a ticket
+abbrev pub entry_of : Ticket → List Transaction → Entry
+entry_of ticket batch =
+    record { version = ticket.version; prev = ticket.prev; moves = ticket.pending; batch = batch }
+
+-- The first of those who wait became the batch of the ticket's entry, and the parts of it are given.
+pub record Seals (config : Config) (book : List Entry) (committed : ℕ) (ticket : Ticket) (old : CommitProxyRole)
+    (batch : List Transaction) (parts : List Part) (new : CommitProxyRole) : Type 0 where
+  pub batch_is : batch ≡ map commit_request_of (take place_limit old.waiting)
+  pub parts_are : AreParts config.resolver_splits (moves_through (seen_of book) (entry_of ticket batch))
+      (position_of ticket) batch parts
+  pub machine : seen_as new ≡ with_batch (seen_as old) ticket.index (suc (length config.resolver_splits))
+  pub refines : CommitProxyRefines config (book ++ entry_of ticket batch ∷ []) committed new
+
+-- The batch of the entry is decided by the rule.
+pub record Decides (config : Config) (book : List Entry) (committed : ℕ) (entry : Entry) (old : CommitProxyRole)
+    (outcomes : List Outcome) (new : CommitProxyRole) : Type 0 where
+  pub outcomes_are : outcomes ≡ outcomes_on config.resolver_splits (seen_before book old.entry) entry
+  pub machine : seen_as new ≡ record (seen_as old) {
+    stage = Logging;
+    verdicts_received = [];
+    acknowledgements_received = replicate config.logs false;
+  }
+  pub refines : CommitProxyRefines config book committed new
+
+-- The batch is done, and its transcripts are given, with each one's name and what became of it.
+pub record IsDone (config : Config) (book : List Entry) (committed : ℕ) (entry : Entry) (old : CommitProxyRole)
+    (transcripts : List Transcript) (answers : List (TxnId × Outcome)) (new : CommitProxyRole) : Type 0 where
+  pub transcripts_are : transcripts ≡ old.in_flight
+  pub answers_are : answers ≡ answers_by (map commit_request_of old.in_flight)
+      (outcomes_on config.resolver_splits (seen_before book old.entry) entry)
+  pub batch : entry.batch ≡ map commit_request_of old.in_flight
+  pub machine : seen_as new ≡ record (seen_as old) { in_flight = []; stage = Idle; acknowledgements_received = [] }
+  pub refines : CommitProxyRefines config book committed new
+
+-- what a resolver said of an entry is the rule's
+pub record IsSaid (splits : List Point) (book : List Entry) (verdicts : Verdicts) (entry : Entry) : Type 0 where
+  pub there : slice_get book verdicts.index ≡ Some entry
+  pub exists : verdicts.resolver < suc (length splits)
+  pub answers : verdicts.answers ≡ verdicts_on splits verdicts.resolver (seen_before book verdicts.index) entry

@@ -1,0 +1,39 @@
+// Keys and values of the greatest length, and a script that is cut.
+use crate::tests::playing::{check_script, push_long_line};
+use std::test::Fail;
+
+const CONFIG: &[u8] = b"config proxies 1 logs 1 resolvers - shards - book 100\n";
+
+#[test]
+fn longest_key(rt: HostRuntime) -> Result<(), Fail> {
+    let mut script = Vec::from_slice(rt.alloc(), CONFIG)?;
+    script.extend_from_slice(b"ask 0 0\ngrant 0\n")?;
+    push_long_line(&mut script, b"get 0 ", 10_000)?;
+    push_long_line(&mut script, b"get 0 ", 10_001)?;
+    script.extend_from_slice(b"get 0 %ff\nsubmit 0 0\n")?;
+    let output = b"ok\nok\ngrant 0=0\nnone\nrefused 2102 KeyTooLarge\n\
+        refused 2004 KeyOutsideLegalRange\nreadonly 0\nchecked 1\n";
+    check_script(&rt, rt.alloc(), script.as_slice(), 0, output)
+}
+
+#[test]
+fn longest_value(rt: HostRuntime) -> Result<(), Fail> {
+    let mut script = Vec::from_slice(rt.alloc(), CONFIG)?;
+    script.extend_from_slice(b"ask 0 0\ngrant 0\n")?;
+    push_long_line(&mut script, b"write 0 set a ", 100_000)?;
+    push_long_line(&mut script, b"write 0 set a ", 100_001)?;
+    let output = b"ok\nok\ngrant 0=0\nok\nrefused 2103 ValueTooLarge\nchecked 0\n";
+    check_script(&rt, rt.alloc(), script.as_slice(), 0, output)
+}
+
+#[test]
+fn cut_in_mid_line(rt: HostRuntime) -> Result<(), Fail> {
+    let script = b"config proxies 1 logs 1 resolvers - shards - book 100\nask 0 0\ngrant 0\nwri";
+    check_script(
+        &rt,
+        rt.alloc(),
+        script,
+        2,
+        b"ok\nok\ngrant 0=0\nbad line 4\n",
+    )
+}
