@@ -9,6 +9,7 @@ mod large;
 mod legal;
 mod limits;
 mod lines;
+mod made;
 mod many;
 mod playing;
 mod random;

@@ -5,28 +5,9 @@ mod tally;
 use self::drawing::Drawing;
 use self::tally::Tally;
 use crate::tests::acts::{Act, take};
-use fdb_core::{Config, World};
-use fdb_keys::{Items, Key, Refusal};
+use crate::tests::made::new_world;
+use fdb_core::World;
 use std::alloc::Global;
-
-fn two_keys(alloc: Global, first: u8, second: u8) -> Result<Items<Key>, Refusal> {
-    let mut keys = Items::new(alloc);
-    keys.push(Key::new(alloc, &[first])?)?;
-    keys.push(Key::new(alloc, &[second])?)?;
-    Ok(keys)
-}
-
-// The resolvers part the keys elsewhere than the shards.
-fn new_world(alloc: Global) -> Result<World, Refusal> {
-    let config = Config {
-        proxies: 3,
-        logs: 2,
-        resolver_splits: two_keys(alloc, b'd', b'g')?,
-        shard_splits: two_keys(alloc, b'c', b'f')?,
-        book: 4_096,
-    };
-    World::new(alloc, config)
-}
 
 // Takes the step, and notes what it answers.
 fn take_one(world: &mut World, drawing: &mut Drawing, tally: &mut Tally, alloc: Global, act: Act) {
@@ -51,9 +32,10 @@ fn take_steps(world: &mut World, alloc: Global, seed: u64, steps: u32) -> Tally 
     tally
 }
 
-// Whether the check finds no difference after steps of every kind and outcome.
+// Whether the check finds no difference after steps of every outcome. The resolvers part the keys elsewhere than the
+// shards.
 fn agrees(alloc: Global, seed: u64) -> bool {
-    match new_world(alloc) {
+    match new_world(alloc, 3, &[b"d", b"g"], &[b"c", b"f"]) {
         Ok(mut world) => {
             let tally = take_steps(&mut world, alloc, seed, 8_000);
             let holds = tally.has_each() && world.check() == Ok(tally.acknowledged());

@@ -1,4 +1,5 @@
 // Which configurations a world, and a run of no steps, is made of.
+use crate::tests::made::keys_of;
 use fdb_core::{Config, Step, World, run};
 use fdb_keys::{Items, Key, Refusal};
 use std::alloc::Global;
@@ -23,25 +24,21 @@ fn run_nothing(alloc: Global, config: Config) -> u32 {
     code_of(run(alloc, config, steps.as_slice()))
 }
 
-// Both are made of the configuration, where there is one.
-fn codes_of(alloc: Global, config: Result<Config, Refusal>) -> Result<Codes, Refusal> {
-    let config = config?;
+fn codes_of(alloc: Global, config: Config) -> Result<Codes, Refusal> {
     let copy = config.clone()?;
     let code = code_of(World::new(alloc, config));
     Ok((code, run_nothing(alloc, copy)))
 }
 
 fn with_counts(alloc: Global, proxies: u32, logs: u32, book: u32) -> Result<Codes, Refusal> {
-    codes_of(
-        alloc,
-        Ok(Config {
-            proxies,
-            logs,
-            resolver_splits: Items::new(alloc),
-            shard_splits: Items::new(alloc),
-            book,
-        }),
-    )
+    let config = Config {
+        proxies,
+        logs,
+        resolver_splits: Items::new(alloc),
+        shard_splits: Items::new(alloc),
+        book,
+    };
+    codes_of(alloc, config)
 }
 
 fn with_splits(
@@ -49,24 +46,20 @@ fn with_splits(
     resolver_splits: Result<Items<Key>, Refusal>,
     shard_splits: Result<Items<Key>, Refusal>,
 ) -> Result<Codes, Refusal> {
-    codes_of(
-        alloc,
-        Ok(Config {
-            proxies: 1,
-            logs: 1,
-            resolver_splits: resolver_splits?,
-            shard_splits: shard_splits?,
-            book: 1,
-        }),
-    )
-}
-
-fn keys(alloc: Global, texts: &[&[u8]]) -> Result<Items<Key>, Refusal> {
-    let mut keys = Items::new(alloc);
-    for text in texts {
-        keys.push(Key::new(alloc, text)?)?;
+    match (resolver_splits, shard_splits) {
+        (Ok(resolver_splits), Ok(shard_splits)) => {
+            let config = Config {
+                proxies: 1,
+                logs: 1,
+                resolver_splits,
+                shard_splits,
+                book: 1,
+            };
+            codes_of(alloc, config)
+        }
+        (Err(why), _) => Err(why),
+        (_, Err(why)) => Err(why),
     }
-    Ok(keys)
 }
 
 // As many keys of one byte that rise.
@@ -106,9 +99,17 @@ fn splits_that_rise_are_served(rt: HostRuntime) {
 fn splits_that_fall_and_empty_ones_are_bad(rt: HostRuntime) {
     let alloc = rt.alloc();
     for texts in [[b"b".as_slice(), b"a"], [b"a", b"a"], [b"", b"a"]] {
-        let resolvers = with_splits(alloc, keys(alloc, texts.as_slice()), rising_keys(alloc, 0));
+        let resolvers = with_splits(
+            alloc,
+            keys_of(alloc, texts.as_slice()),
+            rising_keys(alloc, 0),
+        );
         assert_eq!(rt; resolvers, Ok(BAD));
-        let shards = with_splits(alloc, rising_keys(alloc, 0), keys(alloc, texts.as_slice()));
+        let shards = with_splits(
+            alloc,
+            rising_keys(alloc, 0),
+            keys_of(alloc, texts.as_slice()),
+        );
         assert_eq!(rt; shards, Ok(BAD));
     }
 }

@@ -1,29 +1,10 @@
 // What only worlds of several proxies and resolvers show, by their steps.
 use crate::tests::acts::{Act, Call, take};
-use fdb_core::{Answered, Config, Outcome, World};
-use fdb_keys::{Items, Key, Refusal};
+use crate::tests::made::new_world;
+use fdb_core::{Answered, Outcome, World};
+use fdb_keys::Refusal;
 use std::alloc::Global;
 use std::test::Fail;
-
-fn keys_of(alloc: Global, texts: &[u8]) -> Result<Items<Key>, Refusal> {
-    let mut keys = Items::new(alloc);
-    for text in texts {
-        keys.push(Key::new(alloc, &[*text])?)?;
-    }
-    Ok(keys)
-}
-
-// Two proxies of each kind, two logs, and one resolver and one shard more than splits.
-fn new_world(alloc: Global, splits: &[u8]) -> Result<World, Refusal> {
-    let config = Config {
-        proxies: 2,
-        logs: 2,
-        resolver_splits: keys_of(alloc, splits)?,
-        shard_splits: keys_of(alloc, splits)?,
-        book: 8,
-    };
-    World::new(alloc, config)
-}
 
 // Whether each of the steps is accepted.
 fn are_taken(world: &mut World, alloc: Global, acts: &[Act]) -> bool {
@@ -93,7 +74,7 @@ fn commit(version: u64) -> Option<Outcome> {
 #[test]
 fn a_decision_waits_for_the_least_resolver_that_is_asked(rt: HostRuntime) -> Result<(), Fail> {
     let alloc = rt.alloc();
-    let mut world = new_world(alloc, b"gp")?;
+    let mut world = new_world(alloc, 2, &[b"g", b"p"], &[])?;
     assert!(rt; is_sealed(&mut world, alloc, 0, b'h', b'q'));
     let decide = Act::Decide(0);
     let waits = Some(Refusal::NotYet(1));
@@ -114,7 +95,7 @@ fn a_decision_waits_for_the_least_resolver_that_is_asked(rt: HostRuntime) -> Res
 #[test]
 fn verdicts_on_nothing_are_taken(rt: HostRuntime) -> Result<(), Fail> {
     let alloc = rt.alloc();
-    let mut world = new_world(alloc, b"gp")?;
+    let mut world = new_world(alloc, 2, &[b"g", b"p"], &[])?;
     assert!(rt; is_sealed(&mut world, alloc, 0, b'h', b'q'));
     let first = [Act::Resolve(0, 0), Act::Verdict(0, 0)];
     assert!(rt; are_taken(&mut world, alloc, first.as_slice()));
@@ -130,31 +111,24 @@ fn verdicts_on_nothing_are_taken(rt: HostRuntime) -> Result<(), Fail> {
 #[test]
 fn batches_are_decided_in_the_other_order(rt: HostRuntime) -> Result<(), Fail> {
     let alloc = rt.alloc();
-    let mut world = new_world(alloc, b"m")?;
+    let mut world = new_world(alloc, 2, &[b"m"], &[])?;
     assert!(rt; is_sealed(&mut world, alloc, 0, b'c', b'a'));
     assert!(rt; is_sealed(&mut world, alloc, 1, b'a', b'b'));
     let judged = [Act::Resolve(0, 0), Act::Resolve(1, 0), Act::Verdict(1, 0)];
     assert!(rt; are_taken(&mut world, alloc, judged.as_slice()));
     assert_eq!(rt; decided_by(&mut world, alloc, 1), Some(Outcome::Conflict));
-    let waits = Some(Refusal::NotYet(0));
-    assert_eq!(rt; refusal_of(&mut world, alloc, Act::Decide(0)), waits);
     let waits = Some(Refusal::NotYet(100));
     assert_eq!(rt; refusal_of(&mut world, alloc, Act::Push(1, 0)), waits);
+    let waits = Some(Refusal::NotYet(0));
+    assert_eq!(rt; refusal_of(&mut world, alloc, Act::Decide(0)), waits);
     assert!(rt; are_taken(&mut world, alloc, &[Act::Verdict(0, 0)]));
     assert_eq!(rt; decided_by(&mut world, alloc, 0), commit(100));
-    assert!(rt; is_logged(&mut world, alloc, 0) && is_logged(&mut world, alloc, 1));
-    assert_eq!(rt; reported_by(&mut world, alloc, 1), Some(200));
-    assert_eq!(rt; reported_by(&mut world, alloc, 0), Some(200));
-    let answered = [Act::Answer(0), Act::Answer(1)];
-    assert!(rt; are_taken(&mut world, alloc, answered.as_slice()));
-    assert!(rt; world.check() == Ok(1));
     drop(world);
     Ok(())
 }
 
-// Entries 0 and 1 of two proxies, decided.
-fn two_decided(alloc: Global) -> Result<World, Refusal> {
-    let mut world = new_world(alloc, b"m")?;
+// Entries 0 and 1 of two proxies are decided.
+fn are_two_decided(world: &mut World, alloc: Global) -> bool {
     let judged = [
         Act::Resolve(0, 0),
         Act::Resolve(1, 0),
@@ -163,29 +137,51 @@ fn two_decided(alloc: Global) -> Result<World, Refusal> {
         Act::Decide(0),
         Act::Decide(1),
     ];
-    if is_sealed(&mut world, alloc, 0, b'c', b'a')
-        && is_sealed(&mut world, alloc, 1, b'c', b'b')
-        && are_taken(&mut world, alloc, judged.as_slice())
-    {
-        Ok(world)
-    } else {
-        Err(Refusal::WrongState)
-    }
+    is_sealed(world, alloc, 0, b'c', b'a')
+        && is_sealed(world, alloc, 1, b'c', b'b')
+        && are_taken(world, alloc, judged.as_slice())
+}
+
+fn are_both_logged(world: &mut World, alloc: Global) -> bool {
+    is_logged(world, alloc, 0) && is_logged(world, alloc, 1)
+}
+
+// The committed version is the greatest that was reported. Who reads at it reads what both batches wrote.
+#[test]
+fn versions_are_reported_in_the_other_order(rt: HostRuntime) -> Result<(), Fail> {
+    let alloc = rt.alloc();
+    let mut world = new_world(alloc, 2, &[b"m"], &[])?;
+    assert!(rt; are_two_decided(&mut world, alloc));
+    assert!(rt; are_both_logged(&mut world, alloc));
+    assert_eq!(rt; reported_by(&mut world, alloc, 1), Some(200));
+    let reads = [
+        Act::Ask(2, 0),
+        Act::Grant(0),
+        Act::Pull(0, 2),
+        Act::Call(2, Call::Range(b'a', b'c', 0)),
+        Act::Submit(2, 0),
+    ];
+    assert!(rt; are_taken(&mut world, alloc, reads.as_slice()));
+    assert_eq!(rt; reported_by(&mut world, alloc, 0), Some(200));
+    let answered = [Act::Answer(0), Act::Answer(1)];
+    assert!(rt; are_taken(&mut world, alloc, answered.as_slice()));
+    assert!(rt; world.check() == Ok(3));
+    drop(world);
+    Ok(())
 }
 
 // What the logs say of the other proxy's entry doesn't count.
 #[test]
 fn a_report_waits_for_each_log(rt: HostRuntime) -> Result<(), Fail> {
     let alloc = rt.alloc();
-    let mut world = two_decided(alloc)?;
+    let mut world = new_world(alloc, 2, &[b"m"], &[])?;
+    assert!(rt; are_two_decided(&mut world, alloc));
     let pushed = [Act::Push(0, 0), Act::Push(0, 1), Act::Logged(0, 1)];
     assert!(rt; are_taken(&mut world, alloc, pushed.as_slice()));
     assert!(rt; is_logged(&mut world, alloc, 1));
     let report = Act::Report(0);
-    assert_eq!(rt;
-        refusal_of(&mut world, alloc, report),
-        Some(Refusal::NotYet(0))
-    );
+    let waits = Some(Refusal::NotYet(0));
+    assert_eq!(rt; refusal_of(&mut world, alloc, report), waits);
     assert_eq!(rt; reported_by(&mut world, alloc, 1), Some(200));
     assert!(rt; are_taken(&mut world, alloc, &[Act::Logged(0, 0)]));
     let stale = Some(Refusal::Stale);
@@ -201,11 +197,12 @@ fn a_report_waits_for_each_log(rt: HostRuntime) -> Result<(), Fail> {
 #[test]
 fn clients_are_answered_after_the_report(rt: HostRuntime) -> Result<(), Fail> {
     let alloc = rt.alloc();
-    let mut world = two_decided(alloc)?;
+    let mut world = new_world(alloc, 2, &[b"m"], &[])?;
+    assert!(rt; are_two_decided(&mut world, alloc));
     let answer = Act::Answer(1);
     let waits = Some(Refusal::NotYet(200));
     assert_eq!(rt; refusal_of(&mut world, alloc, answer), waits);
-    assert!(rt; is_logged(&mut world, alloc, 0) && is_logged(&mut world, alloc, 1));
+    assert!(rt; are_both_logged(&mut world, alloc));
     assert_eq!(rt; reported_by(&mut world, alloc, 0), Some(100));
     assert_eq!(rt; refusal_of(&mut world, alloc, answer), waits);
     assert_eq!(rt; reported_by(&mut world, alloc, 1), Some(200));

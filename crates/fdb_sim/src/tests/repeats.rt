@@ -1,7 +1,8 @@
 // Messages that come again: beside a world to which one does goes another one, to which it doesn't.
 use crate::tests::acts::{Act, Call, take};
-use fdb_core::{Config, World};
-use fdb_keys::{Items, Key, Refusal};
+use crate::tests::made::new_world;
+use fdb_core::World;
+use fdb_keys::Refusal;
 use std::alloc::Global;
 use std::test::Fail;
 
@@ -11,25 +12,16 @@ struct Pair {
     other: World,
 }
 
-// Two proxies of each kind, two logs, and a resolver for the keys from m on.
-fn new_world(alloc: Global) -> Result<World, Refusal> {
-    let mut resolver_splits = Items::new(alloc);
-    resolver_splits.push(Key::new(alloc, b"m")?)?;
-    let config = Config {
-        proxies: 2,
-        logs: 2,
-        resolver_splits,
-        shard_splits: Items::new(alloc),
-        book: 8,
-    };
-    World::new(alloc, config)
+// Two proxies of each kind, and a second resolver for the keys from m on.
+fn one_world(alloc: Global) -> Result<World, Refusal> {
+    new_world(alloc, 2, &[b"m"], &[])
 }
 
 impl Pair {
     fn new(alloc: Global) -> Result<Self, Refusal> {
         Ok(Pair {
-            world: new_world(alloc)?,
-            other: new_world(alloc)?,
+            world: one_world(alloc)?,
+            other: one_world(alloc)?,
         })
     }
 
