@@ -1,3 +1,4 @@
+pub mod AnsweredLemmas
 mod ClearedLemmas
 pub mod DecidedLemmas
 mod FaultLemmas
@@ -11,4 +12,5 @@ pub mod ProgramLemmas
 pub mod ProgramsAgree
 mod ReadExamplesLemmas
 pub mod ReadSetLemmas
+mod RequestLemmas
 pub mod WriteSetLemmas

@@ -12,11 +12,13 @@ mod plain_snapshot;
 mod program;
 mod range_read;
 mod reading;
+mod request;
 mod snapshot;
 mod txn;
 
 pub use finished::Finished;
 pub use plain_snapshot::PlainSnapshot;
 pub use program::{Op, Reply, Transcript};
+pub use request::{has_written_nothing, is_request_of};
 pub use snapshot::{Page, Snapshot};
 pub use txn::Txn;

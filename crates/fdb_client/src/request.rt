@@ -1,0 +1,233 @@
+// What a transcript asks to commit, beside a transaction that stands in a book.
+ghost use Rattle.std.specs.Prelude.{◌≡◌, ◌↔◌, List, [], None, true, IsTrue};
+ghost use Rattle.fdb_keys.specs.Answers.{Answers};
+ghost use Rattle.fdb_keys.specs.Insertion.{with_range};
+ghost use Rattle.fdb_mutations.specs.Maps.{Map};
+ghost use Rattle.fdb_mutations.specs.Mutations.{named_range};
+ghost use Rattle.fdb_mutations.specs.PairLaws.{given_of};
+ghost use Rattle.fdb_mutations.specs.Pairs.{scanned};
+ghost use Rattle.fdb_client.specs.declared.program.Op.{Op};
+ghost use Rattle.fdb_client.specs.Programs.{program, replies_of, exec, reply_on, add_scanned, add_reads, add_decided, add_writes, add_mutation, decided_ranges, read_ranges, write_ranges, mutations_of, commit_request_of};
+ghost use Rattle.fdb_client.specs.ProgramLaws.{is_ordinary, AgreeWhereOrdinary};
+
+use crate::buffering::add_key;
+use crate::program::{Op, Reply, Transcript};
+use crate::reading::scanned_part;
+use bytes::Bytes;
+use fdb_keys::{Items, Key, KeyRange, RangeSet, Refusal, TreeRangeSet};
+use fdb_mutations::{Mutation, Named};
+use fdb_txn::Sealed;
+use std::alloc::Global;
+
+// Adds what the mutation names.
+fn add_named(alloc: Global, set: &mut TreeRangeSet, mutation: &Mutation) -> Result<(), Refusal>
+    ensures { Answers result None (λ _. set.new ≡ with_range (named_range mutation.now) set.old) }
+{
+    match mutation.named() {
+        Named::Key(key) => add_key(alloc, set, key),
+        Named::Range(range) => set.add(range),
+    }
+}
+
+// Adds what the operation writes.
+fn add_written(alloc: Global, writes: &mut TreeRangeSet, op: &Op) -> Result<(), Refusal>
+    ensures { Answers result None (λ _. writes.new ≡ add_writes op.now writes.old) }
+{
+    match op {
+        Op::Write(mutation) => add_named(alloc, writes, mutation),
+        Op::AddWrite(range) => writes.add(range),
+        Op::Get { .. } | Op::Range { .. } | Op::AddRead(_) => Ok(()),
+    }
+}
+
+// The write set of the operations.
+fn written(alloc: Global, ops: &[(Op, Reply)]) -> Result<TreeRangeSet, Refusal>
+    ensures { Answers result None (λ writes. writes ≡ write_ranges (program ops.now)) }
+{
+    let mut writes = TreeRangeSet::new(alloc);
+    for (op, _) in ops {
+        add_written(alloc, &mut writes, op)?;
+    }
+    Ok(writes)
+}
+
+// Adds the mutation of the operation, if it is a write.
+fn add_listed(mutations: &mut Items<Mutation>, op: &Op) -> Result<(), Refusal>
+    ensures { Answers result None (λ _. mutations.new ≡ add_mutation op.now mutations.old) }
+{
+    match op {
+        Op::Write(mutation) => {
+            mutations.push(mutation.clone()?)?;
+            Ok(())
+        }
+        Op::Get { .. } | Op::Range { .. } | Op::AddRead(_) | Op::AddWrite(_) => Ok(()),
+    }
+}
+
+// The mutations of the operations.
+fn listed(alloc: Global, ops: &[(Op, Reply)]) -> Result<Items<Mutation>, Refusal>
+    ensures { Answers result None (λ mutations. mutations ≡ mutations_of (program ops.now)) }
+{
+    let mut mutations = Items::new(alloc);
+    for (op, _) in ops {
+        add_listed(&mut mutations, op)?;
+    }
+    Ok(mutations)
+}
+
+// Adds what the operation decides.
+fn add_settled(alloc: Global, decided: &mut TreeRangeSet, op: &Op) -> Result<(), Refusal>
+    ensures { Answers result None (λ _. decided.new ≡ add_decided op.now decided.old) }
+{
+    match op {
+        Op::Write(mutation) if mutation.is_blind() => add_named(alloc, decided, mutation),
+        _ => Ok(()),
+    }
+}
+
+// Adds what a read of the range scanned, by the pairs that it was given, and no earlier operation decided.
+fn add_scan(
+    alloc: Global,
+    reads: &mut TreeRangeSet,
+    decided: &TreeRangeSet,
+    range: &KeyRange,
+    limit: u32,
+    reverse: bool,
+    pairs: &[(Key, Bytes)],
+) -> Result<(), Refusal>
+    requires { (map : Map) × (pairs.now ≡ given_of map range.now limit reverse) }
+    ensures { (earlier : List Op) → decided.now ≡ decided_ranges earlier → Answers result None
+        (λ _. reads.new ≡ add_scanned earlier (scanned range.now limit reverse pairs.now) reads.old) }
+{
+    let part = scanned_part(alloc, range, limit, reverse, pairs)?;
+    let undecided = decided.outside(alloc, &part)?;
+    reads.add_all(&undecided)
+}
+
+// Adds what the operation read that no earlier one decided.
+fn add_read(
+    alloc: Global,
+    reads: &mut TreeRangeSet,
+    decided: &TreeRangeSet,
+    op: &Op,
+    reply: &Reply,
+) -> Result<(), Refusal>
+    requires { is_ordinary op.now ≡ true → (map : Map) × (reply.now ≡ reply_on map op.now) }
+    ensures { (earlier : List Op) → decided.now ≡ decided_ranges earlier
+        → Answers result None (λ _. reads.new ≡ add_reads earlier op.now reply.now reads.old) }
+{
+    match (op, reply) {
+        (
+            Op::Get {
+                key,
+                snapshot: false,
+            },
+            _,
+        ) => {
+            if decided.contains(key) {
+                return Ok(());
+            }
+            add_key(alloc, reads, key)
+        }
+        (
+            Op::Range {
+                range,
+                limit,
+                reverse,
+                snapshot: false,
+            },
+            Reply::Pairs(pairs),
+        ) => add_scan(
+            alloc,
+            reads,
+            decided,
+            range,
+            *limit,
+            *reverse,
+            pairs.as_slice(),
+        ),
+        (Op::AddRead(range), _) => reads.add(range),
+        _ => Ok(()),
+    }
+}
+
+// The read set of the operations, which were answered as on some map.
+fn read(alloc: Global, ops: &[(Op, Reply)]) -> Result<TreeRangeSet, Refusal>
+    requires { (map : Map) × AgreeWhereOrdinary (program ops.now) (replies_of ops.now) (exec map (program ops.now)) }
+    ensures { Answers result None (λ reads. reads ≡ read_ranges (program ops.now) (replies_of ops.now)) }
+{
+    let mut reads = TreeRangeSet::new(alloc);
+    let mut decided = TreeRangeSet::new(alloc);
+    for (op, reply) in ops {
+        add_read(alloc, &mut reads, &decided, op, reply)?;
+        add_settled(alloc, &mut decided, op)?;
+    }
+    Ok(reads)
+}
+
+// Whether the transaction has this name, this read version, these sets and these mutations.
+fn has_parts(
+    transaction: &Sealed,
+    transcript: &Transcript,
+    reads: &RangeSet,
+    writes: &RangeSet,
+    mutations: &[Mutation],
+) -> bool
+    ensures { IsTrue result ↔ (transaction.now ≡ record {
+      id = transcript.now.id;
+      read = transcript.now.read_version;
+      reads = reads.now;
+      writes = writes.now;
+      mutations = mutations.now;
+    }) }
+{
+    if transaction.id() != transcript.id {
+        return false;
+    }
+    if transaction.read_version() != transcript.read_version {
+        return false;
+    }
+    if transaction.reads() != reads {
+        return false;
+    }
+    if transaction.writes() != writes {
+        return false;
+    }
+    transaction.mutations() == mutations
+}
+
+/// Whether the transaction is just what the transcript asks to commit: it has the transcript's name and read version,
+/// the read set and the write set of its operations, and their mutations in order. The transcript's ordinary operations
+/// were answered as on some map. Refused only as `NoMemory`.
+pub fn is_request_of(
+    alloc: Global,
+    transaction: &Sealed,
+    transcript: &Transcript,
+) -> Result<bool, Refusal>
+    requires { (map : Map) × AgreeWhereOrdinary (program transcript.now.ops) (replies_of transcript.now.ops)
+        (exec map (program transcript.now.ops)) }
+    ensures { Answers result None (λ same. IsTrue same ↔ (transaction.now ≡ commit_request_of transcript.now)) }
+{
+    let ops = transcript.ops.as_slice();
+    let reads = read(alloc, ops)?.to_set(alloc)?;
+    let writes = written(alloc, ops)?.to_set(alloc)?;
+    let mutations = listed(alloc, ops)?;
+    Ok(has_parts(
+        transaction,
+        transcript,
+        &reads,
+        &writes,
+        mutations.as_slice(),
+    ))
+}
+
+/// Whether the transcript wrote nothing: it has no mutation, and its write set is empty. Refused only as `NoMemory`.
+pub fn has_written_nothing(alloc: Global, transcript: &Transcript) -> Result<bool, Refusal>
+    ensures { Answers result None (λ nothing. IsTrue nothing
+        ↔ ((mutations_of (program transcript.now.ops) ≡ []) × (write_ranges (program transcript.now.ops) ≡ []))) }
+{
+    let ops = transcript.ops.as_slice();
+    let writes = written(alloc, ops)?;
+    let mutations = listed(alloc, ops)?;
+    Ok(mutations.is_empty() && writes.is_empty())
+}
