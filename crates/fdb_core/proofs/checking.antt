@@ -1,9 +1,12 @@
-pub mod AgreeLemmas
 pub mod BodyLemmas
 pub mod ComparingLemmas
 pub mod HoldingLemmas
 pub mod JudgingLemmas
 pub mod PartLemmas
 pub mod ReplayLemmas
+pub mod RunningLemmas
 pub mod SoundChecks
+pub mod SpotLemmas
+pub mod StandingLemmas
 pub mod ValueLemmas
+pub mod VisitLemmas

@@ -1,7 +1,10 @@
+pub mod CommittedLaws
 pub mod ExamplesLemmas
 pub mod HeadlineLaws
+pub mod MoveExamplesLemmas
 pub mod PromiseLaws
 pub mod ReplayLaws
+pub mod RoleLaws
 pub mod RunsLemmas
 pub mod ServingLaws
 pub mod TraceLaws

@@ -4,6 +4,8 @@ pub mod BookPushes
 pub mod CommitProxyTies
 pub mod GrvProxyTies
 pub mod LogTies
+pub mod MoveLemmas
+pub mod MovingTies
 pub mod PushSteps
 pub mod ReadSteps
 pub mod ResolvingLemmas

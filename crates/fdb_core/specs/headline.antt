@@ -1,11 +1,14 @@
 pub mod Answers
 pub mod Books
+pub mod Committed
 pub mod Examples
 pub mod Headline
+pub mod MoveExamples
 pub mod Promises
 pub mod Readings
 pub mod RealTime
 pub mod Replays
+pub mod RoleLaws
 pub mod Serving
 pub mod Sessions
 pub mod Traces

@@ -6,6 +6,7 @@ pub mod Machine
 pub mod Opened
 pub mod RoleSteps
 pub mod Roles
+pub mod SequencerSteps
 pub mod Sessions
 pub mod Steps
 pub mod Worlds

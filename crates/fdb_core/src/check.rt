@@ -2,6 +2,9 @@
 pub(crate) mod compare;
 pub(crate) mod judge;
 pub(crate) mod parts;
+pub(crate) mod run;
 pub(crate) mod serial;
 pub(crate) mod shards;
+pub(crate) mod standing;
 pub(crate) mod values;
+pub(crate) mod visits;

@@ -56,7 +56,7 @@ impl Cluster {
     {
         let count = config.shard_splits.len() as u32 + 1;
         let resolver_count = config.resolver_splits.len() as u32 + 1;
-        let sequencer = first_sequencer(alloc, config.proxies, resolver_count);
+        let sequencer = first_sequencer(alloc, config.proxies, resolver_count)?;
         let commit_proxies = new_commit_proxies(alloc, &config)?;
         let resolvers = new_resolvers(alloc, resolver_count)?;
         let logs = new_logs(alloc, config.logs, count)?;

@@ -3,11 +3,14 @@ ghost use Rattle.fdb_core.specs.headline.Promises.{RefusalsChangeNothing, Grants
 ghost use Rattle.fdb_core.specs.headline.Answers.{AnsweredByTheTrace};
 ghost use Rattle.fdb_core.specs.headline.Replays.{ReplaysTellTheRun};
 ghost use Rattle.fdb_core.specs.headline.RealTime.{RealTime};
+ghost use Rattle.fdb_core.specs.headline.RoleLaws.{ResolverGoesOn, OwnersGoOn, SequencerGoesOn, LogGoesOn, ShardGoesOn};
 ghost use Rattle.fdb_core.specs.headline.Examples.{OnlyTheFirstIsSerialized, ReadOnlyAtItsVersion, AfterAVersion, AnEmptyShardDoesNotServe, OnlyOrdinaryReadsCount, BegunByServing, ForgetfulRolesDoNotKeep, ReadOffTheTrace, Traced, ShardsGoOnAndForget};
 ghost use Rattle.fdb_core.specs.headline.Headline.{AcknowledgedAreSerialized};
+ghost use Rattle.fdb_core.specs.headline.MoveExamples.{TheSpanBeginsAtTheWindow, TheLaterMoveCounts, MovesTakeEffectWithTheNextEntry};
 ghost use Rattle.fdb_core.specs.headline.Traces.{TracesDetermineTheMachine, WorldsShowWhatIsTold};
 ghost use Rattle.fdb_core.specs.headline.Sessions.{SessionsAreWhereTheirStatesSay, AsksAreRefused};
 ghost use Rattle.fdb_core.specs.headline.Books.{TracesTellBooks, EntriesAreAnsweredOnce};
+ghost use Rattle.fdb_core.specs.headline.Committed.{ReadsOfTheCommittedStand, CommittedWhereTheAskedSayYes};
 
 /// A refused step changes nothing.
 pub fn refusals_change_nothing()
@@ -80,8 +83,8 @@ pub fn who_begins_after_an_acknowledgement_is_ordered_after_it()
 
 /// What the headline says of small worlds: which transactions are serialized at which spots and which aren't, who is
 /// ordered after a version, what an empty shard would have to answer, which reads count, who has begun, what a role
-/// that forgets would have to keep, what is read off a trace with a conflict, which answers a trace has, and what a
-/// shard of two pulls, forgets and pops.
+/// that forgets would have to keep, what is read off a trace with a conflict, which answers a trace has, what a
+/// shard of two pulls, forgets and pops, and who is asked where keys go over from one resolver to another.
 pub fn worked_examples()
     ensures spots { OnlyTheFirstIsSerialized }
     ensures read_only { ReadOnlyAtItsVersion }
@@ -93,6 +96,9 @@ pub fn worked_examples()
     ensures readings { ReadOffTheTrace }
     ensures traces { Traced }
     ensures shards { ShardsGoOnAndForget }
+    ensures moves { MovesTakeEffectWithTheNextEntry }
+    ensures span { TheSpanBeginsAtTheWindow }
+    ensures overlap { TheLaterMoveCounts }
 {}
 
 /// Over every trace the entries are a book: their versions rise, and each previous version is that of the entry before;
@@ -123,4 +129,31 @@ pub fn acknowledged_transactions_are_logged()
 /// of the run of one transaction at a time. So does `replay` of them.
 pub fn replays_of_unpopped_peeks_tell_the_run()
     ensures { ReplaysTellTheRun }
+{}
+
+/// Of any book of sealed transactions: a transcript whose transaction is committed at a place, and each of whose
+/// ordinary operations was answered as on the map of the run at its read version, was answered as on the map right
+/// before the place.
+pub fn reads_of_committed_transactions_are_those_right_before_their_places()
+    ensures { ReadsOfTheCommittedStand }
+{}
+
+/// Of any book of sealed transactions: a place is committed exactly where each resolver that is asked about it says yes,
+/// by the rule, after the places before it.
+pub fn places_are_committed_where_the_asked_say_yes()
+    ensures { CommittedWhereTheAskedSayYes }
+{}
+
+/// A role that is where a book leaves it, and takes its message of one more entry, is where the book with that entry
+/// leaves it. A resolver says of its part what the rule says of the entry's places. Owners learn the entry's moves. The
+/// sequencer accepts the entry's ticket: what a commit proxy hasn't had yet are still the last of the moves that took
+/// effect. A log keeps the entry's message for each of its tags above what was popped, which has to be less than the
+/// entry's version. A shard applies the entry's message for its tag, and answers from the run with the entry. None of
+/// the resolver, the log and the shard is refused it.
+pub fn roles_go_on_with_one_more_entry()
+    ensures resolver { ResolverGoesOn }
+    ensures owners { OwnersGoOn }
+    ensures sequencer { SequencerGoesOn }
+    ensures log { LogGoesOn }
+    ensures shard { ShardGoesOn }
 {}

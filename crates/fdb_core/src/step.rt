@@ -102,6 +102,11 @@ pub enum Step {
     Pop {
         shard: u32,
     },
+    /// The keys of the range go over to the resolver, with the next entry.
+    Move {
+        range: KeyRange,
+        to: u32,
+    },
 }
 
 /// What an accepted step answers.

@@ -4,6 +4,7 @@ mod commit_proxy;
 mod grv_proxy;
 mod log;
 mod resolver;
+mod sequencer;
 mod shard;
 
 ghost use Rattle.std.specs.Prelude.{◌≡◌};
@@ -64,6 +65,7 @@ impl Cluster {
             Step::Pull { shard, limit } => self.pull(*shard, *limit),
             Step::Forget { shard, version } => self.forget(*shard, *version),
             Step::Pop { shard } => self.pop(*shard),
+            Step::Move { range, to } => self.move_to(range, *to),
         }
     }
 }

@@ -9,12 +9,13 @@ use Rattle.fdb_keys.specs.Answers.{Answers, AnswersExactly}
 use Rattle.fdb_keys.specs.declared.refusal.Refusal.{Refusal}
 use Rattle.fdb_keys.specs.declared.refusal.Refusal.TheVariants.{Stale, Failed, WrongState}
 use Rattle.fdb_sequencer.specs.declared.ticket.Ticket.{Ticket}
+use Rattle.fdb_sequencer.specs.TicketLaws.{AreRisingUpTo}
 use Rattle.fdb_txn.specs.declared.entry.Move.{Move}
 use Rattle.fdb_txn.specs.book.Book.{Stamped, add_moves}
 use Rattle.fdb_owners.specs.Ownership.{Ownership, learn_fault, HasLearnt}
 use Rattle.fdb_owners.specs.OwnersLaws.{AgreesWith}
 use Rattle.fdb_owners.proofs.BookLemmas.{learning_goes_on}
-use Rattle.fdb_proxy.specs.CommitProxies.{CommitProxy, is_sealed, is_stale, moves_with, AreRisingUpTo, learn_fault as ticket_fault}
+use Rattle.fdb_proxy.specs.CommitProxies.{CommitProxy, is_sealed, is_stale, moves_with, learn_fault as ticket_fault}
 
 abbrev Dated : Type 0
 Dated = ℕ × List Move

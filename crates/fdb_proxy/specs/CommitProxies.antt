@@ -16,6 +16,7 @@ use Rattle.fdb_owners.specs.OwnersLaws.{AgreesWith}
 use Rattle.fdb_resolver.specs.declared.part.Part.{Part}
 use Rattle.fdb_resolver.specs.declared.verdict.Verdicts.{Verdicts}
 use Rattle.fdb_sequencer.specs.declared.ticket.Ticket.{Ticket}
+use Rattle.fdb_sequencer.specs.TicketLaws.{AreRisingUpTo, GoToResolvers}
 use Rattle.fdb_log.specs.declared.message.LogAck.{LogAck}
 use Rattle.fdb_log.specs.declared.message.LogMsg.{LogMsg}
 use Rattle.fdb_proxy.specs.declared.config.Config.{Config}
@@ -142,17 +143,6 @@ unsealing p =
 -- the moves of a list by versions, after older ones
 abbrev pub moves_with : List (ℕ × List Move) → List Stamped → List Stamped
 moves_with dated older = fold (λ (moves : List Stamped) (of : ℕ × List Move). add_moves of.0 of.1 moves) older dated
-
--- the moves go to resolvers of which there are so many
-abbrev pub GoToResolvers : ℕ → List (ℕ × List Move) → Type 0
-GoToResolvers resolvers dated =
-    AllByRecursion (λ (of : ℕ × List Move). AllByRecursion (λ (move : Move). move.to < resolvers) of.1) dated
-
--- the versions of the moves rise up to this one
-abbrev pub AreRisingUpTo : ℕ → List (ℕ × List Move) → Type 0
-AreRisingUpTo version [] = ⊤
-AreRisingUpTo version (of ∷ dated) =
-    (of.0 ≤ version) × AllByRecursion (λ (later : ℕ × List Move). of.0 < later.0) dated × AreRisingUpTo version dated
 
 -- The ticket may be learnt: its moves go to resolvers that exist, at versions that rise up to the ticket's, which lies
 -- above what the batch read at.

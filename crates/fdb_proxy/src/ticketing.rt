@@ -7,7 +7,8 @@ ghost use Rattle.fdb_txn.specs.book.Book.{Stamped};
 ghost use Rattle.fdb_txn.specs.rules.Owners.{window};
 ghost use Rattle.fdb_owners.specs.Ownership.{resolvers_of};
 ghost use Rattle.fdb_owners.specs.OwnersLaws.{AgreesWith};
-ghost use Rattle.fdb_proxy.specs.CommitProxies.{is_stale, moves_with, AreRisingUpTo, GoToResolvers, HaveLearnt, IsUnheard};
+ghost use Rattle.fdb_sequencer.specs.TicketLaws.{AreRisingUpTo, GoToResolvers};
+ghost use Rattle.fdb_proxy.specs.CommitProxies.{is_stale, moves_with, HaveLearnt, IsUnheard};
 
 use crate::parting::parts_of;
 use crate::position::Position;

@@ -1,1 +1,3 @@
+pub mod HandingLemmas
+pub mod MoveLemmas
 pub mod TicketLemmas

@@ -1,38 +1,44 @@
 -- What is accepted was planned, is accepted once, and makes a book.
-use Rattle.std.proofs.Common.{◌≡◌, ap, subst, map, arith, ⊎_elim, ℕ, zero, suc, ◌+◌, ◌-◌, ◌<◌, ◌≤◌, true, List, [], ◌∷◌, fold, Some, None}
-use Rattle.std.proofs.lemmas.Bool.{and_parts, cases_Bool, ltb-true, leb-true, eqb-true}
+use Rattle.std.proofs.Common.{◌≡◌, ◌∙◌, refl, sym, ap, subst, map, arith, ⊎_elim, ℕ, zero, suc, ◌+◌, ◌-◌, ◌<◌, ◌≤◌, true, List, [], ◌∷◌, fold, Some, None}
+use Rattle.std.specs.List.{AllByRecursion}
+use Rattle.std.proofs.lemmas.Bool.{and_parts, and_from, cases_Bool, ltb-true, leb-true, eqb-true, lt-ltb, le-leb, eq-eqb}
 use Rattle.std.proofs.lemmas.Grind.{common_steps}
-use Rattle.std.proofs.lemmas.List.{nil_from_length}
 use Rattle.fdb_keys.specs.declared.refusal.Refusal.TheVariants.{Stale}
+use Rattle.fdb_keys.specs.Equality.{items_eq_decides}
+use Rattle.fdb_txn.specs.declared.entry.Move.{Move}
+use Rattle.fdb_txn.specs.Equality.{move_eq, move_eq_decides}
 use Rattle.fdb_txn.specs.book.History.{AreEntries}
-use Rattle.fdb_txn.proofs.book.HistoryLemmas.{books_are_entries}
+use Rattle.fdb_txn.proofs.book.HistoryLemmas.{all-append, books_are_entries}
 use Rattle.fdb_sequencer.specs.declared.ticket.Ticket.{Ticket}
+use Rattle.fdb_sequencer.specs.Equality.{dated_eq, dated_eq_decides}
 use Rattle.fdb_sequencer.specs.Limits.{ticket_limit, version_limit, greatest_advance}
-use Rattle.fdb_sequencer.specs.Sequencer.{Sequencer, next_version, is_planned, accept_fault, accepting}
-use Rattle.fdb_sequencer.specs.TicketLaws.{AcceptedArePlanned, AcceptedOnce, IndicesCountUp, TicketsMakeABook, FirstTicketsAreABook, entry_of}
+use Rattle.fdb_sequencer.specs.Moves.{moves_at}
+use Rattle.fdb_sequencer.specs.Sequencer.{Sequencer, moves_in, next_version, planned, plan_fault, is_planned, accept_fault, accepting, move_fault, moving}
+use Rattle.fdb_sequencer.specs.TicketLaws.{Act, Moves, Takes, after, tickets_in, PlannedAreAccepted, AcceptedArePlanned, AcceptedOnce, IndicesCountUp, Issued, ReadsBelow, AreIssued, TicketsMakeABook, FirstTicketsAreABook, entry_of}
 
 -- what the test of a ticket says
-record IsNow (s : Sequencer) (ticket : Ticket) : Type 0 where
-  proxy : ticket.proxy < s.proxies
-  index : ticket.index ≡ s.accepted
-  counted : ticket.index < ticket_limit
-  prev : ticket.prev ≡ s.last
-  above : s.last < ticket.version
-  near : ticket.version ≤ s.last + greatest_advance
-  within : ticket.version ≤ version_limit
-  moves : ticket.moves ≡ []
-  pending : ticket.pending ≡ []
+pub record IsNow (s : Sequencer) (ticket : Ticket) : Type 0 where
+  pub proxy : ticket.proxy < s.proxies
+  pub index : ticket.index ≡ s.accepted
+  pub counted : ticket.index < ticket_limit
+  pub prev : ticket.prev ≡ s.last
+  pub above : s.last < ticket.version
+  pub near : ticket.version ≤ s.last + greatest_advance
+  pub within : ticket.version ≤ version_limit
+  pub moves : ticket.moves ≡ moves_at (moves_in s) ticket.proxy ticket.version
+  pub pending : ticket.pending ≡ s.pending
 
 is_now : (s : Sequencer) (ticket : Ticket) → is_planned s ticket ≡ true → IsNow s ticket
 is_now s ticket test =
     let all = and_parts _ _ test in
-    let empty = and_parts _ _ all.1 in
+    let lists = and_parts _ _ all.1 in
     let to_next = and_parts _ _ all.0 in
     let next = and_parts _ _ to_next.1 in
     let ends = and_parts _ _ next.0 in
     let to_prev = and_parts _ _ to_next.0 in
     let to_counted = and_parts _ _ to_prev.0 in
     let to_index = and_parts _ _ to_counted.0 in
+    let moves = moves_at (moves_in s) ticket.proxy ticket.version in
     record {
       proxy = ltb-true _ _ to_index.0;
       index = eqb-true _ _ to_index.1;
@@ -41,8 +47,8 @@ is_now s ticket test =
       above = ltb-true _ _ ends.0;
       near = leb-true _ _ ends.1;
       within = leb-true _ _ next.1;
-      moves = nil_from_length _ (eqb-true _ _ empty.0);
-      pending = nil_from_length _ (eqb-true _ _ empty.1);
+      moves = (items_eq_decides dated_eq dated_eq_decides ticket.moves moves).0 lists.0;
+      pending = (items_eq_decides move_eq move_eq_decides ticket.pending s.pending).0 lists.1;
     }
 
 -- an advance within the limit brings the version that far
@@ -50,15 +56,54 @@ next_version-at : (last version : ℕ) → last < version → version ≤ last +
     → version ≡ next_version last (version - last)
 next_version-at last version above near = omega arith
 
+-- the next version is above the last one, within the greatest advance
+pub next_version-above : (last advance : ℕ)
+    → (last < next_version last advance) × (next_version last advance ≤ last + greatest_advance)
+next_version-above last advance = (omega arith, omega arith)
+
 accepted_by_test : (s : Sequencer) (ticket : Ticket) → accept_fault s ticket ≡ None → is_planned s ticket ≡ true
 accepted_by_test s ticket accepted =
     ⊎_elim (λ e. e) (λ e. absurd (let refused : Some Stale ≡ None = rw e at accepted in cc))
     (cases_Bool (is_planned s ticket))
 
+-- what is accepted passes the test
+pub accepted_is_now : (s : Sequencer) (ticket : Ticket) → accept_fault s ticket ≡ None → IsNow s ticket
+accepted_is_now s ticket accepted = is_now s ticket (accepted_by_test s ticket accepted)
+
+-- who is granted a ticket is a proxy, and neither versions nor tickets are used up
+pub record IsGranted (s : Sequencer) (proxy advance : ℕ) : Type 0 where
+  pub is_proxy : proxy < s.proxies
+  pub version : next_version s.last advance ≤ version_limit
+  pub accepted : s.accepted < ticket_limit
+
+pub is_granted : (s : Sequencer) (proxy advance : ℕ) → plan_fault s proxy advance ≡ None → IsGranted s proxy advance
+is_granted s proxy advance granted =
+    record {
+      is_proxy = grind (arith, common_steps);
+      version = grind (arith, common_steps);
+      accepted = grind (arith, common_steps);
+    }
+
+pub planned_are_accepted : PlannedAreAccepted
+planned_are_accepted s proxy advance granted =
+    let is = is_granted s proxy advance granted in
+    let above = next_version-above s.last advance in
+    let version = next_version s.last advance in
+    let moves = moves_at (moves_in s) proxy version in
+    let same : is_planned s (planned s proxy advance) ≡ true =
+    and_from _ _
+    (and_from _ _
+    (and_from _ _ (and_from _ _ (and_from _ _ (lt-ltb _ _ is.is_proxy) (eq-eqb _ _ refl)) (lt-ltb _ _ is.accepted)) (eq-eqb _ _ refl))
+    (and_from _ _ (and_from _ _ (lt-ltb _ _ above.0) (le-leb _ _ above.1)) (le-leb _ _ is.version)))
+    (and_from _ _ ((items_eq_decides dated_eq dated_eq_decides moves moves).1 refl)
+    ((items_eq_decides move_eq move_eq_decides s.pending s.pending).1 refl)) in
+    rw same refl
+
 pub accepted_are_planned : AcceptedArePlanned
 accepted_are_planned s ticket accepted =
-    let now = is_now s ticket (accepted_by_test s ticket accepted) in
-    let version = next_version-at s.last ticket.version now.above now.near in (
+    let now = accepted_is_now s ticket accepted in
+    let version = next_version-at s.last ticket.version now.above now.near in
+    let moves = now.moves ∙ ap (moves_at (moves_in s) ticket.proxy) version in (
       ticket.version - s.last,
       (
         omega arith,
@@ -68,15 +113,16 @@ accepted_are_planned s ticket accepted =
           index = now.index i;
           version = version i;
           prev = now.prev i;
-          moves = now.moves i;
+          moves = moves i;
           pending = now.pending i;
         },
       ),
     )
 
-accepted-grows : (s : Sequencer) (tickets : List Ticket) → s.accepted ≤ (fold accepting s tickets).accepted
+accepted-grows : (s : Sequencer) (acts : List Act) → s.accepted ≤ (fold after s acts).accepted
 accepted-grows s [] = omega arith
-accepted-grows s (ticket ∷ tickets) = omega (arith, accepted-grows (accepting s ticket) tickets)
+accepted-grows s (Moves move ∷ acts) = accepted-grows (moving s move) acts
+accepted-grows s (Takes ticket ∷ acts) = omega (arith, accepted-grows (accepting s ticket) acts)
 
 -- a ticket whose index was given is stale
 pub passed_is_stale : (s : Sequencer) (ticket : Ticket) → ticket.index < s.accepted → accept_fault s ticket ≡ Some Stale
@@ -84,37 +130,72 @@ passed_is_stale s ticket passed = grind (arith, common_steps)
 
 pub accepted_once : AcceptedOnce
 accepted_once s ticket other between accepted lower =
-    let now = is_now s ticket (accepted_by_test s ticket accepted) in
-    let index : ticket.index ≡ s.accepted = now.index in
+    let index : ticket.index ≡ s.accepted = (accepted_is_now s ticket accepted).index in
     let grown = accepted-grows (accepting s ticket) between in
-    passed_is_stale (fold accepting (accepting s ticket) between) other (omega arith)
+    passed_is_stale (fold after (accepting s ticket) between) other (omega arith)
 
 pub indices_count_up : IndicesCountUp
-indices_count_up s [] accepted k found is = cc
-indices_count_up s (ticket ∷ tickets) accepted zero found is =
-    let now = is_now s ticket (accepted_by_test s ticket accepted.0) in
-    let index : ticket.index ≡ s.accepted = now.index in
+indices_count_up s [] taken k found is = cc
+indices_count_up s (Moves move ∷ acts) taken k found is = indices_count_up (moving s move) acts taken.1 k found is
+indices_count_up s (Takes ticket ∷ acts) taken zero found is =
+    let index : ticket.index ≡ s.accepted = (accepted_is_now s ticket taken.0).index in
     let same : ticket ≡ found = cc in
     let indices : ticket.index ≡ found.index = ap (λ (one : Ticket). one.index) same in
     omega arith
-indices_count_up s (ticket ∷ tickets) accepted (suc k) found is =
-    let rest = indices_count_up (accepting s ticket) tickets accepted.1 k found is in
+indices_count_up s (Takes ticket ∷ acts) taken (suc k) found is =
+    let rest = indices_count_up (accepting s ticket) acts taken.1 k found is in
     omega arith
 
-pub tickets_make_a_book : TicketsMakeABook
-tickets_make_a_book s [] accepted reads = tt
-tickets_make_a_book s (issued ∷ later) accepted reads =
-    let now = is_now s issued.0 (accepted_by_test s issued.0 accepted.0) in (
-      now.above,
-      now.prev,
-      rw now.pending tt,
+-- the moves go to resolvers of which there are so many
+abbrev pub Exist : ℕ → List Move → Type 0
+Exist resolvers moves = AllByRecursion (λ (move : Move). move.to < resolvers) moves
+
+-- a move that is made goes to a resolver that exists
+pub moved_exists : (s : Sequencer) (move : Move) → move_fault s move ≡ None → move.to < s.resolvers
+moved_exists s move made = grind (arith, common_steps)
+
+-- so the pending ones do after it
+pub pending_exist : (s : Sequencer) (move : Move) → move_fault s move ≡ None → Exist s.resolvers s.pending
+    → Exist s.resolvers (moving s move).pending
+pending_exist s move made exist =
+    all-append (λ (one : Move). one.to < s.resolvers) s.pending (move ∷ []) exist (moved_exists s move made, tt)
+
+-- a ticket's entry follows on the last version, with the pending moves
+record Follows (s : Sequencer) (ticket : Ticket) : Type 0 where
+  above : s.last < ticket.version
+  prev : ticket.prev ≡ s.last
+  pending : ticket.pending ≡ s.pending
+
+follows : (s : Sequencer) (ticket issued : Ticket) → accept_fault s ticket ≡ None → issued ≡ ticket → Follows s issued
+follows s ticket issued accepted same =
+    let now = accepted_is_now s ticket accepted in
+    subst (Follows s) (sym same) (record { above = now.above; prev = now.prev; pending = now.pending })
+
+entries_of : (s : Sequencer) (acts : List Act) (issued : List Issued) → Exist s.resolvers s.pending
+    → AreIssued s acts issued → AllByRecursion ReadsBelow issued → AreEntries s.resolvers s.last (map entry_of issued)
+entries_of s [] [] exist are reads = tt
+entries_of s [] (one ∷ issued) exist are reads = absurd (let same = are.1 in cc)
+entries_of s (Moves move ∷ acts) issued exist are reads =
+    entries_of (moving s move) acts issued (pending_exist s move are.0.0 exist) (are.0.1, are.1) reads
+entries_of s (Takes ticket ∷ acts) [] exist are reads = absurd (let same = are.1 in cc)
+entries_of s (Takes ticket ∷ acts) (one ∷ issued) exist are reads =
+    let same : one.0 ≡ ticket = let both = are.1 in cc in
+    let others : map (λ (other : Issued). other.0) issued ≡ tickets_in acts = let both = are.1 in cc in
+    let follows = follows s ticket one.0 are.0.0 same in
+    let rest = entries_of (accepting s ticket) acts issued tt (are.0.1, others) reads.1 in (
+      follows.above,
+      follows.prev,
+      subst (Exist s.resolvers) (sym follows.pending) exist,
       reads.0,
-      tickets_make_a_book (accepting s issued.0) later accepted.1 reads.1,
+      subst (λ (t : Ticket). AreEntries s.resolvers t.version (map entry_of issued)) (sym same) rest,
     )
 
+pub tickets_make_a_book : TicketsMakeABook
+tickets_make_a_book s acts issued legal are reads = entries_of s acts issued legal.targets are reads
+
 pub first_tickets_are_a_book : FirstTicketsAreABook
-first_tickets_are_a_book s issued first accepted reads once =
+first_tickets_are_a_book s acts issued legal first are reads once =
     let entries : AreEntries s.resolvers 0 (map entry_of issued) =
     subst (λ (last : ℕ). AreEntries s.resolvers last (map entry_of issued)) first
-    (tickets_make_a_book s issued accepted reads) in
+    (tickets_make_a_book s acts issued legal are reads) in
     ((books_are_entries s.resolvers (map entry_of issued)).1 (entries, once)).0

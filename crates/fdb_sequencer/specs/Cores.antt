@@ -10,4 +10,7 @@ sequencer_of core =
       accepted = core.accepted;
       last = core.last;
       committed = core.committed;
+      pending = core.moves.pending;
+      unlearnt = core.moves.unlearnt;
+      made = core.made;
     }

@@ -1,24 +1,24 @@
 -- What `==` says: two tickets are equal exactly where they are the same.
-use Rattle.std.specs.Prelude.{◌≡◌, ℕ, Bool, ◌&&◌, ◌==◌, List}
+use Rattle.std.specs.Prelude.{◌≡◌, Bool, ◌&&◌, ◌==◌}
 use Rattle.std.proofs.Common.{ap}
 use Rattle.std.specs.Bool.{Decides}
 use Rattle.std.specs.Cmp.Lexicographic.{pointwise}
 use Rattle.std.proofs.lemmas.Bool.Decides.{Decides-and, Decides-eqb}
 use Rattle.fdb_keys.specs.Equality.{items_eq_decides}
-use Rattle.fdb_txn.specs.declared.entry.Move.{Move}
 use Rattle.fdb_txn.specs.Equality.{move_eq, move_eq_decides}
+use Rattle.fdb_sequencer.specs.Moves.{Dated}
 use Rattle.fdb_sequencer.specs.declared.ticket.Ticket.{Ticket}
 use Rattle.fdb_sequencer.specs.contracts.ticket.TicketPartialEq.TheImpl as of_tickets
 
 -- `==` of two lists of moves with their versions
-abbrev pub dated_eq : (ℕ × List Move) → (ℕ × List Move) → Bool
+abbrev pub dated_eq : Dated → Dated → Bool
 dated_eq a b = (a.0 == b.0) && pointwise move_eq a.1 b.1
 
-pub dated_eq_decides : (a b : ℕ × List Move) → Decides (dated_eq a b) (a ≡ b)
+pub dated_eq_decides : (a b : Dated) → Decides (dated_eq a b) (a ≡ b)
 dated_eq_decides a b =
     let parts = Decides-and _ _ (Decides-eqb a.0 b.0) (items_eq_decides move_eq move_eq_decides a.1 b.1) in (
       λ equal. let same = parts.0 equal in λ i. (same.0 i, same.1 i),
-      λ same. parts.1 (ap (λ (dated : ℕ × List Move). dated.0) same, ap (λ (dated : ℕ × List Move). dated.1) same),
+      λ same. parts.1 (ap (λ (of : Dated). of.0) same, ap (λ (of : Dated). of.1) same),
     )
 
 -- `==` of two tickets

@@ -1,6 +1,8 @@
 pub mod Cores
 pub mod Equality
 pub mod Limits
+pub mod MoveFields
+pub mod Moves
 pub mod Sequencer
 pub mod TicketLaws
 pub use Rattle.fdb_keys.specs.Answers

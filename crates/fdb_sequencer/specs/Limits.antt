@@ -12,3 +12,6 @@ version_limit = 2 ^ 62
 
 abbrev pub greatest_advance : ℕ
 greatest_advance = 5000000
+
+abbrev pub move_limit : ℕ
+move_limit = 65536

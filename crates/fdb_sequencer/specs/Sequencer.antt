@@ -1,10 +1,17 @@
 -- The sequencer, what each call answers and what it leaves.
-use Rattle.std.specs.Prelude.{ℕ, suc, ◌+◌, ◌≤◌, min, max, Bool, ◌&&◌, ◌||◌, ◌==◌, nat_lt, nat_le, [], length, Option, Some, None, if◌then◌else◌}
+use Rattle.std.specs.Prelude.{◌≡◌, ℕ, suc, ◌+◌, ◌<◌, ◌≤◌, min, max, Bool, ◌&&◌, ◌||◌, ◌==◌, nat_lt, nat_le, List, length, Option, Some, None, if◌then◌else◌}
+use Rattle.std.specs.List.{AllByRecursion}
+use Rattle.std.specs.Cmp.Lexicographic.{pointwise}
 use Rattle.fdb_keys.specs.declared.refusal.Refusal.{Refusal}
-use Rattle.fdb_keys.specs.declared.refusal.Refusal.TheVariants.{Stale, Exhausted, BadConfig}
-use Rattle.fdb_sequencer.specs.declared.ticket.Ticket.{Ticket}
+use Rattle.fdb_keys.specs.declared.refusal.Refusal.TheVariants.{Stale, Exhausted, BadConfig, MovesFull}
+use Rattle.fdb_keys.specs.Ranges.{is_empty_range}
+use Rattle.fdb_txn.specs.declared.entry.Move.{Move}
+use Rattle.fdb_txn.specs.Equality.{move_eq}
 use Rattle.fdb_txn.specs.Limits.{resolver_limit}
-use Rattle.fdb_sequencer.specs.Limits.{proxy_limit, ticket_limit, version_limit, greatest_advance}
+use Rattle.fdb_sequencer.specs.declared.ticket.Ticket.{Ticket}
+use Rattle.fdb_sequencer.specs.Equality.{dated_eq}
+use Rattle.fdb_sequencer.specs.Limits.{proxy_limit, ticket_limit, version_limit, greatest_advance, move_limit}
+use Rattle.fdb_sequencer.specs.Moves.{Dated, Moves, no_moves, with_move, unlearnt_of, moves_at, handed_out}
 
 pub record Sequencer : Type 0 where
   -- how many commit proxies and how many resolvers there are
@@ -16,6 +23,12 @@ pub record Sequencer : Type 0 where
   pub last : ℕ
   -- the greatest version that was reported
   pub committed : ℕ
+  -- the moves that take effect with the next ticket that is accepted, the earliest one first
+  pub pending : List Move
+  -- for each proxy the moves that it hasn't had, but for the pending ones, by version
+  pub unlearnt : List (List Dated)
+  -- how many moves were made
+  pub made : ℕ
 
 -- what holds of every sequencer
 pub record IsSequencer (s : Sequencer) : Type 0 where
@@ -24,6 +37,10 @@ pub record IsSequencer (s : Sequencer) : Type 0 where
   pub accepted : s.accepted ≤ ticket_limit
   pub last : s.last ≤ version_limit
   pub committed : s.committed ≤ s.last
+  pub count : length s.unlearnt ≡ s.proxies
+  pub targets : AllByRecursion (λ (move : Move). move.to < s.resolvers) s.pending
+  pub made : s.made ≤ move_limit
+  pub pending : length s.pending ≤ s.made
 
 -- a number is at least 1, and at most the limit
 abbrev pub is_count : ℕ → ℕ → Bool
@@ -35,10 +52,27 @@ new_fault proxies resolvers last =
     if is_count proxy_limit proxies && is_count resolver_limit resolvers && nat_le last version_limit then None
     else Some BadConfig
 
--- before the first ticket and the first report
+-- before the first ticket, the first report and the first move
 abbrev pub fresh : ℕ → ℕ → ℕ → Sequencer
-fresh proxies resolvers last = record
-    { proxies = proxies; resolvers = resolvers; accepted = 0; last = last; committed = 0 }
+fresh proxies resolvers last =
+    record {
+      proxies = proxies;
+      resolvers = resolvers;
+      accepted = 0;
+      last = last;
+      committed = 0;
+      pending = (no_moves proxies).pending;
+      unlearnt = (no_moves proxies).unlearnt;
+      made = 0;
+    }
+
+-- the moves of a sequencer
+abbrev pub moves_in : Sequencer → Moves
+moves_in s = record { pending = s.pending; unlearnt = s.unlearnt }
+
+-- the moves that the proxy hasn't had, by version
+abbrev pub unlearnt_by : Sequencer → ℕ → List Dated
+unlearnt_by s proxy = unlearnt_of (moves_in s) proxy
 
 -- the version an advance above the last one, but at least 1 and at most the greatest advance above it
 abbrev pub next_version : ℕ → ℕ → ℕ
@@ -52,8 +86,8 @@ planned s proxy advance =
       index = s.accepted;
       version = next_version s.last advance;
       prev = s.last;
-      moves = [];
-      pending = [];
+      moves = moves_at (moves_in s) proxy (next_version s.last advance);
+      pending = s.pending;
     }
 
 -- why a proxy gets no ticket for an advance
@@ -72,7 +106,9 @@ abbrev pub is_planned : Sequencer → Ticket → Bool
 is_planned s ticket =
     nat_lt ticket.proxy s.proxies && (ticket.index == s.accepted) && nat_lt ticket.index ticket_limit
     && (ticket.prev == s.last)
-    && is_next s.last ticket.version && ((length ticket.moves == 0) && (length ticket.pending == 0))
+    && is_next s.last ticket.version
+    && (pointwise dated_eq ticket.moves (moves_at (moves_in s) ticket.proxy ticket.version)
+    && pointwise move_eq ticket.pending s.pending)
 
 -- why a ticket isn't accepted
 abbrev pub accept_fault : Sequencer → Ticket → Option Refusal
@@ -80,7 +116,25 @@ accept_fault s ticket = if is_planned s ticket then None else Some Stale
 
 -- once the ticket was accepted
 abbrev pub accepting : Sequencer → Ticket → Sequencer
-accepting s ticket = record s { accepted = suc s.accepted; last = ticket.version }
+accepting s ticket =
+    let moves = handed_out (moves_in s) ticket.proxy ticket.version in
+    record s {
+      accepted = suc s.accepted;
+      last = ticket.version;
+      pending = moves.pending;
+      unlearnt = moves.unlearnt;
+    }
+
+-- why a move isn't made: there is no such resolver, its range is empty, or too many were made
+abbrev pub move_fault : Sequencer → Move → Option Refusal
+move_fault s move =
+    if nat_le s.resolvers move.to || is_empty_range move.range then Some BadConfig
+    else (if nat_le move_limit s.made then Some MovesFull
+    else None)
+
+-- once the move was made
+abbrev pub moving : Sequencer → Move → Sequencer
+moving s move = record s { pending = (with_move (moves_in s) move).pending; made = suc s.made }
 
 -- why a report isn't taken
 abbrev pub report_fault : Sequencer → ℕ → Option Refusal

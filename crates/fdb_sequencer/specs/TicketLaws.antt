@@ -1,14 +1,43 @@
--- Which tickets are accepted, and that they make a book.
-use Rattle.std.specs.Prelude.{◌≡◌, ◌+◌, ◌<◌, ◌≤◌, ⊤, ℕ, List, [], ◌∷◌, map, fold, slice_get, Some, None}
+-- Which tickets are accepted, that they make a book, and which moves they tell their proxies.
+use Rattle.std.specs.Prelude.{◌≡◌, ◌+◌, ◌<◌, ◌≤◌, ◌++◌, ◌==◌, ⊤, ℕ, List, [], ◌∷◌, map, filter, flat_map, fold, length, slice_get, Some, None, if◌then◌else◌}
 use Rattle.std.specs.List.{AllByRecursion}
 use Rattle.fdb_keys.specs.declared.refusal.Refusal.TheVariants.{Stale}
 use Rattle.fdb_txn.specs.declared.entry.Entry.{Entry}
+use Rattle.fdb_txn.specs.declared.entry.Move.{Move}
 use Rattle.fdb_txn.specs.book.Transactions.{Transaction, NamesWrites}
 use Rattle.fdb_txn.specs.book.Once.{NoIdTwice}
 use Rattle.fdb_txn.specs.book.History.{AreEntries, IsBook}
 use Rattle.fdb_sequencer.specs.declared.ticket.Ticket.{Ticket}
 use Rattle.fdb_sequencer.specs.Limits.{greatest_advance}
-use Rattle.fdb_sequencer.specs.Sequencer.{Sequencer, planned, plan_fault, accept_fault, accepting}
+use Rattle.fdb_sequencer.specs.Moves.{Dated, dated}
+use Rattle.fdb_sequencer.specs.Sequencer.{Sequencer, IsSequencer, fresh, unlearnt_by, planned, plan_fault, accept_fault, accepting, move_fault, moving}
+
+-- what changes which tickets may come: a move is made, or a ticket is accepted
+pub data Act : Type 0 where
+  Moves : (move : Move) → Act
+  Takes : (ticket : Ticket) → Act
+
+abbrev pub after : Sequencer → Act → Sequencer
+after s (Moves move) = moving s move
+after s (Takes ticket) = accepting s ticket
+
+-- each of the acts is taken in its turn
+abbrev pub AreTaken : Sequencer → List Act → Type 0
+AreTaken s [] = ⊤
+AreTaken s (Moves move ∷ acts) = (move_fault s move ≡ None) × AreTaken (moving s move) acts
+AreTaken s (Takes ticket ∷ acts) = (accept_fault s ticket ≡ None) × AreTaken (accepting s ticket) acts
+
+-- the tickets that are accepted, in order
+abbrev pub tickets_in : List Act → List Ticket
+tickets_in [] = []
+tickets_in (Moves move ∷ acts) = tickets_in acts
+tickets_in (Takes ticket ∷ acts) = ticket ∷ tickets_in acts
+
+-- the moves that are made, in order
+abbrev pub moves_made : List Act → List Move
+moves_made [] = []
+moves_made (Moves move ∷ acts) = move ∷ moves_made acts
+moves_made (Takes ticket ∷ acts) = moves_made acts
 
 -- what a proxy gets for an advance is accepted
 abbrev pub PlannedAreAccepted : Type 0
@@ -24,23 +53,18 @@ AcceptedArePlanned =
     × ((advance ≤ greatest_advance) × (plan_fault s ticket.proxy advance ≡ None)
     × (ticket ≡ planned s ticket.proxy advance))
 
--- once a ticket was accepted, one of its index or a lower one is stale, whatever was accepted in between
+-- once a ticket was accepted, one of its index or a lower one is stale, whatever is done in between
 abbrev pub AcceptedOnce : Type 0
 AcceptedOnce =
-    (s : Sequencer) (ticket other : Ticket) (between : List Ticket) → accept_fault s ticket ≡ None
+    (s : Sequencer) (ticket other : Ticket) (between : List Act) → accept_fault s ticket ≡ None
     → other.index ≤ ticket.index
-    → accept_fault (fold accepting (accepting s ticket) between) other ≡ Some Stale
+    → accept_fault (fold after (accepting s ticket) between) other ≡ Some Stale
 
--- tickets that are accepted one after another
-abbrev pub AreAccepted : Sequencer → List Ticket → Type 0
-AreAccepted s [] = ⊤
-AreAccepted s (ticket ∷ tickets) = (accept_fault s ticket ≡ None) × AreAccepted (accepting s ticket) tickets
-
--- their indices count up
+-- the indices of tickets that are accepted one after another count up
 abbrev pub IndicesCountUp : Type 0
 IndicesCountUp =
-    (s : Sequencer) (tickets : List Ticket) → AreAccepted s tickets
-    → (k : ℕ) (ticket : Ticket) → slice_get tickets k ≡ Some ticket → ticket.index ≡ s.accepted + k
+    (s : Sequencer) (acts : List Act) → AreTaken s acts
+    → (k : ℕ) (ticket : Ticket) → slice_get (tickets_in acts) k ≡ Some ticket → ticket.index ≡ s.accepted + k
 
 -- a ticket with the batch that it is for
 abbrev pub Issued : Type 0
@@ -54,16 +78,76 @@ abbrev pub entry_of : Issued → Entry
 entry_of issued = record
     { version = issued.0.version; prev = issued.0.prev; moves = issued.0.pending; batch = issued.1 }
 
+-- the tickets that are accepted, with their batches
+abbrev pub AreIssued : Sequencer → List Act → List Issued → Type 0
+AreIssued s acts issued = AreTaken s acts × (map (λ (one : Issued). one.0) issued ≡ tickets_in acts)
+
 -- batches at tickets that are accepted one after another are entries of a book, after the last version
 abbrev pub TicketsMakeABook : Type 0
 TicketsMakeABook =
-    (s : Sequencer) (issued : List Issued) → AreAccepted s (map (λ (one : Issued). one.0) issued)
+    (s : Sequencer) (acts : List Act) (issued : List Issued) → IsSequencer s → AreIssued s acts issued
     → AllByRecursion ReadsBelow issued
     → AreEntries s.resolvers s.last (map entry_of issued)
 
 -- from version 0 on they are a book, where no name is that of two of the transactions
 abbrev pub FirstTicketsAreABook : Type 0
 FirstTicketsAreABook =
-    (s : Sequencer) (issued : List Issued) → s.last ≡ 0 → AreAccepted s (map (λ (one : Issued). one.0) issued)
+    (s : Sequencer) (acts : List Act) (issued : List Issued) → IsSequencer s → s.last ≡ 0 → AreIssued s acts issued
     → AllByRecursion ReadsBelow issued → NoIdTwice (map entry_of issued)
     → IsBook s.resolvers (map entry_of issued)
+
+-- the moves that take effect at the tickets' versions
+abbrev pub taking_effect : List Ticket → List Dated
+taking_effect tickets = flat_map (λ (ticket : Ticket). dated ticket.version ticket.pending) tickets
+
+-- the moves that the tickets of a proxy tell it
+abbrev pub told : ℕ → List Ticket → List Dated
+told proxy tickets =
+    flat_map (λ (ticket : Ticket). ticket.moves) (filter (λ (ticket : Ticket). ticket.proxy == proxy) tickets)
+
+-- Each move takes effect once, with the first ticket that is accepted after it was made, in the order of the moves.
+abbrev pub EachMoveTakesEffectOnce : Type 0
+EachMoveTakesEffectOnce =
+    (s : Sequencer) (acts : List Act) → AreTaken s acts
+    → flat_map (λ (ticket : Ticket). ticket.pending) (tickets_in acts) ++ (fold after s acts).pending
+    ≡ s.pending ++ moves_made acts
+
+-- What a proxy's tickets tell it, and then what it hasn't had yet, is what it hadn't had before, and then all moves that
+-- took effect since: so it gets each of them once, in order, and none before it takes effect.
+abbrev pub EachProxyGetsEachMoveOnce : Type 0
+EachProxyGetsEachMoveOnce =
+    (s : Sequencer) (acts : List Act) (proxy : ℕ) → length s.unlearnt ≡ s.proxies → proxy < s.proxies → AreTaken s acts
+    → told proxy (tickets_in acts) ++ unlearnt_by (fold after s acts) proxy
+    ≡ unlearnt_by s proxy ++ taking_effect (tickets_in acts)
+
+-- the version of the proxy's last ticket, or the one given where it had none
+abbrev pub last_of : ℕ → ℕ → List Ticket → ℕ
+last_of proxy last [] = last
+last_of proxy last (ticket ∷ tickets) = last_of proxy (if ticket.proxy == proxy then ticket.version else last) tickets
+
+-- the versions rise, up to this one
+abbrev pub AreRisingUpTo : ℕ → List Dated → Type 0
+AreRisingUpTo version [] = ⊤
+AreRisingUpTo version (of ∷ later) =
+    (of.0 ≤ version) × AllByRecursion (λ (other : Dated). of.0 < other.0) later × AreRisingUpTo version later
+
+-- the moves go to resolvers of which there are so many
+abbrev pub GoToResolvers : ℕ → List Dated → Type 0
+GoToResolvers resolvers moves =
+    AllByRecursion (λ (of : Dated). AllByRecursion (λ (move : Move). move.to < resolvers) of.1) moves
+
+-- The ticket may be learnt by a proxy whose last ticket was of this version: its version and those of its moves are
+-- above that, its moves are of versions that rise up to its own, and they go to resolvers that exist.
+pub record MayBeLearnt (resolvers last : ℕ) (ticket : Ticket) : Type 0 where
+  pub later : last < ticket.version
+  pub above : AllByRecursion (λ (of : Dated). last < of.0) ticket.moves
+  pub rising : AreRisingUpTo ticket.version ticket.moves
+  pub targets : GoToResolvers resolvers ticket.moves
+
+-- every ticket that a sequencer plans may be learnt by its proxy, whose last version is 0 at first
+abbrev pub PlannedMayBeLearnt : Type 0
+PlannedMayBeLearnt =
+    (proxies resolvers last : ℕ) (acts : List Act) → AreTaken (fresh proxies resolvers last) acts
+    → (proxy advance : ℕ) → plan_fault (fold after (fresh proxies resolvers last) acts) proxy advance ≡ None
+    → MayBeLearnt resolvers (last_of proxy 0 (tickets_in acts))
+    (planned (fold after (fresh proxies resolvers last) acts) proxy advance)

@@ -1,8 +1,8 @@
-//! What `==` says of tickets, which tickets are accepted, and that they make a book.
+//! What `==` says of tickets, which tickets are accepted, that they make a book, and which moves they tell their proxies.
 ghost use Rattle.std.specs.Prelude.{◌≡◌};
 ghost use Rattle.std.specs.Bool.{Decides};
 ghost use Rattle.fdb_sequencer.specs.Equality.{ticket_eq};
-ghost use Rattle.fdb_sequencer.specs.TicketLaws.{PlannedAreAccepted, AcceptedArePlanned, AcceptedOnce, IndicesCountUp, TicketsMakeABook, FirstTicketsAreABook};
+ghost use Rattle.fdb_sequencer.specs.TicketLaws.{PlannedAreAccepted, AcceptedArePlanned, AcceptedOnce, IndicesCountUp, TicketsMakeABook, FirstTicketsAreABook, EachMoveTakesEffectOnce, EachProxyGetsEachMoveOnce, PlannedMayBeLearnt};
 
 use crate::ticket::Ticket;
 
@@ -17,16 +17,31 @@ pub fn tickets_are_accepted_exactly_where_they_are_planned()
     ensures accepted { AcceptedArePlanned }
 {}
 
-/// Once a ticket was accepted, no ticket of its index or a lower one ever is.
+/// Once a ticket was accepted, no ticket of its index or a lower one ever is, whatever moves are made and whatever
+/// tickets are accepted in between.
 pub fn tickets_are_accepted_once()
     ensures { AcceptedOnce }
 {}
 
-/// Tickets that are accepted one after another make a book. Their indices count up, and batches at them are
-/// entries that follow on one another, if each transaction read below its ticket's version. From version 0
-/// on they are a book, if no two of the transactions have one name.
+/// Tickets that are accepted one after another, with moves that are made in between, make a book. Their indices
+/// count up, and batches at them are entries that follow on one another, if each transaction read below its ticket's
+/// version. From version 0 on they are a book, if no two of the transactions have one name.
 pub fn accepted_tickets_make_a_book()
     ensures indices { IndicesCountUp }
     ensures entries { TicketsMakeABook }
     ensures book { FirstTicketsAreABook }
+{}
+
+/// Each move takes effect once, with the first ticket that is accepted after it was made. Each proxy is told each
+/// move that took effect once, in order, and none before it takes effect, by the next of its own tickets.
+pub fn each_proxy_gets_each_move_once()
+    ensures effect { EachMoveTakesEffectOnce }
+    ensures told { EachProxyGetsEachMoveOnce }
+{}
+
+/// Every ticket that a sequencer plans may be learnt by its proxy: its version and those of its moves are above the
+/// version of the proxy's last ticket, the versions of its moves rise up to its own, and the moves go to resolvers
+/// that exist.
+pub fn planned_tickets_may_be_learnt()
+    ensures { PlannedMayBeLearnt }
 {}

@@ -1,14 +1,15 @@
-//! The sequencer: it gives each batch its version and its place in the book, and keeps the greatest version
-//! that was reported as committed.
+//! The sequencer: it gives each batch its version and its place in the book, tells each proxy of the moves of keys
+//! between resolvers, and keeps the greatest version that was reported as committed.
 #![tactic(auto)]
 
 pub mod laws;
+mod moves;
 mod sequencer_core;
 #[cfg(test)]
 mod tests;
 mod ticket;
 
 pub use sequencer_core::{
-    GREATEST_ADVANCE, PROXY_LIMIT, SequencerCore, TICKET_LIMIT, VERSION_LIMIT,
+    GREATEST_ADVANCE, MOVE_LIMIT, PROXY_LIMIT, SequencerCore, TICKET_LIMIT, VERSION_LIMIT,
 };
 pub use ticket::Ticket;

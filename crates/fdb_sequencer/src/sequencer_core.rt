@@ -1,6 +1,7 @@
+use crate::moves::Moves;
 use crate::ticket::Ticket;
-use fdb_keys::{Items, Refusal};
-use fdb_txn::RESOLVER_LIMIT;
+use fdb_keys::Refusal;
+use fdb_txn::{Move, RESOLVER_LIMIT};
 use std::alloc::Global;
 use std::marker::Model;
 
@@ -16,18 +17,25 @@ pub const VERSION_LIMIT: u64 = 1 << 62;
 /// The most versions that one ticket may advance. The least is one.
 pub const GREATEST_ADVANCE: u64 = 5_000_000;
 
-/// Gives each batch its version and its place in the book, and keeps the greatest version that was reported.
+/// The most moves that may be made.
+pub const MOVE_LIMIT: u32 = 65_536;
+
+/// Gives each batch its version and its place in the book, tells each proxy of the moves of keys between resolvers, and
+/// keeps the greatest version that was reported.
 ///
 /// A ticket is planned first, which changes nothing, and then accepted. Of the tickets that were planned in
-/// between two that are accepted, one is accepted, and the others are stale from then on.
+/// between two that are accepted, one is accepted, and the others are stale from then on. So are those that were
+/// planned before a move.
 #[derive(Debug, Drop)]
 pub struct SequencerCore {
-    alloc: Global,
     proxies: u32,
     resolvers: u32,
     accepted: u64,
     last: u64,
     committed: u64,
+    moves: Moves,
+    // how many moves were made
+    made: u32,
 }
 
 impl Model for SequencerCore {
@@ -44,16 +52,16 @@ impl Model for SequencerCore {
 
 impl SequencerCore {
     ghost use Rattle.std.specs.Prelude.{◌≡◌, OnErr};
-    ghost use Rattle.fdb_keys.specs.Answers.{AnswersExactly};
-    ghost use Rattle.fdb_sequencer.specs.Sequencer.{IsSequencer, new_fault, fresh, plan_fault, planned, is_planned, accept_fault, accepting, report_fault, reporting};
+    ghost use Rattle.fdb_keys.specs.Answers.{Answers, AnswersExactly};
+    ghost use Rattle.fdb_sequencer.specs.Sequencer.{IsSequencer, new_fault, fresh, plan_fault, planned, is_planned, accept_fault, accepting, move_fault, moving, report_fault, reporting};
 
-    /// The sequencer of a database whose last version is `last`, which is 0 at first. No ticket was accepted
-    /// and no version reported yet. It takes no memory.
+    /// The sequencer of a database whose last version is `last`, which is 0 at first. No ticket was accepted,
+    /// no version reported and no move made yet.
     ///
     /// Refused as `BadConfig` unless there are 1 to 16 commit proxies and 1 to 64 resolvers, and the last
-    /// version is at most 2^62.
+    /// version is at most 2^62, and as `NoMemory`.
     pub fn new(alloc: Global, proxies: u32, resolvers: u32, last: u64) -> Result<Self, Refusal>
-        ensures { AnswersExactly result (new_fault proxies resolvers last)
+        ensures { Answers result (new_fault proxies resolvers last)
             (λ core. core ≡ fresh proxies resolvers last) }
     {
         let is_legal = (1..=PROXY_LIMIT).contains(&proxies)
@@ -63,23 +71,25 @@ impl SequencerCore {
             return Err(Refusal::BadConfig);
         }
         Ok(SequencerCore {
-            alloc,
             proxies,
             resolvers,
             accepted: 0,
             last,
             committed: 0,
+            moves: Moves::new(alloc, proxies)?,
+            made: 0,
         })
     }
 
     /// The ticket that the proxy's next batch would get now. Its index is the number of tickets that were
     /// accepted, its previous version is the last one, and its version is `advance` above that, but at least 1
-    /// and at most 5,000,000. It changes nothing, and takes no memory.
+    /// and at most 5,000,000. The moves since the last ticket that was accepted take effect at that version, and
+    /// the proxy gets them after all others that it hasn't had. It changes nothing.
     ///
     /// Refused as `BadConfig` where no proxy has the number, and then as `Exhausted` where the version would
-    /// exceed 2^62 or 2^32 tickets were accepted.
+    /// exceed 2^62 or 2^32 tickets were accepted, and as `NoMemory`.
     pub fn plan(&self, proxy: u32, advance: u64) -> Result<Ticket, Refusal>
-        ensures { AnswersExactly result (plan_fault self.now proxy advance)
+        ensures { Answers result (plan_fault self.now proxy advance)
             (λ ticket. ticket ≡ planned self.now proxy advance) }
     {
         if proxy >= self.proxies {
@@ -94,12 +104,13 @@ impl SequencerCore {
             index: self.accepted as u32,
             version,
             prev: self.last,
-            moves: Items::new(self.alloc),
-            pending: Items::new(self.alloc),
+            moves: self.moves.moves_at(proxy, version)?,
+            pending: self.moves.copy_pending()?,
         })
     }
 
-    /// Accepts a ticket: its version is the last one from then on. It takes no memory.
+    /// Accepts a ticket: its version is the last one from then on, its pending moves take effect at it, and its proxy
+    /// has had all moves. It takes no memory.
     ///
     /// Refused as `Stale` unless the ticket is what `plan` answers now for some proxy and advance, and then
     /// nothing changes.
@@ -112,6 +123,7 @@ impl SequencerCore {
         }
         self.accepted += 1;
         self.last = ticket.version;
+        self.moves.hand_out(ticket.proxy, ticket.version);
         Ok(())
     }
 
@@ -125,8 +137,30 @@ impl SequencerCore {
             && ticket.version > self.last
             && ticket.version <= self.last + GREATEST_ADVANCE
             && ticket.version <= VERSION_LIMIT
-            && ticket.moves.is_empty()
-            && ticket.pending.is_empty()
+            && self
+                .moves
+                .are_moves_at(ticket.moves.as_slice(), ticket.proxy, ticket.version)
+            && ticket.pending == *self.moves.pending()
+    }
+
+    /// Makes a move: from the version of the next ticket that is accepted on, the keys of its range go to the resolver
+    /// with its number, counted from 0.
+    ///
+    /// Refused as `BadConfig` where there is no such resolver or the range is empty, then as `MovesFull` where 65,536
+    /// moves were made, and as `NoMemory`. Then nothing changes.
+    pub fn move_to(&mut self, one_move: Move) -> Result<(), Refusal>
+        ensures answers { Answers result (move_fault self.old one_move) (λ _. self.new ≡ moving self.old one_move) }
+        ensures err { OnErr result (self.new ≡ self.old) }
+    {
+        if one_move.to >= self.resolvers || one_move.range.is_empty() {
+            return Err(Refusal::BadConfig);
+        }
+        if self.made >= MOVE_LIMIT {
+            return Err(Refusal::MovesFull);
+        }
+        self.moves.add(one_move)?;
+        self.made += 1;
+        Ok(())
     }
 
     /// Takes the report that the entries up to the version are committed. A report of a version that isn't

@@ -1,7 +1,7 @@
 // Calls with known answers.
 use crate::sequencer_core::SequencerCore;
-use crate::ticket::Ticket;
-use fdb_keys::Refusal;
+use fdb_keys::{Items, KeyRange, Refusal};
+use fdb_txn::Move;
 use std::alloc::Global;
 use std::test::Fail;
 
@@ -30,15 +30,91 @@ fn version_for(core: &SequencerCore, advance: u64) -> Result<u64, Refusal> {
     Ok(ticket.version)
 }
 
-fn has(ticket: &Ticket, proxy: u32, index: u32, version: u64, prev: u64) -> bool {
-    ticket.proxy == proxy
-        && ticket.index == index
-        && ticket.version == version
-        && ticket.prev == prev
+// Whether the proxy gets a ticket of this index, version and previous version for the advance, which tells no move.
+fn plans(
+    core: &SequencerCore,
+    proxy: u32,
+    advance: u64,
+    index: u32,
+    version: u64,
+    prev: u64,
+) -> bool {
+    match core.plan(proxy, advance) {
+        Ok(ticket) => {
+            let numbers = (ticket.proxy, ticket.index, ticket.version, ticket.prev);
+            numbers == (proxy, index, version, prev)
+                && ticket.moves.is_empty()
+                && ticket.pending.is_empty()
+        }
+        Err(_why) => false,
+    }
 }
 
-fn moves_nothing(ticket: &Ticket) -> bool {
-    ticket.moves.is_empty() && ticket.pending.is_empty()
+// What the sequencer answers to a move of the range to the resolver.
+fn move_code(core: &mut SequencerCore, alloc: Global, begin: &[u8], end: &[u8], to: u32) -> u32 {
+    match KeyRange::new(alloc, begin, end) {
+        Ok(range) => code_of(core.move_to(Move { range, to })),
+        Err(why) => why.code(),
+    }
+}
+
+// Moves `[m, t)` to the resolver so many times, and answers whether each was made.
+fn makes_moves(core: &mut SequencerCore, alloc: Global, to: u32, count: u32) -> bool {
+    for _number in 0..count {
+        if move_code(core, alloc, b"m", b"t", to) != 0 {
+            return false;
+        }
+    }
+    true
+}
+
+// What the sequencer answers to the ticket that the proxy gets for an advance of 100.
+fn take_code(core: &mut SequencerCore, proxy: u32) -> u32 {
+    match core.plan(proxy, 100) {
+        Ok(ticket) => code_of(core.accept(&ticket)),
+        Err(why) => why.code(),
+    }
+}
+
+// Takes so many tickets of the proxy, and answers whether each was accepted.
+fn takes_tickets(core: &mut SequencerCore, proxy: u32, count: u32) -> bool {
+    for _number in 0..count {
+        if take_code(core, proxy) != 0 {
+            return false;
+        }
+    }
+    true
+}
+
+// Whether these are moves of `[m, t)` to the resolvers, in order.
+fn go_to(moves: &[Move], targets: &[u32]) -> bool {
+    moves.len() == targets.len()
+        && moves.iter().zip(targets).all(|(one_move, to)| {
+            one_move.to == *to
+                && one_move.range.begin() == b"m".as_slice()
+                && one_move.range.end() == b"t".as_slice()
+        })
+}
+
+// Whether these are the moves to the resolvers at the version, and none where there is no resolver.
+fn are_at(dated: &[(u64, Items<Move>)], version: u64, targets: &[u32]) -> bool {
+    match dated {
+        [] => targets.is_empty(),
+        [of] => of.0 == version && !targets.is_empty() && go_to(of.1.as_slice(), targets),
+        _ => false,
+    }
+}
+
+// Whether the ticket that the proxy gets for an advance of 100 tells it these moves at the version, and has these
+// pending ones.
+fn tells(core: &SequencerCore, proxy: u32, version: u64, told: &[u32], pending: &[u32]) -> bool {
+    match core.plan(proxy, 100) {
+        Ok(ticket) => {
+            are_at(ticket.moves.as_slice(), version, told)
+                && go_to(ticket.pending.as_slice(), pending)
+        }
+        Err(_why) => false,
+    }
 }
 
 #[test]
@@ -63,12 +139,9 @@ fn advances_are_at_least_one_and_at_most_five_million(rt: HostRuntime) -> Result
 #[test]
 fn tickets_follow_on_one_another(rt: HostRuntime) -> Result<(), Fail> {
     let mut core = sequencer(rt.alloc(), 0)?;
-    let first = core.plan(1, 100)?;
-    core.accept(&first)?;
-    let second = core.plan(0, 50)?;
-    assert!(rt; has(&first, 1, 0, 100, 0));
-    assert!(rt; has(&second, 0, 1, 150, 100));
-    assert!(rt; moves_nothing(&second));
+    assert!(rt; plans(&core, 1, 100, 0, 100, 0));
+    assert_eq!(rt; take_code(&mut core, 1), 0);
+    assert!(rt; plans(&core, 0, 50, 1, 150, 100));
     Ok(())
 }
 
@@ -76,10 +149,17 @@ fn tickets_follow_on_one_another(rt: HostRuntime) -> Result<(), Fail> {
 fn tickets_are_accepted_once(rt: HostRuntime) -> Result<(), Fail> {
     let mut core = sequencer(rt.alloc(), 0)?;
     let ticket = core.plan(0, 100)?;
-    let other = core.plan(1, 200)?;
     assert_eq!(rt; code_of(core.accept(&ticket)), 0);
     assert_eq!(rt; code_of(core.accept(&ticket)), 9003);
-    assert_eq!(rt; code_of(core.accept(&other)), 9003);
+    Ok(())
+}
+
+#[test]
+fn one_ticket_of_an_index_is_accepted(rt: HostRuntime) -> Result<(), Fail> {
+    let mut core = sequencer(rt.alloc(), 0)?;
+    let ticket = core.plan(1, 200)?;
+    assert_eq!(rt; take_code(&mut core, 0), 0);
+    assert_eq!(rt; code_of(core.accept(&ticket)), 9003);
     Ok(())
 }
 
@@ -112,5 +192,57 @@ fn tickets_of_one_plan_are_equal(rt: HostRuntime) -> Result<(), Fail> {
     let other = core.plan(0, 101)?;
     assert!(rt; again == ticket);
     assert!(rt; other != ticket);
+    Ok(())
+}
+
+#[test]
+fn moves_go_to_resolvers_that_exist(rt: HostRuntime) -> Result<(), Fail> {
+    let mut core = SequencerCore::new(rt.alloc(), 2, 2, 0)?;
+    assert_eq!(rt; move_code(&mut core, rt.alloc(), b"m", b"t", 2), 9009);
+    assert_eq!(rt; move_code(&mut core, rt.alloc(), b"m", b"m", 0), 9009);
+    assert_eq!(rt; move_code(&mut core, rt.alloc(), b"m", b"t", 1), 0);
+    Ok(())
+}
+
+#[test]
+fn each_proxy_is_told_each_move_once(rt: HostRuntime) -> Result<(), Fail> {
+    let mut core = sequencer(rt.alloc(), 0)?;
+    assert_eq!(rt; move_code(&mut core, rt.alloc(), b"m", b"t", 0), 0);
+    assert!(rt; tells(&core, 0, 100, &[0], &[0]));
+    assert_eq!(rt; take_code(&mut core, 0), 0);
+    assert!(rt; tells(&core, 1, 100, &[0], &[]));
+    assert_eq!(rt; take_code(&mut core, 1), 0);
+    assert!(rt; tells(&core, 1, 0, &[], &[]));
+    assert!(rt; tells(&core, 0, 0, &[], &[]));
+    Ok(())
+}
+
+#[test]
+fn moves_of_one_entry_stay_in_order(rt: HostRuntime) -> Result<(), Fail> {
+    let mut core = sequencer(rt.alloc(), 0)?;
+    assert_eq!(rt; move_code(&mut core, rt.alloc(), b"m", b"t", 2), 0);
+    assert_eq!(rt; move_code(&mut core, rt.alloc(), b"m", b"t", 1), 0);
+    assert!(rt; tells(&core, 0, 100, &[2, 1], &[2, 1]));
+    assert_eq!(rt; take_code(&mut core, 1), 0);
+    assert!(rt; tells(&core, 0, 100, &[2, 1], &[]));
+    Ok(())
+}
+
+#[test]
+fn tickets_from_before_a_move_are_stale(rt: HostRuntime) -> Result<(), Fail> {
+    let mut core = sequencer(rt.alloc(), 0)?;
+    let ticket = core.plan(0, 100)?;
+    assert_eq!(rt; move_code(&mut core, rt.alloc(), b"m", b"t", 0), 0);
+    assert_eq!(rt; code_of(core.accept(&ticket)), 9003);
+    Ok(())
+}
+
+#[test]
+fn moves_end_at_the_most(rt: HostRuntime) -> Result<(), Fail> {
+    let mut core = sequencer(rt.alloc(), 0)?;
+    assert!(rt; makes_moves(&mut core, rt.alloc(), 1, 65_536));
+    assert_eq!(rt; move_code(&mut core, rt.alloc(), b"m", b"t", 1), 9012);
+    assert!(rt; takes_tickets(&mut core, 0, 1_000));
+    assert!(rt; takes_tickets(&mut core, 1, 1_000));
     Ok(())
 }

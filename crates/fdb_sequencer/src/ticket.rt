@@ -13,8 +13,8 @@ pub struct Ticket {
     /// The version of the entry before it.
     pub prev: u64,
     /// All moves that the proxy hasn't had, each list with its entry's version, the pending ones among them
-    /// under the ticket's version. For now there are none.
+    /// under the ticket's version.
     pub moves: Items<(u64, Items<Move>)>,
-    /// The moves that take effect at the ticket's version, the earliest one first. For now there are none.
+    /// The moves that take effect at the ticket's version, the earliest one first.
     pub pending: Items<Move>,
 }

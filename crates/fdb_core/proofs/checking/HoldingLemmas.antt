@@ -1,6 +1,7 @@
 -- Where a shard has the run's map.
 use Rattle.std.proofs.Common.{◌≡◌, ◌∙◌, sym, subst, ◌↔◌, ℕ, suc, ◌+◌, ◌≤◌, arith, true, false, nat_lt, List, [], ◌∷◌, take, length, Option, Some, None, Result, Ok, Err, MatchResult, inl, inr, ⊎_elim, refl}
 use Rattle.std.specs.List.{AllByRecursion, slice_get}
+use Rattle.std.specs.Prelude.{OnOk, IfErr}
 use Rattle.std.specs.Ordering.{nat_cmp}
 use Rattle.std.specs.Cmp.Lexicographic.{slice_cmp}
 use Rattle.std.specs.FinMap.{get, empty, get-empty}
@@ -15,15 +16,13 @@ use Rattle.fdb_txn.specs.declared.entry.Entry.{Entry}
 use Rattle.fdb_txn.specs.book.Book.{last_version, seen_of, seen_before}
 use Rattle.fdb_txn.specs.book.History.{AreEntries}
 use Rattle.fdb_txn.specs.rules.SerialMap.{serial_map, serial_map_at}
-use Rattle.fdb_core.specs.declared.check.serial.Replay.{Replay}
-use Rattle.fdb_core.specs.declared.roles.client.Placed.{Placed}
 use Rattle.fdb_core.specs.declared.roles.shard.ShardRole.{ShardRole}
 use Rattle.fdb_core.specs.declared.world.CheckFault.{CheckFault}
-use Rattle.fdb_core.specs.check.Checking.{HasCome, HaveHeld, Agrees, Stops}
-use Rattle.fdb_core.specs.check.Comparing.{StopsBy}
+use Rattle.fdb_core.specs.check.Checking.{HaveHeld}
+use Rattle.fdb_core.specs.declared.world.CheckFault.TheVariants.{NoMemory}
 use Rattle.fdb_core.specs.check.Holding.{HasTheMap, HoldsTheRun, HasTheMapThere, ShardDiffers, StopsByShard, is_between}
 use Rattle.fdb_core.proofs.common.AllLemmas.{all-both}
-use Rattle.fdb_core.proofs.checking.AgreeLemmas.{IsUntil, map-here, last-next, until-next, until-end}
+use Rattle.fdb_core.proofs.checking.RunningLemmas.{IsUntil, map-here, last-next, until-next, until-end}
 use Rattle.fdb_core.proofs.checking.PartLemmas.{same_pairs}
 
 -- a shard has the map where the copy that it gives has the map's pairs in the shard's range
@@ -59,11 +58,11 @@ module _ (splits : List Point) (book : List Entry) (entries : AreEntries (suc (l
       (here until next role (subst (λ (v : ℕ). is_between v until role ≡ true) is_last between) ∙ sym same) holds
 
   -- a fault that is found between two entries is one of the check
-  pub stops-shards : (acknowledged : List Placed) (shards : List ShardRole) (from : ℕ) (until : Option ℕ) (map : Map)
-      (fault : CheckFault)
+  pub stops-shards : (shards : List ShardRole) (from : ℕ) (until : Option ℕ) (map : Map) (fault : CheckFault)
       → IsUntil book n until → from ≡ last_version (take n book) → map ≡ serial_map splits (seen_before book n).places
-      → StopsByShard (HasTheMapThere from until map) shards fault → Stops splits book acknowledged shards fault
-  stops-shards acknowledged shards from until map fault next is_last same = ⊎_elim (λ none. inl (inl none))
+      → StopsByShard (HasTheMapThere from until map) shards fault
+      → StopsByShard (HoldsTheRun splits book) shards fault
+  stops-shards shards from until map fault next is_last same = ⊎_elim inl
       (λ (differs : ShardDiffers (HasTheMapThere from until map) shards fault). inr (
         differs.0,
         differs.1,
@@ -117,10 +116,18 @@ held-first splits book (role ∷ shards) = (
 )
 
 -- an entry is gone through after its shards
-pub goes-next : {T : Type 0} (splits : List Point) (book : List Entry) (acknowledged : List Placed) (shards : List ShardRole) (n : ℕ)
-    (new : Replay) (result : Result T CheckFault)
-    → HaveHeld splits book shards n → MatchResult result (λ _. HasCome splits book acknowledged n new)
-    (StopsBy (Agrees splits book) acknowledged)
-    → MatchResult result (λ _. HasCome splits book acknowledged n new × HaveHeld splits book shards n) (Stops splits book acknowledged shards)
-goes-next splits book acknowledged shards n new (Ok done) held come = (come, held)
-goes-next splits book acknowledged shards n new (Err fault) held stops = inl stops
+pub goes-next : {T : Type 0} (result : Result T CheckFault) (Come Held : Type 0) (Claim : ShardRole → Type 0)
+    (shards : List ShardRole)
+    → OnOk result Come → IfErr result (λ fault. fault ≡ NoMemory) → Held
+    → MatchResult result (λ _. Come × Held) (StopsByShard Claim shards)
+goes-next (Ok done) Come Held Claim shards come lacks held = (come, held)
+goes-next (Err fault) Come Held Claim shards come lacks held = inl lacks
+
+-- what the last comparison finds is what the check finds
+pub checks-last : {T : Type 0} (result : Result T CheckFault) (Each : Type 0) (Stop : CheckFault → Type 0)
+    (Claim : ShardRole → Type 0) (shards : List ShardRole)
+    → MatchResult result (λ _. Each) Stop → (Each → AllByRecursion Claim shards)
+    → ((fault : CheckFault) → Stop fault → StopsByShard Claim shards fault)
+    → MatchResult result (λ _. AllByRecursion Claim shards) (StopsByShard Claim shards)
+checks-last (Ok done) Each Stop Claim shards finds each stops = each finds
+checks-last (Err fault) Each Stop Claim shards finds each stops = stops fault finds

@@ -16,7 +16,7 @@ use Rattle.fdb_txn.specs.rules.Messages.{mutations_in, at_place}
 use Rattle.fdb_txn.specs.rules.SerialMap.{serial_map}
 use Rattle.fdb_txn.proofs.rules.MessagesLemmas.{mutations-if}
 use Rattle.fdb_proxy.specs.declared.outcome.Outcome.{Outcome}
-use Rattle.fdb_core.specs.check.Checking.{map_after}
+use Rattle.fdb_core.specs.check.Running.{map_after}
 use Rattle.fdb_core.specs.check.Bodies.{body_by}
 use Rattle.fdb_proxy.specs.Logging.{is_commit}
 use Rattle.fdb_proxy.specs.Verdicts.{outcome_at, outcomes_from}

@@ -1,26 +1,21 @@
 -- A check of a sound world finds no difference.
 use Rattle.std.proofs.Common.{◌≡◌, ◌∙◌, sym, ap, subst, refl, length, take, ℕ, suc, ◌≤◌, le_refl, arith, Bool, true, false, not, if◌then◌else◌, List, [], Option, Some, None, ⊎_elim, Result, Ok, Err, MatchResult, slice_get}
 use Rattle.std.specs.Prelude.{IfSome}
-use Rattle.std.proofs.lemmas.Option.{same_Some, slice_get_read}
 use Rattle.std.specs.FinMap.{get}
 use Rattle.fdb_keys.specs.Points.{Point}
 use Rattle.fdb_keys.specs.Ranges.{Range, in_range}
 use Rattle.fdb_mutations.specs.Maps.{Map}
 use Rattle.fdb_storage.specs.Limits.{shard_limit}
-use Rattle.fdb_txn.specs.declared.spot.Spot.{Spot}
-use Rattle.fdb_txn.specs.declared.spot.Spot.TheVariants as spot
-use Rattle.fdb_txn.specs.book.Book.{Place, last_version}
+use Rattle.fdb_txn.specs.book.Book.{last_version}
 use Rattle.fdb_txn.specs.book.History.{AreEntries}
-use Rattle.fdb_txn.specs.rules.SerialMap.{serial_map}
 use Rattle.fdb_core.specs.declared.cluster.Cluster.{Cluster}
 use Rattle.fdb_core.specs.declared.roles.shard.ShardRole.{ShardRole}
-use Rattle.fdb_client.specs.declared.program.Transcript.{Transcript}
 use Rattle.fdb_core.specs.declared.world.CheckFault.{CheckFault}
 use Rattle.fdb_core.specs.declared.world.CheckFault.TheVariants.{NoMemory}
-use Rattle.fdb_core.specs.check.Checking.{AgreesAt, Agrees, Finds}
-use Rattle.fdb_core.specs.check.Comparing.{Differs}
+use Rattle.fdb_core.specs.check.Checking.{Finds}
+use Rattle.fdb_core.specs.check.Spots.{IsFirstOther}
 use Rattle.fdb_core.specs.check.Holding.{HoldsTheRun, ShardDiffers}
-use Rattle.fdb_core.specs.headline.Headline.{AnsweredOn, IsSerializedAtSpot}
+use Rattle.fdb_core.specs.headline.Headline.{IsSerialized}
 use Rattle.fdb_core.specs.refinement.Cluster.{machine_of, Refines}
 use Rattle.fdb_core.specs.machine.Machine.{Machine}
 use Rattle.fdb_core.specs.invariant.Invariant.{Invariant, IsSerializedIn}
@@ -30,14 +25,6 @@ use Rattle.fdb_core.proofs.refinement.RunLaws.{entries-rising, serial-front}
 module _ (k : Cluster) (refines : Refines k) where
   abbrev splits : List Point
   splits = k.config.resolver_splits
-
-  -- who is at a spot agrees with the book there
-  agrees-where-stands : (transcript : Transcript) (at : Spot)
-      → IsSerializedAtSpot splits k.book.items transcript at → AgreesAt splits k.book.items transcript at
-  agrees-where-stands transcript (spot.Entry i p version) stands = λ found at.
-      let same : stands.0 ≡ found = same_Some stands.0 found (sym stands.1 ∙ at) in
-      subst (λ (there : Place × List Place). AnsweredOn (serial_map splits there.1) transcript) same stands.5
-  agrees-where-stands transcript (spot.ReadOnly version) stands = stands.3
 
   -- each of its shards has the run's map
   shard-holds : (i : ℕ) (role : ShardRole) → slice_get k.shards.items i ≡ Some role
@@ -62,14 +49,10 @@ module _ (k : Cluster) (refines : Refines k) where
       → MatchResult result (λ count. count ≡ length k.acknowledged.items) (λ fault. fault ≡ NoMemory)
   sound-finds sound (Ok count) finds = finds.0
   sound-finds sound (Err fault) finds = ⊎_elim
-      (⊎_elim (λ waits_for. waits_for) (λ (differs : Differs (Agrees splits k.book.items) k.acknowledged.items fault).
-      let there = slice_get_read k.acknowledged.items (length k.acknowledged.items) differs.0 differs.1 refl differs.2
-      (sym differs.3) in
-      let stands = all-at (IsSerializedIn (machine_of k)) k.acknowledged.items differs.0 differs.1 sound.acknowledged
-      there in
-      absurd (differs.4.1 (agrees-where-stands differs.1.transcript differs.1.spot stands))))
-      (λ (differs : ShardDiffers (HoldsTheRun splits k.book.items) k.shards.items fault).
-      absurd (differs.4 (shard-holds differs.0 differs.1 differs.2)))
+      (⊎_elim (λ lacks. lacks) (λ (other : IsFirstOther k.book.items (IsSerialized splits k.book.items) k.acknowledged.items fault).
+      absurd (other.4 (all-at (IsSerializedIn (machine_of k)) k.acknowledged.items other.0 other.1 sound.acknowledged other.2))))
+      (⊎_elim (λ lacks. lacks) (λ (differs : ShardDiffers (HoldsTheRun splits k.book.items) k.shards.items fault).
+      absurd (differs.4 (shard-holds differs.0 differs.1 differs.2))))
       finds
 
 -- the shards that are compared are few

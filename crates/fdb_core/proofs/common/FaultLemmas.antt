@@ -2,6 +2,8 @@
 use Rattle.std.proofs.Common.{◌≡◌, ◌∙◌, refl, ap, subst, sym, Bool, true, false, Option, Some, None, Result, Ok, Err}
 use Rattle.fdb_keys.specs.Answers.{Answers, AnswersExactly}
 use Rattle.fdb_keys.specs.declared.refusal.Refusal.{Refusal}
+use Rattle.fdb_keys.specs.declared.refusal.Refusal.TheVariants.{NoMemory}
+use Rattle.fdb_core.specs.declared.step.Answered.{Answered}
 use Rattle.fdb_core.specs.machine.Steps.{Unless, ran_out}
 
 -- a call that gave something had no fault
@@ -79,3 +81,10 @@ answers-by {T} result fault same P Q is follows answers = by_fault result same
     by_fault (Ok given) (Some why) answered next = answered
     by_fault (Err why) None answered next = answered
     by_fault (Err why) (Some other) answered next = answered
+
+-- nothing is said of a step in which memory ran out
+pub lacked-memory : (result : Result Answered Refusal) (why : Refusal) (P : Type 0) → result ≡ Err why → why ≡ NoMemory
+    → Unless (ran_out result) P
+lacked-memory result why P is lacks =
+    subst (λ (answer : Result Answered Refusal). Unless (ran_out answer) P)
+    (sym (is ∙ ap (λ (refusal : Refusal). Err refusal) lacks)) tt

@@ -1,8 +1,10 @@
 -- What the roles keep is what the book says of them.
-use Rattle.std.proofs.Common.{◌≡◌, ◌∙◌, sym, ap, refl, subst, arith, ℕ, zero, suc, ◌≤◌, false, List, [], ◌∷◌, map, length, slice_get, Some}
+use Rattle.std.proofs.Common.{◌≡◌, ◌∙◌, sym, ap, refl, subst, arith, ℕ, zero, suc, ◌<◌, ◌≤◌, ◌++◌, false, List, [], ◌∷◌, map, length, slice_get, Some}
 use Rattle.std.specs.FinMap.{get}
 use Rattle.std.proofs.lemmas.List.{length-map}
 use Rattle.std.proofs.lemmas.Option.{same_Some}
+use Rattle.fdb_sequencer.specs.Moves.{Dated}
+use Rattle.fdb_sequencer.specs.Sequencer.{unlearnt_by}
 use Rattle.fdb_sequencer.proofs.TicketLemmas.{passed_is_stale}
 use Rattle.fdb_core.specs.declared.cluster.Cluster.{Cluster}
 use Rattle.fdb_mutations.specs.Maps.{Map}
@@ -14,7 +16,9 @@ use Rattle.fdb_core.specs.refinement.Logs.{progress_of}
 use Rattle.fdb_core.specs.machine.Roles.{ShardProgress}
 use Rattle.fdb_core.specs.refinement.Cluster.{machine_of, system_of, Refines}
 use Rattle.fdb_core.specs.machine.Machine.{Machine}
+use Rattle.fdb_core.specs.machine.SequencerSteps.{dated_moves}
 use Rattle.fdb_core.specs.headline.Serving.{EachKeeps, SequencerKeeps, ResolverKeeps, PartsKeep, MessagesKeep, LogKeeps, ShardReaches, ShardServes, RolesKeep}
+use Rattle.fdb_core.proofs.common.AllLemmas.{within-item}
 use Rattle.fdb_core.proofs.refinement.LogTies.{kept-tag}
 use Rattle.fdb_core.proofs.refinement.RunLaws.{entries-rising, serial-front}
 use Rattle.fdb_core.specs.declared.roles.resolver.ResolverRole.{ResolverRole}
@@ -52,7 +56,16 @@ roles_keep k refines = (sequencer, resolvers, parts, messages, logs, reaches, (c
           λ ticket below. passed_is_stale k.sequencer ticket (omega (arith, ok.accepted, below)),
           refl,
           ok.committed,
+          refl,
+          unlearnt,
         )
+      where
+        unlearnt : (proxy : ℕ) → proxy < k.config.proxies
+            → (learnt : List Dated) × (learnt ++ unlearnt_by k.sequencer proxy ≡ dated_moves k.book.items)
+        unlearnt proxy within =
+            let found = within-item k.commit_proxies.items proxy (omega (arith, within, refines.commit_proxies.count)) in
+            let its = refines.commit_proxies.each proxy found.0 found.1 in
+            (its.learnt, its.all_moves)
 
     resolvers : EachKeeps (ResolverKeeps m) m.resolvers (map (λ (role : ResolverRole). role.core) k.resolvers.items)
     resolvers = (

@@ -226,6 +226,7 @@ module _ (id : TxnId) where
       session_steps.reported_version m proxy commit_proxy entry at logging there whole once.0,
       with-commit_proxy m proxy commit_proxy _ once.1 at refl,
     );
+    moved = λ m range to exists once. (session_steps.moved m range to exists once.0, once.1);
     told = λ m proxy commit_proxy entry at reported there once. (
       session_steps.told m proxy commit_proxy entry at reported there once.0,
       told-once m commit_proxy.in_flight _ (with-commit_proxy m proxy commit_proxy _ once.1 at refl),

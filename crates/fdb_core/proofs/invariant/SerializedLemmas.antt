@@ -100,7 +100,7 @@ spot-stays m entry transcript (spot.ReadOnly version) above stands =
     )
 
 -- the places are the earlier ones after newer ones of at least the version
-abbrev Extends : ℕ → List Place → List Place → Type 0
+abbrev pub Extends : ℕ → List Place → List Place → Type 0
 Extends version places earlier =
     (newer : List Place) × (places ≡ newer ++ earlier)
     × AllByRecursion (λ (place : Place). version ≤ place.version) newer
@@ -162,7 +162,7 @@ up_to-newer v version (place ∷ newer) earlier above all =
     ∙ up_to-newer v version newer earlier above all.1
 
 -- so below the version the map is that of the earlier places
-map-extends : (splits : List Point) (v version : ℕ) (places earlier : List Place) → v < version
+pub map-extends : (splits : List Point) (v version : ℕ) (places earlier : List Place) → v < version
     → Extends version places earlier
     → serial_map_at splits v places ≡ serial_map_at splits v earlier
 map-extends splits v version places earlier above extends =
@@ -170,7 +170,7 @@ map-extends splits v version places earlier above extends =
     ∙ ap (serial_map splits) (up_to-newer v version extends.0 earlier above extends.2)
 
 -- the earlier places of a history are one
-history-earlier : (resolvers : ℕ) (newer earlier : List Place) → IsHistory resolvers (newer ++ earlier)
+pub history-earlier : (resolvers : ℕ) (newer earlier : List Place) → IsHistory resolvers (newer ++ earlier)
     → IsHistory resolvers earlier
 history-earlier resolvers [] earlier history = history
 history-earlier resolvers (place ∷ newer) earlier history = history-earlier resolvers newer earlier history.2

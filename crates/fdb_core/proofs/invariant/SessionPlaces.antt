@@ -277,6 +277,7 @@ session_steps = record {
     λ session. with-commit_proxy session m proxy commit_proxy _ at refl (all.0 session),
     with-none_idle m proxy _ (λ idle. cc) all,
   );
+  moved = λ m range to exists all. all;
   told = λ m proxy commit_proxy entry at reported there all. (
     λ session. told-stands session m proxy commit_proxy _ at (omega arith) (all.0 session),
     with-none_idle m proxy _ (λ idle. refl) all,

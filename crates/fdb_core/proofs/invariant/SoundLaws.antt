@@ -4,6 +4,7 @@ use Rattle.std.specs.List.{AllByRecursion, slice_get, slice_set}
 use Rattle.fdb_keys.specs.declared.refusal.Refusal.{Refusal}
 use Rattle.fdb_txn.specs.Limits.{place_limit}
 use Rattle.fdb_txn.specs.declared.entry.Entry.{Entry}
+use Rattle.fdb_txn.specs.declared.entry.Move.{Move}
 use Rattle.fdb_txn.specs.declared.txn_id.TxnId.{TxnId}
 use Rattle.fdb_txn.proofs.book.HistoryLemmas.{all-append, all-weaken, entries_go_on}
 use Rattle.fdb_proxy.specs.declared.config.Config.{Config}
@@ -235,6 +236,17 @@ sound_steps = record {
   reported_version = λ m proxy commit_proxy entry at logging there whole sound. sound-reported m proxy commit_proxy entry
       sound at (ap is_idle logging) there
       (λ id. (once_steps id).reported_version m proxy commit_proxy entry at logging there whole (sound.once id));
+  moved = λ m range to exists sound. record {
+    entries = sound.entries;
+    pending = all-push (λ (move : Move). move.to < suc (length m.config.resolver_splits)) m.pending
+        (record { range = range; to = to }) sound.pending exists;
+    committed = sound.committed;
+    opened = sound.opened;
+    commit_proxies = sound.commit_proxies;
+    acknowledged = sound.acknowledged;
+    reported = sound.reported;
+    once = λ id. (once_steps id).moved m range to exists (sound.once id);
+  };
   told = λ m proxy commit_proxy entry at reported there sound.
       let was = commit_proxy-at m sound proxy commit_proxy at in
       let flies = in_flight-at m commit_proxy entry was (ap is_idle reported) there in

@@ -1,8 +1,9 @@
 -- The walk over the steps of all kinds: what accepted steps change, and what they keep.
-use Rattle.std.proofs.Common.{◌≡◌, ◌<◌, ◌≤◌, refl, ap, ℕ, ◌+◌, min, max, Bool, true, false, not, List, [], ◌∷◌, ◌++◌, take, map, length, fold, Option, Some, None, Result, Ok, Err, inl, inr, arith}
-use Rattle.std.specs.Prelude.{nat_lt, nat_le}
+use Rattle.std.proofs.Common.{◌≡◌, ◌<◌, ◌≤◌, refl, ap, ℕ, suc, ◌+◌, min, max, Bool, true, false, not, List, [], ◌∷◌, ◌++◌, take, map, length, fold, Option, Some, None, Result, Ok, Err, inl, inr, arith}
+use Rattle.std.specs.Prelude.{nat_lt, nat_le, ◌||◌}
 use Rattle.std.specs.List.{slice_get, slice_set, list_any}
-use Rattle.std.proofs.lemmas.Bool.{and_parts, eqb-true, not-false, ltb-false, leb-false}
+use Rattle.std.proofs.lemmas.Bool.{and_parts, or_parts, eqb-true, not-false, ltb-false, leb-false}
+use Rattle.fdb_keys.specs.Ranges.{Range, is_empty_range}
 use Rattle.fdb_keys.specs.declared.refusal.Refusal.{Refusal}
 use Rattle.fdb_mutations.specs.Mutations.{mutation_fault}
 use Rattle.fdb_txn.specs.Limits.{place_limit}
@@ -11,7 +12,7 @@ use Rattle.fdb_txn.specs.declared.spot.Spot.TheVariants as spot
 use Rattle.fdb_txn.specs.book.Book.{seen_of, last_version, seen_before}
 use Rattle.fdb_txn.specs.rules.SerialMap.{serial_map_at}
 use Rattle.fdb_log.specs.Messages.{log_of}
-use Rattle.fdb_sequencer.specs.Limits.{version_limit}
+use Rattle.fdb_sequencer.specs.Limits.{move_limit, version_limit}
 use Rattle.fdb_sequencer.specs.Sequencer.{next_version}
 use Rattle.fdb_core.specs.machine.Roles.{CommitProxy, Stage, Idle, Resolving, Logging, Reported, ShardProgress, Sender, FromResolver, FromLog}
 use Rattle.fdb_client.specs.declared.program.Op.{Op}
@@ -28,6 +29,7 @@ use Rattle.fdb_core.specs.machine.GrvProxySteps.{asks, grants, has_no_number}
 use Rattle.fdb_core.specs.machine.CommitProxySteps.{seals, taken_by_sender, awaits, with_received, receives, decides, reports, answers, is_idle, is_resolving, is_logging, is_reported, placed_from, replies_from}
 use Rattle.fdb_core.specs.machine.Machine.{Machine, Transition, is_set, first_missing}
 use Rattle.fdb_core.specs.machine.RoleSteps.{version_of_shard, resolves, pushes, pulls, forgets, pops}
+use Rattle.fdb_core.specs.machine.SequencerSteps.{moves_in, moves}
 use Rattle.fdb_core.specs.machine.Sessions.{Idle as Free, Asking, Waiting, session_of, open_at, with_state, is_busy, serve, tell_all}
 use Rattle.fdb_core.specs.machine.Steps.{next, after}
 use Rattle.fdb_proxy.specs.Verdicts.{is_needed, outcomes_on}
@@ -136,6 +138,10 @@ pub record HoldsOfSteps (R : Machine → Step → Answered → Machine → Type 
         committed = max m.committed entry.version;
         commit_proxies = slice_set m.commit_proxies proxy (record commit_proxy { stage = Reported });
       })
+  -- a move to a resolver that exists waits for the next entry (Move)
+  pub moved : (m : Machine) (range : Range) (to : ℕ) → to < suc (length m.config.resolver_splits)
+      → R m (step.Move range to) answered.Done
+      (record m { pending = m.pending ++ record { range = range; to = to } ∷ [] })
   -- a proxy told the clients of its reported batch (Answer)
   pub told : (m : Machine) (proxy : ℕ) (commit_proxy : CommitProxy) (entry : Entry)
       → slice_get m.commit_proxies proxy ≡ Some commit_proxy → commit_proxy.stage ≡ Reported
@@ -194,7 +200,7 @@ module _ (R : Machine → Step → Answered → Machine → Type 0) (holds : Hol
   -- it holds of every accepted step
   pub holds-next : (m : Machine) (taken : Step) → IfAccepted (Leads m taken) (next m taken)
   unfolding asks grants writes adds_read adds_write submits seals resolves receives decides pushes reports answers
-      pulls forgets pops
+      pulls forgets pops moves
   holds-next m (step.Ask session proxy) =
       past-found _ (slice_get m.grv_proxies proxy) _ (λ there at.
       past-test _ (is_busy (session_of m.sessions session).state) _ _
@@ -294,6 +300,12 @@ module _ (R : Machine → Step → Answered → Machine → Type 0) (holds : Hol
       holds.roles m (step.Pop shard) _ m.resolvers m.logs
       (slice_set m.shards shard (record progress { popped = version_of_shard m.book progress })) refl
       (grew-same m.logs))
+  holds-next m (step.Move range to) =
+      let resolvers = suc (length m.config.resolver_splits) in
+      past-test _ (nat_le resolvers to || is_empty_range range) _ _ (λ legal.
+      past-test _ (nat_le move_limit (moves_in m.book + length m.pending)) _ _ (λ _.
+      holds.moved m range to
+      (leb-false resolvers to (or_parts (nat_le resolvers to) (is_empty_range range) legal).0)))
 
 -- What steps keep.
 abbrev pub KeptBySteps : (Machine → Type 0) → Type 0

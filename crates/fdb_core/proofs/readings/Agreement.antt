@@ -61,7 +61,7 @@ pub record Tells (r : Readings) (book : List Entry) (sessions : Sessions) (ackno
   pub opened_told : OpenTold r.opened sessions
   pub acknowledged_told : r.acknowledged ≡ acknowledged
   pub reported_told : r.reported ≡ committed
-  pub no_moves : pending ≡ []
+  pub moves_told : r.pending ≡ pending
   pub begun_told : NumbersBegun r.begun sessions
   pub proxies_told : AtProxies book r.waiting r.sealed commit_proxies
   pub once_told : AnsweredOnce book r.answered commit_proxies
@@ -95,6 +95,7 @@ quiet-tells r (step.Answer proxy) answer quiet = cc
 quiet-tells r (step.Pull shard limit) answer quiet = refl
 quiet-tells r (step.Forget shard version) answer quiet = refl
 quiet-tells r (step.Pop shard) answer quiet = refl
+quiet-tells r (step.Move range to) answer quiet = cc
 
 -- an operation tells itself, with its reply
 pub operation-tells : (r : Readings) (taken : Step) (session : ℕ) (operation : Op) (there : Map)
@@ -134,6 +135,7 @@ operation-tells r (step.Answer proxy) session operation there is = cc
 operation-tells r (step.Pull shard limit) session operation there is = cc
 operation-tells r (step.Forget shard version) session operation there is = cc
 operation-tells r (step.Pop shard) session operation there is = cc
+operation-tells r (step.Move range to) session operation there is = cc
 
 -- the value by number, after a change at one of them
 pub changed-there : {A : Type 0} (proxy : ℕ) (value : A) (values : ℕ → A) → with_at proxy value values proxy ≡ value

@@ -64,6 +64,7 @@ quiet-answered splits r (step.Answer proxy) answer quiet = cc
 quiet-answered splits r (step.Pull shard limit) answer quiet = tt
 quiet-answered splits r (step.Forget shard version) answer quiet = tt
 quiet-answered splits r (step.Pop shard) answer quiet = tt
+quiet-answered splits r (step.Move range to) answer quiet = cc
 
 -- all who ask are told the same version
 all-granted : (version reported : ℕ) (sessions : List ℕ) → version ≡ reported
@@ -127,6 +128,7 @@ operation-answered splits r book (step.Answer proxy) session operation transcrip
 operation-answered splits r book (step.Pull shard limit) session operation transcript same opened is = cc
 operation-answered splits r book (step.Forget shard version) session operation transcript same opened is = cc
 operation-answered splits r book (step.Pop shard) session operation transcript same opened is = cc
+operation-answered splits r book (step.Move range to) session operation transcript same opened is = cc
 
 answered_steps : HoldsOfSteps AnswersTold
 answered_steps = record {
@@ -155,6 +157,7 @@ answered_steps = record {
   reported_version = λ m proxy commit_proxy entry at logging there whole r tells.
       let batch = batch-at r m proxy commit_proxy entry tells at (ap is_idle logging) there in
       λ k. answered.Version (max (sym tells.reported_told k) (sym batch k).version);
+  moved = λ m range to exists r tells. refl;
   told = λ m proxy commit_proxy entry at reported there r tells.
       let batch = batch-at r m proxy commit_proxy entry tells at (ap is_idle reported) there in
       let splits = m.config.resolver_splits in (

@@ -47,7 +47,7 @@ with-clients r m told_opened sessions told_acknowledged acknowledged told_report
       opened_told = opened;
       acknowledged_told = placed;
       reported_told = reported;
-      no_moves = tells.no_moves;
+      moves_told = tells.moves_told;
       begun_told = numbers;
       proxies_told = tells.proxies_told;
       once_told = tells.once_told;
@@ -66,7 +66,7 @@ with-proxy r m waiting answered proxy new tells others has once = record {
   opened_told = tells.opened_told;
   acknowledged_told = tells.acknowledged_told;
   reported_told = tells.reported_told;
-  no_moves = tells.no_moves;
+  moves_told = tells.moves_told;
   begun_told = tells.begun_told;
   proxies_told = one-changes m.book r.waiting waiting r.sealed r.sealed m.commit_proxies proxy new tells.proxies_told
       (λ other differs. (others other differs, refl)) has;
@@ -95,7 +95,7 @@ granted-told version (asker ∷ askers) r m tells ready =
       opened_told = opened-begins version r m.sessions asker askers tells.begun_told ready tells.opened_told;
       acknowledged_told = tells.acknowledged_told;
       reported_told = tells.reported_told;
-      no_moves = tells.no_moves;
+      moves_told = tells.moves_told;
       begun_told = numbers-begins version r m.sessions asker askers tells.begun_told ready;
       proxies_told = tells.proxies_told;
       once_told = tells.once_told;
@@ -158,7 +158,7 @@ sealed-told r m proxy advance commit_proxy tells at idle = record {
   opened_told = tells.opened_told;
   acknowledged_told = tells.acknowledged_told;
   reported_told = tells.reported_told;
-  no_moves = refl;
+  moves_told = refl;
   begun_told = tells.begun_told;
   proxies_told = one-changes (m.book ++ entry ∷ []) r.waiting after.waiting r.sealed after.sealed m.commit_proxies proxy
       (sealed_proxy m commit_proxy)
@@ -196,13 +196,13 @@ sealed-told r m proxy advance commit_proxy tells at idle = record {
     entry_told : Path Entry (record {
       version = entry.version;
       prev = entry.prev;
-      moves = [];
+      moves = r.pending;
       batch = map commit_request_of (take place_limit (r.waiting proxy));
     }) entry
     entry_told = λ i. record {
       version = entry.version;
       prev = entry.prev;
-      moves = sym tells.no_moves i;
+      moves = tells.moves_told i;
       batch = map commit_request_of (batch_told i);
     }
 
@@ -280,6 +280,16 @@ tells_steps = record {
       (record { waiting_told = was.waiting_told; batch_told = λ _. was.batch_told (ap is_idle logging) })
       (λ one. rw (ap is_idle logging) (le_refl _)))
       tells.opened_told tells.begun_told tells.acknowledged_told (λ k. max (tells.reported_told k) (batch k).version);
+  moved = λ m range to exists r sound tells. record {
+    book_told = tells.book_told;
+    opened_told = tells.opened_told;
+    acknowledged_told = tells.acknowledged_told;
+    reported_told = tells.reported_told;
+    moves_told = λ k. tells.moves_told k ++ record { range = range; to = to } ∷ [];
+    begun_told = tells.begun_told;
+    proxies_told = tells.proxies_told;
+    once_told = tells.once_told;
+  };
   told = λ m proxy commit_proxy entry at reported there r sound tells.
       let all = sessions-stand m sound in
       let was = tells.proxies_told proxy commit_proxy at in

@@ -92,7 +92,7 @@ start-tells config = record {
   opened_told = λ session. ap (λ (found : Session). alone (open_of found.state)) (sym (session-new session));
   acknowledged_told = refl;
   reported_told = refl;
-  no_moves = refl;
+  moves_told = refl;
   begun_told = λ session. ap (λ (found : Session). found.last_number) (session-new session);
   proxies_told = λ proxy commit_proxy there. all-at Idle (start config).commit_proxies proxy commit_proxy
       (all-replicate Idle idle_proxy config.proxies (record { waiting_told = refl; batch_told = λ busy. cc })) there;
@@ -124,6 +124,7 @@ config_steps config = record {
   went_on = λ m taken answer proxy commit_proxy stage decided verdicts acknowledgements quiet came at busy goes_on
       unreported same. same;
   reported_version = λ m proxy commit_proxy entry at logging there whole same. same;
+  moved = λ m range to exists same. same;
   told = λ m proxy commit_proxy entry at reported there same. same;
 }
 
@@ -145,6 +146,7 @@ worlds_show_what_is_told config steps given m stands =
     (sym (traces_tell config steps given m stands)) (trace-tells config steps given (Some m) stands) in
     record {
       book = sym tells.book_told;
+      pending = sym tells.moves_told;
       opened = tells.opened_told;
       begun = λ session. ap next_number (tells.begun_told session) ∙ next-begun (times_begun session (readings_of steps
           given).begun);

@@ -26,10 +26,10 @@ use Rattle.fdb_core.specs.machine.Machine.{Machine}
 use Rattle.fdb_core.specs.machine.Roles.{CommitProxy, Idle}
 use Rattle.fdb_core.specs.machine.Sessions.{tell_all}
 use Rattle.fdb_core.specs.refinement.Cluster.{machine_of, CommitProxiesRefine, Refines}
-use Rattle.fdb_core.specs.refinement.CommitProxies.{CommitProxyRefines, IsDone, seen_as}
+use Rattle.fdb_core.specs.refinement.CommitProxies.{CommitProxyRefines, Known, known_to, IsDone, seen_as}
 use Rattle.fdb_core.proofs.checking.BodyLemmas.{length-outcomes_on}
 use Rattle.fdb_core.proofs.common.ListLemmas.{map-at, map-set}
-use Rattle.fdb_core.proofs.refinement.CommitProxyTies.{busy-entry, commit_proxies-set, reported-is}
+use Rattle.fdb_core.proofs.refinement.CommitProxyTies.{busy-entry, commit_proxies-put, reported-is}
 use Rattle.fdb_core.proofs.refinement.CoreTies.{exactly-map}
 
 -- what becomes of a transaction, without its name
@@ -104,18 +104,18 @@ pub record IsAnswered (k : Cluster) (proxy : ℕ) (old : CommitProxyRole) (trans
       commit_proxies = map seen_as (slice_set k.commit_proxies.items proxy new);
     };
   })
-  pub tied : CommitProxiesRefine k.config k.book.items k.sequencer.committed
+  pub tied : CommitProxiesRefine k.config k.book.items (known_to k.sequencer)
       (slice_set k.commit_proxies.items proxy new)
 
 -- a busy proxy of a world
 module _ (k : Cluster) (before : Refines k) (proxy : ℕ) (role : CommitProxyRole)
     (there : slice_get k.commit_proxies.items proxy ≡ Some role) (busy : is_idle (seen_as role).stage ≡ false) where
-  pub its : CommitProxyRefines k.config k.book.items k.sequencer.committed role
+  pub its : CommitProxyRefines k.config k.book.items (known_to k.sequencer proxy) role
   its = before.commit_proxies.each proxy role there
 
   pub own : (entry : Entry) × (slice_get k.book.items role.entry ≡ Some entry)
       × (entry.batch ≡ map commit_request_of role.in_flight)
-  own = busy-entry k.config k.book.items k.sequencer.committed role its busy
+  own = busy-entry k.config k.book.items (known_to k.sequencer proxy) role its busy
 
   pub in-book : role.entry < length k.book.items
   in-book = slice_get_within k.book.items role.entry own.0 own.1
@@ -127,16 +127,16 @@ module _ (k : Cluster) (before : Refines k) (proxy : ℕ) (role : CommitProxyRol
       answers-early (machine_of k) proxy (seen_as role) entry
       (map-at seen_as k.commit_proxies.items proxy role there) busy
       (slice_get_read k.book.items (length k.book.items) role.entry entry refl in-book read)
-      (reported-is k.config k.book.items k.sequencer.committed role its busy ∙ unreported)
+      (reported-is k.config k.book.items (known_to k.sequencer proxy) role its busy ∙ unreported)
 
   -- or is, and is done
   module _ (reported : role.is_reported ≡ true) where
     pub is-reported : is_reported (seen_as role).stage ≡ true
-    is-reported = reported-is k.config k.book.items k.sequencer.committed role its busy ∙ reported
+    is-reported = reported-is k.config k.book.items (known_to k.sequencer proxy) role its busy ∙ reported
 
     module _ (new : CommitProxyRole) where
       abbrev IsDoneOf : CommitProxyRole → List Transcript × List (TxnId × Outcome) → Type 0
-      IsDoneOf read given = IsDone k.config k.book.items k.sequencer.committed own.0 read given.0 given.1 new
+      IsDoneOf read given = IsDone k.config k.book.items (known_to k.sequencer proxy) own.0 read given.0 given.1 new
 
       answered-as : (given : List Transcript × List (TxnId × Outcome)) → IsDoneOf role given
           → IsAnswered k proxy role given.0 given.1 new
@@ -157,8 +157,8 @@ module _ (k : Cluster) (before : Refines k) (proxy : ℕ) (role : CommitProxyRol
                 commit_proxies = seen i;
               };
             }));
-        tied = commit_proxies-set k.config k.book.items k.book.items k.sequencer.committed k.sequencer.committed
-            k.commit_proxies.items proxy new before.commit_proxies done.refines (λ other ok. ok);
+        tied = commit_proxies-put k.config k.book.items (known_to k.sequencer) k.commit_proxies.items proxy new
+            before.commit_proxies done.refines;
       }
         where
           outcomes_there : List Outcome
@@ -182,15 +182,15 @@ module _ (k : Cluster) (before : Refines k) (proxy : ℕ) (role : CommitProxyRol
       -- so it is answered by what the call gave of the proxy that was read
       pub finished : (result : Result (List Transcript × List (TxnId × Outcome)) Refusal) (read : CommitProxyRole)
           → read ≡ role
-          → ((config : Config) (book : List Entry) (committed : ℕ) (entry : Entry)
-          → CommitProxyRefines config book committed read → is_reported (seen_as read).stage ≡ true
+          → ((config : Config) (book : List Entry) (known : Known) (entry : Entry)
+          → CommitProxyRefines config book known read → is_reported (seen_as read).stage ≡ true
           → slice_get book read.entry ≡ Some entry
-          → AnswersExactly result None (λ given. IsDone config book committed entry read given.0 given.1 new))
+          → AnswersExactly result None (λ given. IsDone config book known entry read given.0 given.1 new))
           → AnswersExactly result None (λ given. IsAnswered k proxy role given.0 given.1 new)
       finished result read same says =
           exactly-map result None (IsDoneOf role) (λ given. IsAnswered k proxy role given.0 given.1 new)
           (λ none given done. answered-as given done)
-          (subst (λ (it : CommitProxyRole). CommitProxyRefines k.config k.book.items k.sequencer.committed it
+          (subst (λ (it : CommitProxyRole). CommitProxyRefines k.config k.book.items (known_to k.sequencer proxy) it
           → is_reported (seen_as it).stage ≡ true → slice_get k.book.items it.entry ≡ Some own.0
           → AnswersExactly result None (IsDoneOf it))
-          same (says k.config k.book.items k.sequencer.committed own.0) its is-reported own.1)
+          same (says k.config k.book.items (known_to k.sequencer proxy) own.0) its is-reported own.1)

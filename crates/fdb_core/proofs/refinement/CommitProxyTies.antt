@@ -1,5 +1,5 @@
 -- The commit proxies, kept tied to the book where one of them changes.
-use Rattle.std.proofs.Common.{◌≡◌, ◌∙◌, refl, sym, ap, subst, ℕ, suc, ◌≤◌, Bool, true, false, List, [], ◌∷◌, map, Some, None, slice_get, slice_set, if◌then◌else◌}
+use Rattle.std.proofs.Common.{◌≡◌, ◌≢◌, ◌∙◌, refl, sym, ap, subst, ⊎_elim, ℕ, suc, ◌≤◌, Bool, true, false, List, [], ◌∷◌, map, Some, None, slice_get, slice_set, if◌then◌else◌}
 use Rattle.std.specs.List.{AllByRecursion}
 use Rattle.std.proofs.lemmas.Bool.{true≢false}
 use Rattle.std.proofs.Math.Nat.{le_trans}
@@ -16,24 +16,35 @@ use Rattle.fdb_core.specs.machine.CommitProxySteps.{is_idle, is_logging, is_repo
 use Rattle.fdb_core.specs.machine.Machine.{first_missing}
 use Rattle.fdb_core.specs.machine.Roles.{Logging, Reported}
 use Rattle.fdb_core.specs.refinement.Cluster.{CommitProxiesRefine}
-use Rattle.fdb_core.specs.refinement.CommitProxies.{CommitProxyRefines, StageRefines, ReadsWithin, acknowledged_at, seen_as}
-use Rattle.fdb_core.proofs.common.ListLemmas.{each-set}
+use Rattle.fdb_core.specs.refinement.CommitProxies.{CommitProxyRefines, Known, StageRefines, ReadsWithin, acknowledged_at, seen_as}
+use Rattle.fdb_core.proofs.readings.SessionLists.{item-after-set}
 
 -- another one stands at a number, and the others go on
-pub commit_proxies-set : (config : Config) (book later : List Entry) (committed raised : ℕ)
+pub commit_proxies-set : (config : Config) (book later : List Entry) (known raised : ℕ → Known)
     (roles : List CommitProxyRole) (i : ℕ) (next : CommitProxyRole)
-    → CommitProxiesRefine config book committed roles → CommitProxyRefines config later raised next
-    → ((role : CommitProxyRole) → CommitProxyRefines config book committed role
-    → CommitProxyRefines config later raised role)
+    → CommitProxiesRefine config book known roles → CommitProxyRefines config later (raised i) next
+    → ((n : ℕ) (role : CommitProxyRole) → n ≢ i → slice_get roles n ≡ Some role
+    → CommitProxyRefines config book (known n) role → CommitProxyRefines config later (raised n) role)
     → CommitProxiesRefine config later raised (slice_set roles i next)
-commit_proxies-set config book later committed raised roles i next ok tied goes_on = record {
+commit_proxies-set config book later known raised roles i next ok tied goes_on = record {
   count = length-set roles i next ∙ ok.count;
-  each = each-set (λ (n : ℕ) (role : CommitProxyRole). CommitProxyRefines config later raised role) roles i next
-      (λ n role there. goes_on role (ok.each n role there)) (λ within. tied);
+  each = λ n role at. ⊎_elim
+      (λ (here : (n ≡ i) × (next ≡ role)). subst (λ (m : ℕ). CommitProxyRefines config later (raised m) role)
+      (sym here.0) (subst (CommitProxyRefines config later (raised i)) here.1 tied))
+      (λ (elsewhere : (n ≢ i) × (slice_get roles n ≡ Some role)).
+      goes_on n role elsewhere.0 elsewhere.1 (ok.each n role elsewhere.1))
+      (item-after-set roles i next n role at);
 }
 
-module _ (config : Config) (book : List Entry) (committed : ℕ) (role : CommitProxyRole)
-    (ok : CommitProxyRefines config book committed role) where
+-- in the place of another, where nothing else changes
+pub commit_proxies-put : (config : Config) (book : List Entry) (known : ℕ → Known) (roles : List CommitProxyRole) (i : ℕ)
+    (next : CommitProxyRole) → CommitProxiesRefine config book known roles
+    → CommitProxyRefines config book (known i) next → CommitProxiesRefine config book known (slice_set roles i next)
+commit_proxies-put config book known roles i next ok tied =
+    commit_proxies-set config book book known known roles i next ok tied (λ n role differs at its. its)
+
+module _ (config : Config) (book : List Entry) (known : Known) (role : CommitProxyRole)
+    (ok : CommitProxyRefines config book known role) where
   -- a busy proxy's entry is in the book, with the batch that is in flight
   pub busy-entry : is_idle (seen_as role).stage ≡ false
       → (entry : Entry) × (slice_get book role.entry ≡ Some entry)
@@ -68,18 +79,21 @@ module _ (config : Config) (book : List Entry) (committed : ℕ) (role : CommitP
       by_stage (core.Logging decided) is refines = rw is (by_flag role.is_reported)
 
   -- a greater committed version leaves a proxy tied
-  module _ (raised : ℕ) (above : committed ≤ raised) where
+  module _ (raised : ℕ) (above : known.committed ≤ raised) where
     reads-raised : AllByRecursion (ReadsWithin raised) role.waiting
-    reads-raised = all-weaken (ReadsWithin committed) (ReadsWithin raised)
+    reads-raised = all-weaken (ReadsWithin known.committed) (ReadsWithin raised)
         (λ transcript within. le_trans within above) role.waiting ok.reads
 
-    pub commit_proxy-raised : CommitProxyRefines config book raised role
+    pub commit_proxy-raised : CommitProxyRefines config book (record known { committed = raised }) role
     commit_proxy-raised = record {
       works = ok.works;
       logs = ok.logs;
       shard_splits = ok.shard_splits;
       splits = ok.splits;
+      learnt = ok.learnt;
+      all_moves = ok.all_moves;
       owners = ok.owners;
+      unlearnt = ok.unlearnt;
       last = ok.last;
       waiting = ok.waiting;
       in_flight = ok.in_flight;
@@ -90,13 +104,16 @@ module _ (config : Config) (book : List Entry) (committed : ℕ) (role : CommitP
     -- and so does the report of a batch that every log acknowledged
     pub commit_proxy-reported : is_logging (seen_as role).stage ≡ true
         → first_missing (λ log. true) 0 (seen_as role).acknowledgements_received ≡ None
-        → CommitProxyRefines config book raised (record role { is_reported = true })
+        → CommitProxyRefines config book (record known { committed = raised }) (record role { is_reported = true })
     commit_proxy-reported logging none = record {
       works = ok.works;
       logs = ok.logs;
       shard_splits = ok.shard_splits;
       splits = ok.splits;
+      learnt = ok.learnt;
+      all_moves = ok.all_moves;
       owners = ok.owners;
+      unlearnt = ok.unlearnt;
       last = ok.last;
       waiting = ok.waiting;
       in_flight = ok.in_flight;

@@ -1,20 +1,24 @@
 -- A commit proxy whose first requests become a batch.
-use Rattle.std.proofs.Common.{◌≡◌, ◌∙◌, refl, sym, ap, subst, ℕ, zero, suc, ◌<◌, Bool, true, false, List, [], ◌∷◌, ◌++◌, length, map, take, drop, replicate, Option, Some, None, Ok, slice_get, arith}
-use Rattle.std.specs.List.{AllByRecursion}
+use Rattle.std.proofs.Common.{◌≡◌, ◌∙◌, refl, sym, ap, subst, ℕ, zero, suc, ◌<◌, Bool, true, false, List, [], ◌∷◌, ◌++◌, length, map, take, drop, replicate, Option, Some, None, Ok, Err, slice_get, arith}
+use Rattle.std.specs.Prelude.{nat_le}
+use Rattle.std.specs.List.{AllByRecursion, list_any}
 use Rattle.std.specs.Option.{is_some}
-use Rattle.std.proofs.lemmas.Bool.{true≢false}
-use Rattle.std.proofs.lemmas.List.{length-replicate, take-append-le}
+use Rattle.std.proofs.lemmas.Bool.{lt-leb, true≢false}
+use Rattle.std.proofs.lemmas.List.{append-nil, append_assoc, length-replicate, take-append-le}
 use Rattle.fdb_keys.specs.Answers.{Answers}
 use Rattle.fdb_keys.specs.Points.{Point}
+use Rattle.fdb_keys.specs.declared.refusal.Refusal.{Refusal}
+use Rattle.fdb_keys.specs.declared.refusal.Refusal.TheVariants.{NoMemory}
 use Rattle.fdb_txn.specs.Limits.{place_limit}
 use Rattle.fdb_txn.specs.declared.entry.Entry.{Entry}
-use Rattle.fdb_txn.specs.declared.entry.Move.{Move}
-use Rattle.fdb_txn.specs.book.Book.{Stamped, Seen, add_moves, seen_of, seen_before}
+use Rattle.fdb_txn.specs.book.Book.{Seen, seen_of, seen_before, last_version}
 use Rattle.fdb_txn.specs.book.Transactions.{Transaction}
 use Rattle.fdb_txn.proofs.book.HistoryLemmas.{seen_of-push}
 use Rattle.fdb_owners.specs.OwnersLaws.{AgreesWith}
 use Rattle.fdb_resolver.specs.declared.part.Part.{Part}
 use Rattle.fdb_sequencer.specs.declared.ticket.Ticket.{Ticket}
+use Rattle.fdb_sequencer.specs.TicketLaws.{GoToResolvers}
+use Rattle.fdb_sequencer.specs.Moves.{Dated, dated}
 use Rattle.fdb_client.specs.Programs.{commit_request_of}
 use Rattle.fdb_proxy.specs.declared.config.Config.{Config}
 use Rattle.fdb_proxy.specs.declared.resolving.Resolving.{Resolving as Unheard}
@@ -27,11 +31,13 @@ use Rattle.fdb_proxy.specs.Verdicts.{moves_through}
 use Rattle.fdb_core.specs.declared.roles.commit_proxy.CommitProxyRole.{CommitProxyRole}
 use Rattle.fdb_core.specs.machine.CommitProxySteps.{is_idle, with_batch}
 use Rattle.fdb_core.specs.machine.Roles.{Resolving}
-use Rattle.fdb_core.specs.refinement.CommitProxies.{CommitProxyRefines, StageRefines, IsNextTicket, Seals, ReadsWithin, entry_of, stage_of, seen_as}
+use Rattle.fdb_core.specs.machine.SequencerSteps.{dated_moves}
+use Rattle.fdb_core.specs.refinement.CommitProxies.{CommitProxyRefines, Known, AreUnlearnt, StageRefines, IsNextTicket, Seals, ReadsWithin, entry_of, stage_of, seen_as}
 use Rattle.fdb_core.proofs.common.AllLemmas.{all-take, all-drop}
 use Rattle.fdb_core.proofs.common.FaultLemmas.{answers-fault}
 use Rattle.fdb_core.proofs.common.ListLemmas.{last-at}
 use Rattle.fdb_core.proofs.refinement.BookLemmas.{last-push}
+use Rattle.fdb_core.proofs.refinement.MoveLemmas.{moves-append, dated_moves-push, moves-of-book, unlearnt-push}
 
 -- fronts and rests of what is made of a list
 pub map-take : {A B : Type 0} (f : A → B) (n : ℕ) (xs : List A) → map f (take n xs) ≡ take n (map f xs)
@@ -46,25 +52,16 @@ map-drop f (suc n) [] = refl
 map-drop f zero (x ∷ xs) = refl
 map-drop f (suc n) (x ∷ xs) = map-drop f n xs
 
--- a ticket without moves, above what waits, may be learnt
-pub ticket-for : (p sealed : Core) (ticket : Ticket) → sealed ≡ sealing p → ticket.moves ≡ []
-    → AllByRecursion (λ (t : Transaction). t.read < ticket.version) p.waiting → IsTicketFor sealed ticket
-ticket-for p sealed ticket is still later = subst (λ (q : Core). IsTicketFor q ticket) (sym is) (record {
-  targets = rw still tt;
-  rising = rw still tt;
-  later = all-take (λ (t : Transaction). t.read < ticket.version) place_limit p.waiting later;
-})
-
 -- what a core that sealed a batch gave and left
 abbrev pub HasSealed : Core → Core → List Transaction → Type 0
 HasSealed old new batch = (batch ≡ take place_limit old.waiting) × (new ≡ sealing old)
 
--- it may learn the ticket
+-- it may learn a ticket that the core may that sealed it
 pub sealed-ticket : (p sealed : Core) (ticket : Ticket) (batch : List Transaction)
-    → Answers (Ok batch) (seal_fault p) (HasSealed p sealed) → ticket.moves ≡ []
-    → AllByRecursion (λ (t : Transaction). t.read < ticket.version) p.waiting → IsTicketFor sealed ticket
-sealed-ticket p sealed ticket batch answers still later =
-    ticket-for p sealed ticket (answers-fault (seal_fault p) batch (HasSealed p sealed) answers).1.1 still later
+    → Answers (Ok batch) (seal_fault p) (HasSealed p sealed) → IsTicketFor (sealing p) ticket → IsTicketFor sealed ticket
+sealed-ticket p sealed ticket batch answers may =
+    subst (λ (q : Core). IsTicketFor q ticket)
+    (sym (answers-fault (seal_fault p) batch (HasSealed p sealed) answers).1.1) may
 
 -- nothing came yet
 none-came : (n r : ℕ) (said : Said) → slice_get (replicate n None) r ≡ Some (Some said) → ⊥
@@ -76,10 +73,55 @@ flags-unset : (n : ℕ) → map (λ (of : Option Said). is_some of) (replicate n
 flags-unset zero = refl
 flags-unset (suc n) = ap (λ rest. false ∷ rest) (flags-unset n)
 
-module _ (config : Config) (book : List Entry) (committed : ℕ) (role : CommitProxyRole)
-    (ok : CommitProxyRefines config book committed role)
+-- moves that are all above a version
+fresh-moves : (last : ℕ) (moves : List Dated) → AllByRecursion (λ (of : Dated). last < of.0) moves
+    → list_any (λ (of : Dated). nat_le of.0 last) moves ≡ false
+fresh-moves last [] above = refl
+fresh-moves last (of ∷ moves) above = rw (lt-leb of.0 last above.0) (fresh-moves last moves above.1)
+
+module _ (config : Config) (book : List Entry) (known : Known) (role : CommitProxyRole)
+    (ok : CommitProxyRefines config book known role)
     (idle : is_idle (stage_of role.is_reported role.core.proxy.stage) ≡ true) (ticket : Ticket)
-    (next : IsNextTicket book ticket) where
+    (next : IsNextTicket config book known ticket) where
+  -- the ticket's moves may be learnt
+  tickets-moves : AreUnlearnt (suc (length config.resolver_splits)) role.core.proxy.last ticket.version ticket.moves
+  tickets-moves = subst (AreUnlearnt (suc (length config.resolver_splits)) role.core.proxy.last ticket.version)
+      (sym next.moves)
+      (unlearnt-push (suc (length config.resolver_splits)) role.core.proxy.last (last_version book) ticket.version
+      known.unlearnt ticket.pending ok.unlearnt next.later ok.last next.targets)
+
+  -- so the ticket may be, where it is above what waits
+  pub ticket-for : AllByRecursion (λ (t : Transaction). t.read < ticket.version) role.core.proxy.waiting
+      → IsTicketFor (sealing role.core.proxy) ticket
+  ticket-for later = record {
+    targets = subst (λ (splits : List Point). GoToResolvers (suc (length splits)) ticket.moves) (sym ok.splits)
+        tickets-moves.targets;
+    rising = tickets-moves.rising;
+    later = all-take (λ (t : Transaction). t.read < ticket.version) place_limit role.core.proxy.waiting later;
+  }
+
+  -- and it is not stale
+  learns : learn_fault (sealing role.core.proxy) ticket ≡ None
+  learns =
+      let last = ok.last in
+      let later = next.later in
+      rw (
+        ok.works,
+        lt-leb ticket.version role.core.proxy.last (omega (arith, last, later)),
+        fresh-moves role.core.proxy.last ticket.moves tickets-moves.above,
+      ) refl
+
+  -- so only memory may be lacking
+  pub learn-lacks : (T : Type 0) (sealed : Core) (learnt : ProxyWithRoom) (batch : List Transaction) (why : Refusal)
+      → Answers (Ok batch) (seal_fault role.core.proxy) (HasSealed role.core.proxy sealed)
+      → Answers {T = T} (Err why) (learn_fault sealed ticket) (λ _. HasLearntTicket sealed ticket learnt.proxy)
+      → why ≡ NoMemory
+  learn-lacks T sealed learnt batch why sealed_it refused =
+      let its = answers-fault (seal_fault role.core.proxy) batch (HasSealed role.core.proxy sealed) sealed_it in
+      subst (λ (fault : Option Refusal).
+      Answers {T = T} (Err why) fault (λ _. HasLearntTicket sealed ticket learnt.proxy))
+      (ap (λ (p : Core). learn_fault p ticket) its.1.1 ∙ learns) refused
+
   -- the proxy was idle, and nothing is reported of it
   unreported : role.is_reported ≡ false
   unreported = by_stage role.core.proxy.stage refl ok.stage
@@ -110,7 +152,6 @@ module _ (config : Config) (book : List Entry) (committed : ℕ) (role : CommitP
     abbrev grown : List Entry
     grown = book ++ entry ∷ []
 
-    -- nothing moves
     seen : seen_before grown (length book) ≡ seen_of book
     seen = ap seen_of (take-append-le (length book) book (entry ∷ []) (omega arith) ∙ take-whole book)
       where
@@ -118,16 +159,23 @@ module _ (config : Config) (book : List Entry) (committed : ℕ) (role : CommitP
         take-whole [] = refl
         take-whole (x ∷ xs) = ap (λ rest. x ∷ rest) (take-whole xs)
 
-    still : moves_through (seen_of book) entry ≡ (seen_of book).moves
-    still = ap (λ (moves : List Move). add_moves ticket.version moves (seen_of book).moves) next.pending
+    -- it has learnt all moves of the book with the entry
+    moves-grown : dated_moves grown ≡ ok.learnt ++ ticket.moves
+    moves-grown =
+        let newest = dated ticket.version ticket.pending in
+        dated_moves-push book entry
+        ∙ ap (λ (moves : List Dated). moves ++ newest) (sym ok.all_moves)
+        ∙ append_assoc ok.learnt known.unlearnt newest
+        ∙ ap (λ (moves : List Dated). ok.learnt ++ moves) (sym next.moves)
 
-    moves-grown : (seen_of grown).moves ≡ (seen_of book).moves
-    moves-grown = ap (λ (s : Seen). s.moves) (seen_of-push book entry) ∙ still
+    owners-learnt : AgreesWith later.core.proxy.owners (moves_with (ok.learnt ++ ticket.moves) [])
+    owners-learnt = subst (AgreesWith later.core.proxy.owners) (sym (moves-append ok.learnt ticket.moves []))
+        (learnt.learnt.moves (moves_with ok.learnt []) ok.owners)
 
-    owners-learnt : AgreesWith later.core.proxy.owners (seen_of book).moves
-    owners-learnt = subst (λ (dated : List (ℕ × List Move)).
-        AgreesWith later.core.proxy.owners (moves_with dated (seen_of book).moves)) next.moves
-        (learnt.learnt.moves (seen_of book).moves ok.owners)
+    owners-through : AgreesWith later.core.proxy.owners (moves_through (seen_of book) entry)
+    owners-through = subst (AgreesWith later.core.proxy.owners)
+        (ap (λ (moves : List Dated). moves_with moves []) (sym moves-grown) ∙ moves-of-book grown
+        ∙ ap (λ (s : Seen). s.moves) (seen_of-push book entry)) owners-learnt
 
     splits-are : later.core.proxy.owners.splits ≡ config.resolver_splits
     splits-are = learnt.learnt.splits ∙ ok.splits
@@ -139,13 +187,12 @@ module _ (config : Config) (book : List Entry) (committed : ℕ) (role : CommitP
     resolving-parts : AreParts config.resolver_splits (moves_through (seen_of book) entry) (position_of ticket) batch
         learnt.resolving.parts
     resolving-parts =
-        subst (λ (moves : List Stamped). AreParts config.resolver_splits moves (position_of ticket) batch
-        learnt.resolving.parts) (sym still)
-        (subst (λ (ts : List Transaction). AreParts config.resolver_splits (seen_of book).moves (position_of ticket) ts
+        let moves = moves_through (seen_of book) entry in
+        subst (λ (ts : List Transaction). AreParts config.resolver_splits moves (position_of ticket) ts
         learnt.resolving.parts) (sym batch_is)
-        (subst (λ (splits : List Point). AreParts splits (seen_of book).moves (position_of ticket)
+        (subst (λ (splits : List Point). AreParts splits moves (position_of ticket)
         (take place_limit role.core.proxy.waiting) learnt.resolving.parts) splits-are
-        (learnt.unheard.parts (seen_of book).moves owners-learnt)))
+        (learnt.unheard.parts moves owners-through))
 
     stage-is : later.core.proxy.stage ≡ core.Resolving learnt.resolving
     stage-is = ap (λ (p : Core). p.stage) learnt.rest
@@ -196,7 +243,7 @@ module _ (config : Config) (book : List Entry) (committed : ℕ) (role : CommitP
           flag,
         )
 
-    pub seals : Seals config book committed ticket role batch parts later
+    pub seals : Seals config book known ticket role batch parts later
     seals = record {
       batch_is = batch-requests;
       parts_are = subst (AreParts config.resolver_splits (moves_through (seen_of book) entry) (position_of ticket) batch)
@@ -207,7 +254,10 @@ module _ (config : Config) (book : List Entry) (committed : ℕ) (role : CommitP
         logs = ap (λ (p : Core). p.logs) learnt.rest ∙ ok.logs;
         shard_splits = ap (λ (p : Core). p.shard_splits) learnt.rest ∙ ok.shard_splits;
         splits = splits-are;
-        owners = subst (AgreesWith later.core.proxy.owners) (sym moves-grown) owners-learnt;
+        learnt = ok.learnt ++ ticket.moves;
+        all_moves = append-nil (ok.learnt ++ ticket.moves) ∙ sym moves-grown;
+        owners = owners-learnt;
+        unlearnt = record { targets = tt; rising = tt; above = tt };
         last = let is = ap (λ (p : Core). p.last) learnt.rest in
             let end = last-push book entry in omega (arith, is, end);
         waiting = ap (λ (p : Core). p.waiting) learnt.rest ∙ ap (drop place_limit) ok.waiting
@@ -215,8 +265,8 @@ module _ (config : Config) (book : List Entry) (committed : ℕ) (role : CommitP
             ∙ ap (λ (r : CommitProxyRole). map commit_request_of r.waiting) (sym same);
         in_flight = ap (λ (p : Core). p.batch) learnt.rest ∙ sym batch_is ∙ batch-requests
             ∙ ap (λ (r : CommitProxyRole). map commit_request_of r.in_flight) (sym same);
-        reads = subst (λ (r : CommitProxyRole). AllByRecursion (ReadsWithin committed) r.waiting) (sym same)
-            (all-drop (ReadsWithin committed) place_limit role.waiting ok.reads);
+        reads = subst (λ (r : CommitProxyRole). AllByRecursion (ReadsWithin known.committed) r.waiting) (sym same)
+            (all-drop (ReadsWithin known.committed) place_limit role.waiting ok.reads);
         stage = stage-refines;
       };
     }
@@ -232,7 +282,7 @@ module _ (config : Config) (book : List Entry) (committed : ℕ) (role : CommitP
         waiting = drop place_limit role.waiting;
         in_flight = take place_limit role.waiting;
       }
-      → Seals config book committed ticket role batch parts (record later { entry = ticket.index })
+      → Seals config book known ticket role batch parts (record later { entry = ticket.index })
   seals-by {T} sealed learnt later batch parts done sealed_it learnt_it parted same =
       let its = answers-fault (seal_fault role.core.proxy) batch (HasSealed role.core.proxy sealed) sealed_it in
       let has = answers-fault (learn_fault sealed ticket) done (λ (_ : T). HasLearntTicket sealed ticket learnt.proxy)

@@ -6,14 +6,14 @@ use Rattle.fdb_keys.specs.Answers.{AnswersExactly}
 use Rattle.fdb_keys.specs.declared.refusal.Refusal.{Refusal}
 use Rattle.fdb_keys.specs.declared.refusal.Refusal.TheVariants.{Stale}
 use Rattle.fdb_txn.specs.declared.entry.Entry.{Entry}
-use Rattle.fdb_txn.specs.book.Book.{seen_of, last_version}
+use Rattle.fdb_txn.specs.book.Book.{last_version}
 use Rattle.fdb_log.specs.declared.message.LogAck.{LogAck}
 use Rattle.fdb_proxy.specs.declared.config.Config.{Config}
 use Rattle.fdb_proxy.specs.declared.logging.Logging.{Logging as Decided}
 use Rattle.fdb_proxy.specs.declared.stage.Stage.{Stage as CoreStage}
 use Rattle.fdb_proxy.specs.declared.stage.Stage.TheVariants as core
 use Rattle.fdb_owners.specs.OwnersLaws.{AgreesWith}
-use Rattle.fdb_proxy.specs.CommitProxies.{CommitProxy as Core, ProxyWithRoom, waiting_for, logged_fault, acknowledging, all_logged_fault}
+use Rattle.fdb_proxy.specs.CommitProxies.{CommitProxy as Core, ProxyWithRoom, moves_with, waiting_for, logged_fault, acknowledging, all_logged_fault}
 use Rattle.fdb_proxy.specs.Flags.{first_unset}
 use Rattle.fdb_proxy.specs.Logging as logging
 use Rattle.fdb_proxy.specs.Logging.{with_acknowledgement}
@@ -21,7 +21,7 @@ use Rattle.fdb_core.specs.declared.roles.commit_proxy.CommitProxyRole.{CommitPro
 use Rattle.fdb_core.specs.machine.CommitProxySteps.{awaits, with_received, is_logging}
 use Rattle.fdb_core.specs.machine.Machine.{is_set, first_missing}
 use Rattle.fdb_core.specs.machine.Roles.{Logging, Reported, FromLog}
-use Rattle.fdb_core.specs.refinement.CommitProxies.{CommitProxyRefines, StageRefines, IsLogging, stage_of, received_at, acknowledged_at, seen_as}
+use Rattle.fdb_core.specs.refinement.CommitProxies.{CommitProxyRefines, Known, AreUnlearnt, StageRefines, IsLogging, stage_of, received_at, acknowledged_at, seen_as}
 
 -- what a call gave that was answered has what follows from it where there is no fault
 pub exactly-map : {T : Type 0} (result : Result T Refusal) (fault : Option Refusal) (P Q : T → Type 0)
@@ -62,20 +62,23 @@ pub awaited : (b : Bool) → (if b then None else Some Stale) ≡ None → b ≡
 awaited true none = refl
 awaited false none = cc
 
-module _ (config : Config) (book : List Entry) (committed : ℕ) (role : CommitProxyRole)
-    (ok : CommitProxyRefines config book committed role) where
+module _ (config : Config) (book : List Entry) (known : Known) (role : CommitProxyRole)
+    (ok : CommitProxyRefines config book known role) where
   -- at another stage, by a core that is else as it was
   pub staged : (later : ProxyWithRoom) (stage : CoreStage) (reported : Bool)
       → later.proxy ≡ record role.core.proxy { stage = stage }
       → StageRefines config book reported role.entry role.core.proxy.batch stage
-      → CommitProxyRefines config book committed (record role { core = later; is_reported = reported })
+      → CommitProxyRefines config book known (record role { core = later; is_reported = reported })
   staged later stage reported is refines = record {
     works = ap (λ (p : Core). p.is_failed) is ∙ ok.works;
     logs = ap (λ (p : Core). p.logs) is ∙ ok.logs;
     shard_splits = ap (λ (p : Core). p.shard_splits) is ∙ ok.shard_splits;
     splits = ap (λ (p : Core). p.owners.splits) is ∙ ok.splits;
-    owners = subst (λ (p : Core). AgreesWith p.owners
-        (seen_of book).moves) (sym is) ok.owners;
+    learnt = ok.learnt;
+    all_moves = ok.all_moves;
+    owners = subst (λ (p : Core). AgreesWith p.owners (moves_with ok.learnt [])) (sym is) ok.owners;
+    unlearnt = subst (λ (p : Core). AreUnlearnt (suc (length config.resolver_splits)) p.last (last_version book)
+        known.unlearnt) (sym is) ok.unlearnt;
     last = subst (λ (p : Core). p.last ≤ last_version book) (sym is) ok.last;
     waiting = ap (λ (p : Core). p.waiting) is ∙ ok.waiting;
     in_flight = ap (λ (p : Core). p.batch) is ∙ ok.in_flight;
@@ -142,13 +145,13 @@ module _ (config : Config) (book : List Entry) (committed : ℕ) (role : CommitP
     after-acknowledged : (later : ProxyWithRoom) → AcknowledgementIsAwaited ≡ true
         → later.proxy ≡ acknowledging role.core.proxy ack
         → (seen_as (record role { core = later }) ≡ with_received (seen_as role) (FromLog ack.log))
-        × CommitProxyRefines config book committed (record role { core = later })
+        × CommitProxyRefines config book known (record role { core = later })
     after-acknowledged later waits after = by_stage role.core.proxy.stage refl ok.stage
       where
         by_stage : (stage : CoreStage) → role.core.proxy.stage ≡ stage
             → StageRefines config book role.is_reported role.entry role.core.proxy.batch stage
             → (seen_as (record role { core = later }) ≡ with_received (seen_as role) (FromLog ack.log))
-            × CommitProxyRefines config book committed (record role { core = later })
+            × CommitProxyRefines config book known (record role { core = later })
         by_stage core.Idle is refines = absurd (true≢false (sym (rw is at waits)))
         by_stage core.Sealed is refines = absurd refines
         by_stage (core.Resolving batch) is refines = absurd (true≢false (sym (rw is at waits)))
@@ -181,7 +184,7 @@ module _ (config : Config) (book : List Entry) (committed : ℕ) (role : CommitP
         (λ _. later.proxy ≡ acknowledging role.core.proxy ack)
         → AnswersExactly result (if AcknowledgementIsAwaited then None else Some Stale)
         (λ _. (seen_as (record role { core = later }) ≡ with_received (seen_as role) (FromLog ack.log))
-        × CommitProxyRefines config book committed (record role { core = later }))
+        × CommitProxyRefines config book known (record role { core = later }))
     takes-acknowledgement {T} result later answers =
         exactly-by result (logged_fault role.core.proxy ack) (if AcknowledgementIsAwaited then None else Some Stale)
         (λ (_ : T). later.proxy ≡ acknowledging role.core.proxy ack) _ fault-acknowledged

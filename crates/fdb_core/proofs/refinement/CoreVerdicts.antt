@@ -39,7 +39,7 @@ use Rattle.fdb_core.specs.declared.roles.commit_proxy.CommitProxyRole.{CommitPro
 use Rattle.fdb_core.specs.machine.CommitProxySteps.{awaits, with_received, is_resolving, is_logging}
 use Rattle.fdb_core.specs.machine.Machine.{is_set, first_missing}
 use Rattle.fdb_core.specs.machine.Roles.{FromResolver, Resolving, Logging}
-use Rattle.fdb_core.specs.refinement.CommitProxies.{CommitProxyRefines, StageRefines, IsBatchOf, IsResolving, IsSaid, Decides, stage_of, received_at, seen_as}
+use Rattle.fdb_core.specs.refinement.CommitProxies.{CommitProxyRefines, Known, StageRefines, IsBatchOf, IsResolving, IsSaid, Decides, stage_of, received_at, seen_as}
 use Rattle.fdb_core.proofs.common.AllLemmas.{within-item}
 use Rattle.fdb_core.proofs.common.FaultLemmas.{answers-by}
 use Rattle.fdb_core.proofs.common.ListLemmas.{map-set, set-here, set-other}
@@ -70,8 +70,8 @@ come-flag (None ∷ verdicts) zero within = refl
 come-flag (Some said ∷ verdicts) zero within = refl
 come-flag (of ∷ verdicts) (suc r) within = come-flag verdicts r (omega (arith, within))
 
-module _ (config : Config) (book : List Entry) (committed : ℕ) (role : CommitProxyRole)
-    (ok : CommitProxyRefines config book committed role) where
+module _ (config : Config) (book : List Entry) (known : Known) (role : CommitProxyRole)
+    (ok : CommitProxyRefines config book known role) where
   -- a resolver's verdicts
   module _ (verdicts : Verdicts) (entry : Entry) (said : IsSaid config.resolver_splits book verdicts entry) where
     abbrev VerdictsAreAwaited : Bool
@@ -138,13 +138,13 @@ module _ (config : Config) (book : List Entry) (committed : ℕ) (role : CommitP
     -- once they came
     after-said : (later : ProxyWithRoom) → VerdictsAreAwaited ≡ true → later.proxy ≡ hearing role.core.proxy verdicts
         → (seen_as (record role { core = later }) ≡ with_received (seen_as role) (FromResolver verdicts.resolver))
-        × CommitProxyRefines config book committed (record role { core = later })
+        × CommitProxyRefines config book known (record role { core = later })
     after-said later waits after = by_stage role.core.proxy.stage refl ok.stage
       where
         by_stage : (stage : CoreStage) → role.core.proxy.stage ≡ stage
             → StageRefines config book role.is_reported role.entry role.core.proxy.batch stage
             → (seen_as (record role { core = later }) ≡ with_received (seen_as role) (FromResolver verdicts.resolver))
-            × CommitProxyRefines config book committed (record role { core = later })
+            × CommitProxyRefines config book known (record role { core = later })
         by_stage core.Idle is refines = absurd (true≢false (sym (rw is at waits)))
         by_stage core.Sealed is refines = absurd refines
         by_stage (core.Logging decided) is refines = by_flag role.is_reported refl
@@ -152,7 +152,7 @@ module _ (config : Config) (book : List Entry) (committed : ℕ) (role : CommitP
             by_flag : (reported : Bool) → role.is_reported ≡ reported
                 → (seen_as (record role { core = later })
                 ≡ with_received (seen_as role) (FromResolver verdicts.resolver))
-                × CommitProxyRefines config book committed (record role { core = later })
+                × CommitProxyRefines config book known (record role { core = later })
             by_flag true flag = absurd (true≢false (sym (rw (is, flag) at waits)))
             by_flag false flag = absurd (true≢false (sym (rw (is, flag) at waits)))
         by_stage (core.Resolving batch) is refines =
@@ -168,11 +168,11 @@ module _ (config : Config) (book : List Entry) (committed : ℕ) (role : CommitP
             (sym said.there ∙ ap (slice_get book) (sym same) ∙ refines.1.there) in
             let exists = said.exists in
             let count = old.count in (
-              seen-staged config book committed role ok later stage next
+              seen-staged config book known role ok later stage next
                   ∙ rw is (ap (λ (received : List Bool). record (seen_as role)
                   { stage = Resolving; verdicts_received = received; acknowledgements_received = [] })
                   (map-set (λ (of : Option Said). is_some of) batch.verdicts verdicts.resolver (Some verdicts.answers))),
-              staged config book committed role ok later stage role.is_reported next (
+              staged config book known role ok later stage role.is_reported next (
                 refines.0,
                 refines.1,
                 record {
@@ -199,7 +199,7 @@ module _ (config : Config) (book : List Entry) (committed : ℕ) (role : CommitP
         (λ _. later.proxy ≡ hearing role.core.proxy verdicts)
         → AnswersExactly result (if VerdictsAreAwaited then None else Some Stale)
         (λ _. (seen_as (record role { core = later }) ≡ with_received (seen_as role) (FromResolver verdicts.resolver))
-        × CommitProxyRefines config book committed (record role { core = later }))
+        × CommitProxyRefines config book known (record role { core = later }))
     takes-verdicts {T} result later answers =
         exactly-by result (verdict_fault role.core.proxy verdicts) (if VerdictsAreAwaited then None else Some Stale)
         (λ (_ : T). later.proxy ≡ hearing role.core.proxy verdicts) _ fault-said
@@ -254,8 +254,8 @@ none-missing n (first ∷ parts) (of ∷ verdicts) (suc i) part none silent ther
     by_test false is others = others is
 
 -- what is decided of a batch that waits for verdicts
-module _ (config : Config) (book : List Entry) (committed : ℕ) (role : CommitProxyRole)
-    (ok : CommitProxyRefines config book committed role) (entry : Entry)
+module _ (config : Config) (book : List Entry) (known : Known) (role : CommitProxyRole)
+    (ok : CommitProxyRefines config book known role) (entry : Entry)
     (there : slice_get book role.entry ≡ Some entry) (entries : AreEntries (suc (length config.resolver_splits)) 0 book)
   where
     abbrev before : Seen
@@ -318,7 +318,7 @@ module _ (config : Config) (book : List Entry) (committed : ℕ) (role : CommitP
         decides : (later : ProxyWithRoom) (outcomes : List Outcome)
             → decide_fault role.core.proxy ≡ None → outcomes ≡ outcomes_in role.core.proxy
             → later.proxy ≡ deciding role.core.proxy
-            → Decides config book committed entry role outcomes (record role { core = later })
+            → Decides config book known entry role outcomes (record role { core = later })
         decides later outcomes no_fault are after =
             let none = fault-none no_fault in
             let by_rule = outcomes-are none in
@@ -330,13 +330,13 @@ module _ (config : Config) (book : List Entry) (committed : ℕ) (role : CommitP
             let next : later.proxy ≡ record role.core.proxy { stage = core.Logging decided } = after ∙ rw stage refl in
             record {
               outcomes_are = are ∙ by_rule;
-              machine = seen-staged config book committed role ok later (core.Logging decided) next
+              machine = seen-staged config book known role ok later (core.Logging decided) next
                   ∙ rw unreported (λ i. record (seen_as role) {
                     stage = Logging;
                     verdicts_received = [];
                     acknowledgements_received = replicate (ok.logs i) false;
                   });
-              refines = staged config book committed role ok later (core.Logging decided) role.is_reported next (
+              refines = staged config book known role ok later (core.Logging decided) role.is_reported next (
                 entry,
                 its,
                 record {
@@ -384,24 +384,24 @@ module _ (config : Config) (book : List Entry) (committed : ℕ) (role : CommitP
         (λ outcomes. (outcomes ≡ outcomes_in role.core.proxy) × (later.proxy ≡ deciding role.core.proxy))
         → Answers result (waiting_for (first_missing
         (λ resolver. is_needed config.resolver_splits resolver before entry) 0 (received_at role.core.proxy.stage)))
-        (λ outcomes. Decides config book committed entry role outcomes (record role { core = later }))
+        (λ outcomes. Decides config book known entry role outcomes (record role { core = later }))
     decides-answers resolving_now result later answers =
         let found = decides-resolving resolving_now in
         let fault = fault-decided found.0 found.1 found.2 found.3 found.4 in
         answers-by result (decide_fault role.core.proxy) _
         (λ outcomes. (outcomes ≡ outcomes_in role.core.proxy) × (later.proxy ≡ deciding role.core.proxy))
-        (λ outcomes. Decides config book committed entry role outcomes (record role { core = later })) fault
+        (λ outcomes. Decides config book known entry role outcomes (record role { core = later })) fault
         (λ none outcomes given. decides found.0 found.1 found.2 found.3 found.4 later outcomes (fault ∙ none) given.0
         given.1) answers
 
 -- what the call answers that gives the messages of a decided batch
-pub messages-answers : (config : Config) (book : List Entry) (committed : ℕ) (role : CommitProxyRole)
-    → CommitProxyRefines config book committed role → is_logging (stage_of role.is_reported role.core.proxy.stage) ≡ true
+pub messages-answers : (config : Config) (book : List Entry) (known : Known) (role : CommitProxyRole)
+    → CommitProxyRefines config book known role → is_logging (stage_of role.is_reported role.core.proxy.stage) ≡ true
     → (entry : Entry) → slice_get book role.entry ≡ Some entry → (result : Result (List LogMsg) Refusal)
     → Answers result (messages_fault role.core.proxy) (λ messages. messages ≡ messages_of role.core.proxy)
     → Answers result None (λ messages. messages ≡ log_messages config.resolver_splits config.shard_splits config.logs
     role.entry (seen_before book role.entry) entry)
-messages-answers config book committed role ok logging entry there result answers =
+messages-answers config book known role ok logging entry there result answers =
     by_stage role.core.proxy.stage refl ok.stage
   where
     sent : List LogMsg

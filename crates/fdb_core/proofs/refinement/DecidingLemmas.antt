@@ -24,12 +24,12 @@ use Rattle.fdb_core.specs.machine.CommitProxySteps.{decides, is_idle, is_resolvi
 use Rattle.fdb_core.specs.machine.Machine.{is_set, first_missing}
 use Rattle.fdb_core.specs.machine.Roles.{CommitProxy, Stage, Idle, Resolving, Logging, Reported}
 use Rattle.fdb_core.specs.refinement.Cluster.{machine_of, messages_on, Refines}
-use Rattle.fdb_core.specs.refinement.CommitProxies.{CommitProxyRefines, Decides, seen_as}
+use Rattle.fdb_core.specs.refinement.CommitProxies.{CommitProxyRefines, Known, known_to, Decides, seen_as}
 use Rattle.fdb_core.specs.refinement.Logs.{logs_taken}
 use Rattle.fdb_core.specs.machine.Steps.{Unless, ran_out}
 use Rattle.fdb_core.proofs.common.FaultLemmas.{answers-fault, unless, unless-fault, lacks-memory}
 use Rattle.fdb_core.proofs.common.ListLemmas.{set-here, set-other, map-at, map-set}
-use Rattle.fdb_core.proofs.refinement.CommitProxyTies.{commit_proxies-set, busy-entry}
+use Rattle.fdb_core.proofs.refinement.CommitProxyTies.{commit_proxies-put, busy-entry}
 
 -- the messages of an entry more, which is decided
 made-set : (config : Config) (book : List Entry) (decided : List Bool) (messages : List (Option (List LogMsg))) (i : ℕ)
@@ -76,7 +76,7 @@ none-waits (Some n) is = cc
 -- The proxy that is told to decide.
 module _ (k : Cluster) (refines : Refines k) (proxy : ℕ) (role : CommitProxyRole)
     (there : slice_get k.commit_proxies.items proxy ≡ Some role) where
-  pub its-tie : CommitProxyRefines k.config k.book.items k.sequencer.committed role
+  pub its-tie : CommitProxyRefines k.config k.book.items (known_to k.sequencer proxy) role
   its-tie = refines.commit_proxies.each proxy role there
 
   seen-there : slice_get (map seen_as k.commit_proxies.items) proxy ≡ Some (seen_as role)
@@ -90,7 +90,7 @@ module _ (k : Cluster) (refines : Refines k) (proxy : ℕ) (role : CommitProxyRo
   module _ (waits_now : is_resolving (seen_as role).stage ≡ true) where
     pub found : (entry : Entry) × (slice_get k.book.items role.entry ≡ Some entry)
     found =
-        let its = busy-entry k.config k.book.items k.sequencer.committed role its-tie
+        let its = busy-entry k.config k.book.items (known_to k.sequencer proxy) role its-tie
         (busy (seen_as role).stage waits_now) in (its.0, its.1)
 
     abbrev pub entry : Entry
@@ -126,19 +126,19 @@ module _ (k : Cluster) (refines : Refines k) (proxy : ℕ) (role : CommitProxyRo
     -- why it is refused
     pub decides-refused : (why : Refusal) (later : CommitProxyRole)
         → Answers {T = List Outcome} (Err why) (waiting_for missing)
-        (λ outcomes. Decides k.config k.book.items k.sequencer.committed entry role outcomes later)
+        (λ outcomes. Decides k.config k.book.items (known_to k.sequencer proxy) entry role outcomes later)
         → (P : Type 0) → ((n : ℕ) → why ≡ NotYet n → decides (machine_of k) proxy ≡ Err (NotYet n) → P)
         → Unless (ran_out (Err why)) P
     decides-refused why later answers P follows =
         unless-fault (waiting_for missing) why
-        (λ (outcomes : List Outcome). Decides k.config k.book.items k.sequencer.committed entry role outcomes later) P
+        (λ (outcomes : List Outcome). Decides k.config k.book.items (known_to k.sequencer proxy) entry role outcomes later) P
         answers
         (λ faulty. let waits = waits-fault missing why faulty in follows waits.0 waits.2 (decides-waits waits.0 waits.1))
 
     -- what stands once it decided, and its messages are in the pool
     pub decided : (outcomes : List Outcome) (messages : List LogMsg) (later : CommitProxyRole)
         → Answers (Ok outcomes) (waiting_for missing)
-        (λ given. Decides k.config k.book.items k.sequencer.committed entry role given later)
+        (λ given. Decides k.config k.book.items (known_to k.sequencer proxy) entry role given later)
         → messages ≡ messages_on k.config role.entry (seen_before k.book.items role.entry) entry →
         let next = record k {
           decided = with_item k.decided role.entry true;
@@ -149,7 +149,7 @@ module _ (k : Cluster) (refines : Refines k) (proxy : ℕ) (role : CommitProxyRo
         × Refines next
     decided outcomes messages later answers sent =
         let given = answers-fault (waiting_for missing) outcomes
-        (λ (of : List Outcome). Decides k.config k.book.items k.sequencer.committed entry role of later) answers in
+        (λ (of : List Outcome). Decides k.config k.book.items (known_to k.sequencer proxy) entry role of later) answers in
         let is = given.1 in
         let book = refines.book in
         let inside = slice_get_within k.book.items role.entry entry entry-there in
@@ -188,9 +188,8 @@ module _ (k : Cluster) (refines : Refines k) (proxy : ℕ) (role : CommitProxyRo
             resolvers = refines.resolvers;
             logs = refines.logs;
             shard_map = refines.shard_map;
-            commit_proxies = commit_proxies-set k.config k.book.items k.book.items k.sequencer.committed
-                k.sequencer.committed k.commit_proxies.items proxy later refines.commit_proxies is.refines
-                (λ other its. its);
+            commit_proxies = commit_proxies-put k.config k.book.items (known_to k.sequencer) k.commit_proxies.items proxy
+                later refines.commit_proxies is.refines;
             grv_proxies = refines.grv_proxies;
             opened = refines.opened;
           },
@@ -199,13 +198,13 @@ module _ (k : Cluster) (refines : Refines k) (proxy : ℕ) (role : CommitProxyRo
     -- the proxy that decided is decided
     pub decided-role : (outcomes : List Outcome) (later : CommitProxyRole)
         → Answers (Ok outcomes) (waiting_for missing)
-        (λ given. Decides k.config k.book.items k.sequencer.committed entry role given later)
-        → CommitProxyRefines k.config k.book.items k.sequencer.committed later
+        (λ given. Decides k.config k.book.items (known_to k.sequencer proxy) entry role given later)
+        → CommitProxyRefines k.config k.book.items (known_to k.sequencer proxy) later
         × (is_logging (seen_as later).stage ≡ true) × (slice_get k.book.items later.entry ≡ Some entry)
         × (later.entry ≡ role.entry)
     decided-role outcomes later answers =
         let is = (answers-fault (waiting_for missing) outcomes
-        (λ (of : List Outcome). Decides k.config k.book.items k.sequencer.committed entry role of later) answers).1 in
+        (λ (of : List Outcome). Decides k.config k.book.items (known_to k.sequencer proxy) entry role of later) answers).1 in
         let same : later.entry ≡ role.entry = ap (λ (p : CommitProxy). p.entry) is.machine in (
           is.refines,
           ap (λ (p : CommitProxy). is_logging p.stage) is.machine,
@@ -222,25 +221,25 @@ module _ (k : Cluster) (refines : Refines k) (proxy : ℕ) (role later : CommitP
   -- what deciding answers
   abbrev pub SaysWrong : Result (List Outcome) Refusal → Type 0
   SaysWrong result =
-      (config : Config) (book : List Entry) (committed : ℕ) → CommitProxyRefines config book committed role
+      (config : Config) (book : List Entry) (known : Known) → CommitProxyRefines config book known role
       → is_resolving (seen_as role).stage ≡ false → result ≡ Err WrongState
 
   abbrev pub SaysDecided : Result (List Outcome) Refusal → Type 0
   SaysDecided result =
-      (config : Config) (book : List Entry) (committed : ℕ) (entry : Entry)
-      → CommitProxyRefines config book committed role → is_resolving (seen_as role).stage ≡ true
+      (config : Config) (book : List Entry) (known : Known) (entry : Entry)
+      → CommitProxyRefines config book known role → is_resolving (seen_as role).stage ≡ true
       → slice_get book role.entry ≡ Some entry → AreEntries (suc (length config.resolver_splits)) 0 book
       → Answers result (waiting_for (first_missing
       (λ resolver. is_needed config.resolver_splits resolver (seen_before book role.entry) entry) 0
       (seen_as role).verdicts_received))
-      (λ outcomes. Decides config book committed entry role outcomes later)
+      (λ outcomes. Decides config book known entry role outcomes later)
 
   at-world : (result : Result (List Outcome) Refusal) → SaysDecided result → (now : waiting)
       → Answers result (waiting_for (missing k refines proxy role there now))
-      (λ outcomes. Decides k.config k.book.items k.sequencer.committed (entry k refines proxy role there now) role
+      (λ outcomes. Decides k.config k.book.items (known_to k.sequencer proxy) (entry k refines proxy role there now) role
       outcomes later)
   at-world result says now =
-      says k.config k.book.items k.sequencer.committed (entry k refines proxy role there now)
+      says k.config k.book.items (known_to k.sequencer proxy) (entry k refines proxy role there now)
       (its-tie k refines proxy role there) now (entry-there k refines proxy role there now) refines.book.entries
 
   -- refused
@@ -252,7 +251,7 @@ module _ (k : Cluster) (refines : Refines k) (proxy : ℕ) (role later : CommitP
       (λ n is refused. follows (refused ∙ ap (λ (w : Refusal). Err w) (sym is))))
       (λ (never : is_resolving (seen_as role).stage ≡ false).
       let is : why ≡ WrongState = same-why why WrongState
-      (wrong k.config k.book.items k.sequencer.committed (its-tie k refines proxy role there) never) in
+      (wrong k.config k.book.items (known_to k.sequencer proxy) (its-tie k refines proxy role there) never) in
       unless (ran_out (Err why)) P
       (follows (decides-wrong k refines proxy role there never ∙ ap (λ (w : Refusal). Err w) (sym is))))
       (cases_Bool (is_resolving (seen_as role).stage))
@@ -265,7 +264,7 @@ module _ (k : Cluster) (refines : Refines k) (proxy : ℕ) (role later : CommitP
   waited outcomes wrong = ⊎_elim
       (λ (now : waiting). now)
       (λ (never : is_resolving (seen_as role).stage ≡ false).
-      absurd (given-refused (wrong k.config k.book.items k.sequencer.committed (its-tie k refines proxy role there) never)))
+      absurd (given-refused (wrong k.config k.book.items (known_to k.sequencer proxy) (its-tie k refines proxy role there) never)))
       (cases_Bool (is_resolving (seen_as role).stage))
     where
       given-refused : ◌≡◌ {A = Result (List Outcome) Refusal} (Ok outcomes) (Err WrongState) → ⊥
@@ -279,8 +278,8 @@ module _ (k : Cluster) (refines : Refines k) (proxy : ℕ) (role later : CommitP
 
     abbrev pub SaysMessages : Result (List LogMsg) Refusal → Type 0
     SaysMessages result =
-        (config : Config) (book : List Entry) (committed : ℕ) (entry : Entry)
-        → CommitProxyRefines config book committed after → is_logging (seen_as after).stage ≡ true
+        (config : Config) (book : List Entry) (known : Known) (entry : Entry)
+        → CommitProxyRefines config book known after → is_logging (seen_as after).stage ≡ true
         → slice_get book after.entry ≡ Some entry
         → Answers result None (λ messages. messages ≡ log_messages config.resolver_splits config.shard_splits config.logs
         after.entry (seen_before book after.entry) entry)
@@ -293,8 +292,8 @@ module _ (k : Cluster) (refines : Refines k) (proxy : ℕ) (role later : CommitP
         let number_is : after.entry ≡ role.entry = ap (λ (r : CommitProxyRole). r.entry) same ∙ role_is.3 in
         subst (λ (n : ℕ). Answers result None (λ messages. messages ≡ messages_on k.config n
         (seen_before k.book.items n) (entry k refines proxy role there now))) number_is
-        (sends k.config k.book.items k.sequencer.committed (entry k refines proxy role there now)
-        (subst (CommitProxyRefines k.config k.book.items k.sequencer.committed) (sym same) role_is.0)
+        (sends k.config k.book.items (known_to k.sequencer proxy) (entry k refines proxy role there now)
+        (subst (CommitProxyRefines k.config k.book.items (known_to k.sequencer proxy)) (sym same) role_is.0)
         (ap (λ (r : CommitProxyRole). is_logging (seen_as r).stage) same ∙ role_is.1)
         (ap (λ (r : CommitProxyRole). slice_get k.book.items r.entry) same ∙ role_is.2))
 

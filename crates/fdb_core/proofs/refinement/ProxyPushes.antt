@@ -1,12 +1,13 @@
 -- One more entry in the book leaves a commit proxy tied.
-use Rattle.std.proofs.Common.{◌≡◌, ◌∙◌, sym, ap, subst, ℕ, ◌<◌, le_of_lt, Bool, List, [], ◌∷◌, ◌++◌, Some, slice_get, arith}
+use Rattle.std.proofs.Common.{◌≡◌, ◌∙◌, sym, ap, subst, ℕ, suc, length, ◌<◌, le_of_lt, Bool, List, [], ◌∷◌, ◌++◌, Some, slice_get, arith}
+use Rattle.std.specs.List.{AllByRecursion}
+use Rattle.std.proofs.lemmas.List.{append_assoc}
 use Rattle.std.proofs.lemmas.Option.{slice_get_within}
 use Rattle.fdb_txn.specs.declared.entry.Entry.{Entry}
 use Rattle.fdb_txn.specs.declared.entry.Move.{Move}
-use Rattle.fdb_txn.specs.book.Book.{Seen, add_moves, seen_of, seen_before, last_version}
+use Rattle.fdb_txn.specs.book.Book.{Seen, seen_before, last_version}
 use Rattle.fdb_txn.specs.book.Transactions.{Transaction}
-use Rattle.fdb_txn.proofs.book.HistoryLemmas.{seen_of-push}
-use Rattle.fdb_owners.specs.OwnersLaws.{AgreesWith}
+use Rattle.fdb_sequencer.specs.Moves.{Dated, dated}
 use Rattle.fdb_proxy.specs.declared.config.Config.{Config}
 use Rattle.fdb_proxy.specs.declared.position.Position.{Position}
 use Rattle.fdb_proxy.specs.declared.stage.Stage.{Stage as CoreStage}
@@ -15,20 +16,17 @@ use Rattle.fdb_proxy.specs.Logging.{answers_by}
 use Rattle.fdb_proxy.specs.Parting.{AreParts}
 use Rattle.fdb_proxy.specs.Verdicts.{moves_through, verdicts_on, outcomes_on}
 use Rattle.fdb_core.specs.declared.roles.commit_proxy.CommitProxyRole.{CommitProxyRole}
-use Rattle.fdb_core.specs.refinement.CommitProxies.{CommitProxyRefines, StageRefines, IsBatchOf}
+use Rattle.fdb_core.specs.refinement.CommitProxies.{CommitProxyRefines, Known, AreUnlearnt, StageRefines, IsBatchOf}
 use Rattle.fdb_core.proofs.common.ListLemmas.{front-at}
 use Rattle.fdb_core.proofs.refinement.BookLemmas.{last-push}
 use Rattle.fdb_core.proofs.refinement.BookPushes.{seen-front}
+use Rattle.fdb_core.proofs.refinement.MoveLemmas.{dated_moves-push, unlearnt-push}
 
-module _ (config : Config) (book : List Entry) (entry : Entry) (still : entry.moves ≡ [])
+module _ (config : Config) (book : List Entry) (entry : Entry)
+    (targets : AllByRecursion (λ (move : Move). move.to < suc (length config.resolver_splits)) entry.moves)
     (later : last_version book < entry.version) where
   abbrev grown : List Entry
   grown = book ++ entry ∷ []
-
-  -- nothing moves
-  moves-grown : (seen_of grown).moves ≡ (seen_of book).moves
-  moves-grown = ap (λ (s : Seen). s.moves) (seen_of-push book entry)
-      ∙ ap (λ (moves : List Move). add_moves entry.version moves (seen_of book).moves) still
 
   -- an entry of the book stands where it stood, after the same ones
   batch-grown : (i : ℕ) (batch : List Transaction) (position : Position) (e : Entry)
@@ -75,14 +73,26 @@ module _ (config : Config) (book : List Entry) (entry : Entry) (still : entry.mo
         },
       )
 
-  pub commit_proxy-push : (committed : ℕ) (role : CommitProxyRole) → CommitProxyRefines config book committed role
-      → CommitProxyRefines config grown committed role
-  commit_proxy-push committed role ok = record {
+  -- it hasn't had the moves of the new entry
+  pub commit_proxy-push : (known : Known) (role : CommitProxyRole) → CommitProxyRefines config book known role
+      → CommitProxyRefines config grown
+      (record known { unlearnt = known.unlearnt ++ dated entry.version entry.moves }) role
+  commit_proxy-push known role ok = record {
     works = ok.works;
     logs = ok.logs;
     shard_splits = ok.shard_splits;
     splits = ok.splits;
-    owners = subst (AgreesWith role.core.proxy.owners) (sym moves-grown) ok.owners;
+    learnt = ok.learnt;
+    all_moves =
+        let newest = dated entry.version entry.moves in
+        sym (append_assoc ok.learnt known.unlearnt newest)
+        ∙ ap (λ (moves : List Dated). moves ++ newest) ok.all_moves
+        ∙ sym (dated_moves-push book entry);
+    owners = ok.owners;
+    unlearnt = subst (λ (through : ℕ). AreUnlearnt (suc (length config.resolver_splits)) role.core.proxy.last through
+        (known.unlearnt ++ dated entry.version entry.moves)) (sym (last-push book entry))
+        (unlearnt-push (suc (length config.resolver_splits)) role.core.proxy.last (last_version book) entry.version
+        known.unlearnt entry.moves ok.unlearnt later ok.last targets);
     last = let end = last-push book entry in let last = ok.last in omega (arith, end, last, later);
     waiting = ok.waiting;
     in_flight = ok.in_flight;

@@ -20,14 +20,14 @@ use Rattle.fdb_core.specs.machine.CommitProxySteps.{taken_by_sender, receives, a
 use Rattle.fdb_core.specs.machine.Machine.{Machine}
 use Rattle.fdb_core.specs.machine.Roles.{CommitProxy, Sender, FromResolver, FromLog}
 use Rattle.fdb_core.specs.refinement.Cluster.{machine_of, Refines}
-use Rattle.fdb_core.specs.refinement.CommitProxies.{CommitProxyRefines, IsSaid, seen_as}
+use Rattle.fdb_core.specs.refinement.CommitProxies.{CommitProxyRefines, known_to, IsSaid, seen_as}
 use Rattle.fdb_core.specs.refinement.Logs.{logs_taken}
 use Rattle.fdb_core.specs.refinement.Receiving.{IsReceiver, IsUnknown}
 use Rattle.fdb_core.specs.refinement.Resolving.{ResolverRefines, taken_by}
 use Rattle.fdb_core.proofs.common.AllLemmas.{within-item}
 use Rattle.fdb_core.proofs.common.FaultLemmas.{given-fault, refused-fault}
 use Rattle.fdb_core.proofs.common.ListLemmas.{map-at, map-set}
-use Rattle.fdb_core.proofs.refinement.CommitProxyTies.{commit_proxies-set}
+use Rattle.fdb_core.proofs.refinement.CommitProxyTies.{commit_proxies-put}
 
 -- nothing stands past the end of a list
 past-end : {A : Type 0} (xs : List A) (i : ℕ) → length xs ≤ i → slice_get xs i ≡ None
@@ -114,7 +114,7 @@ set-there (y ∷ ys) (suc i) x there = ap (λ rest. y ∷ rest) (set-there ys i 
 
 -- A world of which one commit proxy changes, and stays tied.
 pub proxy-set : (k : Cluster) → Refines k → (proxy : ℕ) (later : CommitProxyRole)
-    → CommitProxyRefines k.config k.book.items k.sequencer.committed later
+    → CommitProxyRefines k.config k.book.items (known_to k.sequencer proxy) later
     → (machine_of (record k { commit_proxies = with_item k.commit_proxies proxy later })
     ≡ record (machine_of k) { commit_proxies = slice_set (map seen_as k.commit_proxies.items) proxy (seen_as later) })
     × Refines (record k { commit_proxies = with_item k.commit_proxies proxy later })
@@ -129,8 +129,8 @@ proxy-set k refines proxy later tied = (
     resolvers = refines.resolvers;
     logs = refines.logs;
     shard_map = refines.shard_map;
-    commit_proxies = commit_proxies-set k.config k.book.items k.book.items k.sequencer.committed
-        k.sequencer.committed k.commit_proxies.items proxy later refines.commit_proxies tied (λ other its. its);
+    commit_proxies = commit_proxies-put k.config k.book.items (known_to k.sequencer) k.commit_proxies.items proxy later
+        refines.commit_proxies tied;
     grv_proxies = refines.grv_proxies;
     opened = refines.opened;
   },
@@ -143,7 +143,7 @@ pub proxy-same : (k : Cluster) → Refines k → (proxy : ℕ) (role later : Com
     × Refines (record k { commit_proxies = with_item k.commit_proxies proxy later })
 proxy-same k refines proxy role later there same =
     let set = proxy-set k refines proxy later
-    (subst (CommitProxyRefines k.config k.book.items k.sequencer.committed) (sym same)
+    (subst (CommitProxyRefines k.config k.book.items (known_to k.sequencer proxy)) (sym same)
     (refines.commit_proxies.each proxy role there)) in (
       set.0 ∙ (λ i. record (machine_of k) {
         commit_proxies = (ap (λ (r : CommitProxyRole). slice_set (map seen_as k.commit_proxies.items) proxy (seen_as r))
@@ -174,7 +174,7 @@ module _ (k : Cluster) (refines : Refines k) (entry : ℕ) (sender : Sender) (pr
   -- it was taken by the proxy, which stays tied
   abbrev Took : Type 0
   Took = (seen_as later ≡ with_received (seen_as role) sender)
-      × CommitProxyRefines k.config k.book.items k.sequencer.committed later
+      × CommitProxyRefines k.config k.book.items (known_to k.sequencer proxy) later
 
   seen-there : slice_get (map seen_as k.commit_proxies.items) proxy ≡ Some (seen_as role)
   seen-there = map-at seen_as k.commit_proxies.items proxy role there
@@ -285,11 +285,11 @@ module _ (k : Cluster) (refines : Refines k) (entry resolver proxy : ℕ)
   AnswersOf T result number of =
       AnswersExactly result (if awaits (seen_as role) number (FromResolver of) then None else Some Stale)
       (λ _. (seen_as later ≡ with_received (seen_as role) (FromResolver of))
-      × CommitProxyRefines k.config k.book.items k.sequencer.committed later)
+      × CommitProxyRefines k.config k.book.items (known_to k.sequencer proxy) later)
 
   -- by the entry's number and the resolver's
   answers-of : (T : Type 0) (result : Result T Refusal)
-      → ((e : Entry) → CommitProxyRefines k.config k.book.items k.sequencer.committed role
+      → ((e : Entry) → CommitProxyRefines k.config k.book.items (known_to k.sequencer proxy) role
       → IsSaid k.config.resolver_splits k.book.items verdicts e
       → AnswersOf T result verdicts.index verdicts.resolver)
       → AnswersOf T result entry resolver
@@ -300,7 +300,7 @@ module _ (k : Cluster) (refines : Refines k) (entry resolver proxy : ℕ)
       (answers said.2.0 (refines.commit_proxies.each proxy role there) said.2.1))
 
   pub verdicts-stale : (T : Type 0) (why : Refusal)
-      → ((e : Entry) → CommitProxyRefines k.config k.book.items k.sequencer.committed role
+      → ((e : Entry) → CommitProxyRefines k.config k.book.items (known_to k.sequencer proxy) role
       → IsSaid k.config.resolver_splits k.book.items verdicts e
       → AnswersOf T (Err why) verdicts.index verdicts.resolver)
       → later ≡ role
@@ -312,7 +312,7 @@ module _ (k : Cluster) (refines : Refines k) (entry resolver proxy : ℕ)
       (answers-of T (Err why) answers) same
 
   pub verdicts-awaited : (T : Type 0) (given : T)
-      → ((e : Entry) → CommitProxyRefines k.config k.book.items k.sequencer.committed role
+      → ((e : Entry) → CommitProxyRefines k.config k.book.items (known_to k.sequencer proxy) role
       → IsSaid k.config.resolver_splits k.book.items verdicts e
       → AnswersOf T (Ok given) verdicts.index verdicts.resolver)
       → (receives (machine_of k) entry (FromResolver resolver) ≡ Ok (record {

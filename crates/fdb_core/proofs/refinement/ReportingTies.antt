@@ -14,7 +14,7 @@ use Rattle.fdb_core.specs.machine.CommitProxySteps.{reports, is_idle, is_logging
 use Rattle.fdb_core.specs.machine.Machine.{Machine, first_missing}
 use Rattle.fdb_core.specs.machine.Roles.{CommitProxy, Stage, Idle, Resolving, Logging, Reported}
 use Rattle.fdb_core.specs.refinement.Cluster.{machine_of, CommitProxiesRefine, Refines}
-use Rattle.fdb_core.specs.refinement.CommitProxies.{CommitProxyRefines, seen_as}
+use Rattle.fdb_core.specs.refinement.CommitProxies.{CommitProxyRefines, known_to, seen_as}
 use Rattle.fdb_core.proofs.common.ListLemmas.{map-at, map-set}
 use Rattle.fdb_core.proofs.refinement.CommitProxyTies.{busy-entry, commit_proxies-set, commit_proxy-raised, commit_proxy-reported, seen-reported}
 
@@ -65,12 +65,12 @@ pub record IsReporting (k : Cluster) (proxy : ℕ) (role : CommitProxyRole) : Ty
         };
       })
   pub tied : (raised : ℕ) → k.sequencer.committed ≤ raised
-      → CommitProxiesRefine k.config k.book.items raised
+      → CommitProxiesRefine k.config k.book.items (λ (n : ℕ). record (known_to k.sequencer n) { committed = raised })
       (slice_set k.commit_proxies.items proxy (record role { is_reported = true }))
 
 module _ (k : Cluster) (before : Refines k) (proxy : ℕ) (role : CommitProxyRole)
     (there : slice_get k.commit_proxies.items proxy ≡ Some role) where
-  pub its : CommitProxyRefines k.config k.book.items k.sequencer.committed role
+  pub its : CommitProxyRefines k.config k.book.items (known_to k.sequencer proxy) role
   its = before.commit_proxies.each proxy role there
 
   seen_there : slice_get (map seen_as k.commit_proxies.items) proxy ≡ Some (seen_as role)
@@ -86,7 +86,7 @@ module _ (k : Cluster) (before : Refines k) (proxy : ℕ) (role : CommitProxyRol
     pub refuses : (why : Refusal) → result ≡ Err why → reports (machine_of k) proxy ≡ Err why
     refuses why is = ⊎_elim
         (λ logging.
-        let own = busy-entry k.config k.book.items k.sequencer.committed role its
+        let own = busy-entry k.config k.book.items (known_to k.sequencer proxy) role its
         (logging-busy (seen_as role).stage logging) in
         by_missing logging own.0 own.1 missing_there refl
         (subst (λ (given : Result T Refusal). AnswersExactly given (waiting_for missing_there) P) is (says logging)))
@@ -123,7 +123,7 @@ module _ (k : Cluster) (before : Refines k) (proxy : ℕ) (role : CommitProxyRol
 
         reporting : is_logging (seen_as role).stage ≡ true → missing_there ≡ None → IsReporting k proxy role
         reporting logging none =
-            let own = busy-entry k.config k.book.items k.sequencer.committed role its
+            let own = busy-entry k.config k.book.items (known_to k.sequencer proxy) role its
             (logging-busy (seen_as role).stage logging) in
             record {
               inside = slice_get_within k.book.items role.entry own.0 own.1;
@@ -137,10 +137,12 @@ module _ (k : Cluster) (before : Refines k) (proxy : ℕ) (role : CommitProxyRol
                     };
                   }));
               tied = λ raised above.
-                  commit_proxies-set k.config k.book.items k.book.items k.sequencer.committed raised
+                  commit_proxies-set k.config k.book.items k.book.items (known_to k.sequencer)
+                  (λ (n : ℕ). record (known_to k.sequencer n) { committed = raised })
                   k.commit_proxies.items proxy (record role { is_reported = true }) before.commit_proxies
-                  (commit_proxy-reported k.config k.book.items k.sequencer.committed role its raised above logging none)
-                  (λ other ok. commit_proxy-raised k.config k.book.items k.sequencer.committed other ok raised above);
+                  (commit_proxy-reported k.config k.book.items (known_to k.sequencer proxy) role its raised above logging none)
+                  (λ n other differs at ok.
+                  commit_proxy-raised k.config k.book.items (known_to k.sequencer n) other ok raised above);
             }
           where
             seen : map seen_as (slice_set k.commit_proxies.items proxy (record role { is_reported = true }))

@@ -1,9 +1,11 @@
 -- A commit proxy of a world seals a batch by the sequencer's ticket.
-use Rattle.std.proofs.Common.{◌≡◌, ◌∙◌, refl, sym, ap, subst, ℕ, suc, ◌<◌, ◌≤◌, List, [], ◌∷◌, ◌++◌, length, take, Some, slice_get, arith}
+use Rattle.std.proofs.Common.{◌≡◌, ◌≢◌, ◌∙◌, refl, sym, ap, subst, ℕ, suc, ◌<◌, ◌≤◌, List, [], ◌∷◌, ◌++◌, length, take, Some, slice_get, slice_set, arith}
 use Rattle.std.specs.List.{AllByRecursion}
-use Rattle.std.proofs.lemmas.List.{length-map, take-append-le}
+use Rattle.std.proofs.lemmas.List.{length-append, length-map, take-append-le}
+use Rattle.std.proofs.lemmas.Option.{slice_get_within}
 use Rattle.fdb_txn.specs.Limits.{place_limit}
 use Rattle.fdb_txn.specs.declared.entry.Entry.{Entry}
+use Rattle.fdb_txn.specs.declared.entry.Move.{Move}
 use Rattle.fdb_txn.specs.book.Book.{Seen, seen_of, seen_before, last_version}
 use Rattle.fdb_txn.specs.book.History.{AreEntries}
 use Rattle.fdb_txn.specs.book.Transactions.{Transaction, NamesWrites}
@@ -11,36 +13,41 @@ use Rattle.fdb_client.proofs.WriteSetLemmas.{commit_request_of-names}
 use Rattle.fdb_client.specs.Programs.{commit_request_of}
 use Rattle.fdb_resolver.specs.declared.part.Part.{Part}
 use Rattle.fdb_sequencer.specs.declared.ticket.Ticket.{Ticket}
-use Rattle.fdb_sequencer.specs.Sequencer.{next_version}
+use Rattle.fdb_sequencer.specs.Moves.{dated}
+use Rattle.fdb_sequencer.specs.Sequencer.{Sequencer, accepting, next_version, unlearnt_by}
 use Rattle.fdb_proxy.specs.Parting.{AreParts}
 use Rattle.fdb_proxy.specs.Verdicts.{moves_through}
 use Rattle.fdb_core.specs.declared.cluster.Cluster.{Cluster}
 use Rattle.fdb_core.specs.declared.roles.commit_proxy.CommitProxyRole.{CommitProxyRole}
 use Rattle.fdb_core.specs.declared.roles.resolver.ResolverRole.{ResolverRole}
 use Rattle.fdb_core.specs.machine.CommitProxySteps.{with_batch}
-use Rattle.fdb_core.specs.refinement.Cluster.{machine_of, Refines}
-use Rattle.fdb_core.specs.refinement.CommitProxies.{CommitProxyRefines, IsNextTicket, Seals, ArePartsOf, ReadsWithin, entry_of, seen_as}
+use Rattle.fdb_core.specs.refinement.Cluster.{machine_of, CommitProxiesRefine, Refines, SequencerRefines}
+use Rattle.fdb_core.specs.refinement.CommitProxies.{CommitProxyRefines, Known, known_to, IsNextTicket, Seals, ArePartsOf, ReadsWithin, entry_of, seen_as}
 use Rattle.fdb_core.specs.refinement.Resolving.{taken_by}
 use Rattle.fdb_core.proofs.common.AllLemmas.{all-map, all-take}
+use Rattle.fdb_core.proofs.refinement.BookLemmas.{last-push}
+use Rattle.fdb_core.proofs.refinement.CommitProxyTies.{commit_proxies-set}
+use Rattle.fdb_core.proofs.refinement.MoveLemmas.{handed-own, handed-other, handed-count, moves_in-push}
 use Rattle.fdb_core.proofs.refinement.ProxyPushes.{commit_proxy-push}
 use Rattle.fdb_core.proofs.machine.Sealing.{sealed_entry, sealed_proxy}
 
 -- what the sequencer gives for the next entry
 abbrev pub ticket_for : Cluster → ℕ → ℕ → Ticket
 ticket_for k proxy advance =
+    let version = next_version (last_version k.book.items) advance in
     record {
       proxy = proxy;
       index = length k.book.items;
-      version = next_version (last_version k.book.items) advance;
+      version = version;
       prev = last_version k.book.items;
-      moves = [];
-      pending = [];
+      moves = unlearnt_by k.sequencer proxy ++ dated version k.sequencer.pending;
+      pending = k.sequencer.pending;
     }
 
 module _ (k : Cluster) (refines : Refines k) (proxy advance : ℕ) (role : CommitProxyRole)
     (there : slice_get k.commit_proxies.items proxy ≡ Some role) (ticket : Ticket)
     (given : ticket ≡ ticket_for k proxy advance) where
-  ok : CommitProxyRefines k.config k.book.items k.sequencer.committed role
+  ok : CommitProxyRefines k.config k.book.items (known_to k.sequencer proxy) role
   ok = refines.commit_proxies.each proxy role there
 
   pub above : last_version k.book.items < ticket.version
@@ -48,13 +55,20 @@ module _ (k : Cluster) (refines : Refines k) (proxy advance : ℕ) (role : Commi
       let is : ticket.version ≡ next_version (last_version k.book.items) advance =
       ap (λ (t : Ticket). t.version) given in omega (arith, is)
 
-  pub next-ticket : IsNextTicket k.book.items ticket
+  pending-is : ticket.pending ≡ k.sequencer.pending
+  pending-is = ap (λ (t : Ticket). t.pending) given
+
+  pub next-ticket : IsNextTicket k.config k.book.items (known_to k.sequencer proxy) ticket
   next-ticket = record {
     index = ap (λ (t : Ticket). t.index) given;
     prev = ap (λ (t : Ticket). t.prev) given;
     later = above;
-    moves = ap (λ (t : Ticket). t.moves) given;
-    pending = ap (λ (t : Ticket). t.pending) given;
+    moves = subst (λ (t : Ticket). t.moves ≡ unlearnt_by k.sequencer proxy ++ dated t.version t.pending) (sym given)
+        refl;
+    targets = subst (AllByRecursion (λ (move : Move). move.to < suc (length k.config.resolver_splits)))
+        (sym pending-is)
+        (subst (λ (n : ℕ). AllByRecursion (λ (move : Move). move.to < n) k.sequencer.pending)
+        refines.sequencer.resolvers refines.sequencer.targets);
   }
 
   -- what waits read below the ticket's version
@@ -71,7 +85,7 @@ module _ (k : Cluster) (refines : Refines k) (proxy advance : ℕ) (role : Commi
       below a b c d ab bc cd = omega (arith, ab, bc, cd)
 
   module _ (batch : List Transaction) (parts : List Part) (later : CommitProxyRole)
-      (seals : Seals k.config k.book.items k.sequencer.committed ticket role batch parts later) where
+      (seals : Seals k.config k.book.items (known_to k.sequencer proxy) ticket role batch parts later) where
     abbrev pub entry : Entry
     entry = entry_of ticket batch
 
@@ -98,8 +112,7 @@ module _ (k : Cluster) (refines : Refines k) (proxy advance : ℕ) (role : Commi
         let later_than = above in (
           later_than,
           ap (λ (t : Ticket). t.prev) given,
-          subst (AllByRecursion (λ move. move.to < suc (length k.config.resolver_splits)))
-              (sym (ap (λ (t : Ticket). t.pending) given)) tt,
+          next-ticket.targets,
           subst (AllByRecursion (λ (t : Transaction). (t.read < ticket.version) × NamesWrites t)) (sym seals.batch_is)
               (all-map (ReadsWithin k.sequencer.committed)
               (λ (t : Transaction). (t.read < ticket.version) × NamesWrites t) commit_request_of
@@ -134,8 +147,66 @@ module _ (k : Cluster) (refines : Refines k) (proxy advance : ℕ) (role : Commi
         take-whole [] = refl
         take-whole (x ∷ xs) = ap (λ rest. x ∷ rest) (take-whole xs)
 
-    -- the other proxies stay tied to the book with one more entry
-    pub others-go-on : (other : CommitProxyRole) → CommitProxyRefines k.config k.book.items k.sequencer.committed other
-        → CommitProxyRefines k.config (k.book.items ++ entry ∷ []) k.sequencer.committed other
-    others-go-on other its = commit_proxy-push k.config k.book.items entry (ap (λ (t : Ticket). t.pending) given) above
-        k.sequencer.committed other its
+    -- what the sequencer has for the proxies once it accepted the ticket
+    abbrev pub issued : Sequencer
+    issued = accepting k.sequencer ticket
+
+    number : ticket.proxy ≡ proxy
+    number = ap (λ (t : Ticket). t.proxy) given
+
+    counted : (n : ℕ) (other : CommitProxyRole) → slice_get k.commit_proxies.items n ≡ Some other
+        → n < length k.sequencer.unlearnt
+    counted n other at =
+        let within = slice_get_within k.commit_proxies.items n other at in
+        omega (arith, within, refines.commit_proxies.count, refines.sequencer.count)
+
+    known-own : record (known_to k.sequencer proxy) { unlearnt = [] } ≡ known_to issued proxy
+    known-own =
+        let has = handed-own k.sequencer ticket (subst (λ (n : ℕ). n < length k.sequencer.unlearnt) (sym number)
+        (counted proxy role there)) in
+        let none : unlearnt_by issued proxy ≡ [] =
+        ap (λ (n : ℕ). unlearnt_by issued n) (sym number) ∙ has in
+        λ i. record { committed = k.sequencer.committed; unlearnt = sym none i }
+
+    known-other : (n : ℕ) (other : CommitProxyRole) → n ≢ proxy → slice_get k.commit_proxies.items n ≡ Some other
+        → record (known_to k.sequencer n)
+        { unlearnt = unlearnt_by k.sequencer n ++ dated entry.version entry.moves } ≡ known_to issued n
+    known-other n other differs at =
+        let has = handed-other k.sequencer ticket n (λ same. differs (same ∙ number)) (counted n other at) in
+        let more = has ∙ ap (λ (moves : List Move). unlearnt_by k.sequencer n ++ dated ticket.version moves)
+        (sym pending-is) in
+        λ i. record { committed = k.sequencer.committed; unlearnt = sym more i }
+
+    -- all proxies are tied to the book with one more entry
+    pub tied : CommitProxiesRefine k.config (k.book.items ++ entry ∷ []) (known_to issued)
+        (slice_set k.commit_proxies.items proxy later)
+    tied = commit_proxies-set k.config k.book.items (k.book.items ++ entry ∷ []) (known_to k.sequencer)
+        (known_to issued) k.commit_proxies.items proxy later refines.commit_proxies
+        (subst (λ (known : Known). CommitProxyRefines k.config (k.book.items ++ entry ∷ []) known later) known-own
+        seals.refines)
+        (λ n other differs at its.
+        subst (λ (known : Known). CommitProxyRefines k.config (k.book.items ++ entry ∷ []) known other)
+        (known-other n other differs at)
+        (commit_proxy-push k.config k.book.items entry next-ticket.targets above (known_to k.sequencer n) other its))
+
+    -- and so is the sequencer
+    pub sequencer-tied : SequencerRefines k.config (k.book.items ++ entry ∷ []) issued
+    sequencer-tied =
+        let was = refines.sequencer in
+        let last = last-push k.book.items entry in
+        let later_than = above in
+        record {
+          proxies = was.proxies;
+          accepted = omega (arith, was.accepted, length-append k.book.items (entry ∷ []));
+          last = sym last;
+          committed = rw last (omega (arith, later_than, was.committed));
+          resolvers = was.resolvers;
+          count = handed-count k.sequencer ticket ∙ was.count;
+          targets = tt;
+          made = omega (
+            arith,
+            was.made,
+            moves_in-push k.book.items entry,
+            ap (λ (moves : List Move). length moves) pending-is,
+          );
+        }

@@ -1,6 +1,7 @@
 -- The roles that took nothing, what they keep of no entries, and what a legal configuration says.
-use Rattle.std.proofs.Common.{◌≡◌, ◌∙◌, refl, sym, ap, ap₂, subst, ℕ, zero, suc, ◌+◌, ◌<◌, ◌≤◌, List, [], ◌∷◌, ◌++◌, length, map, replicate, Bool, true, false, if◌then◌else◌, Option, Some, None, slice_get, length-append, arith}
+use Rattle.std.proofs.Common.{◌≡◌, ◌∙◌, refl, sym, ap, ap₂, subst, ℕ, zero, suc, ◌+◌, ◌<◌, ◌≤◌, List, [], ◌∷◌, ◌++◌, length, map, replicate, Bool, true, false, if◌then◌else◌, Option, Some, None, unwrap_or, slice_get, length-append, arith}
 use Rattle.std.specs.Prelude.{◌&&◌, nat_le, nat_lt}
+use Rattle.std.proofs.lemmas.List.{length-replicate}
 use Rattle.std.specs.List.{AllByRecursion}
 use Rattle.std.specs.Ordering.{nat_cmp}
 use Rattle.std.specs.Cmp.Lexicographic.{slice_cmp}
@@ -27,8 +28,12 @@ use Rattle.fdb_core.specs.declared.roles.shard.ShardRole.{ShardRole}
 use Rattle.fdb_core.specs.declared.roles.commit_proxy.CommitProxyRole.{CommitProxyRole}
 use Rattle.fdb_core.specs.declared.roles.resolver.ResolverRole.{ResolverRole}
 use Rattle.fdb_core.specs.machine.Worlds.{idle_proxy}
-use Rattle.fdb_core.specs.refinement.Cluster.{IsLegal, CommitProxiesRefine, GrvProxiesRefine, HasSeenNone, sessions_of}
-use Rattle.fdb_core.specs.refinement.CommitProxies.{IsNewCommitProxy, seen_as}
+use Rattle.fdb_core.specs.refinement.Cluster.{IsLegal, CommitProxiesRefine, SequencerRefines, GrvProxiesRefine, HasSeenNone, sessions_of}
+use Rattle.fdb_owners.proofs.BookLemmas.{new_goes_on}
+use Rattle.fdb_sequencer.specs.Moves.{Dated}
+use Rattle.fdb_sequencer.specs.Sequencer.{fresh}
+use Rattle.fdb_proxy.specs.CommitProxies.{CommitProxy as Core, IsNewProxy}
+use Rattle.fdb_core.specs.refinement.CommitProxies.{CommitProxyRefines, IsNewCommitProxy, StageRefines, known_to, seen_as}
 use Rattle.fdb_core.specs.refinement.Logs.{Each, LogRefines, ShardRefines, TagRefines, LogsRefine, logs_taken, progress_of}
 use Rattle.fdb_core.specs.refinement.Resolving.{ResolverRefines, ResolversRefine, taken_by}
 use Rattle.fdb_core.specs.refinement.Starts.{AreNewLogs, AreNewShards}
@@ -130,11 +135,63 @@ module _ (config : Config) (logs : List LogRole) (shards : List ShardRole)
       (λ i role there. let new = new_shards.each i role there in
       λ j. record { applied = new.1 j; floor = new.0.floor j; popped = new.2 j })
 
+-- a sequencer before its first ticket
+pub sequencer-start : (config : Config) (proxies resolvers : ℕ) → proxies ≡ config.proxies
+    → resolvers ≡ suc (length config.resolver_splits) → SequencerRefines config [] (fresh proxies resolvers 0)
+sequencer-start config proxies resolvers all_proxies all_resolvers = record {
+  proxies = all_proxies;
+  accepted = refl;
+  last = refl;
+  committed = omega arith;
+  resolvers = all_resolvers;
+  count = length-replicate proxies [] ∙ all_proxies;
+  targets = tt;
+  made = refl;
+}
+
+-- has no moves for any proxy
+none-unlearnt : (proxies i : ℕ) → unwrap_or (slice_get (replicate {A = List Dated} proxies []) i) [] ≡ []
+none-unlearnt zero i = refl
+none-unlearnt (suc n) zero = refl
+none-unlearnt (suc n) (suc i) = none-unlearnt n i
+
+-- a commit proxy of a new core, at which nobody waits
+pub commit_proxy-start : (index : ℕ) (config : Config) (role : CommitProxyRole)
+    → IsNewProxy index config role.core.proxy
+    → role ≡ record { core = role.core; waiting = []; in_flight = []; entry = 0; is_reported = false }
+    → IsNewCommitProxy config role
+commit_proxy-start index config role new is =
+    subst (IsNewCommitProxy config) (sym is) (record {
+      machine = rw new.rest refl;
+      refines = record {
+        works = ap (λ (p : Core). p.is_failed) new.rest;
+        logs = ap (λ (p : Core). p.logs) new.rest;
+        shard_splits = ap (λ (p : Core). p.shard_splits) new.rest;
+        splits = new.owners.splits_are;
+        learnt = [];
+        all_moves = refl;
+        owners = new_goes_on config.resolver_splits role.core.proxy.owners new.owners;
+        unlearnt = record { targets = tt; rising = tt; above = tt };
+        last = let last = ap (λ (p : Core). p.last) new.rest in omega (arith, last);
+        waiting = ap (λ (p : Core). p.waiting) new.rest;
+        in_flight = ap (λ (p : Core). p.batch) new.rest;
+        reads = tt;
+        stage = subst (λ (p : Core). StageRefines config [] false 0 p.batch p.stage) (sym new.rest) (refl, refl);
+      };
+    })
+
 -- commit proxies without batches
 module _ (config : Config) (roles : List CommitProxyRole) (count : length roles ≡ config.proxies)
     (each : Each (λ (_ : ℕ). IsNewCommitProxy config) roles) where
-  pub commit_proxies-start : CommitProxiesRefine config [] 0 roles
-  commit_proxies-start = record { count = count; each = λ i role there. (each i role there).refines }
+  pub commit_proxies-start : (proxies resolvers : ℕ)
+      → CommitProxiesRefine config [] (known_to (fresh proxies resolvers 0)) roles
+  commit_proxies-start proxies resolvers = record {
+    count = count;
+    each = λ i role there.
+        subst (λ (unlearnt : List Dated).
+        CommitProxyRefines config [] (record { committed = 0; unlearnt = unlearnt }) role)
+        (sym (none-unlearnt proxies i)) (each i role there).refines;
+  }
 
   pub seen-start : map seen_as roles ≡ replicate config.proxies idle_proxy
   seen-start = all-same seen_as idle_proxy config.proxies roles count (λ i role there. (each i role there).machine)
@@ -161,14 +218,10 @@ asked-start (suc n) = ap (λ (others : List (List ℕ)). [] ∷ others) (asked-s
 pub grv_proxies-start : (config : Config) (asked : List (List Asker)) → asked ≡ replicate config.proxies []
     → GrvProxiesRefine config asked
 grv_proxies-start config asked is = rw is (record {
-  count = length-replicate config.proxies;
+  count = length-replicate config.proxies [];
   each = λ i there at. nobody config.proxies i there at;
 })
   where
-    length-replicate : (n : ℕ) → length (replicate {A = List Asker} n []) ≡ n
-    length-replicate zero = refl
-    length-replicate (suc n) = ap suc (length-replicate n)
-
     nobody : (n i : ℕ) (there : List Asker) → slice_get (replicate n []) i ≡ Some there → AllByRecursion HasSeenNone there
     nobody zero i there at = cc
     nobody (suc n) zero there at = let same : [] ≡ there = cc in subst (AllByRecursion HasSeenNone) same tt

@@ -17,7 +17,7 @@ use Rattle.fdb_core.specs.machine.Machine.{Machine}
 use Rattle.fdb_core.specs.machine.Roles.{CommitProxy}
 use Rattle.fdb_core.specs.machine.Sessions.{Idle, Sessions, Waiting, open_at, with_state}
 use Rattle.fdb_core.specs.refinement.Cluster.{machine_of, CommitProxiesRefine, Refines}
-use Rattle.fdb_core.specs.refinement.CommitProxies.{CommitProxyRefines, ReadsWithin, seen_as}
+use Rattle.fdb_core.specs.refinement.CommitProxies.{CommitProxyRefines, known_to, ReadsWithin, seen_as}
 use Rattle.fdb_core.specs.refinement.Sessions.{OfOpen, Finishes}
 use Rattle.fdb_core.proofs.common.ListLemmas.{map-at, map-set}
 use Rattle.fdb_core.proofs.invariant.NameLemmas.{submits-unrepeated}
@@ -25,7 +25,7 @@ use Rattle.fdb_core.proofs.machine.FinishLemmas.{finished-to_commit}
 use Rattle.fdb_core.proofs.machine.OpenLemmas.{open-given}
 use Rattle.fdb_core.proofs.machine.SessionLemmas.{open-has}
 use Rattle.fdb_core.proofs.machine.Transitions.{submits-to_commit}
-use Rattle.fdb_core.proofs.refinement.CommitProxyTies.{commit_proxies-set}
+use Rattle.fdb_core.proofs.refinement.CommitProxyTies.{commit_proxies-put}
 
 -- a finished transaction was the open one of its session
 module _ (sessions : Sessions) (session : ℕ) (finished : Finished)
@@ -91,7 +91,7 @@ module _ (k : Cluster) (before : Refines k) (sound : Invariant (machine_of k)) (
 
   module _ (new : CommitProxyRole)
       (taken : (seen_as new ≡ record (seen_as role) { waiting = role.waiting ++ transcript ∷ [] })
-      × CommitProxyRefines k.config k.book.items k.sequencer.committed new) where
+      × CommitProxyRefines k.config k.book.items (known_to k.sequencer proxy) new) where
     -- what the machine does
     pub waits : is_read_only transcript ≡ false → submit_fault transcript ≡ None
         → submits (machine_of k) session proxy ≡ Ok (record {
@@ -118,7 +118,7 @@ module _ (k : Cluster) (before : Refines k) (sound : Invariant (machine_of k)) (
         seen = map-set seen_as k.commit_proxies.items proxy new
             ∙ ap (slice_set (map seen_as k.commit_proxies.items) proxy) taken.0
 
-    pub tied : CommitProxiesRefine k.config k.book.items k.sequencer.committed
+    pub tied : CommitProxiesRefine k.config k.book.items (known_to k.sequencer)
         (slice_set k.commit_proxies.items proxy new)
-    tied = commit_proxies-set k.config k.book.items k.book.items k.sequencer.committed k.sequencer.committed
-        k.commit_proxies.items proxy new before.commit_proxies taken.1 (λ other ok. ok)
+    tied = commit_proxies-put k.config k.book.items (known_to k.sequencer) k.commit_proxies.items proxy new
+        before.commit_proxies taken.1

@@ -1,19 +1,21 @@
 -- The sequencer's ticket is what the machine says of the next entry.
-use Rattle.std.proofs.Common.{◌≡◌, ◌∙◌, refl, subst, arith, ℕ, ◌<◌, ◌≤◌, Bool, true, false, [], length, Option, Some, None, Ok, Err, if◌then◌else◌}
-use Rattle.std.specs.Prelude.{◌||◌, nat_lt, nat_le, slice_get}
+use Rattle.std.proofs.Common.{◌≡◌, ◌∙◌, refl, subst, arith, ℕ, ◌<◌, ◌≤◌, Bool, true, false, ◌++◌, inl, inr, Option, Some, None, Ok, Err, if◌then◌else◌}
+use Rattle.std.specs.Prelude.{◌⊎◌, ◌||◌, nat_lt, nat_le, slice_get}
 use Rattle.std.proofs.lemmas.Bool.{lt-leb, ltb-false}
 use Rattle.std.proofs.lemmas.Option.{slice_get_within}
 use Rattle.fdb_keys.specs.declared.refusal.Refusal.{Refusal}
-use Rattle.fdb_keys.specs.declared.refusal.Refusal.TheVariants.{Exhausted}
-use Rattle.fdb_keys.specs.Answers.{AnswersExactly}
+use Rattle.fdb_keys.specs.declared.refusal.Refusal.TheVariants.{Exhausted, NoMemory}
+use Rattle.fdb_keys.specs.Answers.{Answers}
 use Rattle.fdb_sequencer.specs.declared.ticket.Ticket.{Ticket}
 use Rattle.fdb_sequencer.specs.Limits.{ticket_limit, version_limit}
-use Rattle.fdb_sequencer.specs.Sequencer.{next_version, planned, plan_fault}
+use Rattle.fdb_sequencer.specs.Moves.{dated}
+use Rattle.fdb_sequencer.specs.Sequencer.{next_version, planned, plan_fault, unlearnt_by}
 use Rattle.fdb_core.specs.declared.cluster.Cluster.{Cluster}
 use Rattle.fdb_core.specs.declared.roles.commit_proxy.CommitProxyRole.{CommitProxyRole}
 use Rattle.fdb_core.specs.refinement.Cluster.{machine_of, Refines}
 use Rattle.fdb_core.specs.refinement.CommitProxies.{seen_as}
 use Rattle.fdb_core.proofs.common.ListLemmas.{map-at}
+use Rattle.fdb_core.proofs.refinement.SealingLemmas.{ticket_for}
 use Rattle.fdb_txn.specs.book.Book.{last_version}
 use Rattle.fdb_core.specs.machine.CommitProxySteps.{seals, is_idle}
 
@@ -42,62 +44,44 @@ module _ (k : Cluster) (refines : Refines k) (proxy advance : ℕ) (role : Commi
       by_test true = refl
       by_test false = refl
 
-  -- where it gets none, the machine's next entry has none either
+  -- where it gets none, memory ran out, or the machine's next entry has none either
   pub plan-refused : (why : Refusal) (P : Ticket → Type 0)
-      → AnswersExactly (Err why) (plan_fault k.sequencer proxy advance) P
-      → (why ≡ Exhausted) × (nat_lt version_limit next ≡ true)
+      → Answers (Err why) (plan_fault k.sequencer proxy advance) P
+      → (why ≡ NoMemory) ⊎ ((why ≡ Exhausted) × (nat_lt version_limit next ≡ true))
   plan-refused why P answers =
       by_test (nat_lt version_limit next) refl
-      (subst (λ (fault : Option Refusal). AnswersExactly (Err why) fault P) fault-is answers)
+      (subst (λ (fault : Option Refusal). Answers (Err why) fault P) fault-is answers)
     where
       by_test : (test : Bool) → nat_lt version_limit next ≡ test
-          → AnswersExactly (Err why) (if test then Some Exhausted else None) P
-          → (why ≡ Exhausted) × (nat_lt version_limit next ≡ true)
-      by_test true is answers = (answers, is)
-      by_test false is answers = absurd answers
+          → Answers (Err why) (if test then Some Exhausted else None) P
+          → (why ≡ NoMemory) ⊎ ((why ≡ Exhausted) × (nat_lt version_limit next ≡ true))
+      by_test true is answers = inr (answers, is)
+      by_test false is answers = inl answers
 
   -- the ticket that it gets is of the machine's next entry
   pub plan-given : (ticket : Ticket)
-      → AnswersExactly (Ok ticket) (plan_fault k.sequencer proxy advance)
-      (λ given. given ≡ planned k.sequencer proxy advance)
-      → (next ≤ version_limit)
-      × (ticket ≡ record {
-        proxy = proxy;
-        index = length k.book.items;
-        version = next;
-        prev = last_version k.book.items;
-        moves = [];
-        pending = [];
-      })
+      → Answers (Ok ticket) (plan_fault k.sequencer proxy advance) (λ given. given ≡ planned k.sequencer proxy advance)
+      → (next ≤ version_limit) × (ticket ≡ ticket_for k proxy advance)
   plan-given ticket answers =
       by_test (nat_lt version_limit next) refl
-      (subst (λ (fault : Option Refusal). AnswersExactly (Ok ticket) fault
+      (subst (λ (fault : Option Refusal). Answers (Ok ticket) fault
       (λ given. given ≡ planned k.sequencer proxy advance)) fault-is answers)
     where
       by_test : (test : Bool) → nat_lt version_limit next ≡ test
-          → AnswersExactly (Ok ticket) (if test then Some Exhausted else None)
+          → Answers (Ok ticket) (if test then Some Exhausted else None)
           (λ given. given ≡ planned k.sequencer proxy advance)
-          → (next ≤ version_limit)
-          × (ticket ≡ record {
-            proxy = proxy;
-            index = length k.book.items;
-            version = next;
-            prev = last_version k.book.items;
-            moves =
-                [];
-            pending = [];
-          })
+          → (next ≤ version_limit) × (ticket ≡ ticket_for k proxy advance)
       by_test true is answers = absurd answers
       by_test false is answers = (
         ltb-false version_limit next is,
         answers ∙ (λ i. record {
           proxy = proxy;
           index = refines.sequencer.accepted i;
-          version = next_version (refines.sequencer.last i)
-              advance;
+          version = next_version (refines.sequencer.last i) advance;
           prev = refines.sequencer.last i;
-          moves = [];
-          pending = [];
+          moves = unlearnt_by k.sequencer proxy ++ dated (next_version (refines.sequencer.last i) advance)
+              k.sequencer.pending;
+          pending = k.sequencer.pending;
         }),
       )
 

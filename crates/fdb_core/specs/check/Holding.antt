@@ -1,5 +1,5 @@
 -- What shards have, beside the run.
-use Rattle.std.specs.Prelude.{◌≡◌, ℕ, Bool, true, ◌&&◌, nat_le, List, Option, Some, Result, MatchResult, ◌⊎◌, slice_get}
+use Rattle.std.specs.Prelude.{◌≡◌, ℕ, Bool, true, ◌&&◌, nat_lt, nat_le, List, Option, Some, None, Result, MatchResult, ◌⊎◌, slice_get}
 use Rattle.std.specs.List.{AllByRecursion}
 use Rattle.std.specs.FinMap.{get}
 use Rattle.fdb_keys.specs.Points.{Point}
@@ -12,7 +12,6 @@ use Rattle.fdb_storage.specs.Shards.{Shard, value_at}
 use Rattle.fdb_core.specs.declared.roles.shard.ShardRole.{ShardRole}
 use Rattle.fdb_core.specs.declared.world.CheckFault.{CheckFault}
 use Rattle.fdb_core.specs.declared.world.CheckFault.TheVariants as fault
-use Rattle.fdb_core.specs.check.Comparing.{is_below}
 
 -- at its version the shard has the map's values in its range
 abbrev pub HasTheMap : Map → Shard → Type 0
@@ -21,6 +20,11 @@ HasTheMap map shard = (x : Point) → in_range shard.range x ≡ true → value_
 -- at its version the shard has the run's values in its range
 abbrev pub HoldsTheRun : List Point → List Entry → ShardRole → Type 0
 HoldsTheRun splits book role = HasTheMap (serial_map_at splits role.core.version (seen_of book).places) role.core
+
+-- the version is below the end, where there is one
+abbrev pub is_below : ℕ → Option ℕ → Bool
+is_below version None = true
+is_below version (Some end) = nat_lt version end
 
 -- the shard's version is from one on and below another, where there is one
 abbrev pub is_between : ℕ → Option ℕ → ShardRole → Bool

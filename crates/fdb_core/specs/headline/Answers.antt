@@ -97,6 +97,7 @@ module _ (splits : List Point) (r : Readings) where
   IsAnswered (step.Pull shard limit) answer = ⊤
   IsAnswered (step.Forget shard version) answer = ⊤
   IsAnswered (step.Pop shard) answer = ⊤
+  IsAnswered (step.Move range to) answer = answer ≡ answered.Done
 
 -- over every trace each accepted step is answered so
 abbrev pub AnsweredByTheTrace : Type 0

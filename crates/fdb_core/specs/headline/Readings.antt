@@ -5,6 +5,7 @@ use Rattle.std.specs.List.{count_by}
 use Rattle.fdb_keys.specs.declared.refusal.Refusal.{Refusal}
 use Rattle.fdb_txn.specs.Limits.{place_limit}
 use Rattle.fdb_txn.specs.declared.entry.Entry.{Entry}
+use Rattle.fdb_txn.specs.declared.entry.Move.{Move}
 use Rattle.fdb_txn.specs.declared.spot.Spot.TheVariants as spot
 use Rattle.fdb_core.specs.declared.roles.client.Placed.{Placed}
 use Rattle.fdb_client.specs.declared.program.Op.{Op}
@@ -37,6 +38,8 @@ pub record Readings : Type 0 where
   pub sealed : ℕ → SealedBatch
   -- the entries, the first one first
   pub book : List Entry
+  -- the moves since the last entry, the first one first
+  pub pending : List Move
   -- the acknowledged transactions with their spots
   pub acknowledged : List Placed
   -- the entries whose clients were told, the first one first
@@ -53,6 +56,7 @@ nothing_read =
       waiting = λ proxy. [];
       sealed = λ proxy. record { entry = 0; version = 0; transcripts = [] };
       book = [];
+      pending = [];
       acknowledged = [];
       answered = [];
       reported = 0;
@@ -122,12 +126,14 @@ is_done_at r session version = record r {
 }
 
 -- The first of those who wait at the proxy, as many as a batch may have, are the batch of an entry, each with what its
--- program reads and writes. No step moves a boundary as yet.
+-- program reads and writes. The moves since the entry before take effect with it.
 abbrev pub seals_entry : Readings → ℕ → ℕ → ℕ → ℕ → Readings
 seals_entry r proxy index version prev =
     let batch = take place_limit (r.waiting proxy) in
     record r {
-      book = r.book ++ record { version = version; prev = prev; moves = []; batch = map commit_request_of batch } ∷ [];
+      book = r.book ++ record
+          { version = version; prev = prev; moves = r.pending; batch = map commit_request_of batch } ∷ [];
+      pending = [];
       waiting = with_at proxy (drop place_limit (r.waiting proxy)) r.waiting;
       sealed = with_at proxy (record { entry = index; version = version; transcripts = batch }) r.sealed;
     }
@@ -178,6 +184,7 @@ read r (step.Answer proxy) answer = r
 read r (step.Pull shard limit) answer = r
 read r (step.Forget shard version) answer = r
 read r (step.Pop shard) answer = r
+read r (step.Move range to) answer = record r { pending = r.pending ++ record { range = range; to = to } ∷ [] }
 
 -- a refused step tells nothing
 abbrev pub read_step : Readings → Step → Result Answered Refusal → Readings

@@ -1,5 +1,5 @@
 -- What a world shows of its roles, and what holds of it.
-use Rattle.std.specs.Prelude.{◌≡◌, ◌<◌, ◌≤◌, ◌-◌, ℕ, suc, true, false, List, take, length, Option, Some, None, IfSome, slice_get, if◌then◌else◌}
+use Rattle.std.specs.Prelude.{◌≡◌, ◌<◌, ◌≤◌, ◌-◌, ◌++◌, ℕ, suc, true, false, List, take, length, Option, Some, None, IfSome, slice_get, if◌then◌else◌}
 use Rattle.std.specs.FinMap.{get}
 use Rattle.fdb_keys.specs.declared.refusal.Refusal.TheVariants.{Stale}
 use Rattle.fdb_keys.specs.Points.{Point}
@@ -18,7 +18,8 @@ use Rattle.fdb_storage.specs.LogMessages.{log_messages}
 use Rattle.fdb_storage.specs.Shards.{Shard, value_at}
 use Rattle.fdb_resolver.specs.declared.part.Part.{Part}
 use Rattle.fdb_resolver.specs.Resolvers.{Resolver}
-use Rattle.fdb_sequencer.specs.Sequencer.{Sequencer, accept_fault}
+use Rattle.fdb_sequencer.specs.Moves.{Dated}
+use Rattle.fdb_sequencer.specs.Sequencer.{Sequencer, accept_fault, unlearnt_by}
 use Rattle.fdb_sequencer.specs.declared.ticket.Ticket.{Ticket}
 use Rattle.fdb_txn.specs.declared.entry.Entry.{Entry}
 use Rattle.fdb_proxy.specs.declared.config.Config.{Config}
@@ -26,6 +27,7 @@ use Rattle.fdb_proxy.specs.Parting.{AreParts}
 use Rattle.fdb_proxy.specs.Verdicts.{moves_through}
 use Rattle.fdb_core.specs.machine.Roles.{ShardProgress}
 use Rattle.fdb_core.specs.machine.RoleSteps.{version_of_shard}
+use Rattle.fdb_core.specs.machine.SequencerSteps.{dated_moves}
 use Rattle.fdb_core.specs.machine.Machine.{Machine, is_set}
 
 -- What a world shows: the machine, and what each of its roles keeps.
@@ -49,12 +51,16 @@ EachKeeps {A} {B} P far kept =
     × ((i : ℕ) (a : A) (b : B) → slice_get far i ≡ Some a → slice_get kept i ≡ Some b → P i a b)
 
 -- The sequencer gave each entry its version, and accepts no ticket of an entry again. It keeps the greatest version
--- that was reported, which is none above them.
+-- that was reported, which is none above them. It keeps the moves that take effect with the next entry, and for each
+-- commit proxy those that it hasn't had, which are the last ones of the moves of the entries.
 abbrev pub SequencerKeeps : Machine → Sequencer → Type 0
 SequencerKeeps m sequencer =
     (sequencer.accepted ≡ length m.book) × (sequencer.last ≡ last_version m.book)
     × ((ticket : Ticket) → ticket.index < length m.book → accept_fault sequencer ticket ≡ Some Stale)
     × (sequencer.committed ≡ m.committed) × (sequencer.committed ≤ last_version m.book)
+    × (sequencer.pending ≡ m.pending)
+    × ((proxy : ℕ) → proxy < m.config.proxies
+    → (learnt : List Dated) × (learnt ++ unlearnt_by sequencer proxy ≡ dated_moves m.book))
 
 -- A resolver that took so many entries has its number, has not failed, and has the version of the last of them. From
 -- the begin of that one's window on it tells at each point the greatest version of a place of theirs that it admitted

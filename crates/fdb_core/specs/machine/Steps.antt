@@ -12,6 +12,7 @@ use Rattle.fdb_core.specs.machine.GrvProxySteps.{asks, grants}
 use Rattle.fdb_core.specs.machine.CommitProxySteps.{seals, receives, decides, reports, answers}
 use Rattle.fdb_core.specs.machine.Roles.{FromResolver, FromLog}
 use Rattle.fdb_core.specs.machine.RoleSteps.{resolves, pushes, pulls, forgets, pops}
+use Rattle.fdb_core.specs.machine.SequencerSteps.{moves}
 
 abbrev pub next : Machine → Step → Result Transition Refusal
 next m (step.Ask session proxy) = asks m session proxy
@@ -34,6 +35,7 @@ next m (step.Answer proxy) = answers m proxy
 next m (step.Pull shard limit) = pulls m shard limit
 next m (step.Forget shard version) = forgets m shard version
 next m (step.Pop shard) = pops m shard
+next m (step.Move range to) = moves m range to
 
 -- what a transition answers
 abbrev pub answer_of : Result Transition Refusal → Result Answered Refusal

@@ -1,7 +1,8 @@
 -- The world's parts as the machine, and what ties the roles' own lists to it.
-use Rattle.std.specs.Prelude.{◌≡◌, ℕ, ◌<◌, ◌≤◌, Bool, true, List, [], take, map, length, Option, Some, None, slice_get, if◌then◌else◌, suc}
+use Rattle.std.specs.Prelude.{◌≡◌, ℕ, ◌+◌, ◌<◌, ◌≤◌, Bool, true, List, take, map, length, Option, Some, None, slice_get, if◌then◌else◌, suc}
 use Rattle.std.specs.List.{AllByRecursion}
 use Rattle.fdb_txn.specs.declared.entry.Entry.{Entry}
+use Rattle.fdb_txn.specs.declared.entry.Move.{Move}
 use Rattle.fdb_txn.specs.book.History.{AreEntries}
 use Rattle.fdb_sequencer.specs.Sequencer.{Sequencer}
 use Rattle.fdb_proxy.specs.declared.config.Config.{Config}
@@ -21,8 +22,9 @@ use Rattle.fdb_txn.specs.book.Book.{Seen, last_version, seen_before}
 use Rattle.fdb_log.specs.declared.message.LogMsg.{LogMsg}
 use Rattle.fdb_storage.specs.LogMessages.{log_messages}
 use Rattle.fdb_core.specs.machine.Machine.{Machine, is_set}
+use Rattle.fdb_core.specs.machine.SequencerSteps.{moves_in}
 use Rattle.fdb_core.specs.machine.Sessions.{EachOpen}
-use Rattle.fdb_core.specs.refinement.CommitProxies.{ReadsWithin, CommitProxyRefines, seen_as}
+use Rattle.fdb_core.specs.refinement.CommitProxies.{ReadsWithin, CommitProxyRefines, Known, known_to, seen_as}
 use Rattle.fdb_core.specs.refinement.Resolving.{ResolversRefine, PartsRefine, taken_by}
 use Rattle.fdb_core.specs.refinement.Logs.{logs_taken, progress_of, LogsRefine}
 use Rattle.fdb_core.specs.headline.Serving.{System}
@@ -39,7 +41,7 @@ machine_of k =
       book = k.book.items;
       entry_proxies = k.entry_proxies.items;
       decided = k.decided.items;
-      pending = [];
+      pending = k.sequencer.pending;
       commit_proxies = map seen_as k.commit_proxies.items;
       resolvers = taken_by k.resolvers.items;
       logs = logs_taken k.logs.items;
@@ -100,13 +102,17 @@ pub record SequencerRefines (config : Config) (book : List Entry) (sequencer : S
   pub accepted : sequencer.accepted ≡ length book
   pub last : sequencer.last ≡ last_version book
   pub committed : sequencer.committed ≤ last_version book
+  pub resolvers : sequencer.resolvers ≡ suc (length config.resolver_splits)
+  pub count : length sequencer.unlearnt ≡ config.proxies
+  pub targets : AllByRecursion (λ (move : Move). move.to < sequencer.resolvers) sequencer.pending
+  pub made : sequencer.made ≡ moves_in book + length sequencer.pending
 
 -- the commit proxies, of which there are as many as the configuration says
-pub record CommitProxiesRefine (config : Config) (book : List Entry) (committed : ℕ) (roles : List CommitProxyRole)
+pub record CommitProxiesRefine (config : Config) (book : List Entry) (known : ℕ → Known) (roles : List CommitProxyRole)
     : Type 0 where
   pub count : length roles ≡ config.proxies
   pub each : (i : ℕ) (role : CommitProxyRole) → slice_get roles i ≡ Some role
-      → CommitProxyRefines config book committed role
+      → CommitProxyRefines config book (known i) role
 
 -- who asks for a read version has seen none
 abbrev pub HasSeenNone : Asker → Type 0
@@ -127,6 +133,6 @@ pub record Refines (k : Cluster) : Type 0 where
   pub resolvers : ResolversRefine k.config.resolver_splits k.book.items k.resolvers.items
   pub logs : LogsRefine k.config k.book.items k.logs.items k.shards.items
   pub shard_map : k.shard_map ≡ k.config.shard_splits
-  pub commit_proxies : CommitProxiesRefine k.config k.book.items k.sequencer.committed k.commit_proxies.items
+  pub commit_proxies : CommitProxiesRefine k.config k.book.items (known_to k.sequencer) k.commit_proxies.items
   pub grv_proxies : GrvProxiesRefine k.config k.grv_proxies.items
   pub opened : EachOpen (ReadsWithin k.sequencer.committed) k.sessions

@@ -4,6 +4,7 @@ use Rattle.std.specs.List.{AllByRecursion}
 use Rattle.std.specs.Option.{is_some}
 use Rattle.fdb_keys.specs.Points.{Point}
 use Rattle.fdb_txn.specs.declared.entry.Entry.{Entry}
+use Rattle.fdb_txn.specs.declared.entry.Move.{Move}
 use Rattle.fdb_txn.specs.declared.txn_id.TxnId.{TxnId}
 use Rattle.fdb_txn.specs.book.Transactions.{Transaction}
 use Rattle.fdb_txn.specs.book.Book.{seen_of, seen_before, last_version}
@@ -12,6 +13,9 @@ use Rattle.fdb_owners.specs.OwnersLaws.{AgreesWith}
 use Rattle.fdb_resolver.specs.declared.part.Part.{Part}
 use Rattle.fdb_resolver.specs.declared.verdict.Verdicts.{Verdicts}
 use Rattle.fdb_sequencer.specs.declared.ticket.Ticket.{Ticket}
+use Rattle.fdb_sequencer.specs.TicketLaws.{AreRisingUpTo, GoToResolvers}
+use Rattle.fdb_sequencer.specs.Moves.{Dated, dated}
+use Rattle.fdb_sequencer.specs.Sequencer.{Sequencer, unlearnt_by}
 use Rattle.fdb_proxy.specs.declared.config.Config.{Config}
 use Rattle.fdb_proxy.specs.declared.outcome.Outcome.{Outcome}
 use Rattle.fdb_proxy.specs.declared.position.Position.{Position}
@@ -19,7 +23,7 @@ use Rattle.fdb_proxy.specs.declared.logging.Logging.{Logging as Decided}
 use Rattle.fdb_proxy.specs.declared.resolving.Resolving.{Resolving as Unheard}
 use Rattle.fdb_proxy.specs.declared.stage.Stage.{Stage as CoreStage}
 use Rattle.fdb_proxy.specs.declared.stage.Stage.TheVariants as core
-use Rattle.fdb_proxy.specs.CommitProxies.{position_of}
+use Rattle.fdb_proxy.specs.CommitProxies.{position_of, moves_with}
 use Rattle.fdb_proxy.specs.Deciding.{Said}
 use Rattle.fdb_proxy.specs.Flags.{first_unset}
 use Rattle.fdb_proxy.specs.Logging.{answers_by}
@@ -30,6 +34,7 @@ use Rattle.fdb_client.specs.Programs.{commit_request_of}
 use Rattle.fdb_core.specs.declared.roles.commit_proxy.CommitProxyRole.{CommitProxyRole}
 use Rattle.fdb_core.specs.machine.CommitProxySteps.{with_batch}
 use Rattle.fdb_core.specs.machine.Roles.{CommitProxy, Stage, Idle, Resolving, Logging, Reported}
+use Rattle.fdb_core.specs.machine.SequencerSteps.{dated_moves}
 use Rattle.fdb_core.specs.machine.Worlds.{idle_proxy}
 
 -- how far the machine's commit proxy is, by the core's stage and whether the batch's version is reported; between two
@@ -103,37 +108,59 @@ StageRefines config book is_reported i batch (core.Logging decided) =
     (entry : Entry) × IsBatchOf book i batch decided.position entry
     × IsLogging config book is_reported i entry decided
 
+-- What the sequencer has for a commit proxy: the greatest version that was reported, and the moves that the proxy hasn't
+-- had, by version.
+pub record Known : Type 0 where
+  pub committed : ℕ
+  pub unlearnt : List Dated
+
+abbrev pub known_to : Sequencer → ℕ → Known
+known_to sequencer proxy =
+    record { committed = sequencer.committed; unlearnt = unlearnt_by sequencer proxy }
+
+-- A proxy may learn these moves: they go to resolvers of which there are so many, and their versions rise from above the
+-- last one that it learnt up to another.
+pub record AreUnlearnt (resolvers last through : ℕ) (unlearnt : List Dated) : Type 0 where
+  pub targets : GoToResolvers resolvers unlearnt
+  pub rising : AreRisingUpTo through unlearnt
+  pub above : AllByRecursion (λ (of : Dated). last < of.0) unlearnt
+
 -- a transaction reads at most at the committed version
 abbrev pub ReadsWithin : ℕ → Transcript → Type 0
 ReadsWithin committed transcript = transcript.read_version ≤ committed
 
--- The core works, and knows the configuration and the book's moves. What waits there and what is in flight is what is
--- judged of the transcripts.
-pub record CommitProxyRefines (config : Config) (book : List Entry) (committed : ℕ) (role : CommitProxyRole) : Type 0
+-- The core works, and knows the configuration. The book's moves are those that it learnt and those that it hasn't had yet;
+-- by the first ones its owners tell who owns a key. What waits there and what is in flight is what is judged of the
+-- transcripts.
+pub record CommitProxyRefines (config : Config) (book : List Entry) (known : Known) (role : CommitProxyRole) : Type 0
   where
     pub works : role.core.proxy.is_failed ≡ false
     pub logs : role.core.proxy.logs ≡ config.logs
     pub shard_splits : role.core.proxy.shard_splits ≡ config.shard_splits
     pub splits : role.core.proxy.owners.splits ≡ config.resolver_splits
-    pub owners : AgreesWith role.core.proxy.owners (seen_of book).moves
+    pub learnt : List Dated
+    pub all_moves : learnt ++ known.unlearnt ≡ dated_moves book
+    pub owners : AgreesWith role.core.proxy.owners (moves_with learnt [])
+    pub unlearnt : AreUnlearnt (suc (length config.resolver_splits)) role.core.proxy.last (last_version book)
+        known.unlearnt
     pub last : role.core.proxy.last ≤ last_version book
     pub waiting : role.core.proxy.waiting ≡ map commit_request_of role.waiting
     pub in_flight : role.core.proxy.batch ≡ map commit_request_of role.in_flight
-    pub reads : AllByRecursion (ReadsWithin committed) role.waiting
+    pub reads : AllByRecursion (ReadsWithin known.committed) role.waiting
     pub stage : StageRefines config book role.is_reported role.entry role.core.proxy.batch role.core.proxy.stage
 
 -- a commit proxy before its first batch
 pub record IsNewCommitProxy (config : Config) (role : CommitProxyRole) : Type 0 where
   pub machine : seen_as role ≡ idle_proxy
-  pub refines : CommitProxyRefines config [] 0 role
+  pub refines : CommitProxyRefines config [] (record { committed = 0; unlearnt = [] }) role
 
--- the ticket is that of the next entry, and nothing moves
-pub record IsNextTicket (book : List Entry) (ticket : Ticket) : Type 0 where
+-- the ticket is that of the next entry, with the moves that the proxy hasn't had and those that take effect there
+pub record IsNextTicket (config : Config) (book : List Entry) (known : Known) (ticket : Ticket) : Type 0 where
   pub index : ticket.index ≡ length book
   pub prev : ticket.prev ≡ last_version book
   pub later : last_version book < ticket.version
-  pub moves : ticket.moves ≡ []
-  pub pending : ticket.pending ≡ []
+  pub moves : ticket.moves ≡ known.unlearnt ++ dated ticket.version ticket.pending
+  pub targets : AllByRecursion (λ (move : Move). move.to < suc (length config.resolver_splits)) ticket.pending
 
 -- the entry of a ticket
 abbrev pub entry_of : Ticket → List Transaction → Entry
@@ -141,16 +168,16 @@ entry_of ticket batch =
     record { version = ticket.version; prev = ticket.prev; moves = ticket.pending; batch = batch }
 
 -- The first of those who wait became the batch of the ticket's entry, and the parts of it are given.
-pub record Seals (config : Config) (book : List Entry) (committed : ℕ) (ticket : Ticket) (old : CommitProxyRole)
+pub record Seals (config : Config) (book : List Entry) (known : Known) (ticket : Ticket) (old : CommitProxyRole)
     (batch : List Transaction) (parts : List Part) (new : CommitProxyRole) : Type 0 where
   pub batch_is : batch ≡ map commit_request_of (take place_limit old.waiting)
   pub parts_are : AreParts config.resolver_splits (moves_through (seen_of book) (entry_of ticket batch))
       (position_of ticket) batch parts
   pub machine : seen_as new ≡ with_batch (seen_as old) ticket.index (suc (length config.resolver_splits))
-  pub refines : CommitProxyRefines config (book ++ entry_of ticket batch ∷ []) committed new
+  pub refines : CommitProxyRefines config (book ++ entry_of ticket batch ∷ []) (record known { unlearnt = [] }) new
 
 -- The batch of the entry is decided by the rule.
-pub record Decides (config : Config) (book : List Entry) (committed : ℕ) (entry : Entry) (old : CommitProxyRole)
+pub record Decides (config : Config) (book : List Entry) (known : Known) (entry : Entry) (old : CommitProxyRole)
     (outcomes : List Outcome) (new : CommitProxyRole) : Type 0 where
   pub outcomes_are : outcomes ≡ outcomes_on config.resolver_splits (seen_before book old.entry) entry
   pub machine : seen_as new ≡ record (seen_as old) {
@@ -158,17 +185,17 @@ pub record Decides (config : Config) (book : List Entry) (committed : ℕ) (entr
     verdicts_received = [];
     acknowledgements_received = replicate config.logs false;
   }
-  pub refines : CommitProxyRefines config book committed new
+  pub refines : CommitProxyRefines config book known new
 
 -- The batch is done, and its transcripts are given, with each one's name and what became of it.
-pub record IsDone (config : Config) (book : List Entry) (committed : ℕ) (entry : Entry) (old : CommitProxyRole)
+pub record IsDone (config : Config) (book : List Entry) (known : Known) (entry : Entry) (old : CommitProxyRole)
     (transcripts : List Transcript) (answers : List (TxnId × Outcome)) (new : CommitProxyRole) : Type 0 where
   pub transcripts_are : transcripts ≡ old.in_flight
   pub answers_are : answers ≡ answers_by (map commit_request_of old.in_flight)
       (outcomes_on config.resolver_splits (seen_before book old.entry) entry)
   pub batch : entry.batch ≡ map commit_request_of old.in_flight
   pub machine : seen_as new ≡ record (seen_as old) { in_flight = []; stage = Idle; acknowledgements_received = [] }
-  pub refines : CommitProxyRefines config book committed new
+  pub refines : CommitProxyRefines config book known new
 
 -- what a resolver said of an entry is the rule's
 pub record IsSaid (splits : List Point) (book : List Entry) (verdicts : Verdicts) (entry : Entry) : Type 0 where

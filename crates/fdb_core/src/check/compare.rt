@@ -1,62 +1,21 @@
-// What acknowledged transactions were answered, beside a map of the run.
-ghost use Rattle.std.specs.Prelude.{◌≡◌, ◌↔◌, ◌⊎◌, fold, IsTrue, None, MatchResult};
+// What a transcript was answered, beside a map.
+ghost use Rattle.std.specs.Prelude.{◌≡◌, ◌↔◌, fold, IsTrue, None};
 ghost use Rattle.std.specs.FinMap.{get};
 ghost use Rattle.std.specs.Option.{option_copied};
 ghost use Rattle.fdb_keys.specs.Answers.{Answers};
 ghost use Rattle.fdb_mutations.specs.PairLaws.{given_of};
 ghost use Rattle.fdb_client.specs.Programs.{program, copy};
 ghost use Rattle.fdb_core.specs.check.Values.{value_after_op};
-ghost use Rattle.fdb_core.specs.check.Comparing.{is_below, is_at, IsAnswered, AnsweredAt, Checks};
+ghost use Rattle.fdb_core.specs.check.Comparing.{IsAnswered};
 ghost use Rattle.fdb_core.specs.headline.Headline.{AnsweredOn};
 
 use crate::check::parts::part_after;
 use crate::check::values::{copied, value_after_ops};
-use crate::roles::client::Placed;
-use crate::world::CheckFault;
 use bytes::Bytes;
 use fdb_client::{Op, Reply, Transcript};
 use fdb_keys::{Items, Key, KeyRange, Refusal};
 use fdb_mutations::PlainMap;
-use fdb_txn::Spot;
 use std::alloc::Global;
-
-/// A moment of the run, at which one map stands.
-#[derive(Clone, Copy)]
-pub(crate) enum Moment {
-    /// Right before a place of an entry.
-    Before { entry: usize, place: usize },
-    /// After the entries up to a version, and so at each later one below that of the next entry, if there is one.
-    Between { from: u64, until: Option<u64> },
-}
-
-/// Whether the version is below the end, where there is one.
-pub(crate) fn is_below(version: u64, end: Option<u64>) -> bool
-    ensures { result ≡ is_below version end }
-{
-    match end {
-        None => true,
-        Some(end) => version < end,
-    }
-}
-
-fn is_at(moment: Moment, spot: Spot) -> bool
-    ensures { result ≡ is_at moment spot }
-{
-    match (moment, spot) {
-        (
-            Moment::Before { entry, place },
-            Spot::Entry {
-                index,
-                place: at,
-                ..
-            },
-        ) => index as usize == entry && at as usize == place,
-        (Moment::Between { from, until }, Spot::ReadOnly { version }) => {
-            from <= version && is_below(version, until)
-        }
-        _ => false,
-    }
-}
 
 fn is_value(reply: &Reply, value: Option<&Bytes>) -> bool
     ensures { IsTrue result ↔ (reply.now ≡ Reply.Value (option_copied value.entry)) }
@@ -159,40 +118,4 @@ pub fn is_answered_on(
         }
     }
     Ok(true)
-}
-
-// Compares what one was answered, if it stands at the moment, with what the map has.
-fn compare_one(
-    alloc: Global,
-    map: &PlainMap,
-    placed: &Placed,
-    moment: Moment,
-) -> Result<(), CheckFault>
-    ensures { MatchResult result (λ _. AnsweredAt moment map.now placed.now)
-        (λ fault. (fault ≡ CheckFault.NoMemory)
-        ⊎ ((fault ≡ CheckFault.Txn placed.now.transcript.id) × ¬ (AnsweredAt moment map.now placed.now))) }
-{
-    if !is_at(moment, placed.spot) {
-        return Ok(());
-    }
-    match is_answered_on(alloc, map, &placed.transcript) {
-        Ok(true) => Ok(()),
-        Ok(false) => Err(CheckFault::Txn(placed.transcript.id)),
-        Err(_) => Err(CheckFault::NoMemory),
-    }
-}
-
-/// Compares what those who stand at the moment were answered with what the map has.
-pub(crate) fn compare(
-    alloc: Global,
-    map: &PlainMap,
-    acknowledged: &[Placed],
-    moment: Moment,
-) -> Result<(), CheckFault>
-    ensures { Checks result (AnsweredAt moment map.now) acknowledged.now }
-{
-    for placed in acknowledged {
-        compare_one(alloc, map, placed, moment)?;
-    }
-    Ok(())
 }

@@ -1,13 +1,19 @@
 // The shards beside the map of the run.
-ghost use Rattle.std.specs.Prelude.{◌≡◌, ◌≤◌, ◌↔◌, ◌⊎◌, length, IsTrue, IfOk, MatchResult};
+ghost use Rattle.std.specs.Prelude.{◌≡◌, ◌<◌, ◌≤◌, ◌+◌, ◌↔◌, ◌⊎◌, suc, List, length, IsTrue, IfOk, MatchResult};
 ghost use Rattle.fdb_storage.specs.Limits.{shard_limit};
-ghost use Rattle.fdb_core.specs.check.Holding.{HasTheMap, HasTheMapThere, ChecksShards};
+ghost use Rattle.fdb_core.specs.check.Holding.{is_below, HoldsTheRun, HasTheMap, HasTheMapThere, StopsByShard, ChecksShards};
+ghost use Rattle.fdb_keys.specs.Points.{Point};
+ghost use Rattle.fdb_txn.specs.book.History.{AreEntries};
+ghost use Rattle.fdb_core.specs.check.Checking.{HaveHeld};
+ghost use Rattle.fdb_core.specs.check.Running.{HasComeTo};
 
-use crate::check::compare::is_below;
+use crate::book::last_version;
+use crate::check::run::{Run, new_run, run_entry};
 use crate::roles::shard::ShardRole;
 use crate::world::CheckFault;
-use fdb_keys::Refusal;
+use fdb_keys::{Key, Refusal};
 use fdb_mutations::PlainMap;
+use fdb_txn::Entry;
 use std::alloc::Global;
 
 // Whether the shard has at its version the map's values in its range. Refused only where memory runs out, or ran out
@@ -20,6 +26,16 @@ fn has_map(alloc: Global, role: &ShardRole, map: &PlainMap) -> Result<bool, Refu
     role.core.copy_into(&mut held, range, role.core.version())?;
     let pairs = held.range(range, 0, false)?;
     Ok(pairs == map.range(range, 0, false)?)
+}
+
+// Whether the version is below the end, where there is one.
+fn is_below(version: u64, end: Option<u64>) -> bool
+    ensures { result ≡ is_below version end }
+{
+    match end {
+        None => true,
+        Some(end) => version < end,
+    }
 }
 
 // Compares the shard with the map, if its version is from one on up to another.
@@ -46,8 +62,8 @@ fn compare_shard(
     }
 }
 
-/// Compares the shards whose version is from one on up to another, if there is one, with the map of the run there.
-pub(crate) fn compare_shards(
+// Compares the shards whose version is from one on up to another, if there is one, with the map of the run there.
+fn compare_shards(
     alloc: Global,
     map: &PlainMap,
     shards: &[ShardRole],
@@ -61,4 +77,68 @@ pub(crate) fn compare_shards(
         compare_shard(alloc, map, number as u32, role, from, until)?;
     }
     Ok(())
+}
+
+// Compares the shards that are between the entry and the one before it with the run, and goes on through the entry.
+fn run_next(
+    alloc: Global,
+    run: &mut Run,
+    shards: &[ShardRole],
+    book: &[Entry],
+    index: usize,
+) -> Result<(), CheckFault>
+    requires within { index < length book.now }
+    requires few { length shards.now ≤ shard_limit }
+    ensures { (splits : List Point) → AreEntries (suc (length splits)) 0 book.now
+        → HasComeTo splits book.now index 0 run.old → HaveHeld splits book.now shards.now index
+        → MatchResult result
+        (λ _. HasComeTo splits book.now (index + 1) 0 run.new × HaveHeld splits book.now shards.now (index + 1))
+        (StopsByShard (HoldsTheRun splits book.now) shards.now) }
+{
+    let entry = &book[index];
+    let from = last_version(book, index);
+    compare_shards(alloc, &run.map, shards, from, Some(entry.version))?;
+    run_entry(run, book)
+}
+
+// Goes through all entries.
+fn run_all(
+    alloc: Global,
+    run: &mut Run,
+    shards: &[ShardRole],
+    book: &[Entry],
+) -> Result<(), CheckFault>
+    requires { length shards.now ≤ shard_limit }
+    ensures { (splits : List Point) → AreEntries (suc (length splits)) 0 book.now
+        → HasComeTo splits book.now 0 0 run.old
+        → MatchResult result
+        (λ _. HasComeTo splits book.now (length book.now) 0 run.new
+        × HaveHeld splits book.now shards.now (length book.now))
+        (StopsByShard (HoldsTheRun splits book.now) shards.now) }
+{
+    for index in 0..book.len() {
+        run_next(alloc, run, shards, book, index)?;
+    }
+    Ok(())
+}
+
+/// Compares each shard at its version with the run of the book. Keys that are no splits among at most 64 resolvers are
+/// answered as want of memory.
+pub(crate) fn check_shards(
+    alloc: Global,
+    splits: &[Key],
+    book: &[Entry],
+    shards: &[ShardRole],
+) -> Result<(), CheckFault>
+    requires { length shards.now ≤ shard_limit }
+    ensures { AreEntries (suc (length splits.now)) 0 book.now
+        → ChecksShards result (HoldsTheRun splits.now book.now) shards.now }
+{
+    if shards.is_empty() {
+        return Ok(());
+    }
+    let mut run = new_run(alloc, splits, book)?;
+    run_all(alloc, &mut run, shards, book)?;
+    let from = last_version(book, book.len());
+    compare_shards(alloc, &run.map, shards, from, None)
 }

@@ -51,14 +51,14 @@ impl CommitProxyRole {
     ghost use Rattle.fdb_client.specs.Programs.{commit_request_of};
     ghost use Rattle.fdb_storage.specs.LogMessages.{log_messages};
     ghost use Rattle.fdb_proxy.specs.declared.config.Config.{Config};
-    ghost use Rattle.fdb_proxy.specs.CommitProxies.{waiting_for};
+    ghost use Rattle.fdb_proxy.specs.CommitProxies.{IsTicketFor, sealing, waiting_for};
     ghost use Rattle.fdb_proxy.specs.Configs.{config_fault};
     ghost use Rattle.fdb_proxy.specs.Requests.{place_of};
     ghost use Rattle.fdb_proxy.specs.Verdicts.{is_needed};
     ghost use Rattle.fdb_core.specs.machine.CommitProxySteps.{is_idle, is_resolving, is_logging, is_reported, awaits, with_received};
     ghost use Rattle.fdb_core.specs.machine.Machine.{first_missing};
     ghost use Rattle.fdb_core.specs.machine.Roles.{FromResolver, FromLog};
-    ghost use Rattle.fdb_core.specs.refinement.CommitProxies.{seen_as, CommitProxyRefines, IsNewCommitProxy, IsNextTicket, Seals, Decides, IsDone, IsSaid};
+    ghost use Rattle.fdb_core.specs.refinement.CommitProxies.{Known, seen_as, CommitProxyRefines, IsNewCommitProxy, IsNextTicket, Seals, Decides, IsDone, IsSaid};
 
     /// The commit proxy with the number, without a batch, at which nobody waits. Refused only as `NoMemory`.
     pub(crate) fn new(alloc: Global, index: u32, config: &Config) -> Result<Self, Refusal>
@@ -85,13 +85,13 @@ impl CommitProxyRole {
 
     /// One more waits for a batch, with what it was answered. Refused only as `NoMemory`.
     pub(crate) fn submit(&mut self, sealed: Sealed, transcript: Transcript) -> Result<(), Refusal>
-        ensures { (config : Config) (book : List Entry) (committed : ℕ)
-            → CommitProxyRefines config book committed self.old
-            → sealed ≡ commit_request_of transcript → transcript.read_version ≤ committed
+        ensures { (config : Config) (book : List Entry) (known : Known)
+            → CommitProxyRefines config book known self.old
+            → sealed ≡ commit_request_of transcript → transcript.read_version ≤ known.committed
             → place_of transcript.id
             (map commit_request_of self.old.in_flight ++ map commit_request_of self.old.waiting) ≡ None
             → Answers result None (λ _. (seen_as self.new ≡ record (seen_as self.old)
-            { waiting = self.old.waiting ++ transcript ∷ [] }) × CommitProxyRefines config book committed self.new) }
+            { waiting = self.old.waiting ++ transcript ∷ [] }) × CommitProxyRefines config book known self.new) }
     {
         match self.core.submit(sealed) {
             Ok(()) => {
@@ -122,13 +122,12 @@ impl CommitProxyRole {
         alloc: Global,
         ticket: &Ticket,
     ) -> Result<(Batch, Items<Part>), Refusal>
-        requires still { ticket.now.moves ≡ [] }
-        requires later { AllByRecursion (λ t. t.read < ticket.now.version) self.old.core.proxy.waiting }
-        ensures { (config : Config) (book : List Entry) (committed : ℕ)
-            → CommitProxyRefines config book committed self.old → is_idle (seen_as self.old).stage ≡ true
-            → IsNextTicket book ticket.now
+        requires { IsTicketFor (sealing self.old.core.proxy) ticket.now }
+        ensures { (config : Config) (book : List Entry) (known : Known)
+            → CommitProxyRefines config book known self.old → is_idle (seen_as self.old).stage ≡ true
+            → IsNextTicket config book known ticket.now
             → Answers result None
-            (λ given. Seals config book committed ticket.now self.old given.0 given.1 self.new) }
+            (λ given. Seals config book known ticket.now self.old given.0 given.1 self.new) }
     {
         let batch = self.core.seal()?;
         self.core.learn(ticket)?;
@@ -140,13 +139,13 @@ impl CommitProxyRole {
 
     /// A resolver's verdicts came. Refused as `Stale` where the batch doesn't wait for them, and then nothing changes.
     pub(crate) fn take_verdicts(&mut self, verdicts: Verdicts) -> Result<(), Refusal>
-        ensures answers { (config : Config) (book : List Entry) (committed : ℕ) (entry : Entry)
-            → CommitProxyRefines config book committed self.old
+        ensures answers { (config : Config) (book : List Entry) (known : Known) (entry : Entry)
+            → CommitProxyRefines config book known self.old
             → IsSaid config.resolver_splits book verdicts entry →
             let sender = FromResolver verdicts.resolver in
             AnswersExactly result (if awaits (seen_as self.old) verdicts.index sender then None else Some Stale)
             (λ _. (seen_as self.new ≡ with_received (seen_as self.old) sender)
-            × CommitProxyRefines config book committed self.new) }
+            × CommitProxyRefines config book known self.new) }
         ensures refused { OnErr result (self.new ≡ self.old) }
     {
         self.core.verdict(verdicts)
@@ -156,17 +155,17 @@ impl CommitProxyRole {
     /// as `NotYet` with the least resolver that is asked about some place and whose verdicts haven't come, and as
     /// `NoMemory`. Then nothing changes.
     pub(crate) fn decide(&mut self) -> Result<Items<Outcome>, Refusal>
-        ensures wrong { (config : Config) (book : List Entry) (committed : ℕ)
-            → CommitProxyRefines config book committed self.old → is_resolving (seen_as self.old).stage ≡ false
+        ensures wrong { (config : Config) (book : List Entry) (known : Known)
+            → CommitProxyRefines config book known self.old → is_resolving (seen_as self.old).stage ≡ false
             → result ≡ Err WrongState }
-        ensures decides { (config : Config) (book : List Entry) (committed : ℕ) (entry : Entry)
-            → CommitProxyRefines config book committed self.old → is_resolving (seen_as self.old).stage ≡ true
+        ensures decides { (config : Config) (book : List Entry) (known : Known) (entry : Entry)
+            → CommitProxyRefines config book known self.old → is_resolving (seen_as self.old).stage ≡ true
             → slice_get book self.old.entry ≡ Some entry
             → AreEntries (suc (length config.resolver_splits)) 0 book
             → Answers result (waiting_for (first_missing
             (λ resolver. is_needed config.resolver_splits resolver (seen_before book self.old.entry) entry) 0
             (seen_as self.old).verdicts_received))
-            (λ outcomes. Decides config book committed entry self.old outcomes self.new) }
+            (λ outcomes. Decides config book known entry self.old outcomes self.new) }
         ensures refused { OnErr result (self.new ≡ self.old) }
     {
         self.core.decide()
@@ -174,8 +173,8 @@ impl CommitProxyRole {
 
     /// The messages of the decided batch for the logs. Refused as `NoMemory`, and else only unless the batch is decided.
     pub(crate) fn messages(&self) -> Result<Items<LogMsg>, Refusal>
-        ensures { (config : Config) (book : List Entry) (committed : ℕ) (entry : Entry)
-            → CommitProxyRefines config book committed self.now → is_logging (seen_as self.now).stage ≡ true
+        ensures { (config : Config) (book : List Entry) (known : Known) (entry : Entry)
+            → CommitProxyRefines config book known self.now → is_logging (seen_as self.now).stage ≡ true
             → slice_get book self.now.entry ≡ Some entry
             → Answers result None (λ messages. messages ≡ log_messages config.resolver_splits config.shard_splits
             config.logs self.now.entry (seen_before book self.now.entry) entry) }
@@ -185,12 +184,12 @@ impl CommitProxyRole {
 
     /// A log's acknowledgement came. Refused as `Stale` where the batch doesn't wait for it, and then nothing changes.
     pub(crate) fn take_acknowledgement(&mut self, ack: LogAck) -> Result<(), Refusal>
-        ensures answers { (config : Config) (book : List Entry) (committed : ℕ)
-            → CommitProxyRefines config book committed self.old → ack.log < config.logs →
+        ensures answers { (config : Config) (book : List Entry) (known : Known)
+            → CommitProxyRefines config book known self.old → ack.log < config.logs →
             let sender = FromLog ack.log in
             AnswersExactly result (if awaits (seen_as self.old) ack.index sender then None else Some Stale)
             (λ _. (seen_as self.new ≡ with_received (seen_as self.old) sender)
-            × CommitProxyRefines config book committed self.new) }
+            × CommitProxyRefines config book known self.new) }
         ensures refused { OnErr result (self.new ≡ self.old) }
     {
         self.core.logged(ack)
@@ -199,11 +198,11 @@ impl CommitProxyRole {
     /// Whether all logs have acknowledged the batch, and its version isn't reported yet. Refused as `WrongState` unless
     /// the batch is decided and isn't reported, and as `NotYet` with the least log whose acknowledgement hasn't come.
     pub(crate) fn check_logged(&self) -> Result<(), Refusal>
-        ensures wrong { (config : Config) (book : List Entry) (committed : ℕ)
-            → CommitProxyRefines config book committed self.now → is_logging (seen_as self.now).stage ≡ false
+        ensures wrong { (config : Config) (book : List Entry) (known : Known)
+            → CommitProxyRefines config book known self.now → is_logging (seen_as self.now).stage ≡ false
             → result ≡ Err WrongState }
-        ensures answers { (config : Config) (book : List Entry) (committed : ℕ)
-            → CommitProxyRefines config book committed self.now → is_logging (seen_as self.now).stage ≡ true
+        ensures answers { (config : Config) (book : List Entry) (known : Known)
+            → CommitProxyRefines config book known self.now → is_logging (seen_as self.now).stage ≡ true
             → AnswersExactly result
             (waiting_for (first_missing (λ log. true) 0 (seen_as self.now).acknowledgements_received)) (λ _. ⊤) }
     {
@@ -226,11 +225,11 @@ impl CommitProxyRole {
         &mut self,
         alloc: Global,
     ) -> Result<(Items<Transcript>, Items<(TxnId, Outcome)>), Refusal>
-        ensures { (config : Config) (book : List Entry) (committed : ℕ) (entry : Entry)
-            → CommitProxyRefines config book committed self.old → is_reported (seen_as self.old).stage ≡ true
+        ensures { (config : Config) (book : List Entry) (known : Known) (entry : Entry)
+            → CommitProxyRefines config book known self.old → is_reported (seen_as self.old).stage ≡ true
             → slice_get book self.old.entry ≡ Some entry
             → AnswersExactly result None
-            (λ given. IsDone config book committed entry self.old given.0 given.1 self.new) }
+            (λ given. IsDone config book known entry self.old given.0 given.1 self.new) }
     {
         let answers = self.core.done()?;
         self.is_reported = false;

@@ -1,22 +1,25 @@
 // The sequencer takes what the world gives it, which it never refuses.
 ghost use Rattle.std.specs.Prelude.{◌≡◌, ◌<◌, ◌≤◌, None};
+ghost use Rattle.fdb_keys.specs.Answers.{Answers};
 ghost use Rattle.fdb_txn.specs.Limits.{resolver_limit};
 ghost use Rattle.fdb_sequencer.specs.Limits.{proxy_limit};
 ghost use Rattle.fdb_sequencer.specs.Sequencer.{accept_fault, accepting, fresh, reporting};
 
+use fdb_keys::Refusal;
 use fdb_sequencer::{SequencerCore, Ticket};
 use std::alloc::Global;
 
-/// The sequencer of so many proxies and resolvers, before its first ticket.
-pub(crate) fn first_sequencer(alloc: Global, proxies: u32, resolvers: u32) -> SequencerCore
+/// The sequencer of so many proxies and resolvers, before its first ticket. Refused only as `NoMemory`.
+pub(crate) fn first_sequencer(
+    alloc: Global,
+    proxies: u32,
+    resolvers: u32,
+) -> Result<SequencerCore, Refusal>
     requires proxies { (0 < proxies) × (proxies ≤ proxy_limit) }
     requires resolvers { (0 < resolvers) × (resolvers ≤ resolver_limit) }
-    ensures { result ≡ fresh proxies resolvers 0 }
+    ensures { Answers result None (λ sequencer. sequencer ≡ fresh proxies resolvers 0) }
 {
-    match SequencerCore::new(alloc, proxies, resolvers, 0) {
-        Ok(sequencer) => sequencer,
-        Err(_) => unreachable!(),
-    }
+    SequencerCore::new(alloc, proxies, resolvers, 0)
 }
 
 /// Accepts the ticket, which was planned just before.

@@ -12,7 +12,7 @@ use Rattle.fdb_sim.specs.declared.script.fault.Fault.{Fault}
 use Rattle.fdb_sim.specs.declared.script.line.Line.{Line}
 use Rattle.fdb_sim.specs.declared.script.line.Line.TheVariants as given
 use Rattle.fdb_sim.specs.declared.script.step_line.Kind.{Kind}
-use Rattle.fdb_sim.specs.declared.script.step_line.Kind.TheVariants.{Ask, Grant, Get, SnapshotGet, Range, SnapshotRange, Write, AddRead, AddWrite, Submit, Seal, Resolve, Verdict, Decide, Push, Logged, Report, Answer, Pull, Forget, Pop}
+use Rattle.fdb_sim.specs.declared.script.step_line.Kind.TheVariants.{Ask, Grant, Get, SnapshotGet, Range, SnapshotRange, Write, AddRead, AddWrite, Submit, Seal, Resolve, Verdict, Decide, Push, Logged, Report, Answer, Pull, Forget, Pop, Move}
 use Rattle.fdb_sim.proofs.lemmas.Faults.{Reads-whole}
 use Rattle.fdb_sim.proofs.lemmas.Words.{after_first, first_of}
 
@@ -58,7 +58,8 @@ kind_of_letters n =
     (if n == 1634628471 then Answer else
     (if n == 1718579815 then Forget else
     (if n == 1886351360 then Pop else
-    Pull))))))))))))))))))))
+    (if n == 1836021349 then Move else
+    Pull)))))))))))))))))))))
 
 kind_of_name : (kind : Kind) → kind_of_letters (letters_of (name_of kind)) ≡ kind
 unfolding letters_of
@@ -83,6 +84,7 @@ kind_of_name Answer = refl
 kind_of_name Pull = refl
 kind_of_name Forget = refl
 kind_of_name Pop = refl
+kind_of_name Move = refl
 
 -- no two kinds have one name
 same_kind : (kind other : Kind) → name_of kind ≡ name_of other → kind ≡ other

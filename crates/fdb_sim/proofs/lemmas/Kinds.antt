@@ -1,15 +1,15 @@
--- Each kind is one of twenty-one.
+-- Each kind is one of twenty-two.
 use Rattle.std.proofs.Common.{◌≢◌, ℕ, ◌<◌, List, [], ◌∷◌, get_or, arith}
 use Rattle.fdb_sim.specs.declared.script.step_line.Kind.{Kind}
-use Rattle.fdb_sim.specs.declared.script.step_line.Kind.TheVariants.{Ask, Grant, Get, SnapshotGet, Range, SnapshotRange, Write, AddRead, AddWrite, Submit, Seal, Resolve, Verdict, Decide, Push, Logged, Report, Answer, Pull, Forget, Pop}
+use Rattle.fdb_sim.specs.declared.script.step_line.Kind.TheVariants.{Ask, Grant, Get, SnapshotGet, Range, SnapshotRange, Write, AddRead, AddWrite, Submit, Seal, Resolve, Verdict, Decide, Push, Logged, Report, Answer, Pull, Forget, Pop, Move}
 use Rattle.fdb_sim.specs.script.Kinds.{name_of}
 
 abbrev kinds : List Kind
 kinds = Ask ∷ Grant ∷ Get ∷ SnapshotGet ∷ Range ∷ SnapshotRange ∷ Write ∷ AddRead ∷ AddWrite ∷ Submit ∷ Seal
-    ∷ Resolve ∷ Verdict ∷ Decide ∷ Push ∷ Logged ∷ Report ∷ Answer ∷ Pull ∷ Forget ∷ Pop ∷ []
+    ∷ Resolve ∷ Verdict ∷ Decide ∷ Push ∷ Logged ∷ Report ∷ Answer ∷ Pull ∷ Forget ∷ Pop ∷ Move ∷ []
 
--- a word that names none of the twenty-one names no kind
-pub names_none : (word : List ℕ) → ((k : ℕ) → k < 21 → word ≢ name_of (get_or kinds k Ask)) → (kind : Kind)
+-- a word that names none of the twenty-two names no kind
+pub names_none : (word : List ℕ) → ((k : ℕ) → k < 22 → word ≢ name_of (get_or kinds k Ask)) → (kind : Kind)
     → word ≢ name_of kind
 names_none word none Ask = none 0 (omega arith)
 names_none word none Grant = none 1 (omega arith)
@@ -32,3 +32,4 @@ names_none word none Answer = none 17 (omega arith)
 names_none word none Pull = none 18 (omega arith)
 names_none word none Forget = none 19 (omega arith)
 names_none word none Pop = none 20 (omega arith)
+names_none word none Move = none 21 (omega arith)

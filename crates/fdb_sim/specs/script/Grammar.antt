@@ -13,9 +13,10 @@ use Rattle.fdb_mutations.specs.Naming.{NamedKeys, OneKey, KeysIn}
 use Rattle.fdb_sim.specs.declared.script.line.Line.{Line}
 use Rattle.fdb_sim.specs.declared.script.line.Line.TheVariants as given
 use Rattle.fdb_sim.specs.declared.script.step_line.Kind.{Kind}
-use Rattle.fdb_sim.specs.declared.script.step_line.Kind.TheVariants.{Ask, Grant, Get, SnapshotGet, SnapshotRange, Write, AddRead, AddWrite, Submit, Seal, Resolve, Verdict, Decide, Push, Logged, Report, Answer, Pull, Forget, Pop}
+use Rattle.fdb_sim.specs.declared.script.step_line.Kind.TheVariants.{Ask, Grant, Get, SnapshotGet, SnapshotRange, Write, AddRead, AddWrite, Submit, Seal, Resolve, Verdict, Decide, Push, Logged, Report, Answer, Pull, Forget, Pop, Move}
 use Rattle.fdb_sim.specs.declared.script.step_line.Kind.TheVariants as line_kind
 use Rattle.fdb_sim.specs.declared.script.keys.RangeRead.{RangeRead}
+use Rattle.fdb_sim.specs.declared.script.keys.RangeTarget.{RangeTarget}
 use Rattle.fdb_sim.specs.script.Kinds.{name_of}
 use Rattle.fdb_sim.specs.script.Texts.{value_of}
 use Rattle.fdb_sim.specs.script.Words.{words_of}
@@ -64,6 +65,12 @@ WritesRangeRead words read =
     (x : List ℕ) × (y : List ℕ) × (z : List ℕ) × (rest : List (List ℕ)) × (words ≡ x ∷ y ∷ z ∷ rest)
     × WritesText x read.range.begin × WritesText y read.range.end × WritesSmall z read.limit
     × WritesOrder rest read.reverse
+
+-- the words are the bounds of a range, and the number of the resolver to which it goes over
+abbrev pub WritesTarget : List (List ℕ) → RangeTarget → Type 0
+WritesTarget words target =
+    (x : List ℕ) × (y : List ℕ) × (z : List ℕ) × (words ≡ x ∷ y ∷ z ∷ [])
+    × WritesText x target.range.begin × WritesText y target.range.end × WritesSmall z target.to
 
 -- the words are a number below 2^32, and then words that write more
 abbrev pub WritesNumberAnd : (List (List ℕ) → Type 0) → List (List ℕ) → ℕ → Type 0
@@ -137,6 +144,8 @@ WritesRest Pull words step = (shard : ℕ) × (limit : ℕ) × WritesTwo words s
 WritesRest Forget words step = (shard : ℕ) × (version : ℕ) × WritesSmallAndNumber words shard version
     × (step ≡ made.Forget shard version)
 WritesRest Pop words step = (shard : ℕ) × WritesOne words shard × (step ≡ made.Pop shard)
+WritesRest Move words step = (target : RangeTarget) × WritesTarget words target
+    × (step ≡ made.Move target.range target.to)
 
 -- the words are the kind's name and then words that write the step
 abbrev pub WritesStep : List (List ℕ) → Kind → Step → Type 0
@@ -189,6 +198,7 @@ step_fault (made.Answer proxy) = None
 step_fault (made.Pull shard limit) = None
 step_fault (made.Forget shard version) = None
 step_fault (made.Pop shard) = None
+step_fault (made.Move range to) = bounds_fault range
 
 -- why the key or range of the line's step, if it has one, is none
 abbrev pub read_fault : Line → Option Refusal

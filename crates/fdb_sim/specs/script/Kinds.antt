@@ -1,7 +1,7 @@
 -- The first words of lines.
 use Rattle.std.specs.Prelude.{ℕ, List, codes}
 use Rattle.fdb_sim.specs.declared.script.step_line.Kind.{Kind}
-use Rattle.fdb_sim.specs.declared.script.step_line.Kind.TheVariants.{Ask, Grant, Get, SnapshotGet, Range, SnapshotRange, Write, AddRead, AddWrite, Submit, Seal, Resolve, Verdict, Decide, Push, Logged, Report, Answer, Pull, Forget, Pop}
+use Rattle.fdb_sim.specs.declared.script.step_line.Kind.TheVariants.{Ask, Grant, Get, SnapshotGet, Range, SnapshotRange, Write, AddRead, AddWrite, Submit, Seal, Resolve, Verdict, Decide, Push, Logged, Report, Answer, Pull, Forget, Pop, Move}
 
 -- the word that names the kind
 abbrev pub name_of : Kind → List ℕ
@@ -26,3 +26,4 @@ name_of Answer = codes "answer"
 name_of Pull = codes "pull"
 name_of Forget = codes "forget"
 name_of Pop = codes "pop"
+name_of Move = codes "move"

@@ -1,7 +1,7 @@
 // Keys and ranges that are the last words of a line. All words are read before a key or a range is made.
 ghost use Rattle.fdb_keys.specs.Texts.{key_fault};
 ghost use Rattle.fdb_sim.specs.script.Faults.{Reads};
-ghost use Rattle.fdb_sim.specs.script.Grammar.{WritesBounds, WritesOneText, WritesRangeRead, bounds_fault};
+ghost use Rattle.fdb_sim.specs.script.Grammar.{WritesBounds, WritesOneText, WritesRangeRead, WritesTarget, bounds_fault};
 
 use crate::script::fault::Fault;
 use crate::script::texts::{make_key, make_range};
@@ -15,6 +15,13 @@ pub struct RangeRead {
     pub range: KeyRange,
     pub limit: u32,
     pub reverse: bool,
+}
+
+/// A range that goes over to a resolver.
+#[derive(Drop)]
+pub struct RangeTarget {
+    pub range: KeyRange,
+    pub to: u32,
 }
 
 /// The key that the last word gives. Bad where it is no byte text, and where words are left. Refused as `make_key`
@@ -53,4 +60,16 @@ pub fn last_range_read(alloc: Global, words: &mut Words<'_>) -> Result<RangeRead
         limit,
         reverse,
     })
+}
+
+/// The range that the last three words give by its bounds, with the number of the resolver to which it goes over. Bad
+/// where they give none, and where words are left. Refused as `make_range` refuses the range.
+pub fn last_target(alloc: Global, words: &mut Words<'_>) -> Result<RangeTarget, Fault>
+    ensures { Reads result (WritesTarget words.old) (λ target. bounds_fault target.range) }
+{
+    let begin = words.text(alloc)?;
+    let end = words.text(alloc)?;
+    let to = words.last_number()?;
+    let range = make_range(alloc, begin.as_slice(), end.as_slice())?;
+    Ok(RangeTarget { range, to })
 }

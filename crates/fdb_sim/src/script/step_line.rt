@@ -4,7 +4,9 @@ ghost use Rattle.fdb_sim.specs.script.Grammar.{WritesGet, WritesRange, WritesRes
 ghost use Rattle.fdb_sim.specs.script.Kinds.{name_of};
 
 use crate::script::fault::Fault;
-use crate::script::keys::{RangeRead, last_key, last_range, last_range_read};
+use crate::script::keys::{
+    RangeRead, RangeTarget, last_key, last_range, last_range_read, last_target,
+};
 use crate::script::words::Words;
 use crate::script::write_line::read_mutation;
 use fdb_core::Step;
@@ -35,10 +37,11 @@ pub enum Kind {
     Pull,
     Forget,
     Pop,
+    Move,
 }
 
 /// All kinds of lines.
-const KINDS: [Kind; 21] = [
+const KINDS: [Kind; 22] = [
     Kind::Ask,
     Kind::Grant,
     Kind::Get,
@@ -60,6 +63,7 @@ const KINDS: [Kind; 21] = [
     Kind::Pull,
     Kind::Forget,
     Kind::Pop,
+    Kind::Move,
 ];
 
 impl Kind {
@@ -89,6 +93,7 @@ impl Kind {
             Kind::Pull => b"pull",
             Kind::Forget => b"forget",
             Kind::Pop => b"pop",
+            Kind::Move => b"move",
         }
     }
 }
@@ -142,6 +147,7 @@ fn read_words(alloc: Global, kind: Kind, words: &mut Words<'_>) -> Result<Step, 
         Kind::Pull => read_pull(words),
         Kind::Forget => read_forget(words),
         Kind::Pop => read_pop(words),
+        Kind::Move => read_move(alloc, words),
     }
 }
 
@@ -299,4 +305,11 @@ fn read_pop(words: &mut Words<'_>) -> Result<Step, Fault>
 {
     let shard = words.last_number()?;
     Ok(Step::Pop { shard })
+}
+
+fn read_move(alloc: Global, words: &mut Words<'_>) -> Result<Step, Fault>
+    ensures { Reads result (WritesRest Kind.Move words.old) step_fault }
+{
+    let RangeTarget { range, to } = last_target(alloc, words)?;
+    Ok(Step::Move { range, to })
 }

@@ -38,6 +38,8 @@ pub enum Act {
     Pull(u32, u32),
     Forget(u32, u64),
     Pop(u32),
+    /// From one key up to but not including another.
+    Move(u8, u8, u32),
 }
 
 fn get(
@@ -133,6 +135,17 @@ fn add_write(
     world.step(Step::AddWrite { session, range })
 }
 
+fn move_to(
+    world: &mut World,
+    alloc: Global,
+    begin: u8,
+    end: u8,
+    to: u32,
+) -> Result<Answered, Refusal> {
+    let range = KeyRange::new(alloc, &[begin], &[end])?;
+    world.step(Step::Move { range, to })
+}
+
 fn take_call(
     world: &mut World,
     alloc: Global,
@@ -169,5 +182,6 @@ pub fn take(world: &mut World, alloc: Global, act: Act) -> Result<Answered, Refu
         Act::Pull(shard, limit) => world.step(Step::Pull { shard, limit }),
         Act::Forget(shard, version) => world.step(Step::Forget { shard, version }),
         Act::Pop(shard) => world.step(Step::Pop { shard }),
+        Act::Move(begin, end, to) => move_to(world, alloc, begin, end, to),
     }
 }

@@ -92,7 +92,9 @@ const NO_WORDS: &[u8] = b"wri\n\
     write 0 clearranges a b\n\
     write 0 append a b\n\
     addreads 0 a b\n\
-    move a b 0\n\
+    moves a b 0\n\
+    move a b\n\
+    move a b 0 0\n\
     forgets 0 1\n\
     pops 0\n\
     shows 0\n\
@@ -117,6 +119,7 @@ const NO_NUMBERS: &[u8] = b"ask 4294967296 0\n\
     forget 4294967296 0\n\
     forget 0 18446744073709551616\n\
     pop 4294967296\n\
+    move a b 4294967296\n\
     sget a a\n\
     addread 4294967296 a b\n\
     addwrite a a b\n\

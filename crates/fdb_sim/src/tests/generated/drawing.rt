@@ -213,8 +213,15 @@ impl Drawing {
         }
     }
 
+    // At times an empty or an inverted range.
+    fn move_act(&mut self) -> Act {
+        let (begin, end) = (self.key(), self.key());
+        Act::Move(begin, end, self.role(RESOLVERS))
+    }
+
     pub(super) fn act(&mut self, world: &World) -> Act {
         match self.random.below(20) {
+            _ if self.random.below(40) == 0 => self.move_act(),
             0..=6 => self.client_act(world),
             7..=10 => self.proxy_act(world),
             11..=15 => self.resolver_act(world),

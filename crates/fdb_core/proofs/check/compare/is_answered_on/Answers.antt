@@ -1,7 +1,7 @@
 use Rattle.std.proofs.Common.{◌≡◌, ◌<◌, refl, sym, subst, length, Some, slice_get, rules}
 use Rattle.std.proofs.lemmas.Bool.{both_ways}
 use Rattle.std.proofs.lemmas.Option.{slice_get_read}
-use Rattle.fdb_core.proofs.checking.ComparingLemmas.{AnsweredSoFar, answered-next, answered-at}
+use Rattle.fdb_client.proofs.AnsweredLemmas.{AnsweredSoFar, answered-next, answered-at}
 use Rattle.fdb_core.proofs.check.compare.is_answered_on.Goals as goal
 
 pub returns-then-not-branch : goal.returns-then-not-branch

@@ -1,12 +1,12 @@
-use Rattle.std.proofs.Common.{◌≡◌, ◌∙◌, ap, subst, ℕ, List, suc, length, map, arith, rules, []}
+use Rattle.std.proofs.Common.{◌≡◌, ◌∙◌, refl, ap, subst, ℕ, List, suc, length, map, arith, rules, []}
 use Rattle.fdb_keys.specs.Points.{Point}
 use Rattle.fdb_sequencer.specs.Sequencer.{Sequencer}
-use Rattle.fdb_core.specs.refinement.Cluster.{BookRefines, SequencerRefines, sessions_of}
+use Rattle.fdb_core.specs.refinement.Cluster.{BookRefines, sessions_of}
 use Rattle.fdb_core.specs.refinement.CommitProxies.{ReadsWithin}
 use Rattle.fdb_core.specs.refinement.Resolving.{PartsRefine}
 use Rattle.fdb_core.specs.refinement.Starts.{AreNewLogs, AreNewShards}
 use Rattle.fdb_core.proofs.machine.SessionLemmas.{open-new}
-use Rattle.fdb_core.proofs.refinement.StartLemmas.{logs-start, taken-start, progress-start, commit_proxies-start, seen-start, resolvers-start, taken_by-start, asked-start, grv_proxies-start, legal-from}
+use Rattle.fdb_core.proofs.refinement.StartLemmas.{sequencer-start, logs-start, taken-start, progress-start, commit_proxies-start, seen-start, resolvers-start, taken_by-start, asked-start, grv_proxies-start, legal-from}
 use Rattle.fdb_core.proofs.cluster.Cluster.new.Goals as goal
 use Rattle.fdb_core.proofs.cluster.Cluster.new.Goals.{After-new-7}
 
@@ -37,7 +37,7 @@ returns-clause-machine c =
       book = c.new.ensures.items i;
       entry_proxies = c.new-2.ensures.items i;
       decided = c.new-3.ensures.items i;
-      pending = [];
+      pending = ap (λ (it : Sequencer). it.pending) c.in_ok-sequencer.ensures i;
       commit_proxies = seen-start config c.in_ok-commit_proxies.commit_proxies.items proxies.0 proxies.1 i;
       resolvers = taken_by-start config.resolver_splits c.in_ok-resolvers.resolvers.items (resolver-count c)
           c.in_ok-resolvers.ensures.each i;
@@ -45,7 +45,7 @@ returns-clause-machine c =
       shards = progress-start config c.in_ok-logs.logs.items c.in_ok-shards.shards.items (logs c) (shards c) i;
       grv_proxies = (ap (map sessions_of) c.in_ok-grv_proxies.ensures ∙ asked-start config.proxies) i;
       sessions = c.new-6.ensures i;
-      committed = ap (λ (it : Sequencer). it.committed) c.first_sequencer-sequencer.ensures i;
+      committed = ap (λ (it : Sequencer). it.committed) c.in_ok-sequencer.ensures i;
       acknowledged = c.new-7.ensures.items i;
     }
 
@@ -54,12 +54,12 @@ returns-clause-refines c =
     let config = c.args.config in
     let proxies = c.in_ok-commit_proxies.ensures in
     let book : BookRefines config [] [] [] [] = search rules in
-    let sequencer : SequencerRefines config [] c.first_sequencer-sequencer.result = search rules in
     let parts : PartsRefine config.resolver_splits [] [] = search rules in
     record {
       legal = legal-from config c.requires.served;
       room = rw c.new.ensures.items (omega arith);
-      sequencer = rw c.new.ensures.items sequencer;
+      sequencer = rw (c.new.ensures.items, c.in_ok-sequencer.ensures)
+          (sequencer-start config _ _ refl (omega (arith, c.len-2.ensures)));
       book = rw (c.new.ensures.items, c.new-2.ensures.items, c.new-3.ensures.items, c.new-5.ensures.items) book;
       parts = rw (c.new.ensures.items, c.new-4.ensures.items) parts;
       resolvers = rw c.new.ensures.items
@@ -68,8 +68,9 @@ returns-clause-refines c =
       logs = rw c.new.ensures.items (logs-start config c.in_ok-logs.logs.items c.in_ok-shards.shards.items
           (logs c) (shards c));
       shard_map = c.requires.shard_map;
-      commit_proxies = rw (c.new.ensures.items, c.first_sequencer-sequencer.ensures)
-          (commit_proxies-start config c.in_ok-commit_proxies.commit_proxies.items proxies.0 proxies.1);
+      commit_proxies = rw (c.new.ensures.items, c.in_ok-sequencer.ensures)
+          (commit_proxies-start config c.in_ok-commit_proxies.commit_proxies.items proxies.0 proxies.1
+          config.proxies (suc (length config.resolver_splits)));
       grv_proxies = grv_proxies-start config c.in_ok-grv_proxies.grv_proxies.items c.in_ok-grv_proxies.ensures;
       opened = rw c.new-6.ensures (open-new (ReadsWithin _));
     }

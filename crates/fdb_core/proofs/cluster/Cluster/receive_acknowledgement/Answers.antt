@@ -7,6 +7,7 @@ use Rattle.fdb_core.specs.machine.CommitProxySteps.{receives}
 use Rattle.fdb_core.specs.machine.Roles.{FromLog}
 use Rattle.fdb_core.specs.machine.Steps.{answer_of, after, ran_out}
 use Rattle.fdb_core.specs.refinement.Cluster.{machine_of, Refines}
+use Rattle.fdb_core.specs.refinement.CommitProxies.{known_to}
 use Rattle.fdb_core.proofs.common.FaultLemmas.{unless}
 use Rattle.fdb_core.proofs.refinement.ReceivingLemmas.{comes-stale, comes-awaited, log-exists, receiver-there}
 use Rattle.fdb_core.proofs.cluster.Cluster.receive_acknowledgement.Goals as goal
@@ -25,7 +26,7 @@ stale c =
     c.in_ok-at.ensures c.index_mut-commit_proxy.ensures.value in
     comes-stale k c.requires c.args.entry (FromLog c.args.log) c.in_ok-at.at c.in_ok-at.ensures
     c.index_mut-commit_proxy.result.now c.take_acknowledgement.new.self at ⊤ c.in_err-take_acknowledgement.field-0.0
-    (c.in_err-take_acknowledgement.ensures.answers k.config k.book.items k.sequencer.committed
+    (c.in_err-take_acknowledgement.ensures.answers k.config k.book.items (known_to k.sequencer c.in_ok-at.at)
     (c.requires.commit_proxies.each c.in_ok-at.at c.index_mut-commit_proxy.result.now at)
     (log-exists k c.requires c.args.entry c.args.log c.in_ok-at.at c.in_ok-at.ensures))
     c.in_err-take_acknowledgement.ensures.refused
@@ -42,7 +43,7 @@ taken c =
     c.in_ok-at.ensures c.index_mut-commit_proxy.ensures.value in
     comes-awaited k c.requires c.args.entry (FromLog c.args.log) c.in_ok-at.at c.in_ok-at.ensures
     c.index_mut-commit_proxy.result.now c.take_acknowledgement.new.self at ⊤ c.in_ok-take_acknowledgement.field-0
-    (c.in_ok-take_acknowledgement.ensures.answers k.config k.book.items k.sequencer.committed
+    (c.in_ok-take_acknowledgement.ensures.answers k.config k.book.items (known_to k.sequencer c.in_ok-at.at)
     (c.requires.commit_proxies.each c.in_ok-at.at c.index_mut-commit_proxy.result.now at)
     (log-exists k c.requires c.args.entry c.args.log c.in_ok-at.at c.in_ok-at.ensures))
 

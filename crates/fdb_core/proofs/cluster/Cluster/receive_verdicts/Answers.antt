@@ -7,6 +7,7 @@ use Rattle.fdb_core.specs.machine.CommitProxySteps.{receives}
 use Rattle.fdb_core.specs.machine.Roles.{FromResolver}
 use Rattle.fdb_core.specs.machine.Steps.{answer_of, after, ran_out}
 use Rattle.fdb_core.specs.refinement.Cluster.{machine_of, Refines}
+use Rattle.fdb_core.specs.refinement.CommitProxies.{known_to}
 use Rattle.fdb_core.proofs.common.FaultLemmas.{unless}
 use Rattle.fdb_core.proofs.refinement.ReceivingLemmas.{verdicts-stale, verdicts-awaited, was-sent, receiver-there, resolver-there}
 use Rattle.fdb_core.proofs.cluster.Cluster.receive_verdicts.Goals as goal
@@ -33,7 +34,7 @@ stale c =
     c.index_mut-commit_proxy.result.now c.take_verdicts.new.self at c.index.result.now
     (resolver-there k c.args.entry c.args.resolver c.in_ok-at.at c.index.result.now c.in_ok-at.ensures c.index.ensures)
     c.in_ok-verdicts.verdicts c.in_ok-verdicts.ensures ⊤ c.in_err-take_verdicts.field-0.0
-    (λ e tied said. c.in_err-take_verdicts.ensures.answers k.config k.book.items k.sequencer.committed e tied said)
+    (λ e tied said. c.in_err-take_verdicts.ensures.answers k.config k.book.items (known_to k.sequencer c.in_ok-at.at) e tied said)
     c.in_err-take_verdicts.ensures.refused
 
 -- the proxy took it
@@ -50,7 +51,7 @@ taken c =
     c.index_mut-commit_proxy.result.now c.take_verdicts.new.self at c.index.result.now
     (resolver-there k c.args.entry c.args.resolver c.in_ok-at.at c.index.result.now c.in_ok-at.ensures c.index.ensures)
     c.in_ok-verdicts.verdicts c.in_ok-verdicts.ensures ⊤ c.in_ok-take_verdicts.field-0
-    (λ e tied said. c.in_ok-take_verdicts.ensures.answers k.config k.book.items k.sequencer.committed e tied said)
+    (λ e tied said. c.in_ok-take_verdicts.ensures.answers k.config k.book.items (known_to k.sequencer c.in_ok-at.at) e tied said)
 
 pub returns-in_err-take_verdicts-clause-answer : goal.returns-in_err-take_verdicts-clause-answer
 returns-in_err-take_verdicts-clause-answer c =

@@ -9,7 +9,7 @@ use Rattle.fdb_core.specs.declared.step.Answered.TheVariants as answered
 use Rattle.fdb_core.specs.machine.CommitProxySteps.{reports}
 use Rattle.fdb_core.specs.machine.Steps.{answer_of, after}
 use Rattle.fdb_core.specs.refinement.Cluster.{machine_of}
-use Rattle.fdb_core.specs.refinement.CommitProxies.{ReadsWithin, seen_as}
+use Rattle.fdb_core.specs.refinement.CommitProxies.{known_to, ReadsWithin, seen_as}
 use Rattle.fdb_core.proofs.common.FaultLemmas.{unless}
 use Rattle.fdb_core.proofs.common.ListLemmas.{one-item}
 use Rattle.fdb_core.proofs.machine.SessionLemmas.{open-weaken}
@@ -35,8 +35,8 @@ refused c why is =
     let k = c.args.self.now in
     let ok = its k c.requires c.args.proxy c.index.result.now (there c) in
     refuses k c.requires c.args.proxy c.index.result.now (there c) c.check_logged.result _
-    (c.check_logged.ensures.wrong k.config k.book.items k.sequencer.committed ok)
-    (c.check_logged.ensures.answers k.config k.book.items k.sequencer.committed ok) why is
+    (c.check_logged.ensures.wrong k.config k.book.items (known_to k.sequencer c.args.proxy) ok)
+    (c.check_logged.ensures.answers k.config k.book.items (known_to k.sequencer c.args.proxy) ok) why is
 
 pub returns-in_err-check_logged-clause-answer : goal.returns-in_err-check_logged-clause-answer
 returns-in_err-check_logged-clause-answer c =
@@ -73,8 +73,8 @@ reporting c =
     let ok = its k c.requires c.args.proxy c.index.result.now at in
     subst (IsReporting k c.args.proxy) (again c)
     (passes k c.requires c.args.proxy c.index.result.now at c.check_logged.result _
-    (c.check_logged.ensures.wrong k.config k.book.items k.sequencer.committed ok)
-    (c.check_logged.ensures.answers k.config k.book.items k.sequencer.committed ok)
+    (c.check_logged.ensures.wrong k.config k.book.items (known_to k.sequencer c.args.proxy) ok)
+    (c.check_logged.ensures.answers k.config k.book.items (known_to k.sequencer c.args.proxy) ok)
     c.in_ok-check_logged.field-0 c.in_ok-check_logged.was)
 
 pub index-requires-3 : goal.index-requires-3
@@ -134,10 +134,11 @@ returns-clause-after c =
     let found = goal.at.returns-clause-after c in
     let may = reporting found.After-index-2 in
     rw (may.goes_on c.index-3.result.now (entry-there found.After-index-3 may))
-    (ap₂ (λ (committed : ℕ) (role : CommitProxyRole). record (machine_of k) {
-      committed = committed;
+    (ap₂ (λ (sequencer : Sequencer) (role : CommitProxyRole). record (machine_of k) {
+      pending = sequencer.pending;
+      committed = sequencer.committed;
       commit_proxies = map seen_as (slice_set k.commit_proxies.items c.args.proxy role);
-    }) (raised found.After-take_report) (reported found.After-report))
+    }) found.After-take_report.take_report.ensures (reported found.After-report))
 
 pub returns-clause-refines : goal.returns-clause-refines
 returns-clause-refines c =
@@ -158,6 +159,10 @@ returns-clause-refines c =
         accepted = before.sequencer.accepted;
         last = before.sequencer.last;
         committed = within;
+        resolvers = before.sequencer.resolvers;
+        count = before.sequencer.count;
+        targets = before.sequencer.targets;
+        made = before.sequencer.made;
       };
       book = before.book;
       parts = before.parts;

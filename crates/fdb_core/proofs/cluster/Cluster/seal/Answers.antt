@@ -1,7 +1,9 @@
-use Rattle.std.proofs.Common.{◌≡◌, ◌∙◌, refl, sym, ap, ◌<◌, ◌≤◌, true, length, map, List, [], ◌∷◌, ◌++◌, take, Some, Ok, Err, slice_get, slice_set, arith, rules}
+use Rattle.std.proofs.Common.{◌≡◌, ◌∙◌, refl, sym, ap, ⊎_elim, inl, inr, subst, ◌<◌, ◌≤◌, true, length, map, List, [], ◌∷◌, ◌++◌, take, Some, None, Ok, Err, slice_get, slice_set, arith, rules}
+use Rattle.std.specs.Prelude.{◌⊎◌}
 use Rattle.std.proofs.lemmas.List.{length-append}
 use Rattle.std.proofs.lemmas.Option.{slice_get_read}
 use Rattle.std.proofs.lemmas.Result.{err_from_is_err_and}
+use Rattle.fdb_keys.specs.declared.refusal.Refusal.{Refusal}
 use Rattle.fdb_keys.specs.declared.refusal.Refusal.TheVariants.{Exhausted, NoMemory}
 use Rattle.fdb_txn.specs.Limits.{place_limit}
 use Rattle.fdb_txn.specs.declared.entry.Entry.{Entry}
@@ -9,18 +11,20 @@ use Rattle.fdb_txn.specs.book.Book.{last_version}
 use Rattle.fdb_txn.specs.book.Transactions.{Transaction}
 use Rattle.fdb_sequencer.specs.declared.ticket.Ticket.{Ticket}
 use Rattle.fdb_sequencer.specs.Limits.{version_limit}
-use Rattle.fdb_sequencer.specs.Sequencer.{Sequencer, next_version}
+use Rattle.fdb_sequencer.specs.Sequencer.{Sequencer, accept_fault, next_version, plan_fault, planned}
+use Rattle.fdb_sequencer.proofs.TicketLemmas.{planned_are_accepted}
 use Rattle.fdb_core.specs.declared.roles.commit_proxy.CommitProxyRole.{CommitProxyRole}
 use Rattle.fdb_core.specs.declared.step.Answered.TheVariants as answered
 use Rattle.fdb_core.specs.machine.CommitProxySteps.{seals, is_idle}
+use Rattle.fdb_core.specs.machine.Steps.{answer_of, after}
 use Rattle.fdb_core.specs.refinement.Cluster.{machine_of}
-use Rattle.fdb_core.specs.refinement.CommitProxies.{Seals, seen_as, entry_of}
+use Rattle.fdb_core.specs.refinement.CommitProxies.{Seals, known_to, seen_as, entry_of}
+use Rattle.fdb_core.proofs.common.FaultLemmas.{answers-fault, lacked-memory, unless}
 use Rattle.fdb_core.proofs.common.ListLemmas.{map-at, map-set, one-item}
 use Rattle.fdb_core.proofs.machine.Sealing.{seals-transition, length-sealed}
-use Rattle.fdb_core.proofs.refinement.BookLemmas.{last-push}
 use Rattle.fdb_core.proofs.refinement.BookPushes.{book-push, resolvers-push, parts-push, logs-push}
-use Rattle.fdb_core.proofs.refinement.CommitProxyTies.{commit_proxies-set}
-use Rattle.fdb_core.proofs.refinement.SealingLemmas.{ticket_for, above, next-ticket, reads-below, entry-is, proxy-is, follows, parts-are, others-go-on}
+use Rattle.fdb_core.proofs.refinement.CoreSeals.{ticket-for}
+use Rattle.fdb_core.proofs.refinement.SealingLemmas.{ticket_for, next-ticket, reads-below, entry-is, proxy-is, follows, parts-are, tied, sequencer-tied}
 use Rattle.fdb_core.proofs.refinement.TicketTies.{plan-refused, plan-given, seals-exhausted}
 use Rattle.fdb_core.proofs.cluster.Cluster.seal.Goals as goal
 use Rattle.fdb_core.proofs.cluster.Cluster.seal.Goals.{After-index_mut-commit_proxy, In_err-ticket, In_ok-batch}
@@ -53,9 +57,10 @@ given c = plan-given c.args.self.now c.requires c.args.proxy c.args.advance c.in
 room : (c : After-index_mut-commit_proxy) → length c.args.self.now.book.items < c.args.self.now.config.book
 room c = search rules
 
--- where there is no ticket, there is no version left
-exhausted : (c : In_err-ticket) → (c.in_err-ticket.field-0.0 ≡ Exhausted)
-    × (seals (machine_of c.args.self.now) c.args.proxy c.args.advance ≡ Err Exhausted)
+-- where there is no ticket, memory ran out, or there is no version left
+exhausted : (c : In_err-ticket) → (c.in_err-ticket.field-0.0 ≡ NoMemory)
+    ⊎ ((c.in_err-ticket.field-0.0 ≡ Exhausted)
+    × (seals (machine_of c.args.self.now) c.args.proxy c.args.advance ≡ Err Exhausted))
 exhausted c =
     let k = c.args.self.now in
     let role = c.index.result.now in
@@ -63,38 +68,53 @@ exhausted c =
     let at : slice_get k.commit_proxies.items c.args.proxy ≡ Some role = slice_get_read k.commit_proxies.items
     (length k.commit_proxies.items) c.args.proxy role refl inside c.index.ensures in
     let is : is_idle (seen_as role).stage ≡ true = search rules in
-    let refused = plan-refused k c.requires c.args.proxy c.args.advance role at c.in_err-ticket.field-0.0 _
-    c.in_err-ticket.ensures in
-    (refused.0, seals-exhausted k c.args.proxy c.args.advance role at is refused.1)
+    ⊎_elim (λ lacks. inl lacks)
+    (λ late. inr (late.0, seals-exhausted k c.args.proxy c.args.advance role at is late.1))
+    (plan-refused k c.requires c.args.proxy c.args.advance role at c.in_err-ticket.field-0.0 _ c.in_err-ticket.ensures)
 
 pub returns-in_err-ticket-clause-answer : goal.returns-in_err-ticket-clause-answer
 returns-in_err-ticket-clause-answer c =
+    let why = c.in_err-ticket.field-0.0 in
     let left = err_from_is_err_and c.from_residual.result c.from_residual.ensures.1 in
-    let refused = exhausted (goal.at.returns-in_err-ticket-clause-answer c).In_err-ticket in
-    rw (left.1, left.2, refused.0, refused.1) refl
+    let same : c.from_residual.result ≡ Err why = rw (left.1, left.2) refl in
+    ⊎_elim (λ lacks. lacked-memory c.from_residual.result why _ same lacks)
+    (λ refused. unless _ _ (same ∙ ap (λ (refusal : Refusal). Err refusal) refused.0 ∙ sym (ap answer_of refused.1)))
+    (exhausted (goal.at.returns-in_err-ticket-clause-answer c).In_err-ticket)
 
 pub returns-in_err-ticket-clause-after : goal.returns-in_err-ticket-clause-after
 returns-in_err-ticket-clause-after c =
+    let why = c.in_err-ticket.field-0.0 in
     let left = err_from_is_err_and c.from_residual.result c.from_residual.ensures.1 in
-    let refused = exhausted (goal.at.returns-in_err-ticket-clause-after c).In_err-ticket in
-    rw (left.1, left.2, refused.0, refused.1) refl
+    let same : c.from_residual.result ≡ Err why = rw (left.1, left.2) refl in
+    ⊎_elim (λ lacks. lacked-memory c.from_residual.result why _ same lacks)
+    (λ refused. unless _ _ (sym (ap (after (machine_of c.args.self.now)) refused.1)))
+    (exhausted (goal.at.returns-in_err-ticket-clause-after c).In_err-ticket)
 
-pub seal-requires-clause-still : goal.seal-requires-clause-still
-seal-requires-clause-still c =
-    ap (λ (t : Ticket). t.moves) (given (goal.at.seal-requires-clause-still c).After-index_mut-commit_proxy).1
+-- the sequencer accepts the ticket that it planned
+pub issue-requires : goal.issue-requires
+issue-requires c =
+    let s = c.args.self.now.sequencer in
+    let planned_it = answers-fault (plan_fault s c.args.proxy c.args.advance) c.in_ok-ticket.ticket
+    (λ (given : Ticket). given ≡ planned s c.args.proxy c.args.advance) c.in_ok-ticket.ensures in
+    subst (λ (ticket : Ticket). accept_fault s ticket ≡ None) (sym planned_it.1)
+    (planned_are_accepted s c.args.proxy c.args.advance planned_it.0)
 
-pub seal-requires-clause-later : goal.seal-requires-clause-later
-seal-requires-clause-later c =
-    let before = (goal.at.seal-requires-clause-later c).After-index_mut-commit_proxy in
-    reads-below c.args.self.now c.requires c.args.proxy c.args.advance c.index_mut-commit_proxy.result.now
-    (there before) c.in_ok-ticket.ticket (given before).1
+pub seal-requires : goal.seal-requires
+seal-requires c =
+    let k = c.args.self.now in
+    let before = (goal.at.seal-requires c).After-index_mut-commit_proxy in
+    let role = c.index_mut-commit_proxy.result.now in
+    ticket-for k.config k.book.items (known_to k.sequencer c.args.proxy) role
+    (c.requires.commit_proxies.each c.args.proxy role (there before)) (idle before) c.in_ok-ticket.ticket
+    (next-ticket k c.requires c.args.proxy c.args.advance role (there before) c.in_ok-ticket.ticket (given before).1)
+    (reads-below k c.requires c.args.proxy c.args.advance role (there before) c.in_ok-ticket.ticket (given before).1)
 
 pub returns-in_err-batch-clause-answer : goal.returns-in_err-batch-clause-answer
 returns-in_err-batch-clause-answer c =
     let k = c.args.self.now in
     let before = (goal.at.returns-in_err-batch-clause-answer c).After-index_mut-commit_proxy in
     let same : c.from_residual-in_err-batch.result ≡ Err c.in_err-batch.field-0.0 = search rules in
-    let lacks : c.in_err-batch.field-0.0 ≡ NoMemory = c.in_err-batch.ensures k.config k.book.items k.sequencer.committed
+    let lacks : c.in_err-batch.field-0.0 ≡ NoMemory = c.in_err-batch.ensures k.config k.book.items (known_to k.sequencer c.args.proxy)
     (c.requires.commit_proxies.each c.args.proxy c.index_mut-commit_proxy.result.now (there before)) (idle before)
     (next-ticket k c.requires c.args.proxy c.args.advance c.index_mut-commit_proxy.result.now (there before)
     c.in_ok-ticket.ticket (given before).1) in
@@ -105,7 +125,7 @@ returns-in_err-batch-clause-after c =
     let k = c.args.self.now in
     let before = (goal.at.returns-in_err-batch-clause-after c).After-index_mut-commit_proxy in
     let same : c.from_residual-in_err-batch.result ≡ Err c.in_err-batch.field-0.0 = search rules in
-    let lacks : c.in_err-batch.field-0.0 ≡ NoMemory = c.in_err-batch.ensures k.config k.book.items k.sequencer.committed
+    let lacks : c.in_err-batch.field-0.0 ≡ NoMemory = c.in_err-batch.ensures k.config k.book.items (known_to k.sequencer c.args.proxy)
     (c.requires.commit_proxies.each c.args.proxy c.index_mut-commit_proxy.result.now (there before)) (idle before)
     (next-ticket k c.requires c.args.proxy c.args.advance c.index_mut-commit_proxy.result.now (there before)
     c.in_ok-ticket.ticket (given before).1) in
@@ -116,7 +136,7 @@ returns-in_err-batch-clause-refines c =
     let k = c.args.self.now in
     let before = (goal.at.returns-in_err-batch-clause-refines c).After-index_mut-commit_proxy in
     let same : c.from_residual-in_err-batch.result ≡ Err c.in_err-batch.field-0.0 = search rules in
-    let lacks : c.in_err-batch.field-0.0 ≡ NoMemory = c.in_err-batch.ensures k.config k.book.items k.sequencer.committed
+    let lacks : c.in_err-batch.field-0.0 ≡ NoMemory = c.in_err-batch.ensures k.config k.book.items (known_to k.sequencer c.args.proxy)
     (c.requires.commit_proxies.each c.args.proxy c.index_mut-commit_proxy.result.now (there before)) (idle before)
     (next-ticket k c.requires c.args.proxy c.args.advance c.index_mut-commit_proxy.result.now (there before)
     c.in_ok-ticket.ticket (given before).1) in
@@ -127,11 +147,12 @@ sealed : (c : In_ok-batch) → slice_get c.args.self.now.commit_proxies.items c.
     ≡ Some c.index_mut-commit_proxy.result.now
     → is_idle (seen_as c.index_mut-commit_proxy.result.now).stage ≡ true
     → c.in_ok-ticket.ticket ≡ ticket_for c.args.self.now c.args.proxy c.args.advance
-    → Seals c.args.self.now.config c.args.self.now.book.items c.args.self.now.sequencer.committed c.in_ok-ticket.ticket
+    → Seals c.args.self.now.config c.args.self.now.book.items
+    (known_to c.args.self.now.sequencer c.args.proxy) c.in_ok-ticket.ticket
     c.index_mut-commit_proxy.result.now c.in_ok-batch.batch c.in_ok-batch.parts c.seal.new.self
 sealed c at idle_now ticket =
     let k = c.args.self.now in
-    c.in_ok-batch.ensures k.config k.book.items k.sequencer.committed
+    c.in_ok-batch.ensures k.config k.book.items (known_to k.sequencer c.args.proxy)
     (c.requires.commit_proxies.each c.args.proxy c.index_mut-commit_proxy.result.now at) idle_now
     (next-ticket k c.requires c.args.proxy c.args.advance c.index_mut-commit_proxy.result.now at
     c.in_ok-ticket.ticket ticket)
@@ -166,6 +187,7 @@ returns-clause-after c =
       book = (c.in_ok-push.ensures.items ∙ ap (λ (e : Entry). k.book.items ++ e ∷ []) entry) i;
       entry_proxies = c.in_ok-push-2.ensures.items i;
       decided = c.in_ok-push-3.ensures.items i;
+      pending = ap (λ (s : Sequencer). s.pending) c.issue.ensures i;
       commit_proxies = (map-set seen_as k.commit_proxies.items c.args.proxy c.seal.new.self
           ∙ ap (slice_set (map seen_as k.commit_proxies.items) c.args.proxy) proxy) i;
       committed = ap (λ (s : Sequencer). s.committed) c.issue.ensures i;
@@ -181,7 +203,6 @@ returns-clause-refines c =
     let ticket = c.in_ok-ticket.ticket in
     let batch = c.in_ok-batch.batch in
     let entry : Entry = entry_of ticket batch in
-    let later = above k old c.args.proxy c.args.advance role (there before) ticket (given before).1 in
     let next = follows k old c.args.proxy c.args.advance role (there before) ticket (given before).1 batch
     c.in_ok-batch.parts c.seal.new.self is in
     let parts = parts-are k old c.args.proxy c.args.advance role (there before) ticket (given before).1 batch
@@ -191,12 +212,9 @@ returns-clause-refines c =
     record {
       legal = old.legal;
       room = rw book (omega (arith, length-append k.book.items (entry ∷ []), fits));
-      sequencer = rw (c.issue.ensures, book) (record {
-        proxies = old.sequencer.proxies;
-        accepted = omega (arith, old.sequencer.accepted, length-append k.book.items (entry ∷ []));
-        last = sym (last-push k.book.items entry);
-        committed = rw (last-push k.book.items entry) (omega (arith, later, old.sequencer.committed));
-      });
+      sequencer = rw (c.issue.ensures, book)
+          (sequencer-tied k old c.args.proxy c.args.advance role (there before) ticket (given before).1 batch
+          c.in_ok-batch.parts c.seal.new.self is);
       book = rw (book, c.in_ok-push-2.ensures.items, c.in_ok-push-3.ensures.items, c.in_ok-push-5.ensures.items)
           (book-push k.book.items entry k.config k.entry_proxies.items k.decided.items k.messages.items c.args.proxy
           old.book next);
@@ -206,10 +224,8 @@ returns-clause-refines c =
       logs = rw book (logs-push k.book.items entry k.config k.logs.items k.shards.items old.logs);
       shard_map = old.shard_map;
       commit_proxies = rw (c.issue.ensures, book)
-          (commit_proxies-set k.config k.book.items (k.book.items ++ entry ∷ []) k.sequencer.committed
-          k.sequencer.committed k.commit_proxies.items c.args.proxy c.seal.new.self old.commit_proxies is.refines
-          (others-go-on k old c.args.proxy c.args.advance role (there before) ticket (given before).1 batch
-          c.in_ok-batch.parts c.seal.new.self is));
+          (tied k old c.args.proxy c.args.advance role (there before) ticket (given before).1 batch
+          c.in_ok-batch.parts c.seal.new.self is);
       grv_proxies = old.grv_proxies;
       opened = rw c.issue.ensures old.opened;
     }

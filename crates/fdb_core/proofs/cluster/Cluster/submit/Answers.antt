@@ -11,7 +11,7 @@ use Rattle.fdb_core.specs.machine.ClientSteps.{submits, submit_fault}
 use Rattle.fdb_core.specs.machine.Sessions.{Sessions, Idle, Waiting, open_at, with_state}
 use Rattle.fdb_core.specs.machine.Steps.{Unless, ran_out, answer_of, after}
 use Rattle.fdb_core.specs.refinement.Cluster.{machine_of}
-use Rattle.fdb_core.specs.refinement.CommitProxies.{CommitProxyRefines, ReadsWithin, seen_as}
+use Rattle.fdb_core.specs.refinement.CommitProxies.{known_to, CommitProxyRefines, ReadsWithin, seen_as}
 use Rattle.fdb_core.proofs.common.AllLemmas.{within-item}
 use Rattle.fdb_core.proofs.common.FaultLemmas.{lacks-memory, unless-map}
 use Rattle.fdb_core.proofs.common.ListLemmas.{map-at}
@@ -114,7 +114,8 @@ IsTaken c =
     (seen_as c.submit.new.self ≡ record (seen_as c.index_mut-commit_proxy.result.now) {
       waiting = c.index_mut-commit_proxy.result.now.waiting ++ c.in-ToCommit.transcript ∷ [];
     })
-    × CommitProxyRefines c.args.self.now.config c.args.self.now.book.items c.args.self.now.sequencer.committed
+    × CommitProxyRefines c.args.self.now.config c.args.self.now.book.items
+    (known_to c.args.self.now.sequencer c.args.proxy)
     c.submit.new.self
 
 submitted : (c : After-submit) → Answers c.submit.result None (λ _. IsTaken c)
@@ -125,7 +126,7 @@ submitted c =
     let before = c.requires.refines in
     let at = role-there c in
     let found = was c in
-    c.submit.ensures k.config k.book.items k.sequencer.committed (before.commit_proxies.each c.args.proxy role at)
+    c.submit.ensures k.config k.book.items (known_to k.sequencer c.args.proxy) (before.commit_proxies.each c.args.proxy role at)
     found.3
     (reads-within k before c.requires.named c.args.session c.args.proxy role at c.in-ToCommit.transcript found.0)
     (unrepeated k before c.requires.named c.args.session c.args.proxy role at c.in-ToCommit.transcript found.0)

@@ -2,6 +2,6 @@ use Rattle.fdb_core.proofs.refinement.CoreVerdicts.{decides-answers}
 use Rattle.fdb_core.proofs.roles.commit_proxy.CommitProxyRole.decide.Goals as goal
 
 pub returns-clause-decides : goal.returns-clause-decides
-returns-clause-decides c config book committed entry ok resolving_now there entries =
-    decides-answers config book committed c.args.self.now ok entry there entries resolving_now c.decide.result
+returns-clause-decides c config book known entry ok resolving_now there entries =
+    decides-answers config book known c.args.self.now ok entry there entries resolving_now c.decide.result
     c.decide.new.self c.decide.ensures.answers

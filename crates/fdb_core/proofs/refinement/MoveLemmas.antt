@@ -1,0 +1,123 @@
+-- The moves of a book, as they are handed out and learnt.
+use Rattle.std.proofs.Common.{◌≡◌, ◌≢◌, ◌∙◌, refl, sym, ap, ℕ, zero, suc, ◌+◌, ◌<◌, ◌≤◌, le_refl, List, [], ◌∷◌, ◌++◌, length, map, fold, unwrap_or, arith}
+use Rattle.std.specs.List.{AllByRecursion, slice_get, slice_set}
+use Rattle.std.proofs.lemmas.List.{append-nil, append_assoc, length-map, length-set}
+use Rattle.std.proofs.lemmas.List.Sums.{fold-append, sum_by_push}
+use Rattle.fdb_txn.specs.declared.entry.Entry.{Entry}
+use Rattle.fdb_txn.specs.declared.entry.Move.{Move}
+use Rattle.fdb_txn.specs.book.Book.{Seen, Stamped, add_entry, add_moves, nothing, seen_of}
+use Rattle.fdb_txn.proofs.book.HistoryLemmas.{all-append}
+use Rattle.fdb_sequencer.specs.declared.ticket.Ticket.{Ticket}
+use Rattle.fdb_sequencer.specs.TicketLaws.{AreRisingUpTo}
+use Rattle.fdb_sequencer.specs.Moves.{Dated, dated}
+use Rattle.fdb_sequencer.specs.Sequencer.{Sequencer, accepting, unlearnt_by}
+use Rattle.fdb_proxy.specs.CommitProxies.{moves_with}
+use Rattle.fdb_core.specs.machine.SequencerSteps.{dated_moves, moves_in}
+use Rattle.fdb_core.specs.refinement.CommitProxies.{AreUnlearnt}
+
+-- the moves of one version, after older ones
+dated-with : (version : ℕ) (moves : List Move) (older : List Stamped)
+    → moves_with (dated version moves) older ≡ add_moves version moves older
+dated-with version [] older = refl
+dated-with version (move ∷ moves) older = refl
+
+-- moves that are learnt after others
+pub moves-append : (first more : List Dated) (older : List Stamped)
+    → moves_with (first ++ more) older ≡ moves_with more (moves_with first older)
+moves-append first more older =
+    fold-append (λ (moves : List Stamped) (of : Dated). add_moves of.0 of.1 moves) older first more
+
+-- one more entry has its own moves
+pub dated_moves-push : (book : List Entry) (entry : Entry)
+    → dated_moves (book ++ entry ∷ []) ≡ dated_moves book ++ dated entry.version entry.moves
+dated_moves-push [] entry = append-nil (dated entry.version entry.moves)
+dated_moves-push (first ∷ book) entry =
+    ap (λ (moves : List Dated). dated first.version first.moves ++ moves) (dated_moves-push book entry)
+    ∙ sym (append_assoc (dated first.version first.moves) (dated_moves book) (dated entry.version entry.moves))
+
+moves-seen : (book : List Entry) (seen : Seen)
+    → moves_with (dated_moves book) seen.moves ≡ (fold add_entry seen book).moves
+moves-seen [] seen = refl
+moves-seen (entry ∷ book) seen =
+    moves-append (dated entry.version entry.moves) (dated_moves book) seen.moves
+    ∙ ap (moves_with (dated_moves book)) (dated-with entry.version entry.moves seen.moves)
+    ∙ moves-seen book (add_entry seen entry)
+
+-- who learnt all moves of a book has those that were seen of it
+pub moves-of-book : (book : List Entry) → moves_with (dated_moves book) [] ≡ (seen_of book).moves
+moves-of-book book = moves-seen book nothing
+
+-- what holds of a version's moves holds of them where there are any
+dated-all : (P : Dated → Type 0) (version : ℕ) (moves : List Move) → P (version, moves)
+    → AllByRecursion P (dated version moves)
+dated-all P version [] holds = tt
+dated-all P version (move ∷ moves) holds = (holds, tt)
+
+rising-push : (through version : ℕ) (unlearnt : List Dated) (moves : List Move) → AreRisingUpTo through unlearnt
+    → through < version → AreRisingUpTo version (unlearnt ++ dated version moves)
+rising-push through version [] [] rising later = tt
+rising-push through version [] (move ∷ moves) rising later = (le_refl version, tt, tt)
+rising-push through version (of ∷ unlearnt) moves rising later = (
+  omega (arith, rising.0, later),
+  all-append (λ (other : Dated). of.0 < other.0) unlearnt (dated version moves) rising.1
+      (dated-all (λ (other : Dated). of.0 < other.0) version moves (omega (arith, rising.0, later))),
+  rising-push through version unlearnt moves rising.2 later,
+)
+
+-- with the moves of a later version they may still be learnt
+pub unlearnt-push : (resolvers last through version : ℕ) (unlearnt : List Dated) (moves : List Move)
+    → AreUnlearnt resolvers last through unlearnt → through < version → last ≤ through
+    → AllByRecursion (λ (move : Move). move.to < resolvers) moves
+    → AreUnlearnt resolvers last version (unlearnt ++ dated version moves)
+unlearnt-push resolvers last through version unlearnt moves may later from targets = record {
+  targets = all-append (λ (of : Dated). AllByRecursion (λ (move : Move). move.to < resolvers) of.1) unlearnt
+      (dated version moves) may.targets
+      (dated-all (λ (of : Dated). AllByRecursion (λ (move : Move). move.to < resolvers) of.1) version moves targets);
+  rising = rising-push through version unlearnt moves may.rising later;
+  above = all-append (λ (of : Dated). last < of.0) unlearnt (dated version moves) may.above
+      (dated-all (λ (of : Dated). last < of.0) version moves (omega (arith, later, from)));
+}
+
+-- so many moves there are with one more entry
+pub moves_in-push : (book : List Entry) (entry : Entry)
+    → moves_in (book ++ entry ∷ []) ≡ moves_in book + length entry.moves
+moves_in-push book entry = sum_by_push (λ (of : Entry). length of.moves) book entry
+
+module _ (more : List Dated) where
+  abbrev with_more : List Dated → List Dated
+  with_more moves = moves ++ more
+
+  more-at : (lists : List (List Dated)) (i : ℕ) → i < length lists
+      → unwrap_or (slice_get (map with_more lists) i) [] ≡ unwrap_or (slice_get lists i) [] ++ more
+  more-at [] i within = absurd (omega (arith, within))
+  more-at (first ∷ lists) zero within = refl
+  more-at (first ∷ lists) (suc i) within = more-at lists i (omega (arith, within))
+
+  other-at : (lists : List (List Dated)) (own i : ℕ) → i ≢ own → i < length lists
+      → unwrap_or (slice_get (slice_set (map with_more lists) own []) i) [] ≡ unwrap_or (slice_get lists i) [] ++ more
+  other-at [] own i differs within = absurd (omega (arith, within))
+  other-at (first ∷ lists) zero zero differs within = absurd (differs refl)
+  other-at (first ∷ lists) zero (suc i) differs within = more-at lists i (omega (arith, within))
+  other-at (first ∷ lists) (suc own) zero differs within = refl
+  other-at (first ∷ lists) (suc own) (suc i) differs within =
+      other-at lists own i (λ same. differs (ap suc same)) (omega (arith, within))
+
+  own-at : (lists : List (List Dated)) (own : ℕ) → own < length lists
+      → unwrap_or (slice_get (slice_set (map with_more lists) own []) own) [] ≡ []
+  own-at [] own within = refl
+  own-at (first ∷ lists) zero within = refl
+  own-at (first ∷ lists) (suc own) within = own-at lists own (omega (arith, within))
+
+-- Once its ticket is accepted, a proxy has had all moves, and each other one lacks those that took effect with it.
+module _ (s : Sequencer) (ticket : Ticket) where
+  pub handed-own : ticket.proxy < length s.unlearnt → unlearnt_by (accepting s ticket) ticket.proxy ≡ []
+  handed-own within = own-at (dated ticket.version s.pending) s.unlearnt ticket.proxy within
+
+  pub handed-other : (proxy : ℕ) → proxy ≢ ticket.proxy → proxy < length s.unlearnt
+      → unlearnt_by (accepting s ticket) proxy ≡ unlearnt_by s proxy ++ dated ticket.version s.pending
+  handed-other proxy differs within =
+      other-at (dated ticket.version s.pending) s.unlearnt ticket.proxy proxy differs within
+
+  pub handed-count : length (accepting s ticket).unlearnt ≡ length s.unlearnt
+  handed-count = length-set (map (λ (moves : List Dated). moves ++ dated ticket.version s.pending) s.unlearnt)
+      ticket.proxy [] ∙ length-map s.unlearnt (λ (moves : List Dated). moves ++ dated ticket.version s.pending)

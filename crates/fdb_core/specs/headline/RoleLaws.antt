@@ -1,0 +1,119 @@
+-- A role whose state is that of a book, and that takes its message of one more entry, has the state of the book with
+-- that entry.
+use Rattle.std.specs.Prelude.{◌≡◌, ◌<◌, ◌≤◌, ℕ, suc, true, false, List, [], ◌∷◌, ◌++◌, length, Some, None, slice_get}
+use Rattle.std.specs.FinMap.{get}
+use Rattle.fdb_keys.specs.Points.{Point}
+use Rattle.fdb_keys.specs.Ranges.{in_range}
+use Rattle.fdb_txn.specs.declared.entry.Entry.{Entry}
+use Rattle.fdb_txn.specs.book.Book.{seen_of, last_version}
+use Rattle.fdb_txn.specs.book.History.{AreEntries}
+use Rattle.fdb_txn.specs.book.Transactions.{Transaction}
+use Rattle.fdb_txn.specs.rules.Messages.{message_for, messages_for}
+use Rattle.fdb_txn.specs.rules.SerialMap.{serial_map_at}
+use Rattle.fdb_txn.specs.rules.Splits.{piece}
+use Rattle.fdb_owners.specs.Ownership.{Ownership, HasLearnt}
+use Rattle.fdb_owners.specs.OwnersLaws.{AgreesWith}
+use Rattle.fdb_resolver.specs.declared.part.Part.{Part}
+use Rattle.fdb_resolver.specs.declared.verdict.Verdicts.{Verdicts}
+use Rattle.fdb_resolver.specs.Resolvers as resolver
+use Rattle.fdb_resolver.specs.Resolvers.{Resolver, part_fault, IsAnswer}
+use Rattle.fdb_sequencer.specs.declared.ticket.Ticket.{Ticket}
+use Rattle.fdb_sequencer.specs.Moves.{Dated}
+use Rattle.fdb_sequencer.specs.Sequencer.{Sequencer, accept_fault, accepting, unlearnt_by}
+use Rattle.fdb_log.specs.declared.message.LogMsg.{LogMsg}
+use Rattle.fdb_log.specs.declared.peek.Peek.{Peek}
+use Rattle.fdb_log.specs.Logs as logs
+use Rattle.fdb_log.specs.Logs.{Log, keeps, kept, popped_through, push_fault}
+use Rattle.fdb_log.specs.Messages.{above}
+use Rattle.fdb_storage.specs.LogMessages.{log_message}
+use Rattle.fdb_storage.specs.Shards.{Shard, value_at, apply_fault, HasApplied}
+use Rattle.fdb_proxy.specs.declared.config.Config.{Config}
+use Rattle.fdb_proxy.specs.Parting.{AreParts}
+use Rattle.fdb_proxy.specs.Verdicts.{moves_through, verdicts_on}
+use Rattle.fdb_core.specs.machine.SequencerSteps.{dated_moves}
+use Rattle.fdb_core.specs.refinement.CommitProxies.{entry_of}
+use Rattle.fdb_core.specs.refinement.Resolving.{IsResolverAt}
+
+-- A resolver isn't refused its part of the next entry, says the rule's verdicts, and has then taken the entry.
+abbrev pub ResolverGoesOn : Type 0
+ResolverGoesOn =
+    (splits : List Point) (book : List Entry) (entry : Entry) (i : ℕ) (old : Resolver) (parts : List Part) (part : Part)
+    → AreEntries (suc (length splits)) 0 (book ++ entry ∷ []) → IsResolverAt splits book i old
+    → AreParts splits (moves_through (seen_of book) entry)
+    (record { index = length book; version = entry.version; prev = entry.prev }) entry.batch parts
+    → slice_get parts i ≡ Some part
+    → (part_fault old part ≡ None)
+    × ((verdicts : Verdicts) (new : Resolver) → IsAnswer old part verdicts → resolver.HasTaken old part verdicts new
+    → (verdicts.answers ≡ verdicts_on splits i (seen_of book) entry) × IsResolverAt splits (book ++ entry ∷ []) i new)
+
+-- Owners that are those of the book's moves, and learn the next entry's, are those of the moves with these.
+abbrev pub OwnersGoOn : Type 0
+OwnersGoOn =
+    (book : List Entry) (entry : Entry) (old new : Ownership) → AgreesWith old (seen_of book).moves
+    → HasLearnt old entry.version entry.moves new → AgreesWith new (seen_of (book ++ entry ∷ [])).moves
+
+-- some moves are the last ones of others
+abbrev pub AreLastOf : List Dated → List Dated → Type 0
+AreLastOf last all = (first : List Dated) × (first ++ last ≡ all)
+
+-- The sequencer accepted the tickets of these entries: each proxy has had their moves but for some last ones.
+pub record IsSequencerAt (book : List Entry) (sequencer : Sequencer) : Type 0 where
+  pub accepted : sequencer.accepted ≡ length book
+  pub last : sequencer.last ≡ last_version book
+  pub unlearnt : (proxy : ℕ) → AreLastOf (unlearnt_by sequencer proxy) (dated_moves book)
+
+-- A sequencer that accepts a ticket has then accepted the ticket's entry, whatever its batch.
+abbrev pub SequencerGoesOn : Type 0
+SequencerGoesOn =
+    (book : List Entry) (batch : List Transaction) (old : Sequencer) (ticket : Ticket) → IsSequencerAt book old
+    → accept_fault old ticket ≡ None → IsSequencerAt (book ++ entry_of ticket batch ∷ []) (accepting old ticket)
+
+module _ (config : Config) (book : List Entry) where
+  -- log l took these entries, and keeps of each of its tags their messages above what was popped
+  pub record IsLogAt (l : ℕ) (log : Log) : Type 0 where
+    pub number : log.log ≡ l
+    pub logs : log.logs ≡ config.logs
+    pub tags : log.tags ≡ suc (length config.shard_splits)
+    pub works : log.is_failed ≡ false
+    pub last : log.last ≡ last_version book
+    pub kept : (tag : ℕ) → keeps log tag ≡ true
+        → kept log tag ≡ above (popped_through log tag)
+        (messages_for config.resolver_splits (piece config.shard_splits tag) book)
+
+  -- shard s applied these entries, and answers from their run
+  pub record IsShardAt (s : ℕ) (shard : Shard) : Type 0 where
+    pub tag : shard.tag ≡ s
+    pub range : shard.range ≡ piece config.shard_splits s
+    pub works : shard.is_failed ≡ false
+    pub version : shard.version ≡ last_version book
+    pub serving : shard.floor ≤ shard.version
+    pub serves : (v : ℕ) (x : Point) → shard.floor ≤ v → v ≤ shard.version
+        → in_range (piece config.shard_splits s) x ≡ true
+        → value_at shard v x ≡ get (serial_map_at config.resolver_splits v (seen_of book).places) x
+
+-- A log of which each own tag was popped through less than the next entry's version isn't refused its message of the
+-- entry, and has taken the entry with it.
+abbrev pub LogGoesOn : Type 0
+LogGoesOn =
+    (config : Config) (book : List Entry) (entry : Entry) (l : ℕ) (old : Log) (message : LogMsg)
+    → AreEntries (suc (length config.resolver_splits)) 0 (book ++ entry ∷ []) → IsLogAt config book l old
+    → ((tag : ℕ) → keeps old tag ≡ true → popped_through old tag < entry.version)
+    → message
+    ≡ log_message config.resolver_splits config.shard_splits config.logs l (length book) (seen_of book) entry
+    → (push_fault old message ≡ None)
+    × ((new : Log) → logs.HasTaken old message new → IsLogAt config (book ++ entry ∷ []) l new)
+
+-- A shard isn't refused a peek of its tag from its version with the message of the next entry alone, and has applied
+-- the entry with it.
+abbrev pub ShardGoesOn : Type 0
+ShardGoesOn =
+    (config : Config) (book : List Entry) (entry : Entry) (s : ℕ) (old : Shard) (peek : Peek)
+    → AreEntries (suc (length config.resolver_splits)) 0 (book ++ entry ∷ []) → IsShardAt config book s old
+    → peek ≡ record {
+      tag = s;
+      after = old.version;
+      through = entry.version;
+      messages = message_for config.resolver_splits (piece config.shard_splits s) (seen_of book) entry ∷ [];
+    }
+    → (apply_fault old peek ≡ None)
+    × ((new : Shard) → HasApplied old peek new → IsShardAt config (book ++ entry ∷ []) s new)

@@ -1,0 +1,207 @@
+// The run of the book's committed transactions, one at a time.
+ghost use Rattle.std.specs.Prelude.{◌≡◌, ◌<◌, ◌≤◌, suc, List, [], length, take, None, Some, slice_get, IfOk, IfErr, OnOk, if◌then◌else◌};
+ghost use Rattle.fdb_keys.specs.Answers.{Answers};
+ghost use Rattle.fdb_keys.specs.Points.{Point};
+ghost use Rattle.fdb_mutations.specs.Maps.{Map};
+ghost use Rattle.fdb_mutations.specs.Mutations.{effects};
+ghost use Rattle.fdb_txn.specs.declared.entry.Entry.{Entry};
+ghost use Rattle.fdb_txn.specs.book.Book.{seen_before};
+ghost use Rattle.fdb_txn.specs.book.History.{AreEntries};
+ghost use Rattle.fdb_proxy.specs.Logging.{is_commit};
+ghost use Rattle.fdb_proxy.specs.declared.outcome.Outcome.{Outcome};
+ghost use Rattle.fdb_core.specs.check.Judging.{IsJudgeAt};
+ghost use Rattle.fdb_core.specs.check.Running.{map_after, batch_of, outcomes_of, IsRunAt, IsNotPast, HasComeTo};
+
+use crate::check::judge::Judge;
+use crate::world::CheckFault;
+use fdb_keys::{Items, Key, Refusal};
+use fdb_mutations::{Mutation, PlainMap};
+use fdb_proxy::Outcome;
+use fdb_txn::{Entry, Sealed};
+use std::alloc::Global;
+
+/// How far the run is.
+#[derive(Drop)]
+pub(crate) struct Run {
+    alloc: Global,
+    judge: Judge,
+    /// The map after the places that were run.
+    pub(crate) map: PlainMap,
+    // How many entries were run whole, and how many places of the next one.
+    entry: usize,
+    place: usize,
+    // What becomes of the places of that one.
+    pub(crate) outcomes: Items<Outcome>,
+}
+
+// What becomes of the places of an entry, if there is one with the number, after those before it.
+fn judged(
+    alloc: Global,
+    judge: &mut Judge,
+    book: &[Entry],
+    index: usize,
+) -> Result<Items<Outcome>, CheckFault>
+    ensures ok { (splits : List Point) → AreEntries (suc (length splits)) 0 book.now
+        → IsJudgeAt splits (take index book.now) judge.old
+        → IfOk result (λ outcomes.
+        (outcomes ≡ outcomes_of splits (seen_before book.now index) (slice_get book.now index))
+        × IsJudgeAt splits (take (suc index) book.now) judge.new) }
+    ensures err { IfErr result (λ fault. fault ≡ CheckFault.NoMemory) }
+{
+    let Some(entry) = book.get(index) else {
+        return Ok(Items::new(alloc));
+    };
+    match judge.take(entry) {
+        Ok(outcomes) => Ok(outcomes),
+        Err(_) => Err(CheckFault::NoMemory),
+    }
+}
+
+/// The run before the first entry. It fails where memory runs out, and where these are no splits into at most 64 pieces,
+/// as those of a legal configuration are.
+pub(crate) fn new_run(alloc: Global, splits: &[Key], book: &[Entry]) -> Result<Run, CheckFault>
+    ensures ok { AreEntries (suc (length splits.now)) 0 book.now
+        → IfOk result (λ run. HasComeTo splits.now book.now 0 0 run) }
+    ensures err { IfErr result (λ fault. fault ≡ CheckFault.NoMemory) }
+{
+    let Ok(mut judge) = Judge::new(alloc, splits) else {
+        return Err(CheckFault::NoMemory);
+    };
+    let outcomes = judged(alloc, &mut judge, book, 0)?;
+    Ok(Run {
+        alloc,
+        judge,
+        map: PlainMap::new(alloc),
+        entry: 0,
+        place: 0,
+        outcomes,
+    })
+}
+
+/// Whether the place commits.
+pub(crate) fn commits(outcomes: &[Outcome], place: usize) -> bool
+    ensures { (outcome : Outcome) → slice_get outcomes.now place ≡ Some outcome → result ≡ is_commit outcome }
+{
+    matches!(outcomes.get(place), Some(Outcome::Commit { .. }))
+}
+
+// Applies the mutations to the map, the first one first.
+fn apply(map: &mut PlainMap, mutations: &[Mutation]) -> Result<(), Refusal>
+    ensures { Answers result None (λ _. map.new ≡ effects map.old mutations.now) }
+{
+    for mutation in mutations {
+        map.apply(mutation)?;
+    }
+    Ok(())
+}
+
+// Runs the transaction if it commits.
+fn run_place(map: &mut PlainMap, txn: &Sealed, commits: bool) -> Result<(), CheckFault>
+    ensures ok { OnOk result (map.new ≡ effects map.old (if commits then txn.now.mutations else [])) }
+    ensures err { IfErr result (λ fault. fault ≡ CheckFault.NoMemory) }
+{
+    if !commits {
+        return Ok(());
+    }
+    match apply(map, txn.mutations()) {
+        Ok(()) => Ok(()),
+        Err(_) => Err(CheckFault::NoMemory),
+    }
+}
+
+// Runs the places of the batch from one on up to another.
+fn run_places(
+    map: &mut PlainMap,
+    batch: &[Sealed],
+    outcomes: &[Outcome],
+    from: usize,
+    until: usize,
+) -> Result<(), CheckFault>
+    requires { until ≤ length batch.now }
+    ensures ok { (base : Map) → length batch.now ≡ length outcomes.now → from ≤ until
+        → map.old ≡ map_after base batch.now outcomes.now from
+        → OnOk result (map.new ≡ map_after base batch.now outcomes.now until) }
+    ensures err { IfErr result (λ fault. fault ≡ CheckFault.NoMemory) }
+{
+    for place in from..until {
+        run_place(map, &batch[place], commits(outcomes, place))?;
+    }
+    Ok(())
+}
+
+/// Runs what is left of the entry, and judges the next one.
+pub(crate) fn run_entry(run: &mut Run, book: &[Entry]) -> Result<(), CheckFault>
+    ensures ok { (splits : List Point) → AreEntries (suc (length splits)) 0 book.now → IsRunAt splits book.now run.old
+        → run.old.entry < length book.now
+        → OnOk result (HasComeTo splits book.now (suc run.old.entry) 0 run.new) }
+    ensures err { IfErr result (λ fault. fault ≡ CheckFault.NoMemory) }
+{
+    let Some(entry) = book.get(run.entry) else {
+        return Ok(());
+    };
+    let batch = entry.batch.as_slice();
+    run_places(
+        &mut run.map,
+        batch,
+        run.outcomes.as_slice(),
+        run.place,
+        batch.len(),
+    )?;
+    run.entry += 1;
+    run.place = 0;
+    run.outcomes = judged(run.alloc, &mut run.judge, book, run.entry)?;
+    Ok(())
+}
+
+// Runs the entries before one.
+fn run_entries(run: &mut Run, book: &[Entry], until: usize) -> Result<(), CheckFault>
+    ensures ok { (splits : List Point) → AreEntries (suc (length splits)) 0 book.now → IsRunAt splits book.now run.old
+        → until ≤ length book.now → run.old.entry ≤ until
+        → OnOk result (IsRunAt splits book.now run.new × (run.new.entry ≡ until)
+        × ((run.old.entry < until → run.new.place ≡ 0) × (run.old.entry ≡ until → run.new.place ≡ run.old.place))) }
+    ensures err { IfErr result (λ fault. fault ≡ CheckFault.NoMemory) }
+{
+    for _ in run.entry..until {
+        run_entry(run, book)?;
+    }
+    Ok(())
+}
+
+// Goes on within the entry, to one of its places or to its end.
+fn go_within(run: &mut Run, batch: &[Sealed], place: usize) -> Result<(), CheckFault>
+    requires { place ≤ length batch.now }
+    ensures ok { (splits : List Point) (book : List Entry) → IsRunAt splits book run.old
+        → batch.now ≡ batch_of (slice_get book run.old.entry) → run.old.place ≤ place
+        → OnOk result (HasComeTo splits book run.old.entry place run.new) }
+    ensures err { IfErr result (λ fault. fault ≡ CheckFault.NoMemory) }
+{
+    run_places(
+        &mut run.map,
+        batch,
+        run.outcomes.as_slice(),
+        run.place,
+        place,
+    )?;
+    run.place = place;
+    Ok(())
+}
+
+/// Goes on to the place of the entry. Where there is no such entry, the place is the first one.
+pub(crate) fn go_to(
+    run: &mut Run,
+    book: &[Entry],
+    entry: usize,
+    place: usize,
+) -> Result<(), CheckFault>
+    requires { place ≤ length (batch_of (slice_get book.now entry)) }
+    ensures ok { (splits : List Point) → AreEntries (suc (length splits)) 0 book.now → IsRunAt splits book.now run.old
+        → entry ≤ length book.now → IsNotPast run.old entry place
+        → OnOk result (HasComeTo splits book.now entry place run.new) }
+    ensures err { IfErr result (λ fault. fault ≡ CheckFault.NoMemory) }
+{
+    run_entries(run, book, entry)?;
+    match book.get(entry) {
+        Some(next) => go_within(run, next.batch.as_slice(), place),
+        None => Ok(()),
+    }
+}
