@@ -1,2 +1,3 @@
+pub mod RoomLemmas
 pub mod book
 pub mod rules

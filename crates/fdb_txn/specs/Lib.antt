@@ -1,5 +1,6 @@
 pub mod Equality
 pub mod Limits
+pub mod Room
 pub mod book
 pub mod laws
 pub mod rules

@@ -4,6 +4,7 @@ ghost use Rattle.fdb_mutations.specs.Mutations.{mutation_fault};
 
 use crate::batch::{Batch, PLACE_LIMIT};
 use crate::entry::{Entry, Move};
+use crate::room::Room;
 use crate::sealed::Sealed;
 use crate::splits::Splits;
 use crate::spot::Spot;
@@ -302,4 +303,23 @@ fn splits_part_the_keys(rt: HostRuntime) -> Result<(), Fail> {
     assert_eq!(rt; goes(rt.alloc(), &splits, 2, b"m", &[0xff]), Some(true));
     assert_eq!(rt; goes(rt.alloc(), &splits, 3, b"m", &[0xff]), None);
     Ok(())
+}
+
+// The code of the refusal of the item and the item that is handed back, or nothing where it waits.
+fn refused_item(room: &mut Room<u32>, prev: u64, item: u32) -> Option<(u32, u32)> {
+    match room.put(prev, item) {
+        Ok(()) => None,
+        Err(refused) => Some((refused.why.code(), refused.back)),
+    }
+}
+
+#[test]
+fn items_wait_for_the_one_before(rt: HostRuntime) {
+    let mut room = Room::new(rt.alloc());
+    assert_eq!(rt; refused_item(&mut room, 100, 1), None);
+    assert_eq!(rt; refused_item(&mut room, 0, 2), None);
+    assert_eq!(rt; refused_item(&mut room, 0, 3), Some((9003, 3)));
+    assert_eq!(rt; room.ready(0), Some(2));
+    assert_eq!(rt; room.ready(0), None);
+    assert_eq!(rt; room.ready(100), Some(1));
 }
