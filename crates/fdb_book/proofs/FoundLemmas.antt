@@ -1,0 +1,109 @@
+-- What an append that finds another entry answers.
+use Rattle.std.proofs.Common.{◌≡◌, ◌≢◌, ◌∙◌, sym, refl, ap, subst, ◌⊎◌, ℕ, Bool, true, false, List, [], ◌∷◌, ◌++◌, map, length, ◌==◌, Option, Some, None, Ok, Err, if◌then◌else◌, rules}
+use mathlib.Core.Logic.{inl, inr}
+use Rattle.std.specs.Bool.{Decides}
+use Rattle.std.specs.Option.{MatchOption}
+use Rattle.std.specs.declared.alloc.Global.{Global}
+use Rattle.once_cell.specs.Once.{cell_name}
+use Rattle.fdb_keys.specs.Answers.{Answers}
+use Rattle.fdb_keys.specs.declared.refusal.Refusal.{Refusal}
+use Rattle.fdb_keys.specs.declared.refusal.Refusal.TheVariants.{Chain, NoMemory, Taken}
+use Rattle.fdb_txn.specs.declared.entry.Entry.{Entry}
+use Rattle.fdb_txn.specs.book.Book.{last_version}
+use Rattle.fdb_book.specs.declared.fact.Fact.{Fact}
+use Rattle.fdb_book.specs.Fronts.{IsLinkedBook, IsFront, AreOfFirst, shown}
+use Rattle.fdb_book.specs.Names.{Latest, Covers, repeated_place}
+use Rattle.fdb_book.proofs.AppendLemmas.{append-book}
+use Rattle.fdb_book.specs.Appending.{goes_on, names_fault, append_fault, with_found, Appends}
+
+-- what is decided not to hold doesn't
+pub decided-false : {P : Type 0} {test : Bool} → test ≡ false → Decides test P → P → ⊥
+decided-false is_false decides holds = search (rules, sym is_false ∙ decides.1 holds)
+
+names-memory : (repeated : Option ℕ) (is_full : Bool) → names_fault repeated is_full ≡ Some NoMemory → ⊥
+names-memory (Some place) is_full same = search rules
+names-memory None true same = search rules
+names-memory None false same = search rules
+
+goes-memory : (goes : Bool) (repeated : Option ℕ) (is_full : Bool)
+    → (if goes then names_fault repeated is_full else Some Chain) ≡ Some NoMemory → ⊥
+goes-memory true repeated is_full same = names-memory repeated is_full same
+goes-memory false repeated is_full same = search rules
+
+-- no fault of an entry is want of memory
+fault-memory : (capacity : ℕ) (book : List Entry) (entry : Entry) → append_fault capacity book entry ≡ Some NoMemory
+    → ⊥
+fault-memory capacity book entry same =
+    goes-memory (goes_on (last_version book) entry) (repeated_place book entry.batch) (length book == capacity) same
+
+-- the found entry may stand in its cell
+pub found-handed : (capacity : ℕ) (book longer : List Entry) (entry found : Entry)
+    → append_fault capacity book entry ≡ None → found ≢ entry → append_fault capacity book found ≡ None
+    → longer ≡ book ++ found ∷ [] → Appends capacity book entry (Err (record { why = Taken; back = Some longer }))
+found-handed capacity book longer entry found fits other may more =
+    rw fits (inr (refl, (found, other, rw (may, more) refl)))
+
+-- it may not, or memory ran out before it was known
+abbrev Refuses : ℕ → List Entry → Entry → Refusal → Type 0
+Refuses capacity book entry told =
+    ((told ≡ NoMemory) × (nothing ≡ nothing))
+    ⊎ ((told ≡ Taken) × ((found : Entry) × (found ≢ entry) × (nothing ≡ with_found capacity book found)))
+  where
+    nothing : Option (List Entry)
+    nothing = None
+
+pub found-refused : {T : Type 0} (capacity : ℕ) (book : List Entry) (entry found : Entry) (why told : Refusal)
+    (P : T → Type 0) → append_fault capacity book entry ≡ None → found ≢ entry
+    → Answers (Err why) (append_fault capacity book found) P → (why ≡ NoMemory → told ≡ NoMemory)
+    → (why ≢ NoMemory → told ≡ Taken) → Appends capacity book entry (Err (record { why = told; back = None }))
+found-refused {T = T} capacity book entry found why told P fits other answers memory taken =
+    rw fits (by-fault (append_fault capacity book found) refl answers)
+  where
+    by-fault : (fault : Option Refusal) → append_fault capacity book found ≡ fault → Answers {T = T} (Err why) fault P
+        → Refuses capacity book entry told
+    by-fault None is answers = inl (memory answers, refl)
+    by-fault (Some fault) is answers =
+        inr (
+          taken (λ same. fault-memory capacity book found (is ∙ ap Some (sym answers ∙ same))),
+          (found, other, rw is refl),
+        )
+
+pub match-none : {X : Type 0} (P : Type 0) (Q : X → Type 0) (given : Option X) → given ≡ None → MatchOption given P Q
+    → P
+match-none P Q given is holds = subst (λ (it : Option _). MatchOption it P Q) is holds
+
+pub match-some : {X : Type 0} (P : Type 0) (Q : X → Type 0) (given : Option X) (x : X) → given ≡ Some x
+    → MatchOption given P Q → Q x
+match-some P Q given x is holds = subst (λ (it : Option _). MatchOption it P Q) is holds
+
+-- a front with the next fact, whose entry may stand there
+pub front-next : (names : List ℕ) (cells : List (Global × ℕ)) (next : List (Fact Entry)) (latest : Latest)
+    (capacity : ℕ) (book : List Entry) (entry : Entry) → map cell_name cells ≡ names
+    → AreOfFirst (map cell_name cells) next → shown next ≡ book ++ entry ∷ [] → IsLinkedBook book
+    → append_fault capacity book entry ≡ None → Covers latest (book ++ entry ∷ [])
+    → IsFront names (map cell_name cells) next latest
+front-next names cells next latest capacity book entry same first more linked fits covered = record {
+  same = same;
+  first = first;
+  book = rw more (append-book capacity book entry linked fits);
+  covered = rw more covered;
+}
+
+-- what the facts show, read with what the parts are
+pub shown-more : (next facts inside : List (Fact Entry)) (book : List Entry) (boxed entry : Entry)
+    → shown next ≡ shown facts ++ boxed ∷ [] → facts ≡ inside → shown inside ≡ book → boxed ≡ entry
+    → shown next ≡ book ++ entry ∷ []
+shown-more next facts inside book boxed entry more are view is =
+    more ∙ ap (λ (them : List (Fact Entry)). shown them ++ boxed ∷ []) are
+    ∙ ap (λ (them : List Entry). them ++ boxed ∷ []) view ∙ ap (λ (it : Entry). book ++ it ∷ []) is
+
+-- what a call gives says that there is no fault, and what it gives
+pub given-fits : {T : Type 0} (given : T) (fault : Option Refusal) (P : T → Type 0) → Answers (Ok given) fault P
+    → fault ≡ None
+given-fits given None P answers = refl
+given-fits given (Some fault) P answers = absurd answers
+
+pub given-has : {T : Type 0} (given : T) (fault : Option Refusal) (P : T → Type 0) → Answers (Ok given) fault P
+    → P given
+given-has given None P answers = answers
+given-has given (Some fault) P answers = absurd answers

@@ -1,0 +1,49 @@
+-- When an entry may be appended, and what an append answers.
+use Rattle.std.specs.Prelude.{◌≡◌, ◌≢◌, ◌++◌, ◌⊎◌, ℕ, Bool, ◌&&◌, ◌==◌, nat_lt, List, [], ◌∷◌, length, Option, Some, None, Result, Ok, Err, if◌then◌else◌}
+use Rattle.std.specs.List.{list_all}
+use Rattle.fdb_keys.specs.declared.refusal.Refusal.{Refusal}
+use Rattle.fdb_keys.specs.declared.refusal.Refusal.TheVariants.{Chain, Repeated, BookFull, NoMemory, Taken}
+use Rattle.fdb_keys.specs.declared.refusal.Refused.{Refused}
+use Rattle.fdb_txn.specs.declared.entry.Entry.{Entry}
+use Rattle.fdb_txn.specs.book.Transactions.{Transaction}
+use Rattle.fdb_txn.specs.book.Book.{last_version}
+use Rattle.fdb_book.specs.Names.{repeated_place}
+
+-- the entry goes on from the version: it is the previous one, and the entry's is greater, and above each read version
+abbrev pub goes_on : ℕ → Entry → Bool
+goes_on last entry =
+    (entry.prev == last) && (nat_lt last entry.version
+    && list_all (λ (t : Transaction). nat_lt t.read entry.version) entry.batch)
+
+-- why no transaction may stand there: a name is repeated, or else there is no cell left
+abbrev pub names_fault : Option ℕ → Bool → Option Refusal
+names_fault (Some place) is_full = Some (Repeated place)
+names_fault None is_full = if is_full then Some BookFull else None
+
+-- why the entry may not be appended to the book of as many cells
+abbrev pub append_fault : ℕ → List Entry → Entry → Option Refusal
+append_fault capacity book entry =
+    if goes_on (last_version book) entry then names_fault (repeated_place book entry.batch) (length book == capacity)
+    else Some Chain
+
+-- the book with another entry that was found, where that one may be appended
+abbrev pub with_found : ℕ → List Entry → Entry → Option (List Entry)
+with_found capacity book found = with_unless (append_fault capacity book found)
+  where
+    with_unless : Option Refusal → Option (List Entry)
+    with_unless None = Some (book ++ found ∷ [])
+    with_unless (Some fault) = None
+
+-- The append is refused with its fault where there is one. Else it gives the book with the entry; or it lacked
+-- memory; or another entry was found in the entry's cell, and the book with that one is handed out.
+abbrev pub Appends : ℕ → List Entry → Entry → Result (List Entry) (Refused (Option (List Entry))) → Type 0
+Appends capacity book entry (Ok longer) =
+    (append_fault capacity book entry ≡ None) × (longer ≡ book ++ entry ∷ [])
+Appends capacity book entry (Err refused) = refuses (append_fault capacity book entry)
+  where
+    refuses : Option Refusal → Type 0
+    refuses (Some fault) = (refused.why ≡ fault) × (refused.back ≡ None)
+    refuses None =
+        ((refused.why ≡ NoMemory) × (refused.back ≡ None))
+        ⊎ ((refused.why ≡ Taken)
+        × ((found : Entry) × (found ≢ entry) × (refused.back ≡ with_found capacity book found)))

@@ -1,0 +1,45 @@
+-- What a front of a book is.
+use Rattle.std.specs.Prelude.{◌≡◌, ◌≤◌, ◌++◌, ◌==◌, ◌||◌, ℕ, nat_lt, List, map, take, length, Option, Some, None, if◌then◌else◌}
+use Rattle.std.specs.List.{AllByRecursion}
+use Rattle.fdb_keys.specs.declared.refusal.Refusal.{Refusal}
+use Rattle.fdb_keys.specs.declared.refusal.Refusal.TheVariants.{BadConfig}
+use Rattle.fdb_txn.specs.declared.entry.Entry.{Entry}
+use Rattle.fdb_txn.specs.book.History.{AreLinked, ReadsBelow}
+use Rattle.fdb_txn.specs.book.Once.{NoIdTwice}
+use Rattle.fdb_book.specs.declared.fact.Fact.{Fact}
+use Rattle.fdb_book.specs.Names.{Latest, Covers}
+
+-- A book, wherever its moves go: versions rise from 0, and each previous one is that of the entry before, 0 for the
+-- first; each transaction read below its entry's version; and no name is that of two places.
+pub record IsLinkedBook (book : List Entry) : Type 0 where
+  pub linked : AreLinked 0 book
+  pub reads : AllByRecursion ReadsBelow book
+  pub names : NoIdTwice book
+
+-- the longer list begins with the shorter one
+abbrev pub IsPrefix : List Entry → List Entry → Type 0
+IsPrefix shorter longer = (rest : List Entry) × (longer ≡ shorter ++ rest)
+
+-- the entries that the facts show
+abbrev pub shown : List (Fact Entry) → List Entry
+shown facts = map (λ (fact : Fact Entry). fact.value) facts
+
+-- the facts are of the first of these cells, one for each
+pub record AreOfFirst (cells : List ℕ) (facts : List (Fact Entry)) : Type 0 where
+  pub within : length facts ≤ length cells
+  pub first : map (λ (fact : Fact Entry). fact.cell) facts ≡ take (length facts) cells
+
+-- the most entries that a book has room for
+abbrev pub capacity_limit : ℕ
+capacity_limit = 1048576
+
+-- why there is no book with room for as many entries
+abbrev pub capacity_fault : ℕ → Option Refusal
+capacity_fault capacity = if (capacity == 0) || nat_lt capacity_limit capacity then Some BadConfig else None
+
+-- the facts are of the first of the book's cells, what they show is a book, and its names are covered
+pub record IsFront (names cells : List ℕ) (facts : List (Fact Entry)) (latest : Latest) : Type 0 where
+  pub same : cells ≡ names
+  pub first : AreOfFirst cells facts
+  pub book : IsLinkedBook (shown facts)
+  pub covered : Covers latest (shown facts)

@@ -1,0 +1,4 @@
+pub mod Appending
+pub mod Fronts
+pub mod Laws
+pub mod Names

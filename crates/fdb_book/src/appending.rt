@@ -1,0 +1,207 @@
+ghost use Rattle.std.specs.Prelude.{◌≡◌, ◌≢◌, ◌<◌, ◌++◌, [], ◌∷◌, nat_lt, map, length, None, IfOk};
+ghost use Rattle.std.specs.Arc.{arc_value};
+ghost use Rattle.std.specs.Option.{MatchOption};
+ghost use Rattle.std.specs.List.{list_all};
+ghost use Rattle.std.specs.Vec.{vec_len, vec_capacity};
+ghost use Rattle.once_cell.specs.Once.{cell_name};
+ghost use Rattle.fdb_keys.specs.Answers.{Answers};
+ghost use Rattle.fdb_keys.specs.declared.refusal.Refusal.TheVariants.{NoMemory, Taken};
+ghost use Rattle.fdb_book.specs.Appending.{goes_on, append_fault, Appends};
+ghost use Rattle.fdb_book.specs.Fronts.{AreOfFirst, shown};
+ghost use Rattle.fdb_book.specs.Names.{Covers};
+
+use crate::book::Book;
+use crate::entries::{first_facts, last_version, repeated_place};
+use crate::fact::{Fact, fill};
+use crate::front::Front;
+use crate::latest::with_names;
+use crate::name::BookName;
+use fdb_keys::{Refusal, Refused};
+use fdb_txn::{Entry, Sealed};
+use once_cell::race::OnceBox;
+use std::alloc::{AllocError, Global};
+use std::collections::BTreeMap;
+use std::marker::PhantomData;
+use std::sync::Arc;
+
+/// Appends an entry to the book behind the front, and gives the front one entry longer. Refused, in this order,
+///
+/// - as `Chain` where the entry's previous version isn't the front's, or its version isn't above that or above each of
+///   its read versions;
+/// - as `Repeated`, with the first such place, where the name of one of its transactions stands in the front or before it
+///   in the batch;
+/// - as `BookFull` where the front has an entry in each cell;
+/// - as `NoMemory` where memory runs out;
+/// - as `Taken` where another entry stands in the cell. Then the front one longer by that entry is handed out wherever that
+///   entry could be appended, which no clause can say of it, since it may be of a front that this one doesn't know.
+///
+/// An equal entry that stands in the cell is as good as the given one. Where a call is refused the book is as it was.
+pub fn append<B: BookName>(
+    alloc: Global,
+    book: &Book<B>,
+    front: &Front<B>,
+    entry: Entry,
+) -> Result<Front<B>, Refused<Option<Front<B>>>>
+    ensures { Appends (length B.cells) front.now entry result }
+{
+    let _ = &book.cells;
+    match front.prepare(alloc, &entry) {
+        Ok(latest) => front.set_next(alloc, entry, latest),
+        Err(why) => Err(Refused { why, back: None }),
+    }
+}
+
+impl<B: BookName> Front<B> {
+    // Answers why the entry may not be appended. Where it may, gives the greatest number of each session with those of
+    // the entry.
+    fn prepare(&self, alloc: Global, entry: &Entry) -> Result<Arc<BTreeMap<u32, u64>>, Refusal>
+        ensures { Answers result (append_fault (length B.cells) self.now entry.now)
+            (λ latest. Covers (arc_value latest) (self.now ++ entry.now ∷ [])) }
+    {
+        if !goes_on(last_version(&self.cells, &self.facts), entry) {
+            return Err(Refusal::Chain);
+        }
+        let batch = entry.batch.as_slice();
+        let taken = with_names(&self.latest, batch);
+        if !matches!(&taken, Ok((_, true))) {
+            if let Some(place) = repeated_place(&self.cells, &self.facts, batch) {
+                return Err(Refusal::Repeated(place));
+            }
+        }
+        if self.facts.len() == self.cells.len() {
+            return Err(Refusal::BookFull);
+        }
+        Ok(Arc::new(alloc, taken?.0)?)
+    }
+
+    // Sets the next cell to the entry, which may be appended, or finds what it holds.
+    fn set_next(
+        &self,
+        alloc: Global,
+        entry: Entry,
+        latest: Arc<BTreeMap<u32, u64>>,
+    ) -> Result<Self, Refused<Option<Self>>>
+        requires fits { append_fault (length B.cells) self.now entry ≡ None }
+        requires names { Covers (arc_value latest) (self.now ++ entry ∷ []) }
+        ensures { Appends (length B.cells) self.now entry result }
+    {
+        // All that may be refused comes before the cell is set.
+        let Ok((cells, facts, entry)) = make_room(alloc, &self.cells, &self.facts, entry) else {
+            return Err(Refused {
+                why: Refusal::NoMemory,
+                back: None,
+            });
+        };
+        let (facts, other) = fill_next(&cells, facts, entry);
+        let Some(other) = other else {
+            return Ok(Front {
+                cells,
+                facts,
+                latest,
+                name: PhantomData,
+            });
+        };
+        match self.prepare(alloc, other) {
+            Ok(latest) => Err(Refused {
+                why: Refusal::Taken,
+                back: Some(Front {
+                    cells,
+                    facts,
+                    latest,
+                    name: PhantomData,
+                }),
+            }),
+            Err(why) => Err(Refused {
+                why: why_taken(why),
+                back: None,
+            }),
+        }
+    }
+}
+
+// Why the entry that stands in its place isn't handed out: for want of memory, or because it may not be appended.
+fn why_taken(why: Refusal) -> Refusal
+    ensures memory { why ≡ NoMemory → result ≡ NoMemory }
+    ensures taken { why ≢ NoMemory → result ≡ Taken }
+{
+    match why {
+        Refusal::NoMemory => why,
+        _ => Refusal::Taken,
+    }
+}
+
+// Whether the entry goes on from the version.
+fn goes_on(last: u64, entry: &Entry) -> bool
+    ensures { result ≡ goes_on last entry.now }
+{
+    entry.prev == last && last < entry.version && reads_below(entry.batch.as_slice(), entry.version)
+}
+
+// Whether each of the transactions read below the version.
+fn reads_below(batch: &[Sealed], version: u64) -> bool
+    ensures { result ≡ list_all (λ t. nat_lt t.read version) batch.now }
+{
+    for sealed in batch {
+        if sealed.read_version() >= version {
+            return false;
+        }
+    }
+    true
+}
+
+// A share of the cells, the facts once more with room for one more, and the entry in a box.
+fn make_room(
+    alloc: Global,
+    cells: &Arc<Vec<OnceBox<Entry>>>,
+    facts: &Vec<Fact<Entry>>,
+    entry: Entry,
+) -> Result<(Arc<Vec<OnceBox<Entry>>>, Vec<Fact<Entry>>, Box<Entry>), AllocError>
+    requires { AreOfFirst (map cell_name (arc_value cells.now).items) facts.now.items }
+    ensures cells { IfOk result (λ made. arc_value made.0 ≡ arc_value cells.now) }
+    ensures facts { IfOk result (λ made. (made.1.items ≡ facts.now.items) × (vec_len made.1 < vec_capacity made.1)) }
+    ensures entry { IfOk result (λ made. made.2.value ≡ entry) }
+{
+    let shared = Arc::try_clone(cells)?;
+    let facts = first_facts(alloc, cells, facts, facts.len())?;
+    Ok((shared, facts, Box::new(alloc, entry)?))
+}
+
+// Fills the next cell, or reads what it holds. Gives the facts, one more now, and the entry that was found there where it
+// isn't equal to the given one.
+fn fill_next<'a>(
+    cells: &'a Vec<OnceBox<Entry>>,
+    mut facts: Vec<Fact<Entry>>,
+    entry: Box<Entry>,
+) -> (Vec<Fact<Entry>>, Option<&'a Entry>)
+    requires facts { AreOfFirst (map cell_name cells.now.items) facts.items }
+    requires within { length facts.items < length cells.now.items }
+    requires room { vec_len facts < vec_capacity facts }
+    ensures facts { AreOfFirst (map cell_name cells.now.items) result.0.items }
+    ensures entry { MatchOption result.1 (shown result.0.items ≡ shown facts.items ++ entry.value ∷ [])
+        (λ other. (shown result.0.items ≡ shown facts.items ++ other.now ∷ []) × (other.now ≢ entry.value)) }
+{
+    let (fact, other) = fill_or_read(&cells[facts.len()], entry);
+    match facts.push(fact) {
+        Ok(()) => (facts, other),
+        Err(_full) => unreachable!(),
+    }
+}
+
+// Sets the cell, or reads what it holds. Gives what was found there where it isn't equal to the given entry.
+fn fill_or_read<'a>(cell: &'a OnceBox<Entry>, entry: Box<Entry>) -> (Fact<Entry>, Option<&'a Entry>)
+    ensures cell { result.0.cell ≡ cell_name cell.now }
+    ensures entry { MatchOption result.1 (result.0.value ≡ entry.value)
+        (λ other. (result.0.value ≡ other.now) × (other.now ≢ entry.value)) }
+{
+    match fill(cell, entry) {
+        Ok(fact) => (fact, None),
+        Err((entry, fact)) => {
+            let found = fact.value(cell);
+            if *found == *entry {
+                (fact, None)
+            } else {
+                (fact, Some(found))
+            }
+        }
+    }
+}

@@ -1,0 +1,30 @@
+// The greatest number known of each session, which tells of most names at once that they are new.
+ghost use Rattle.std.specs.Prelude.{◌≡◌, true, IfOk};
+ghost use Rattle.fdb_book.specs.Names.{AreNew, AreTaken};
+
+use fdb_txn::Sealed;
+use std::alloc::AllocError;
+use std::collections::BTreeMap;
+
+// Takes the names of a batch, in the order of their places, into a copy. Says with it whether each was later than all
+// that were known of its session; where one wasn't, it may be new all the same.
+pub(crate) fn with_names(
+    latest: &BTreeMap<u32, u64>,
+    batch: &[Sealed],
+) -> Result<(BTreeMap<u32, u64>, bool), AllocError>
+    ensures taken { IfOk result (λ taken. AreTaken latest.now batch.now taken.0) }
+    ensures new { IfOk result (λ taken. taken.1 ≡ true → AreNew latest.now batch.now) }
+{
+    let mut taken = latest.clone()?;
+    let mut are_new = true;
+    for sealed in batch {
+        let id = sealed.id();
+        match taken.get(&id.session) {
+            Some(known) if id.number <= *known => are_new = false,
+            _ => {
+                taken.insert(id.session, id.number)?;
+            }
+        }
+    }
+    Ok((taken, are_new))
+}

@@ -1,0 +1,23 @@
+//! The book of set-once cells: entries that were appended once stand for good, and whoever shares a book has seen its
+//! first entries, up to some number of them.
+#![tactic(auto)]
+
+mod agreeing;
+mod appending;
+mod blank;
+mod book;
+mod entries;
+mod fact;
+mod front;
+mod latest;
+pub mod laws;
+mod name;
+#[cfg(test)]
+mod tests;
+
+pub use agreeing::agree;
+pub use appending::append;
+pub use blank::{Blank, CAPACITY_LIMIT};
+pub use book::Book;
+pub use front::{Front, empty};
+pub use name::BookName;
