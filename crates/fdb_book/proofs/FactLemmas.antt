@@ -1,4 +1,4 @@
--- The facts of a book's first cells.
+-- What is known of a book's first cells.
 use Rattle.std.proofs.Common.{◌≡◌, ◌∙◌, sym, ap, refl, subst, ℕ, zero, suc, ◌<◌, ◌≤◌, ◌+◌, List, [], ◌∷◌, ◌++◌, map, fold, take, drop, length, get_or, slice_get, Some, arith, rules}
 use Rattle.std.specs.declared.alloc.Global.{Global}
 use Rattle.std.proofs.lemmas.List.{get_or-map, get_or-take, length-map, length-append, length-take-le, map-append, take-map, take-append-drop}
@@ -6,19 +6,29 @@ use Rattle.std.proofs.lemmas.Option.{slice_get-get_or}
 use Rattle.std.proofs.Math.Seq.{take-suc}
 use Rattle.once_cell.specs.Once.{cell_name}
 use Rattle.fdb_txn.specs.declared.entry.Entry.{Entry}
-use Rattle.fdb_book.specs.declared.fact.Fact.{Fact}
-use Rattle.fdb_book.specs.Fronts.{IsLinkedBook, IsFront, AreOfFirst, IsPrefix, shown}
+use Rattle.fdb_book.specs.Fronts.{IsLinkedBook, IsFront, Known, AreOfFirst, IsPrefix, shown}
 use Rattle.fdb_book.specs.Names.{Latest, Covers}
 use Rattle.fdb_book.proofs.BookLemmas.{book-take, covers-take}
 
-abbrev pub cell_of : Fact Entry → ℕ
-cell_of fact = fact.cell
+abbrev pub cell_of : ℕ × Entry → ℕ
+cell_of it = it.0
 
-abbrev pub value_of : Fact Entry → Entry
-value_of fact = fact.value
+abbrev pub value_of : ℕ × Entry → Entry
+value_of it = it.1
 
-pub also-within : (i n m : ℕ) → i < n → n ≤ m → i < m
-also-within i n m less within = search (arith, less, within)
+some-same : {X : Type 0} (a b : X) → Some a ≡ Some b → a ≡ b
+some-same a b equal = cc
+
+-- each number below the length is that of an item
+some-at : {X : Type 0} (xs : List X) (i : ℕ) → i < length xs → (x : X) × (slice_get xs i ≡ Some x)
+some-at [] i within = absurd (search (arith, within))
+some-at (x ∷ xs) zero within = (x, refl)
+some-at (x ∷ xs) (suc i) within = some-at xs i (search (arith, within))
+
+-- the item after these has their number
+pub last-at : {X : Type 0} (xs : List X) (x : X) → slice_get (xs ++ x ∷ []) (length xs) ≡ Some x
+last-at [] x = refl
+last-at (first ∷ xs) x = last-at xs x
 
 -- the first of the first are the first
 pub take-take-le : {X : Type 0} (n m : ℕ) (xs : List X) → n ≤ m → take n (take m xs) ≡ take n xs
@@ -27,96 +37,121 @@ take-take-le (suc n) zero xs within = absurd (search (arith, within))
 take-take-le (suc n) (suc m) [] within = refl
 take-take-le (suc n) (suc m) (x ∷ xs) within = ap (λ rest. x ∷ rest) (take-take-le n m xs (search (arith, within)))
 
--- there are no more facts than cells
-pub within-cells : (cells : List (Global × ℕ)) (facts : List (Fact Entry)) → AreOfFirst (map cell_name cells) facts
-    → length facts ≤ length cells
-within-cells cells facts first = rw (← length-map cells cell_name) first.within
+-- no more is known than there are cells
+pub within-cells : (cells : List (Global × ℕ)) (known : Known) → AreOfFirst (map cell_name cells) known
+    → length known ≤ length cells
+within-cells cells known first = rw (← length-map cells cell_name) first.within
 
--- a fact is of the cell of its number
-pub cell-at : (cells : List (Global × ℕ)) (facts : List (Fact Entry)) (i : ℕ) (cell : Global × ℕ) (fact : Fact Entry)
-    → AreOfFirst (map cell_name cells) facts → i < length facts → cell ≡ get_or cells i cell
-    → fact ≡ get_or facts i fact → cell_name cell ≡ fact.cell
-cell-at cells facts i cell fact first within is_cell is_fact =
-    let inside : i < length cells = search (arith, within, within-cells cells facts first) in
-    ap cell_name is_cell
-    ∙ sym (get_or-map cell_name cells i cell 0 inside)
-    ∙ sym (get_or-take (length facts) (map cell_name cells) i 0 within)
-    ∙ ap (λ (names : List ℕ). get_or names i 0) (sym first.first)
-    ∙ get_or-map cell_of facts i fact 0 within
-    ∙ ap cell_of (sym is_fact)
+-- there are as many entries as are known
+pub shown-count : (known : Known) → length (shown known) ≡ length known
+shown-count known = length-map known value_of
 
--- the entry that a fact shows stands at its number
-pub shown-at : (facts : List (Fact Entry)) (i : ℕ) (fact : Fact Entry) → i < length facts
-    → fact ≡ get_or facts i fact → slice_get (shown facts) i ≡ Some fact.value
-shown-at facts i fact within is_fact =
-    slice_get-get_or (shown facts) i fact.value (rw (length-map facts value_of) within)
-    ∙ ap Some (get_or-map value_of facts i fact fact.value within ∙ ap value_of (sym is_fact))
+pub counted-view : (known : Known) (len : ℕ) (book : List Entry) → len ≡ length known → shown known ≡ book
+    → len ≡ length book
+counted-view known len book counted view = counted ∙ sym (shown-count known) ∙ ap length view
+
+-- what is known of a number is of its cell
+cell-at : (cells : List (Global × ℕ)) (known : Known) (i : ℕ) (cell : Global × ℕ) (it : ℕ × Entry)
+    → AreOfFirst (map cell_name cells) known → i < length known → cell ≡ get_or cells i cell
+    → slice_get known i ≡ Some it → it.0 ≡ cell_name cell
+cell-at cells known i cell it first within is_cell found =
+    let inside : i < length cells = search (arith, within, within-cells cells known first) in
+    let is : it ≡ get_or known i it = some-same it (get_or known i it) (sym found ∙ slice_get-get_or known i it within) in
+    ap cell_of is ∙ sym (get_or-map cell_of known i it 0 within)
+    ∙ ap (λ (names : List ℕ). get_or names i 0) first.first
+    ∙ get_or-take (length known) (map cell_name cells) i 0 within
+    ∙ get_or-map cell_name cells i cell 0 inside
+    ∙ sym (ap cell_name is_cell)
+
+-- something is known of the cell of each number
+pub known-at : (cells : List (Global × ℕ)) (known : Known) (i : ℕ) (cell : Global × ℕ)
+    → AreOfFirst (map cell_name cells) known → i < length known → cell ≡ get_or cells i cell
+    → (entry : Entry) × (slice_get known i ≡ Some (cell_name cell, entry))
+known-at cells known i cell first within is_cell =
+    let it = some-at known i within in
+    (it.0.1, it.1 ∙ ap (λ (name : ℕ). Some (name, it.0.1)) (cell-at cells known i cell it.0 first within is_cell it.1))
+
+-- the same of the cell of another list that has the same names
+pub known-of : (names : List ℕ) (own cells : List (Global × ℕ)) (known : Known) (book : List Entry) (i : ℕ)
+    (cell : Global × ℕ) → map cell_name own ≡ names → map cell_name cells ≡ names
+    → AreOfFirst (map cell_name own) known → shown known ≡ book → i < length book → cell ≡ get_or cells i cell
+    → (entry : Entry) × (slice_get known i ≡ Some (cell_name cell, entry))
+known-of names own cells known book i cell own_names same first view within is_cell =
+    known-at cells known i cell (rw (same, ← own_names) first) (rw (← shown-count known, view) within) is_cell
+
+-- the entry that is known of a number stands there
+pub shown-at : (known : Known) (i name : ℕ) (entry : Entry) → slice_get known i ≡ Some (name, entry)
+    → slice_get (shown known) i ≡ Some entry
+shown-at [] i name entry found = absurd (search (rules, found))
+shown-at (it ∷ known) zero name entry found = ap (λ (that : ℕ × Entry). Some that.1) (some-same it (name, entry) found)
+shown-at (it ∷ known) (suc i) name entry found = shown-at known i name entry found
 
 one_more : (n : ℕ) → n + 1 ≡ suc n
 one_more n = search arith
 
--- one shown entry more
-pub shown-take : (facts : List (Fact Entry)) (i : ℕ) (fact : Fact Entry) → i < length facts
-    → fact ≡ get_or facts i fact → take (i + 1) (shown facts) ≡ take i (shown facts) ++ fact.value ∷ []
-shown-take facts i fact within is_fact =
-    ap (λ (n : ℕ). take n (shown facts)) (one_more i)
-    ∙ take-suc (shown facts) i fact.value (rw (length-map facts value_of) within)
-    ∙ ap (λ (entry : Entry). take i (shown facts) ++ entry ∷ [])
-    (get_or-map value_of facts i fact fact.value within ∙ ap value_of (sym is_fact))
-
--- the fact of the next cell after those of the first ones
-pub next-first : (cells : List (Global × ℕ)) (facts : List (Fact Entry)) (cell : Global × ℕ) (fact : Fact Entry)
-    → AreOfFirst (map cell_name cells) facts → length facts < length cells
-    → cell ≡ get_or cells (length facts) cell → fact.cell ≡ cell_name cell
-    → AreOfFirst (map cell_name cells) (facts ++ fact ∷ [])
-next-first cells facts cell fact first within is_cell of_cell = record {
+-- what is known with the next cell
+pub next-first : (cells : List (Global × ℕ)) (known : Known) (cell : Global × ℕ) (entry : Entry)
+    → AreOfFirst (map cell_name cells) known → length known < length cells
+    → cell ≡ get_or cells (length known) cell
+    → AreOfFirst (map cell_name cells) (known ++ (cell_name cell, entry) ∷ [])
+next-first cells known cell entry first within is_cell = record {
   within = rw (length-map cells cell_name, sym counted) (search (arith, within));
   first =
-      map-snoc ∙ ap (λ (names : List ℕ). names ++ fact.cell ∷ []) first.first
-      ∙ ap (λ (name : ℕ). take (length facts) (map cell_name cells) ++ name ∷ []) is_name
-      ∙ sym (take-suc (map cell_name cells) (length facts) 0 (rw (length-map cells cell_name) within))
+      map-append cell_of known ((cell_name cell, entry) ∷ [])
+      ∙ ap (λ (names : List ℕ). names ++ cell_name cell ∷ []) first.first
+      ∙ ap (λ (name : ℕ). take (length known) (map cell_name cells) ++ name ∷ []) is_name
+      ∙ sym (take-suc (map cell_name cells) (length known) 0 (rw (length-map cells cell_name) within))
       ∙ ap (λ (n : ℕ). take n (map cell_name cells)) counted;
 }
   where
-    map-snoc : map cell_of (facts ++ fact ∷ []) ≡ map cell_of facts ++ fact.cell ∷ []
-    map-snoc = map-append cell_of facts (fact ∷ [])
+    is_name : cell_name cell ≡ get_or (map cell_name cells) (length known) 0
+    is_name = ap cell_name is_cell ∙ sym (get_or-map cell_name cells (length known) cell 0 within)
 
-    is_name : fact.cell ≡ get_or (map cell_name cells) (length facts) 0
-    is_name = of_cell ∙ ap cell_name is_cell ∙ sym (get_or-map cell_name cells (length facts) cell 0 within)
+    counted : suc (length known) ≡ length (known ++ (cell_name cell, entry) ∷ [])
+    counted = sym (length-append known ((cell_name cell, entry) ∷ []) ∙ one_more (length known))
 
-    counted : suc (length facts) ≡ length (facts ++ fact ∷ [])
-    counted = sym (length-append facts (fact ∷ []) ∙ one_more (length facts))
+-- the same, read with what the parts are
+pub next-first-of : (names : List ℕ) (cells : List (Global × ℕ)) (known next : Known) (book : List Entry) (len : ℕ)
+    (cell : Global × ℕ) (entry : Entry) → map cell_name cells ≡ names → AreOfFirst (map cell_name cells) known
+    → len ≡ length known → shown known ≡ book → length book < length names → cell ≡ get_or cells len cell
+    → next ≡ known ++ (cell_name cell, entry) ∷ [] → AreOfFirst names next
+next-first-of names cells known next book len cell entry same first counted view room is_cell more =
+    rw (more, ← same) (next-first cells known cell entry first within (rw counted at is_cell))
+  where
+    within : length known < length cells
+    within = rw (← shown-count known, view, ← length-map cells cell_name, same) room
 
--- the first of the facts
-pub take-first : (names : List ℕ) (facts : List (Fact Entry)) (count : ℕ) → count ≤ length facts
-    → AreOfFirst names facts → AreOfFirst names (take count facts)
-take-first names facts count within first = record {
+-- what is known of the first cells
+pub take-first : (names : List ℕ) (known : Known) (count : ℕ) → count ≤ length known
+    → AreOfFirst names known → AreOfFirst names (take count known)
+take-first names known count within first = record {
   within = search (rules, arith, within, first.within);
-  first = sym (take-map cell_of count facts) ∙ ap (take count) first.first ∙ taken;
+  first = sym (take-map cell_of count known) ∙ ap (take count) first.first ∙ taken;
 }
   where
-    taken : take count (take (length facts) names) ≡ take (length (take count facts)) names
-    taken = take-take-le count (length facts) names within
-        ∙ ap (λ (n : ℕ). take n names) (sym (length-take-le count facts within))
+    taken : take count (take (length known) names) ≡ take (length (take count known)) names
+    taken = take-take-le count (length known) names within
+        ∙ ap (λ (n : ℕ). take n names) (sym (length-take-le count known within))
 
--- one fact more shows one entry more
-pub next-shown : (facts : List (Fact Entry)) (fact : Fact Entry)
-    → shown (facts ++ fact ∷ []) ≡ shown facts ++ fact.value ∷ []
-next-shown facts fact = map-append value_of facts (fact ∷ [])
+-- one cell more shows one entry more
+pub next-shown : (known : Known) (name : ℕ) (entry : Entry)
+    → shown (known ++ (name, entry) ∷ []) ≡ shown known ++ entry ∷ []
+next-shown known name entry = map-append value_of known ((name, entry) ∷ [])
 
--- a fact that was taken again is one more of the first ones
-pub again-take : (facts : List (Fact Entry)) (i : ℕ) (fact again : Fact Entry) → i < length facts
-    → fact ≡ get_or facts i fact → again.cell ≡ fact.cell → again.value ≡ fact.value
-    → take i facts ++ again ∷ [] ≡ take (i + 1) facts
-again-take facts i fact again within is_fact same_cell same_value =
-    ap (λ (it : Fact Entry). take i facts ++ it ∷ []) (same ∙ is_fact)
-    ∙ sym (take-suc facts i fact within) ∙ sym (ap (λ (n : ℕ). take n facts) (one_more i))
-  where
-    same : again ≡ fact
-    same = λ i. record { marker = record {}; cell = same_cell i; value = same_value i }
+-- the entry of the next cell, once it is known
+pub next-at : (known next : Known) (len name : ℕ) (entry : Entry) → len ≡ length known
+    → next ≡ known ++ (name, entry) ∷ [] → slice_get next len ≡ Some (name, entry)
+next-at known next len name entry counted more = rw (counted, more) (last-at known (name, entry))
 
-some-same : (a b : Entry) → Some a ≡ Some b → a ≡ b
-some-same a b equal = cc
+-- what is read of the next cell is shown after what was known
+pub read-shown : (known next : Known) (len name : ℕ) (entry value : Entry) (book : List Entry) → len ≡ length known
+    → shown known ≡ book → next ≡ known ++ (name, entry) ∷ [] → slice_get next len ≡ Some (name, value)
+    → shown next ≡ book ++ value ∷ []
+read-shown known next len name entry value book counted view more read =
+    ap shown more ∙ next-shown known name entry
+    ∙ ap (λ (it : ℕ × Entry). shown known ++ it.1 ∷ [])
+    (some-same (name, entry) (name, value) (sym (next-at known next len name entry counted more) ∙ read))
+    ∙ ap (λ (them : List Entry). them ++ value ∷ []) view
 
 -- the version of the last entry is that of the one whose number is one less than there are
 pub last-version : (last : ℕ) (book : List Entry) (n : ℕ) (entry : Entry) → length book ≡ suc n
@@ -142,15 +177,17 @@ prefix-of-takes count shorter longer within same = (
       ∙ ap (λ (front : List Entry). front ++ drop count longer) (sym same ∙ take-past count shorter within),
 )
 
--- the first of a front's facts are a front's
-pub front-take : (names cells : List ℕ) (facts : List (Fact Entry)) (latest : Latest) (count : ℕ)
-    → count ≤ length facts → IsFront names cells facts latest → IsFront names cells (take count facts) latest
-front-take names cells facts latest count within front = record {
+-- what is known of the first of a front's cells is a front's
+pub front-take : (names cells : List ℕ) (known : Known) (len : ℕ) (latest : Latest) (count : ℕ)
+    → count ≤ length known → IsFront names cells known len latest
+    → IsFront names cells (take count known) count latest
+front-take names cells known len latest count within front = record {
   same = front.same;
-  first = take-first cells facts count within front.first;
-  book = subst IsLinkedBook (take-map value_of count facts) (book-take count (shown facts) front.book);
+  first = take-first cells known count within front.first;
+  counted = sym (length-take-le count known within);
+  book = subst IsLinkedBook (take-map value_of count known) (book-take count (shown known) front.book);
   covered =
-      subst (Covers latest) (take-map value_of count facts) (covers-take latest count (shown facts) front.covered);
+      subst (Covers latest) (take-map value_of count known) (covers-take latest count (shown known) front.covered);
 }
 
 take-next : (book : List Entry) (i : ℕ) (entry : Entry) → slice_get book i ≡ Some entry
@@ -163,3 +200,20 @@ take-next (first ∷ book) (suc i) entry found = ap (λ rest. first ∷ rest) (t
 pub take-found : (book : List Entry) (i : ℕ) (entry : Entry) → slice_get book i ≡ Some entry
     → take (i + 1) book ≡ take i book ++ entry ∷ []
 take-found book i entry found = ap (λ (n : ℕ). take n book) (one_more i) ∙ take-next book i entry found
+
+-- where the same is known of a number, the entries there are the same
+pub same-shown : (known others : Known) (book other : List Entry) (i : ℕ) → shown known ≡ book → shown others ≡ other
+    → i < length book → slice_get known i ≡ slice_get others i
+    → take i book ≡ take i other → take (i + 1) book ≡ take (i + 1) other
+same-shown known others book other i view other_view within same before =
+    take-found book i it.0.1 here ∙ ap (λ (them : List Entry). them ++ it.0.1 ∷ []) before
+    ∙ sym (take-found other i it.0.1 there)
+  where
+    it : (it : ℕ × Entry) × (slice_get known i ≡ Some it)
+    it = some-at known i (rw (← shown-count known, view) within)
+
+    here : slice_get book i ≡ Some it.0.1
+    here = rw (← view) (shown-at known i it.0.0 it.0.1 it.1)
+
+    there : slice_get other i ≡ Some it.0.1
+    there = rw (← other_view) (shown-at others i it.0.0 it.0.1 (sym same ∙ it.1))

@@ -1,19 +1,18 @@
 -- What an append that finds another entry answers.
-use Rattle.std.proofs.Common.{◌≡◌, ◌≢◌, ◌∙◌, sym, refl, ap, subst, ◌⊎◌, ℕ, Bool, true, false, List, [], ◌∷◌, ◌++◌, map, length, ◌==◌, Option, Some, None, Ok, Err, if◌then◌else◌, rules}
+use Rattle.std.proofs.Common.{◌≡◌, ◌≢◌, ◌∙◌, sym, refl, ap, subst, ◌⊎◌, ℕ, ◌<◌, ◌≤◌, Bool, true, false, List, [], ◌∷◌, ◌++◌, length, ◌+◌, ◌==◌, Option, Some, None, Ok, Err, if◌then◌else◌, rules, arith}
 use mathlib.Core.Logic.{inl, inr}
 use Rattle.std.specs.Bool.{Decides}
 use Rattle.std.specs.Option.{MatchOption}
-use Rattle.std.specs.declared.alloc.Global.{Global}
-use Rattle.once_cell.specs.Once.{cell_name}
+use Rattle.std.proofs.lemmas.List.{length-append}
 use Rattle.fdb_keys.specs.Answers.{Answers}
 use Rattle.fdb_keys.specs.declared.refusal.Refusal.{Refusal}
 use Rattle.fdb_keys.specs.declared.refusal.Refusal.TheVariants.{Chain, NoMemory, Taken}
 use Rattle.fdb_txn.specs.declared.entry.Entry.{Entry}
 use Rattle.fdb_txn.specs.book.Book.{last_version}
-use Rattle.fdb_book.specs.declared.fact.Fact.{Fact}
-use Rattle.fdb_book.specs.Fronts.{IsLinkedBook, IsFront, AreOfFirst, shown}
+use Rattle.fdb_book.specs.Fronts.{IsLinkedBook, IsFront, Known, AreOfFirst, shown}
 use Rattle.fdb_book.specs.Names.{Latest, Covers, repeated_place}
-use Rattle.fdb_book.proofs.AppendLemmas.{append-book}
+use Rattle.fdb_book.proofs.AppendLemmas.{append-room, append-book}
+use Rattle.fdb_book.proofs.FactLemmas.{shown-count}
 use Rattle.fdb_book.specs.Appending.{goes_on, names_fault, append_fault, with_found, Appends}
 
 -- what is decided not to hold doesn't
@@ -76,26 +75,27 @@ pub match-some : {X : Type 0} (P : Type 0) (Q : X → Type 0) (given : Option X)
     → MatchOption given P Q → Q x
 match-some P Q given x is holds = subst (λ (it : Option _). MatchOption it P Q) is holds
 
--- a front with the next fact, whose entry may stand there
-pub front-next : (names : List ℕ) (cells : List (Global × ℕ)) (next : List (Fact Entry)) (latest : Latest)
-    (capacity : ℕ) (book : List Entry) (entry : Entry) → map cell_name cells ≡ names
-    → AreOfFirst (map cell_name cells) next → shown next ≡ book ++ entry ∷ [] → IsLinkedBook book
-    → append_fault capacity book entry ≡ None → Covers latest (book ++ entry ∷ [])
-    → IsFront names (map cell_name cells) next latest
-front-next names cells next latest capacity book entry same first more linked fits covered = record {
+-- where an entry may be appended, there is a cell left
+pub room-left : (names cells : List ℕ) (known : Known) (book : List Entry) (entry : Entry) → cells ≡ names
+    → AreOfFirst cells known → shown known ≡ book → append_fault (length names) book entry ≡ None
+    → length book < length names
+room-left names cells known book entry same first view fits =
+    let within : length book ≤ length names = rw (← view, shown-count known, ← same) first.within in
+    let apart : length book ≢ length names = append-room (length names) book entry fits in search (arith, within, apart)
+
+-- a front with what is known of the next cell, whose entry may stand there
+pub front-next : (names cells : List ℕ) (next : Known) (len : ℕ) (latest : Latest) (capacity : ℕ) (book : List Entry)
+    (entry : Entry) → cells ≡ names → AreOfFirst names next → len ≡ length book → shown next ≡ book ++ entry ∷ []
+    → IsLinkedBook book → append_fault capacity book entry ≡ None → Covers latest (book ++ entry ∷ [])
+    → IsFront names cells next (len + 1) latest
+front-next names cells next len latest capacity book entry same first counted more linked fits covered = record {
   same = same;
-  first = first;
+  first = rw same first;
+  counted =
+      ap (λ (n : ℕ). n + 1) counted ∙ sym (length-append book (entry ∷ [])) ∙ ap length (sym more) ∙ shown-count next;
   book = rw more (append-book capacity book entry linked fits);
   covered = rw more covered;
 }
-
--- what the facts show, read with what the parts are
-pub shown-more : (next facts inside : List (Fact Entry)) (book : List Entry) (boxed entry : Entry)
-    → shown next ≡ shown facts ++ boxed ∷ [] → facts ≡ inside → shown inside ≡ book → boxed ≡ entry
-    → shown next ≡ book ++ entry ∷ []
-shown-more next facts inside book boxed entry more are view is =
-    more ∙ ap (λ (them : List (Fact Entry)). shown them ++ boxed ∷ []) are
-    ∙ ap (λ (them : List Entry). them ++ boxed ∷ []) view ∙ ap (λ (it : Entry). book ++ it ∷ []) is
 
 -- what a call gives says that there is no fault, and what it gives
 pub given-fits : {T : Type 0} (given : T) (fault : Option Refusal) (P : T → Type 0) → Answers (Ok given) fault P

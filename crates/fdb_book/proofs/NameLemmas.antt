@@ -1,11 +1,11 @@
 -- The names of a batch, place by place, and the greatest numbers known of their sessions.
-use Rattle.std.proofs.Common.{◌≡◌, ◌∙◌, sym, ap, subst, ⊎_elim, ℕ, suc, add-one, ◌<◌, ◌≤◌, ◌+◌, Bool, true, false, cond, List, [], ◌∷◌, ◌++◌, take, drop, length, get_or, slice_get, Option, Some, None, arith}
+use Rattle.std.proofs.Common.{◌≡◌, ◌∙◌, sym, ap, subst, ⊎_elim, ℕ, suc, add-one, ◌<◌, ◌≤◌, ◌+◌, Bool, true, false, cond, List, [], ◌∷◌, ◌++◌, take, drop, length, get_or, slice_get, Option, Some, None, nat_lt, arith}
 use Rattle.std.specs.Prelude.{◌==◌, IfSome}
 use Rattle.std.specs.BTreeMap.{get, is_at}
 use Rattle.std.specs.Cmp.{unsigned_tied}
 use Rattle.std.specs.Ordering.{nat_cmp}
 use Rattle.std.proofs.Math.Seq.{drop-cons, take-suc}
-use Rattle.std.proofs.lemmas.Bool.{cases_Bool, cond-true, cond-false, eqb-true, ne_eqb, and_left, and_right, le-ltb}
+use Rattle.std.proofs.lemmas.Bool.{cases_Bool, cond-true, cond-false, eqb-true, ne_eqb, and_left, and_right, lt-ltb, ltb-true, ltb-false, le-ltb}
 use Rattle.std.proofs.lemmas.List.Sums.{sum_by-cons, count_by_more_no}
 use Rattle.std.proofs.lemmas.Option.{IfSome_then, slice_get_within, get_or_from_slice_get}
 use Rattle.fdb_txn.specs.declared.entry.Entry.{Entry}
@@ -27,12 +27,28 @@ past-place {X = X} xs i x within is_x =
     rw add-one (take-suc xs i x within ∙ ap (λ (last : X). take i xs ++ last ∷ []) (sym is_x))
 
 -- how often the name is in the entries from a place on
-pub times-from : (id : TxnId) (book : List Entry) (i : ℕ) (entry : Entry) → slice_get book i ≡ Some entry
+times-from : (id : TxnId) (book : List Entry) (i : ℕ) (entry : Entry) → slice_get book i ≡ Some entry
     → times_in_book id (drop i book) ≡ times_named id entry.batch + times_in_book id (drop (i + 1) book)
 times-from id book i entry there =
     ap (times_in_book id) (at-place book i entry (slice_get_within book i entry there)
     (sym (get_or_from_slice_get book i entry entry there)))
     ∙ sum_by-cons (λ (e : Entry). times_named id e.batch) entry (drop (i + 1) book)
+
+-- at an entry with the name, and past one without it
+pub named-here : (id : TxnId) (book : List Entry) (i : ℕ) (entry : Entry) → slice_get book i ≡ Some entry
+    → times_in_book id book ≡ times_in_book id (drop i book) → nat_lt 0 (times_named id entry.batch) ≡ true
+    → nat_lt 0 (times_in_book id book) ≡ true
+named-here id book i entry there same named =
+    let split = times-from id book i entry there in
+    let some = ltb-true 0 (times_named id entry.batch) named in
+    lt-ltb 0 (times_in_book id book) (rw same (omega arith))
+
+pub named-past : (id : TxnId) (book : List Entry) (i : ℕ) (entry : Entry) → slice_get book i ≡ Some entry
+    → times_in_book id book ≡ times_in_book id (drop i book) → nat_lt 0 (times_named id entry.batch) ≡ false
+    → times_in_book id book ≡ times_in_book id (drop (i + 1) book)
+named-past id book i entry there same named =
+    let split = times-from id book i entry there in
+    let none = ltb-false 0 (times_named id entry.batch) named in same ∙ omega arith
 
 -- at a place whose name was there before
 pub repeated-here : (book : List Entry) (batch : List Transaction) (i : ℕ) (t : Transaction) → i < length batch
@@ -51,6 +67,27 @@ repeated-past book batch i t within is_t new =
     ∙ cond-false (is_among t.id book (take i batch)) _ _ new
     ∙ ap (λ (earlier : List Transaction). repeated_after book earlier (drop (i + 1) batch))
     (sym (past-place batch i t within is_t))
+
+-- a name at a place is there before it: it is in the book, or before it in the batch
+pub among-book : (id : TxnId) (book : List Entry) (earlier : List Transaction) → nat_lt 0 (times_in_book id book) ≡ true
+    → is_among id book earlier ≡ true
+among-book id book earlier named =
+    let some = ltb-true 0 (times_in_book id book) named in
+    lt-ltb 0 (times_in_book id book + times_named id earlier) (omega arith)
+
+pub among-batch : (id : TxnId) (book : List Entry) (earlier : List Transaction) → nat_lt 0 (times_named id earlier) ≡ true
+    → is_among id book earlier ≡ true
+among-batch id book earlier named =
+    let some = ltb-true 0 (times_named id earlier) named in
+    lt-ltb 0 (times_in_book id book + times_named id earlier) (omega arith)
+
+-- or it isn't
+pub among-none : (id : TxnId) (book : List Entry) (earlier : List Transaction) → nat_lt 0 (times_in_book id book) ≡ false
+    → nat_lt 0 (times_named id earlier) ≡ false → is_among id book earlier ≡ false
+among-none id book earlier not_in_book not_in_batch =
+    let in_book = ltb-false 0 (times_in_book id book) not_in_book in
+    let in_batch = ltb-false 0 (times_named id earlier) not_in_batch in
+    le-ltb 0 (times_in_book id book + times_named id earlier) (omega arith)
 
 -- what is later once a later name was put is another name, and was later before
 pub later-put : (before after : Latest) (put id : TxnId) → IsLater before put

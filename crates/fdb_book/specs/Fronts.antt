@@ -6,7 +6,6 @@ use Rattle.fdb_keys.specs.declared.refusal.Refusal.TheVariants.{BadConfig}
 use Rattle.fdb_txn.specs.declared.entry.Entry.{Entry}
 use Rattle.fdb_txn.specs.book.History.{AreLinked, ReadsBelow}
 use Rattle.fdb_txn.specs.book.Once.{NoIdTwice}
-use Rattle.fdb_book.specs.declared.fact.Fact.{Fact}
 use Rattle.fdb_book.specs.Names.{Latest, Covers}
 
 -- A book, wherever its moves go: versions rise from 0, and each previous one is that of the entry before, 0 for the
@@ -20,14 +19,18 @@ pub record IsLinkedBook (book : List Entry) : Type 0 where
 abbrev pub IsPrefix : List Entry → List Entry → Type 0
 IsPrefix shorter longer = (rest : List Entry) × (longer ≡ shorter ++ rest)
 
--- the entries that the facts show
-abbrev pub shown : List (Fact Entry) → List Entry
-shown facts = map (λ (fact : Fact Entry). fact.value) facts
+-- what is known of cells: the entry that each one, by its name, holds for good
+abbrev pub Known : Type 0
+Known = List (ℕ × Entry)
 
--- the facts are of the first of these cells, one for each
-pub record AreOfFirst (cells : List ℕ) (facts : List (Fact Entry)) : Type 0 where
-  pub within : length facts ≤ length cells
-  pub first : map (λ (fact : Fact Entry). fact.cell) facts ≡ take (length facts) cells
+-- the entries that are known
+abbrev pub shown : Known → List Entry
+shown known = map (λ (it : ℕ × Entry). it.1) known
+
+-- it is known of the first of these cells, of each one
+pub record AreOfFirst (cells : List ℕ) (known : Known) : Type 0 where
+  pub within : length known ≤ length cells
+  pub first : map (λ (it : ℕ × Entry). it.0) known ≡ take (length known) cells
 
 -- the most entries that a book has room for
 abbrev pub capacity_limit : ℕ
@@ -37,9 +40,10 @@ capacity_limit = 1048576
 abbrev pub capacity_fault : ℕ → Option Refusal
 capacity_fault capacity = if (capacity == 0) || nat_lt capacity_limit capacity then Some BadConfig else None
 
--- the facts are of the first of the book's cells, what they show is a book, and its names are covered
-pub record IsFront (names cells : List ℕ) (facts : List (Fact Entry)) (latest : Latest) : Type 0 where
+-- so many first cells of the book are known, what they hold is a book, and its names are covered
+pub record IsFront (names cells : List ℕ) (known : Known) (len : ℕ) (latest : Latest) : Type 0 where
   pub same : cells ≡ names
-  pub first : AreOfFirst cells facts
-  pub book : IsLinkedBook (shown facts)
-  pub covered : Covers latest (shown facts)
+  pub first : AreOfFirst cells known
+  pub counted : len ≡ length known
+  pub book : IsLinkedBook (shown known)
+  pub covered : Covers latest (shown known)

@@ -1,13 +1,9 @@
-ghost use Rattle.std.specs.Prelude.{◌≡◌, ◌≤◌, map, take, length};
+ghost use Rattle.std.specs.Prelude.{◌≡◌, ◌≤◌, take, length};
 ghost use Rattle.std.specs.Ordering.{nat_cmp};
-ghost use Rattle.once_cell.specs.Once.{cell_name};
-ghost use Rattle.fdb_book.specs.Fronts.{AreOfFirst, IsPrefix, shown};
+ghost use Rattle.fdb_book.specs.Fronts.{IsPrefix};
 
-use crate::fact::Fact;
 use crate::front::Front;
 use crate::name::BookName;
-use fdb_txn::Entry;
-use once_cell::race::OnceBox;
 use std::cmp::Ordering;
 
 /// Compares two fronts of one book by how many entries they show. The longer one begins with the entries of the
@@ -17,24 +13,18 @@ pub fn agree<B: BookName>(front: &Front<B>, other: &Front<B>) -> Ordering
     ensures shorter { length front.now ≤ length other.now → IsPrefix front.now other.now }
     ensures longer { length other.now ≤ length front.now → IsPrefix other.now front.now }
 {
-    let shared = usize::min(front.facts.len(), other.facts.len());
-    agree_on_first(&front.cells, &front.facts, &other.facts, shared);
-    front.facts.len().cmp(&other.facts.len())
+    agree_on_first(front, other, usize::min(front.len, other.len));
+    front.len.cmp(&other.len)
 }
 
-// Facts of the same first cells show the same entries.
-fn agree_on_first(
-    cells: &Vec<OnceBox<Entry>>,
-    facts: &Vec<Fact<Entry>>,
-    others: &Vec<Fact<Entry>>,
-    count: usize,
-)
-    requires facts { AreOfFirst (map cell_name cells.now.items) facts.now.items }
-    requires others { AreOfFirst (map cell_name cells.now.items) others.now.items }
-    requires within { (count ≤ length facts.now.items) × (count ≤ length others.now.items) }
-    ensures { take count (shown facts.now.items) ≡ take count (shown others.now.items) }
+// Fronts of one book show the same first entries.
+fn agree_on_first<B: BookName>(front: &Front<B>, other: &Front<B>, count: usize)
+    requires within { (count ≤ length front.now) × (count ≤ length other.now) }
+    ensures { take count front.now ≡ take count other.now }
 {
     for index in 0..count {
-        facts[index].agrees(&others[index], &cells[index]);
+        front
+            .facts
+            .agree_at(&other.facts, index, &front.cells[index]);
     }
 }

@@ -1,9 +1,7 @@
-ghost use Rattle.std.specs.Prelude.{◌≡◌, ◌≢◌, ◌<◌, ◌++◌, [], ◌∷◌, nat_lt, map, length, None, IfOk};
+ghost use Rattle.std.specs.Prelude.{◌≡◌, ◌≢◌, ◌<◌, ◌++◌, [], ◌∷◌, nat_lt, length, None, IfOk};
 ghost use Rattle.std.specs.Arc.{arc_value};
 ghost use Rattle.std.specs.Option.{MatchOption};
 ghost use Rattle.std.specs.List.{list_all};
-ghost use Rattle.std.specs.Vec.{vec_len, vec_capacity};
-ghost use Rattle.once_cell.specs.Once.{cell_name};
 ghost use Rattle.fdb_keys.specs.Answers.{Answers};
 ghost use Rattle.fdb_keys.specs.declared.refusal.Refusal.TheVariants.{NoMemory, Taken};
 ghost use Rattle.fdb_book.specs.Appending.{goes_on, append_fault, Appends};
@@ -11,8 +9,7 @@ ghost use Rattle.fdb_book.specs.Fronts.{AreOfFirst, shown};
 ghost use Rattle.fdb_book.specs.Names.{Covers};
 
 use crate::book::Book;
-use crate::entries::{first_facts, last_version, repeated_place};
-use crate::fact::{Fact, fill};
+use crate::facts::Facts;
 use crate::front::Front;
 use crate::latest::with_names;
 use crate::name::BookName;
@@ -58,17 +55,17 @@ impl<B: BookName> Front<B> {
         ensures { Answers result (append_fault (length B.cells) self.now entry.now)
             (λ latest. Covers (arc_value latest) (self.now ++ entry.now ∷ [])) }
     {
-        if !goes_on(last_version(&self.cells, &self.facts), entry) {
+        if !goes_on(self.version(), entry) {
             return Err(Refusal::Chain);
         }
         let batch = entry.batch.as_slice();
         let taken = with_names(&self.latest, batch);
         if !matches!(&taken, Ok((_, true))) {
-            if let Some(place) = repeated_place(&self.cells, &self.facts, batch) {
+            if let Some(place) = self.repeated_place(batch) {
                 return Err(Refusal::Repeated(place));
             }
         }
-        if self.facts.len() == self.cells.len() {
+        if self.len == self.cells.len() {
             return Err(Refusal::BookFull);
         }
         Ok(Arc::new(alloc, taken?.0)?)
@@ -86,17 +83,19 @@ impl<B: BookName> Front<B> {
         ensures { Appends (length B.cells) self.now entry result }
     {
         // All that may be refused comes before the cell is set.
-        let Ok((cells, facts, entry)) = make_room(alloc, &self.cells, &self.facts, entry) else {
+        let Ok((cells, entry)) = make_room(alloc, &self.cells, entry) else {
             return Err(Refused {
                 why: Refusal::NoMemory,
                 back: None,
             });
         };
-        let (facts, other) = fill_next(&cells, facts, entry);
+        let (facts, other) = self.fill_next(entry);
+        let len = self.len + 1;
         let Some(other) = other else {
             return Ok(Front {
                 cells,
                 facts,
+                len,
                 latest,
                 name: PhantomData,
             });
@@ -107,6 +106,7 @@ impl<B: BookName> Front<B> {
                 back: Some(Front {
                     cells,
                     facts,
+                    len,
                     latest,
                     name: PhantomData,
                 }),
@@ -115,6 +115,28 @@ impl<B: BookName> Front<B> {
                 why: why_taken(why),
                 back: None,
             }),
+        }
+    }
+
+    // Fills the next cell, or reads what it holds. Gives what is known with it, and the entry that was found there where
+    // it isn't equal to the given one.
+    fn fill_next(&self, entry: Box<Entry>) -> (Facts<Entry>, Option<&Entry>)
+        requires { length self.now < length B.cells }
+        ensures first { AreOfFirst B.cells result.0.known }
+        ensures entry { MatchOption result.1 (shown result.0.known ≡ self.now ++ entry.value ∷ [])
+            (λ other. (shown result.0.known ≡ self.now ++ other.now ∷ []) × (other.now ≢ entry.value)) }
+    {
+        let cell = &self.cells[self.len];
+        match self.facts.fill(cell, entry) {
+            Ok(facts) => (facts, None),
+            Err((entry, facts)) => {
+                let found = facts.value(self.len, cell);
+                if *found == *entry {
+                    (facts, None)
+                } else {
+                    (facts, Some(found))
+                }
+            }
         }
     }
 }
@@ -149,59 +171,14 @@ fn reads_below(batch: &[Sealed], version: u64) -> bool
     true
 }
 
-// A share of the cells, the facts once more with room for one more, and the entry in a box.
+// A share of the cells, and the entry in a box.
 fn make_room(
     alloc: Global,
     cells: &Arc<Vec<OnceBox<Entry>>>,
-    facts: &Vec<Fact<Entry>>,
     entry: Entry,
-) -> Result<(Arc<Vec<OnceBox<Entry>>>, Vec<Fact<Entry>>, Box<Entry>), AllocError>
-    requires { AreOfFirst (map cell_name (arc_value cells.now).items) facts.now.items }
-    ensures cells { IfOk result (λ made. arc_value made.0 ≡ arc_value cells.now) }
-    ensures facts { IfOk result (λ made. (made.1.items ≡ facts.now.items) × (vec_len made.1 < vec_capacity made.1)) }
-    ensures entry { IfOk result (λ made. made.2.value ≡ entry) }
+) -> Result<(Arc<Vec<OnceBox<Entry>>>, Box<Entry>), AllocError>
+    ensures { IfOk result (λ made. (arc_value made.0 ≡ arc_value cells.now) × (made.1.value ≡ entry)) }
 {
     let shared = Arc::try_clone(cells)?;
-    let facts = first_facts(alloc, cells, facts, facts.len())?;
-    Ok((shared, facts, Box::new(alloc, entry)?))
-}
-
-// Fills the next cell, or reads what it holds. Gives the facts, one more now, and the entry that was found there where it
-// isn't equal to the given one.
-fn fill_next<'a>(
-    cells: &'a Vec<OnceBox<Entry>>,
-    mut facts: Vec<Fact<Entry>>,
-    entry: Box<Entry>,
-) -> (Vec<Fact<Entry>>, Option<&'a Entry>)
-    requires facts { AreOfFirst (map cell_name cells.now.items) facts.items }
-    requires within { length facts.items < length cells.now.items }
-    requires room { vec_len facts < vec_capacity facts }
-    ensures facts { AreOfFirst (map cell_name cells.now.items) result.0.items }
-    ensures entry { MatchOption result.1 (shown result.0.items ≡ shown facts.items ++ entry.value ∷ [])
-        (λ other. (shown result.0.items ≡ shown facts.items ++ other.now ∷ []) × (other.now ≢ entry.value)) }
-{
-    let (fact, other) = fill_or_read(&cells[facts.len()], entry);
-    match facts.push(fact) {
-        Ok(()) => (facts, other),
-        Err(_full) => unreachable!(),
-    }
-}
-
-// Sets the cell, or reads what it holds. Gives what was found there where it isn't equal to the given entry.
-fn fill_or_read<'a>(cell: &'a OnceBox<Entry>, entry: Box<Entry>) -> (Fact<Entry>, Option<&'a Entry>)
-    ensures cell { result.0.cell ≡ cell_name cell.now }
-    ensures entry { MatchOption result.1 (result.0.value ≡ entry.value)
-        (λ other. (result.0.value ≡ other.now) × (other.now ≢ entry.value)) }
-{
-    match fill(cell, entry) {
-        Ok(fact) => (fact, None),
-        Err((entry, fact)) => {
-            let found = fact.value(cell);
-            if *found == *entry {
-                (fact, None)
-            } else {
-                (fact, Some(found))
-            }
-        }
-    }
+    Ok((shared, Box::new(alloc, entry)?))
 }

@@ -1,12 +1,11 @@
-ghost use Rattle.std.specs.Prelude.{◌≡◌, ◌≤◌, [], take, length, slice_get, None};
+ghost use Rattle.std.specs.Prelude.{◌≡◌, ◌<◌, ◌≤◌, [], take, length, slice_get, Some, None};
 ghost use Rattle.std.specs.Option.{option_copied};
 ghost use Rattle.fdb_keys.specs.Answers.{Answers};
 ghost use Rattle.fdb_txn.specs.book.Book.{last_version};
 ghost use Rattle.fdb_book.specs.Fronts.{IsLinkedBook};
 
 use crate::book::Book;
-use crate::entries::{entry_at, first_facts, last_version};
-use crate::fact::Fact;
+use crate::facts::Facts;
 use crate::name::BookName;
 use fdb_keys::Refusal;
 use fdb_txn::Entry;
@@ -17,11 +16,12 @@ use std::marker::{Model, PhantomData};
 use std::sync::Arc;
 
 /// What someone has seen of a book: its first entries, up to some number of them. Contracts see it as the list of
-/// these entries. It holds a share of the book's cells and a token for each entry, so no entry is copied with it.
+/// these entries. It holds a share of the book's cells and a token of what they hold, so no entry is copied with it.
 #[derive(Drop)]
 pub struct Front<B: BookName> {
     pub(crate) cells: Arc<Vec<OnceBox<Entry>>>,
-    pub(crate) facts: Vec<Fact<Entry>>,
+    pub(crate) facts: Facts<Entry>,
+    pub(crate) len: usize,
     pub(crate) latest: Arc<BTreeMap<u32, u64>>,
     pub(crate) name: PhantomData<B>,
 }
@@ -35,9 +35,9 @@ impl<B: BookName> Model for Front<B> {
 
     ghost Value = { List AnEntry };
 
-    ghost view = { λ front. shown front.facts.items };
+    ghost view = { λ front. shown front.facts.known };
 
-    ghost invariant = { λ front. IsFront B.cells (map cell_name (arc_value front.cells).items) front.facts.items (arc_value front.latest) };
+    ghost invariant = { λ front. IsFront B.cells (map cell_name (arc_value front.cells).items) front.facts.known front.len (arc_value front.latest) };
 }
 
 /// The front of no entries. Refused as `NoMemory` where memory runs out.
@@ -46,7 +46,8 @@ pub fn empty<B: BookName>(alloc: Global, book: &Book<B>) -> Result<Front<B>, Ref
 {
     Ok(Front {
         cells: Arc::try_clone(&book.cells)?,
-        facts: Vec::new(alloc),
+        facts: Facts::none(),
+        len: 0,
         latest: Arc::new(alloc, BTreeMap::new(alloc))?,
         name: PhantomData,
     })
@@ -58,22 +59,25 @@ impl<B: BookName> Front<B> {
         ensures len { result ≡ length self.now }
         ensures book { IsLinkedBook self.now }
     {
-        self.facts.len()
+        self.len
     }
 
     /// The version of the last entry, 0 where there is none.
     pub fn version(&self) -> u64
         ensures { result ≡ last_version self.now }
     {
-        last_version(&self.cells, &self.facts)
+        if self.len == 0 {
+            return 0;
+        }
+        self.entry_at(self.len - 1).version
     }
 
     /// The entry of this number, from 0, and none where the front shows no more than that many.
     pub fn entry(&self, index: usize) -> Option<&Entry>
         ensures { option_copied result ≡ slice_get self.now index }
     {
-        if index < self.facts.len() {
-            Some(entry_at(&self.cells, &self.facts, index))
+        if index < self.len {
+            Some(self.entry_at(index))
         } else {
             None
         }
@@ -83,32 +87,42 @@ impl<B: BookName> Front<B> {
     pub fn entries(&self) -> Result<Vec<Entry>, Refusal>
         ensures { Answers result None (λ entries. entries.items ≡ self.now) }
     {
-        let mut entries = Vec::with_capacity(*self.facts.allocator(), self.facts.len())?;
-        for index in 0..self.facts.len() {
-            entries.push(entry_at(&self.cells, &self.facts, index).clone()?)?;
+        let alloc = *self.cells.allocator();
+        let mut entries = Vec::with_capacity(alloc, self.len)?;
+        for index in 0..self.len {
+            entries.push(self.entry_at(index).clone()?)?;
         }
         Ok(entries)
     }
 
-    /// The front of the first entries, as many as are asked for. Refused as `NoMemory` where memory runs out.
+    /// The front of the first entries, as many as are asked for. It takes the same time whatever their number. Refused
+    /// as `NoMemory` where memory runs out.
     pub fn cut(&self, len: usize) -> Result<Self, Refusal>
         requires { len ≤ length self.now }
         ensures { Answers result None (λ front. front ≡ take len self.now) }
     {
-        let alloc = *self.facts.allocator();
         Ok(Front {
             cells: Arc::try_clone(&self.cells)?,
-            facts: first_facts(alloc, &self.cells, &self.facts, len)?,
+            facts: self.facts.first(len),
+            len,
             latest: Arc::try_clone(&self.latest)?,
             name: PhantomData,
         })
     }
 
-    /// The same front once more, as for another thread. No entry is copied. Refused as `NoMemory` where memory runs
-    /// out.
+    /// The same front once more, as for another thread. No entry is copied, and it takes the same time whatever their
+    /// number. Refused as `NoMemory` where memory runs out.
     pub fn share(&self) -> Result<Self, Refusal>
         ensures { Answers result None (λ front. front ≡ self.now) }
     {
-        self.cut(self.len())
+        self.cut(self.len)
+    }
+
+    // The entry of this number.
+    pub(crate) fn entry_at(&self, index: usize) -> &Entry
+        requires { index < length self.now }
+        ensures { slice_get self.now index ≡ Some result.now }
+    {
+        self.facts.value(index, &self.cells[index])
     }
 }

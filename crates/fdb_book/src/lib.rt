@@ -6,12 +6,12 @@ mod agreeing;
 mod appending;
 mod blank;
 mod book;
-mod entries;
-mod fact;
+mod facts;
 mod front;
 mod latest;
 pub mod laws;
 mod name;
+mod repeated;
 #[cfg(test)]
 mod tests;
 

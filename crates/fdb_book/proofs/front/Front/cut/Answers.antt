@@ -1,16 +1,15 @@
 use Rattle.std.proofs.Common.{◌≤◌, sym, length}
-use Rattle.std.proofs.lemmas.List.{length-map, take-map}
-use Rattle.fdb_book.proofs.FactLemmas.{value_of, front-take}
+use Rattle.std.proofs.lemmas.List.{take-map}
+use Rattle.fdb_book.proofs.FactLemmas.{value_of, front-take, shown-count}
 use Rattle.fdb_book.proofs.front.Front.cut.Goals as goal
 
 pub invariant_of-result : goal.invariant_of-result
 invariant_of-result g c =
-    let within : c.args.len ≤ length c.self.inside.facts.items =
-    rw (← length-map c.self.inside.facts.items value_of, c.self.view_is) c.requires in
-    rw (c.in_ok-try_clone.ensures, c.in_ok-first_facts.ensures.items, c.in_ok-try_clone-2.ensures)
-    (front-take _ _ _ _ c.args.len within c.self.invariant)
+    let within : c.args.len ≤ length c.self.inside.facts.known =
+    rw (← shown-count c.self.inside.facts.known, c.self.view_is) c.requires in
+    rw (c.in_ok-try_clone.ensures, c.first.ensures, c.in_ok-try_clone-2.ensures)
+    (front-take _ _ _ _ _ c.args.len within c.self.invariant)
 
 pub returns : goal.returns
 returns g c =
-    rw (c.in_ok-first_facts.ensures.items, ← c.self.view_is)
-    (sym (take-map value_of c.args.len c.self.inside.facts.items))
+    rw (c.first.ensures, ← c.self.view_is) (sym (take-map value_of c.args.len c.self.inside.facts.known))

@@ -1,33 +1,35 @@
-use Rattle.std.proofs.Common.{◌∙◌, sym, subst, map, length, [], ◌∷◌, ◌++◌, refl}
+use Rattle.std.proofs.Common.{◌∙◌, sym, subst, ap, length, [], ◌∷◌, ◌++◌}
 use Rattle.std.specs.Arc.{arc_value}
 use Rattle.std.specs.declared.alloc.Global.{Global}
 use Rattle.std.specs.declared.sync.Arc.{Arc}
-use Rattle.once_cell.specs.Once.{cell_name}
-use Rattle.fdb_book.specs.Fronts.{IsLinkedBook, AreOfFirst}
+use Rattle.fdb_txn.specs.declared.entry.Entry.{Entry}
+use Rattle.fdb_book.specs.Fronts.{IsLinkedBook}
 use Rattle.fdb_book.specs.Appending.{append_fault}
 use Rattle.fdb_book.specs.Names.{Latest, Covers}
-use Rattle.fdb_book.proofs.FoundLemmas.{found-handed, found-refused, front-next, shown-more, match-none, match-some, given-fits, given-has}
+use Rattle.fdb_book.proofs.FactLemmas.{counted-view}
+use Rattle.fdb_book.proofs.FoundLemmas.{found-handed, found-refused, front-next, room-left, match-none, match-some, given-fits, given-has}
 use Rattle.fdb_book.proofs.front.Front.set_next.Goals as goal
 
 abbrev Prepared : Type 0
 Prepared = Arc Latest Global
 
+pub fill_next-facts-requires : goal.fill_next-facts-requires
+fill_next-facts-requires g c =
+    room-left _ _ _ _ c.args.entry c.self.invariant.same c.self.invariant.first c.self.view_is c.requires.fits
+
 pub invariant_of-result : goal.invariant_of-result
 invariant_of-result g c =
-    front-next _ _ _ _ _ _ _ (rw c.in-Ok.ensures.cells c.self.invariant.same)
-    (subst (λ cells. AreOfFirst (map cell_name cells.items) c.fill_next-facts.result.0.items) c.deref.ensures
-    c.fill_next-facts.ensures.facts)
-    (shown-more _ _ _ _ _ _ (match-none _ _ _ c.in_default-other.is c.fill_next-facts.ensures.entry)
-    c.in-Ok.ensures.facts.0 c.self.view_is c.in-Ok.ensures.entry)
+    front-next _ _ _ _ _ _ _ _ (rw c.in-Ok.ensures.0 c.self.invariant.same) c.fill_next-facts.ensures.first
+    (counted-view _ _ _ c.self.invariant.counted c.self.view_is)
+    (match-none _ _ _ c.in_default-other.is c.fill_next-facts.ensures.entry
+    ∙ ap (λ (it : Entry). c.args.self.now ++ it ∷ []) c.in-Ok.ensures.1)
     (subst IsLinkedBook c.self.view_is c.self.invariant.book) c.requires.fits c.requires.names
 
 pub invariant_of-result-in-Ok-prepare : goal.invariant_of-result-in-Ok-prepare
 invariant_of-result-in-Ok-prepare g c =
-    front-next _ _ _ _ _ _ _ (rw c.in-Ok.ensures.cells c.self.invariant.same)
-    (subst (λ cells. AreOfFirst (map cell_name cells.items) c.fill_next-facts.result.0.items) c.deref.ensures
-    c.fill_next-facts.ensures.facts)
-    (shown-more _ _ _ _ _ _ (match-some _ _ _ _ c.in-Some.is c.fill_next-facts.ensures.entry).0
-    c.in-Ok.ensures.facts.0 c.self.view_is refl)
+    front-next _ _ _ _ _ _ _ _ (rw c.in-Ok.ensures.0 c.self.invariant.same) c.fill_next-facts.ensures.first
+    (counted-view _ _ _ c.self.invariant.counted c.self.view_is)
+    (match-some _ _ _ _ c.in-Some.is c.fill_next-facts.ensures.entry).0
     (subst IsLinkedBook c.self.view_is c.self.invariant.book) (given-fits {T = Prepared} c.in-Ok-prepare.latest
     (append_fault (length g.B.BookName.cells) c.args.self.now c.in-Some.other.now)
     (λ latest. Covers (arc_value latest) (c.args.self.now ++ c.in-Some.other.now ∷ []))
@@ -40,12 +42,12 @@ invariant_of-result-in-Ok-prepare g c =
 pub returns-in-Ok-prepare : goal.returns-in-Ok-prepare
 returns-in-Ok-prepare g c =
     let found = match-some _ _ _ _ c.in-Some.is c.fill_next-facts.ensures.entry in
-    found-handed _ _ _ _ c.in-Some.other.now c.requires.fits (λ same. found.1 (same ∙ sym c.in-Ok.ensures.entry))
+    found-handed _ _ _ _ c.in-Some.other.now c.requires.fits (λ same. found.1 (same ∙ sym c.in-Ok.ensures.1))
     (given-fits {T = Prepared} c.in-Ok-prepare.latest
     (append_fault (length g.B.BookName.cells) c.args.self.now c.in-Some.other.now)
     (λ latest. Covers (arc_value latest) (c.args.self.now ++ c.in-Some.other.now ∷ []))
     c.in-Ok-prepare.ensures)
-    (shown-more _ _ _ _ _ _ found.0 c.in-Ok.ensures.facts.0 c.self.view_is refl)
+    found.0
 
 pub returns : goal.returns
 returns g c =
@@ -54,5 +56,5 @@ returns g c =
     c.in-Err.why c.why_taken.result
     (λ latest. Covers (arc_value latest) (c.args.self.now ++ c.in-Some.other.now ∷ []))
     c.requires.fits
-    (λ same. found.1 (same ∙ sym c.in-Ok.ensures.entry)) c.in-Err.ensures c.why_taken.ensures.memory
+    (λ same. found.1 (same ∙ sym c.in-Ok.ensures.1)) c.in-Err.ensures c.why_taken.ensures.memory
     c.why_taken.ensures.taken
