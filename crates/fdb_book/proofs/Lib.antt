@@ -1,6 +1,5 @@
 pub mod AppendLemmas
 pub mod BookLemmas
-pub mod CloneLemmas
 pub mod FactLemmas
 pub mod FoundLemmas
 pub mod Known

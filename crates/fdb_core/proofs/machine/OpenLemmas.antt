@@ -15,7 +15,8 @@ use Rattle.fdb_core.specs.machine.Steps.{Unless, ran_out}
 use Rattle.fdb_core.proofs.common.FaultLemmas.{unless}
 use Rattle.fdb_core.specs.machine.Sessions.{Session, SessionState, Sessions, session_of, open_of, open_at, at_state, with_state}
 use Rattle.fdb_core.specs.refinement.Sessions.{OfOpen}
-use Rattle.fdb_core.proofs.machine.SessionMaps.{at_number, one_put, session-at}
+use Rattle.fdb_txn.proofs.NumberMaps.{at_number, one_put}
+use Rattle.fdb_core.proofs.machine.SessionMaps.{session-at}
 
 -- what a call answers follows from what another one does of the same transaction
 pub of-open : {T : Type 0} (opened other : Option Transcript) (result : Result T Refusal) (P Q : Transcript → Type 0)

@@ -1,4 +1,4 @@
--- The sessions as a map: what is looked up after one was put, and the list of pairs that the map is made of.
+-- The sessions as a map: what is looked up after one was put.
 use Rattle.std.proofs.Common.{◌≡◌, ◌≢◌, ◌∙◌, sym, ap, refl, subst, ⊎_elim, ℕ, Bool, true, false, cond, List, [], ◌∷◌, Option, Some}
 use Rattle.std.specs.Prelude.{◌==◌, unwrap_or}
 use Rattle.std.specs.Ordering.{nat_cmp, eq_by_cmp}
@@ -9,35 +9,8 @@ use Rattle.std.specs.Map.{lookup}
 use Rattle.std.proofs.lemmas.Cmp.{nat_cmp_total}
 use Rattle.std.proofs.lemmas.Bool.{eq-eqb, ne_eqb, false_from_ne_true}
 use Rattle.std.proofs.lemmas.Bool.Decides.{eqb_tells}
+use Rattle.fdb_txn.proofs.NumberMaps.{at_number, get-pairs, same_maps}
 use Rattle.fdb_core.specs.machine.Sessions.{Session, SessionState, Sessions, new_session, session_of, with_state}
-
--- what the list of pairs has at a number
-abbrev pub at_number : List (ℕ × Session) → ℕ → Option Session
-at_number pairs number = lookup (is_at (nat_cmp number)) pairs
-
-found-at_number : (pairs : List (ℕ × Session)) (number : ℕ) → find nat_cmp number pairs ≡ at_number pairs number
-found-at_number [] number = refl
-found-at_number (pair ∷ pairs) number =
-    ap (cond (is_at (nat_cmp number) pair.0) (Some pair.1)) (found-at_number pairs number)
-
--- what the map that the pairs make has there
-pub get-pairs : (pairs : List (ℕ × Session)) (number : ℕ)
-    → get (from_entries {R = nat_cmp} pairs) number ≡ at_number pairs number
-get-pairs pairs number = get-from_entries nat_cmp_total pairs number ∙ found-at_number pairs number
-
--- maps with equal sessions at every number are one
-same_sessions : (m n : Sessions) → ((number : ℕ) → get m number ≡ get n number) → m ≡ n
-same_sessions = same_map nat_cmp_total nat_cmp-IsAntisymmetric
-
--- pairs that differ at one number make maps that differ there
-pub one_put : (pairs after : List (ℕ × Session)) (number : ℕ) (session : Session)
-    → ((other : ℕ) → at_number after other ≡ cond (is_at (nat_cmp number) other) (Some session) (at_number pairs other))
-    → from_entries {R = nat_cmp} after ≡ insert (from_entries pairs) number session
-one_put pairs after number session there = same_sessions _ _ (λ other.
-    get-pairs after other ∙ there other
-    ∙ ap (λ b. cond b (Some session) (at_number pairs other)) ((eq_by_cmp_equiv nat_cmp_total).symm number other)
-    ∙ sym (get-insert nat_cmp_total (from_entries pairs) number session other
-    ∙ ap (cond (is_at (nat_cmp other) number) (Some session)) (get-pairs pairs other)))
 
 -- only equal numbers tie
 tie : (one other : ℕ) → eq_by_cmp nat_cmp one other ≡ (one == other)
@@ -81,7 +54,7 @@ session-new number = ap (λ (there : Option Session). unwrap_or there new_sessio
 -- a session that is put twice is the one that was put last
 pub put-again : (sessions : Sessions) (number : ℕ) (first last : Session)
     → insert (insert sessions number first) number last ≡ insert sessions number last
-put-again sessions number first last = same_sessions _ _ (λ other.
+put-again sessions number first last = same_maps _ _ (λ other.
     get-insert nat_cmp_total (insert sessions number first) number last other
     ∙ ap (cond (eq_by_cmp nat_cmp other number) (Some last))
     (get-insert nat_cmp_total sessions number first other)

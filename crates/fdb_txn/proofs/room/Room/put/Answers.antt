@@ -1,7 +1,8 @@
 use Rattle.std.proofs.Common.{◌∙◌, sym, ap}
 use Rattle.std.specs.Prelude.{is_some}
 use Rattle.std.specs.FinMap.{get, insert}
-use Rattle.fdb_txn.proofs.RoomLemmas.{get-pairs, one_put, refused_where_one_waits, let_wait, refused_for_memory}
+use Rattle.fdb_txn.proofs.NumberMaps.{get-pairs, one_put}
+use Rattle.fdb_txn.proofs.RoomLemmas.{refused_where_one_waits, let_wait, refused_for_memory}
 use Rattle.fdb_txn.proofs.room.Room.put.Goals as goal
 use Rattle.fdb_txn.proofs.room.Room.put.Goals.{in-Ok+in-Some-1, in-Ok+in-None-1, in-Err}
 

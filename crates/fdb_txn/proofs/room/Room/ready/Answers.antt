@@ -1,6 +1,6 @@
 use Rattle.std.proofs.Common.{◌∙◌, sym, ap}
 use Rattle.std.specs.FinMap.{get, remove}
-use Rattle.fdb_txn.proofs.RoomLemmas.{get-pairs, one_taken}
+use Rattle.fdb_txn.proofs.NumberMaps.{get-pairs, one_taken}
 use Rattle.fdb_txn.proofs.room.Room.ready.Goals as goal
 
 pub returns-clause-given : goal.returns-clause-given

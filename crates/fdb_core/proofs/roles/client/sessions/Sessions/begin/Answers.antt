@@ -2,7 +2,7 @@ use Rattle.std.proofs.Common.{◌∙◌, ap, ap₂, ℕ, [], Some}
 use Rattle.std.specs.FinMap.{insert}
 use Rattle.fdb_core.specs.machine.Sessions.{Session, Sessions, Open}
 use Rattle.fdb_client.specs.declared.program.Transcript.{Transcript}
-use Rattle.fdb_core.proofs.machine.SessionMaps.{one_put}
+use Rattle.fdb_txn.proofs.NumberMaps.{one_put}
 use Rattle.fdb_core.proofs.roles.client.sessions.Sessions.begin.Goals as goal
 
 pub returns : goal.returns

@@ -2,7 +2,7 @@ use Rattle.std.proofs.Common.{◌∙◌, ap, ap₂, ℕ, Option}
 use Rattle.std.specs.FinMap.{insert}
 use Rattle.fdb_core.specs.machine.Sessions.{Session, Sessions}
 use Rattle.fdb_core.specs.refinement.Views.{state_of}
-use Rattle.fdb_core.proofs.machine.SessionMaps.{one_put}
+use Rattle.fdb_txn.proofs.NumberMaps.{one_put}
 use Rattle.fdb_core.proofs.roles.client.sessions.Sessions.set_state.Goals as goal
 
 pub returns : goal.returns
