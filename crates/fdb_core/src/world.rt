@@ -1,6 +1,9 @@
 ghost use Rattle.std.specs.Prelude.{◌≡◌};
 ghost use Rattle.fdb_core.specs.machine.Steps.{ran_out as has_run_out};
 
+#[cfg(test)]
+mod tests;
+
 use crate::check::serial::check_all;
 use crate::cluster::Cluster;
 use crate::in_flight::InFlight;
