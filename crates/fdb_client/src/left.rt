@@ -4,7 +4,7 @@ use fdb_keys::Items;
 use fdb_mutations::Mutation;
 use std::alloc::AllocError;
 
-#[derive(Debug, Drop)]
+#[derive(Drop)]
 pub(crate) enum Left {
     // A value, or none, whatever stood there.
     Value(Option<Bytes>),

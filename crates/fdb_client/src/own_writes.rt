@@ -15,7 +15,7 @@ use fdb_mutations::Mutation;
 use std::alloc::{AllocError, Global};
 use std::collections::BTreeMap;
 
-#[derive(Debug, Drop)]
+#[derive(Drop)]
 pub(crate) struct OwnWrites {
     // What is left at a key, under the key's bytes.
     pub(crate) keys: BTreeMap<Bytes, Left>,

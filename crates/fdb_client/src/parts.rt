@@ -27,7 +27,7 @@ use fdb_mutations::Mutation;
 use fdb_txn::{Sealed, TxnId};
 use std::alloc::{AllocError, Global};
 
-#[derive(Debug, Drop)]
+#[derive(Drop)]
 pub(crate) struct Parts {
     pub(crate) alloc: Global,
     pub(crate) transcript: Transcript,

@@ -5,7 +5,7 @@ use fdb_keys::{Key, KeyRange, Refusal};
 use fdb_mutations::PlainMap;
 
 /// A plain map, read at a version. It is refused nothing but memory.
-#[derive(Clone, Copy, Debug)]
+#[derive(Clone, Copy)]
 pub struct PlainSnapshot<'a> {
     /// The version that it is read at.
     pub version: u64,

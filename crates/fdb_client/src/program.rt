@@ -4,7 +4,7 @@ use fdb_mutations::Mutation;
 use fdb_txn::TxnId;
 
 /// An operation of a transaction.
-#[derive(Clone, Debug, Drop, PartialEq, Eq)]
+#[derive(Clone, Drop, PartialEq, Eq)]
 pub enum Op {
     /// Reads the value of a key. A snapshot read adds nothing to the read set.
     Get {
@@ -28,7 +28,7 @@ pub enum Op {
 }
 
 /// What an operation was answered.
-#[derive(Clone, Debug, Drop, PartialEq, Eq)]
+#[derive(Clone, Drop, PartialEq, Eq)]
 pub enum Reply {
     /// The value that a key has, if any.
     Value(Option<Bytes>),
@@ -39,7 +39,7 @@ pub enum Reply {
 }
 
 /// A transaction's operations so far with their replies, the first one first.
-#[derive(Clone, Debug, Drop, PartialEq, Eq)]
+#[derive(Clone, Drop, PartialEq, Eq)]
 pub struct Transcript {
     /// The name of the transaction.
     pub id: TxnId,

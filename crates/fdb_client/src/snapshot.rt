@@ -12,7 +12,7 @@ use bytes::Bytes;
 use fdb_keys::{Items, Key, KeyRange, Refusal};
 
 /// Some pairs of a range.
-#[derive(Debug, Drop)]
+#[derive(Drop)]
 pub struct Page {
     /// The first pairs of the range in the order that was asked for, as many as the page has.
     pub pairs: Items<(Key, Bytes)>,

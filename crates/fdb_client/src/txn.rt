@@ -14,7 +14,7 @@ use std::marker::Model;
 ///
 /// A read or a write takes the logarithm of what it holds, and a read of a key also what its own atomic mutations of
 /// the key take that no write decided.
-#[derive(Debug, Drop)]
+#[derive(Drop)]
 pub struct Txn {
     parts: Parts,
 }

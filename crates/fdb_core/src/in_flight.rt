@@ -7,7 +7,7 @@ use crate::cluster::Cluster;
 use fdb_keys::Refusal;
 
 /// A batch in flight at a commit proxy, with those whose part in it the proxy waits for.
-#[derive(Clone, Copy, Debug, PartialEq, Eq)]
+#[derive(Clone, Copy, PartialEq, Eq)]
 pub struct InFlight {
     /// The number of the batch's entry.
     pub entry: u32,

@@ -5,7 +5,7 @@ use fdb_proxy::Outcome;
 use fdb_resolver::Verdict;
 
 /// One step of a client or of a role. Roles, entries and sessions are named by their numbers, from 0.
-#[derive(Debug, Drop, PartialEq, Eq)]
+#[derive(Drop, PartialEq, Eq)]
 pub enum Step {
     /// The session asks a read-version proxy for a transaction. One that is open is dropped.
     Ask {
@@ -110,7 +110,7 @@ pub enum Step {
 }
 
 /// What an accepted step answers.
-#[derive(Debug, Drop, PartialEq, Eq)]
+#[derive(Drop, PartialEq, Eq)]
 pub enum Answered {
     /// The step gives nothing.
     Done,

@@ -4,7 +4,7 @@ use std::alloc::Global;
 use std::marker::Model;
 
 /// For each point of the keys the version of the last write that was marked there, 0 where there was none.
-#[derive(Debug, Drop)]
+#[derive(Drop)]
 pub struct LastCommit {
     marks: Vec<Mark>,
 }

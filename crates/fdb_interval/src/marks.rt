@@ -6,7 +6,7 @@ ghost use Rattle.fdb_interval.specs.declared.marks.Mark.{Mark as AMark};
 
 use fdb_keys::KeyRange;
 
-#[derive(Debug, Drop)]
+#[derive(Drop)]
 pub(crate) struct Mark {
     pub(crate) range: KeyRange,
     pub(crate) version: u64,

@@ -7,7 +7,7 @@ use std::alloc::{AllocError, AllocFailed, Global};
 use std::marker::Model;
 
 /// A list of items in order, which contracts see as just that list.
-#[derive(Debug, Drop)]
+#[derive(Drop)]
 pub struct Items<T> {
     list: Vec<T>,
 }

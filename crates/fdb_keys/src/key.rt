@@ -12,7 +12,7 @@ use std::marker::Model;
 pub const KEY_LIMIT: usize = 10_000;
 
 /// A key: at most 10,000 bytes, of which the first isn't `FF`. Keys are ordered lexicographically by byte.
-#[derive(Clone, Debug, Drop, PartialEq, Eq, PartialOrd, Ord)]
+#[derive(Clone, Drop, PartialEq, Eq, PartialOrd, Ord)]
 pub struct Key {
     text: Bytes,
 }

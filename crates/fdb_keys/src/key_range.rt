@@ -18,7 +18,7 @@ use std::marker::Model;
 pub const BOUND_LIMIT: usize = 10_001;
 
 /// The keys from a begin up to but not including an end.
-#[derive(Clone, Debug, Drop, PartialEq, Eq)]
+#[derive(Clone, Drop, PartialEq, Eq)]
 pub struct KeyRange {
     begin: Bytes,
     end: Bytes,

@@ -8,7 +8,7 @@ use std::marker::Model;
 use std::slice;
 
 /// A set of keys, as the shortest sorted list of ranges that hold it.
-#[derive(Clone, Debug, Drop, PartialEq, Eq)]
+#[derive(Clone, Drop, PartialEq, Eq)]
 pub struct RangeSet {
     ranges: Items<KeyRange>,
 }

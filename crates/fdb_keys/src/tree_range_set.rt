@@ -14,7 +14,7 @@ use std::marker::Model;
 
 /// A set of keys that grows by many ranges: the list of ranges that a `RangeSet` keeps, in a tree. Adding a
 /// range takes the logarithm of how many the set has, and what the ranges take that it touches.
-#[derive(Debug, Drop)]
+#[derive(Drop)]
 pub struct TreeRangeSet {
     alloc: Global,
     // Each range is under its begin.

@@ -18,7 +18,7 @@ pub const LOG_LIMIT: u32 = 16;
 pub const TAG_LIMIT: u32 = 64;
 
 /// A log with the messages that it took, and for each tag the version through which it was popped.
-#[derive(Debug, Drop)]
+#[derive(Drop)]
 pub struct LogCore {
     alloc: Global,
     log: u32,

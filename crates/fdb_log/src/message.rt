@@ -2,7 +2,7 @@ use fdb_keys::Items;
 use fdb_mutations::Mutation;
 
 /// What a log is sent of an entry: the mutations of its committed transactions that have a tag of the log.
-#[derive(Debug, Drop)]
+#[derive(Drop)]
 pub struct LogMsg {
     /// The number of the log.
     pub log: u32,
@@ -17,7 +17,7 @@ pub struct LogMsg {
 }
 
 /// A mutation with its tags.
-#[derive(Debug, Drop)]
+#[derive(Drop)]
 pub struct Tagged {
     /// The number of its transaction's place.
     pub place: u32,
@@ -28,7 +28,7 @@ pub struct Tagged {
 }
 
 /// What a log answers once it has taken its message of an entry.
-#[derive(Clone, Copy, Debug)]
+#[derive(Clone, Copy)]
 pub struct LogAck {
     /// The number of the log.
     pub log: u32,

@@ -2,7 +2,7 @@ use fdb_keys::Items;
 use fdb_txn::TagMsg;
 
 /// What a log has for a tag after a version.
-#[derive(Debug, Drop)]
+#[derive(Drop)]
 pub struct Peek {
     /// The tag.
     pub tag: u32,

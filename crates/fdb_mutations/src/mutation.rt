@@ -24,7 +24,7 @@ pub const VALUE_LIMIT: usize = 100_000;
 /// What an operand is put to is the old value, cut to the operand's length or extended to it with zero bytes at its
 /// end. Numbers are little-endian. Where a key has no value, the mutations that compare, and `And`, set the operand,
 /// and the others take zero bytes for it.
-#[derive(Clone, Debug, Drop, PartialEq, Eq)]
+#[derive(Clone, Drop, PartialEq, Eq)]
 pub enum Mutation {
     /// The key has the value from now on.
     Set { key: Key, value: Bytes },
@@ -53,7 +53,7 @@ pub enum Mutation {
 }
 
 /// What a mutation names.
-#[derive(Clone, Copy, Debug)]
+#[derive(Clone, Copy)]
 pub enum Named<'a> {
     /// One key alone.
     Key(&'a Key),

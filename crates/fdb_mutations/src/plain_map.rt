@@ -10,7 +10,7 @@ use std::collections::BTreeMap;
 use std::marker::Model;
 
 /// A map from keys to values.
-#[derive(Debug, Drop)]
+#[derive(Drop)]
 pub struct PlainMap {
     pairs: BTreeMap<Bytes, Bytes>,
     alloc: Global,

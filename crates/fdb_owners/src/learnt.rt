@@ -8,7 +8,7 @@ use fdb_txn::Move;
 use std::alloc::{AllocError, Global};
 
 /// The moves that take effect at a version, the earliest one first.
-#[derive(Debug, Drop)]
+#[derive(Drop)]
 pub(crate) struct Learnt {
     pub(crate) version: u64,
     pub(crate) moves: Items<Move>,

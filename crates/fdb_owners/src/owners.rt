@@ -9,7 +9,7 @@ use std::marker::Model;
 ///
 /// At first each resolver owns one piece of the keys, at every version. What is learnt changes that: moves of a
 /// version change the owners of their keys from that version on.
-#[derive(Debug, Drop)]
+#[derive(Drop)]
 pub struct Owners {
     alloc: Global,
     splits: Splits,

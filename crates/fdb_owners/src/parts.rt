@@ -16,7 +16,7 @@ use fdb_txn::{Move, Splits};
 use std::alloc::Global;
 
 /// A resolver with its part of a range.
-#[derive(Debug, Drop)]
+#[derive(Drop)]
 pub struct Owned {
     /// The number of the resolver.
     pub resolver: u32,

@@ -21,7 +21,7 @@ use std::mem;
 /// A batch is sealed, and given up or, once it has a ticket, resolved; it is decided, logged and done. Then the next one
 /// may be sealed. Once memory ran out while it learnt a ticket, or once it was told to fail, a proxy has failed: every
 /// call that may be refused is, as `Failed`.
-#[derive(Debug, Drop)]
+#[derive(Drop)]
 pub struct CommitCore {
     alloc: Global,
     index: u32,

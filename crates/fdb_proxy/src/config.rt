@@ -8,7 +8,7 @@ use fdb_txn::{RESOLVER_LIMIT, Splits};
 pub const ENTRY_LIMIT: u32 = 1_048_576;
 
 /// How many of each role there are, and how keys are divided among them at the start.
-#[derive(Clone, Debug, Drop, PartialEq, Eq)]
+#[derive(Clone, Drop, PartialEq, Eq)]
 pub struct Config {
     /// How many commit proxies there are, and as many read-version proxies.
     pub proxies: u32,

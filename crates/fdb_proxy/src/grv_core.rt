@@ -8,7 +8,7 @@ use std::mem;
 
 /// A read-version proxy: the clients that asked for a read version and haven't got one, each with the greatest version
 /// that it has seen.
-#[derive(Debug, Drop)]
+#[derive(Drop)]
 pub struct GrvCore {
     asked: Vec<(u32, u64)>,
 }

@@ -19,7 +19,7 @@ use fdb_txn::{Sealed, TxnId};
 use std::alloc::{AllocError, Global};
 
 /// A batch with its position, what its clients are to be told, and for each log whether its acknowledgement came.
-#[derive(Debug, Drop)]
+#[derive(Drop)]
 pub(crate) struct Logging {
     pub(crate) position: Position,
     pub(crate) answers: Items<(TxnId, Outcome)>,

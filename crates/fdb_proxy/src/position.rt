@@ -1,5 +1,5 @@
 /// Where the batch of a commit proxy stands in the book.
-#[derive(Clone, Copy, Debug, PartialEq, Eq)]
+#[derive(Clone, Copy, PartialEq, Eq)]
 pub struct Position {
     /// The number of the batch's entry, counted from 0.
     pub index: u32,

@@ -13,7 +13,7 @@ use std::mem;
 ///
 /// Who gives the batch up, or refuses those that wait, must not need memory for that. So there is always room for the
 /// names of all, and while somebody waits there is as much again for the names of the batch.
-#[derive(Debug, Drop)]
+#[derive(Drop)]
 pub(crate) struct Requests {
     // the batch, and then those that wait
     list: Vec<Sealed>,

@@ -14,7 +14,7 @@ use fdb_resolver::{Item, Part, Verdict, Verdicts};
 use std::alloc::{AllocError, Global};
 
 /// A batch with its position, the part of each resolver, and what came of each one's verdicts.
-#[derive(Debug, Drop)]
+#[derive(Drop)]
 pub(crate) struct Resolving {
     pub(crate) position: Position,
     pub(crate) parts: Items<Part>,

@@ -9,7 +9,7 @@ use fdb_txn::TxnId;
 use std::alloc::Global;
 
 /// How far a commit proxy is with its batch.
-#[derive(Debug, Drop)]
+#[derive(Drop)]
 pub(crate) enum Stage {
     /// It has none.
     Idle,

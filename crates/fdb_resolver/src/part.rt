@@ -1,7 +1,7 @@
 use fdb_keys::{Items, RangeSet};
 
 /// What a resolver is sent of an entry: the places that it is asked about.
-#[derive(Clone, Debug, Drop)]
+#[derive(Clone, Drop)]
 pub struct Part {
     /// The number of the resolver that is asked.
     pub resolver: u32,
@@ -16,7 +16,7 @@ pub struct Part {
 }
 
 /// What a resolver is sent of one place.
-#[derive(Clone, Debug, Drop)]
+#[derive(Clone, Drop)]
 pub struct Item {
     /// The number of the place in its entry.
     pub place: u32,

@@ -8,7 +8,7 @@ use std::alloc::Global;
 use std::marker::Model;
 
 /// A resolver with what it keeps of the parts that it took: the versions at which it admitted writes.
-#[derive(Debug, Drop)]
+#[derive(Drop)]
 pub struct ResolverCore {
     alloc: Global,
     index: u32,

@@ -1,7 +1,7 @@
 use fdb_keys::Items;
 
 /// What a resolver says of a transaction.
-#[derive(Clone, Copy, Debug, PartialEq, Eq)]
+#[derive(Clone, Copy, PartialEq, Eq)]
 pub enum Verdict {
     /// It may commit.
     Yes,
@@ -12,7 +12,7 @@ pub enum Verdict {
 }
 
 /// What a resolver says of a part.
-#[derive(Debug, Drop)]
+#[derive(Drop)]
 pub struct Verdicts {
     /// The number of the resolver.
     pub resolver: u32,

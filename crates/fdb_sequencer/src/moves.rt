@@ -14,7 +14,7 @@ use std::mem;
 ///
 /// Who accepts a ticket must not need memory for that. So there is always room for the pending moves among those that
 /// took effect, which stand there once for all proxies.
-#[derive(Debug, Drop)]
+#[derive(Drop)]
 pub(crate) struct Moves {
     // those that took effect, by version
     issued: Vec<(u64, Items<Move>)>,

@@ -26,7 +26,7 @@ pub const MOVE_LIMIT: u32 = 65_536;
 /// A ticket is planned first, which changes nothing, and then accepted. Of the tickets that were planned in
 /// between two that are accepted, one is accepted, and the others are stale from then on. So are those that were
 /// planned before a move.
-#[derive(Debug, Drop)]
+#[derive(Drop)]
 pub struct SequencerCore {
     proxies: u32,
     resolvers: u32,

@@ -2,7 +2,7 @@ use fdb_keys::Items;
 use fdb_txn::Move;
 
 /// Where the batch of a commit proxy stands in the book, and which keys go over to other resolvers.
-#[derive(Debug, Drop, PartialEq, Eq)]
+#[derive(Drop, PartialEq, Eq)]
 pub struct Ticket {
     /// The number of the proxy.
     pub proxy: u32,

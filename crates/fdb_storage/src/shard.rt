@@ -10,7 +10,7 @@ use std::alloc::Global;
 use std::marker::Model;
 
 /// A shard: it holds a range of keys, and answers at each version from its floor through its version.
-#[derive(Debug, Drop)]
+#[derive(Drop)]
 pub struct Shard {
     alloc: Global,
     tag: u32,

@@ -14,7 +14,7 @@ use std::marker::Model;
 pub const SHARD_LIMIT: usize = 64;
 
 /// Which shard holds which key: shards are numbered from 0 in the order of their keys. A shard's tag is its number.
-#[derive(Debug, Drop)]
+#[derive(Drop)]
 pub struct ShardMap {
     alloc: Global,
     splits: Splits,

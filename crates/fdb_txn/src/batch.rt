@@ -6,7 +6,7 @@ use std::marker::Model;
 pub const PLACE_LIMIT: usize = 4_096;
 
 /// The transactions of one entry, in the order of their places.
-#[derive(Clone, Debug, Drop, PartialEq, Eq)]
+#[derive(Clone, Drop, PartialEq, Eq)]
 pub struct Batch {
     places: Items<Sealed>,
 }

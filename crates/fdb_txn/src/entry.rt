@@ -2,7 +2,7 @@ use crate::batch::Batch;
 use fdb_keys::{Items, KeyRange};
 
 /// A range of keys goes over to another resolver.
-#[derive(Clone, Debug, Drop, PartialEq, Eq)]
+#[derive(Clone, Drop, PartialEq, Eq)]
 pub struct Move {
     /// The keys that go over.
     pub range: KeyRange,
@@ -11,7 +11,7 @@ pub struct Move {
 }
 
 /// An entry of the book: a batch of transactions at a version.
-#[derive(Clone, Debug, Drop, PartialEq, Eq)]
+#[derive(Clone, Drop, PartialEq, Eq)]
 pub struct Entry {
     /// The version of the entry, which is the commit version of its transactions.
     pub version: u64,

@@ -11,7 +11,7 @@ use std::marker::Model;
 /// Items that wait for the one before theirs, each under its previous version: the version after which it comes. It is
 /// for a role that gets messages out of order, and takes them in the order of their versions, each right after the one
 /// whose version is its previous one.
-#[derive(Debug, Drop)]
+#[derive(Drop)]
 pub struct Room<T> {
     waiting: BTreeMap<u64, T>,
 }

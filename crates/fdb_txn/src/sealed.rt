@@ -7,7 +7,7 @@ use std::alloc::Global;
 use std::marker::Model;
 
 /// A transaction that is ready to be judged: what it read and what it will write.
-#[derive(Clone, Debug, Drop, PartialEq, Eq)]
+#[derive(Clone, Drop, PartialEq, Eq)]
 pub struct Sealed {
     id: TxnId,
     read_version: u64,
@@ -17,7 +17,7 @@ pub struct Sealed {
 }
 
 /// What a refused `Sealed::new` hands back.
-#[derive(Debug, Drop)]
+#[derive(Drop)]
 pub struct Unsealed {
     /// The read set that was given.
     pub reads: RangeSet,

@@ -11,7 +11,7 @@ use std::alloc::{AllocError, Global};
 use std::marker::Model;
 
 /// Splits of the keys into pieces: non-empty keys that rise. Each key that is a split begins a piece.
-#[derive(Debug, Drop)]
+#[derive(Drop)]
 pub struct Splits {
     keys: Items<Key>,
 }

@@ -1,5 +1,5 @@
 /// Where a committed transaction stands among all the others.
-#[derive(Clone, Copy, Debug, PartialEq, Eq)]
+#[derive(Clone, Copy, PartialEq, Eq)]
 pub enum Spot {
     /// At a place, counted from 0, of the batch of an entry of the book.
     Entry {

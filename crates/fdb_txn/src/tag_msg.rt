@@ -2,7 +2,7 @@ use fdb_keys::Items;
 use fdb_mutations::Mutation;
 
 /// What is kept of an entry for one tag: the mutations of its committed transactions that have the tag.
-#[derive(Debug, Drop)]
+#[derive(Drop)]
 pub struct TagMsg {
     /// The version of the entry.
     pub version: u64,

@@ -7,7 +7,7 @@ use fdb_client::Transcript;
 use fdb_txn::Spot;
 
 /// An acknowledged transaction with where it stands.
-#[derive(Debug, Drop)]
+#[derive(Drop)]
 pub struct Placed {
     /// Where the transaction stands.
     pub spot: Spot,
