@@ -1,5 +1,5 @@
 /// The name of a transaction: the session that runs it, and its number among that session's, from 0.
-#[derive(Clone, Copy, PartialEq, Eq)]
+#[derive(Clone, Copy, Debug, PartialEq, Eq)]
 pub struct TxnId {
     /// The session's number.
     pub session: u32,
