@@ -1,5 +1,5 @@
 /// What became of a submitted transaction.
-#[derive(Clone, Copy, PartialEq, Eq)]
+#[derive(Clone, Copy, Debug, PartialEq, Eq)]
 pub enum Outcome {
     /// It is committed, at a version and a place of the version's batch.
     Commit { version: u64, place: u32 },
