@@ -1,7 +1,8 @@
 // Sorted ranges in a map, each under its begin.
-ghost use Rattle.std.specs.Prelude.{◌≡◌, IfOk, OnOk, OnErr, IsTrue};
-ghost use Rattle.std.specs.BTreeMap.{values, insert_entry};
+ghost use Rattle.std.specs.Prelude.{◌≡◌, None, IfOk, OnOk, OnErr, IsTrue};
+ghost use Rattle.std.specs.BTreeMap.{values, insert_entry, is_at};
 ghost use Rattle.std.specs.Cmp.Lexicographic.{slice_cmp};
+ghost use Rattle.std.specs.Map.{lookup};
 ghost use Rattle.std.specs.Option.{option_copied};
 ghost use Rattle.std.specs.Ordering.{nat_cmp};
 ghost use Rattle.fdb_keys.specs.Points.{point_lt};
@@ -15,7 +16,6 @@ use crate::order::is_before;
 use bytes::Bytes;
 use std::alloc::{AllocError, Global};
 use std::collections::BTreeMap;
-use std::collections::btree_map::Entry;
 use std::ops::Bound;
 
 // The last range that begins at the point or before it.
@@ -144,10 +144,8 @@ pub(crate) fn add_both(
     ensures first_err { OnErr result (first.new.entries ≡ first.old.entries) }
     ensures second_err { OnErr result (second.new.entries ≡ second.old.entries) }
 {
-    let first_joined = join_touched(first, range, last_by(first, range.begin_text()))?;
-    let second_joined = join_touched(second, range, last_by(second, range.begin_text()))?;
-    let first_others = list_begins_within(alloc, first, &first_joined)?;
-    let second_others = list_begins_within(alloc, second, &second_joined)?;
+    let (first_joined, first_others) = join_and_list(alloc, first, range)?;
+    let (second_joined, second_others) = join_and_list(alloc, second, range)?;
     replace_in_both(
         first,
         first_joined,
@@ -157,6 +155,23 @@ pub(crate) fn add_both(
         second_others.as_slice(),
     )?;
     Ok(())
+}
+
+// The range, which has a point, joined with those that it touches, and the begins of what it swallows.
+fn join_and_list(
+    alloc: Global,
+    ranges: &BTreeMap<Bytes, KeyRange>,
+    range: &KeyRange,
+) -> Result<(KeyRange, Vec<Bytes>), AllocError>
+    requires some { IsTrue (point_lt range.now.begin range.now.end) }
+    requires keyed { AreUnderBegins ranges.now.entries }
+    requires apart { IsTrue (is_apart (values ranges.now)) }
+    ensures joined { IfOk result (λ found. found.0 ≡ joined_with_touched range.now (values ranges.now)) }
+    ensures others { IfOk result (λ found. found.1.items ≡ begins_within found.0 ranges.now.entries) }
+{
+    let joined = join_touched(ranges, range, last_by(ranges, range.begin_text()))?;
+    let others = list_begins_within(alloc, ranges, &joined)?;
+    Ok((joined, others))
 }
 
 // Does the same in two maps, or in neither.
@@ -176,21 +191,46 @@ fn replace_in_both(
     ensures second_err { OnErr result (second.new.entries ≡ second.old.entries) }
 {
     let begin = second_range.begin_text().clone()?;
-    match second.entry(begin.clone()?)? {
+    if second.contains_key(&begin) {
+        replace(first, first_range, first_others)?;
         // Nothing is refused where a range is under the begin already.
-        Entry::Occupied(mut place) => {
-            replace(first, first_range, first_others)?;
-            place.insert(second_range);
-        }
-        Entry::Vacant(place) => {
-            place.insert(second_range);
-            if let Err(why) = replace(first, first_range, first_others) {
-                second.remove(&begin);
-                return Err(why);
-            }
-        }
+        let _put = second.insert(begin, second_range);
+    } else {
+        replace_beside_new(
+            first,
+            first_range,
+            first_others,
+            second,
+            begin,
+            second_range,
+        )?;
     }
     remove_all(second, second_others);
+    Ok(())
+}
+
+// Puts the second range under a begin that the second map lacks, and does the first map's part, or neither.
+fn replace_beside_new(
+    first: &mut BTreeMap<Bytes, KeyRange>,
+    first_range: KeyRange,
+    first_others: &[Bytes],
+    second: &mut BTreeMap<Bytes, KeyRange>,
+    begin: Bytes,
+    second_range: KeyRange,
+) -> Result<(), AllocError>
+    requires absent { lookup (is_at (slice_cmp nat_cmp begin)) second.old.entries ≡ None }
+    ensures first { OnOk result (first.new.entries
+        ≡ without first_others.now (insert_entry (slice_cmp nat_cmp) first.old.entries first_range.begin first_range)) }
+    ensures second { OnOk result (second.new.entries
+        ≡ insert_entry (slice_cmp nat_cmp) second.old.entries begin second_range) }
+    ensures first_err { OnErr result (first.new.entries ≡ first.old.entries) }
+    ensures second_err { OnErr result (second.new.entries ≡ second.old.entries) }
+{
+    second.insert(begin.clone()?, second_range)?;
+    if let Err(why) = replace(first, first_range, first_others) {
+        second.remove(&begin);
+        return Err(why);
+    }
     Ok(())
 }
 

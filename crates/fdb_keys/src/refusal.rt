@@ -3,60 +3,36 @@ ghost use Rattle.fdb_keys.specs.declared.refusal.Refusal.TheVariants.{NoMemory};
 ghost use Rattle.fdb_keys.specs.Refusals.{code_of};
 
 use std::alloc::{AllocError, AllocFailed};
+use std::fmt;
 use thiserror::Error;
 
 /// Why a call was refused. Where several refusals fit, a call answers the first in its own documented order.
 #[derive(Clone, Copy, Debug, PartialEq, Eq, Error)]
 pub enum Refusal {
-    #[error("the read version is older than what is still served")]
     TransactionTooOld,
-    #[error("the version has not been reached yet")]
     FutureVersion,
-    #[error("another transaction wrote what this one had read")]
     NotCommitted,
-    #[error("it is not known whether the transaction was committed")]
     CommitUnknownResult,
-    #[error("the key or bound lies outside the legal range of keys")]
     KeyOutsideLegalRange,
-    #[error("the range ends before it begins")]
     InvertedRange,
-    #[error("the transaction exceeds its limit of bytes")]
     TransactionTooLarge,
-    #[error("the key or bound exceeds its limit of bytes")]
     KeyTooLarge,
-    #[error("the value exceeds its limit of bytes")]
     ValueTooLarge,
-    #[error("memory ran out")]
     NoMemory,
-    #[error("something that comes before this, numbered {0}, has not come yet")]
     NotYet(u64),
-    #[error("this came already, or came too late")]
     Stale,
-    #[error("an earlier call failed, and nothing can be done with this any more")]
     Failed,
-    #[error("the numbers of their kind are used up")]
     Exhausted,
-    #[error("the book is full")]
     BookFull,
-    #[error("the transaction at place {0} was submitted before")]
     Repeated(u32),
-    #[error("the operand has a length that the mutation does not take")]
     BadOperand,
-    #[error("the number or configuration is not a legal one")]
     BadConfig,
-    #[error("the entry does not follow on the one before it")]
     Chain,
-    #[error("another entry stands in this place already")]
     Taken,
-    #[error("too many moves are kept")]
     MovesFull,
-    #[error("the database is closed")]
     Closed,
-    #[error("the call does not fit the state that its role is in")]
     WrongState,
-    #[error("the session has no open transaction")]
     NoTransaction,
-    #[error("no role, entry or message has this number")]
     Unknown,
 }
 
@@ -92,6 +68,47 @@ impl Refusal {
             Refusal::NoTransaction => 9015,
             Refusal::Unknown => 9016,
         }
+    }
+}
+
+impl fmt::Display for Refusal {
+    fn fmt<W: fmt::Write>(&self, f: &mut fmt::Formatter<W>) -> fmt::Result {
+        let sentence = match self {
+            Refusal::NotYet(number) => {
+                return write!(
+                    f,
+                    "something that comes before this, numbered {number}, has not come yet"
+                );
+            }
+            Refusal::Repeated(place) => {
+                return write!(f, "the transaction at place {place} was submitted before");
+            }
+            Refusal::TransactionTooOld => "the read version is older than what is still served",
+            Refusal::FutureVersion => "the version has not been reached yet",
+            Refusal::NotCommitted => "another transaction wrote what this one had read",
+            Refusal::CommitUnknownResult => "it is not known whether the transaction was committed",
+            Refusal::KeyOutsideLegalRange =>
+                "the key or bound lies outside the legal range of keys",
+            Refusal::InvertedRange => "the range ends before it begins",
+            Refusal::TransactionTooLarge => "the transaction exceeds its limit of bytes",
+            Refusal::KeyTooLarge => "the key or bound exceeds its limit of bytes",
+            Refusal::ValueTooLarge => "the value exceeds its limit of bytes",
+            Refusal::NoMemory => "memory ran out",
+            Refusal::Stale => "this came already, or came too late",
+            Refusal::Failed => "an earlier call failed, and nothing can be done with this any more",
+            Refusal::Exhausted => "the numbers of their kind are used up",
+            Refusal::BookFull => "the book is full",
+            Refusal::BadOperand => "the operand has a length that the mutation does not take",
+            Refusal::BadConfig => "the number or configuration is not a legal one",
+            Refusal::Chain => "the entry does not follow on the one before it",
+            Refusal::Taken => "another entry stands in this place already",
+            Refusal::MovesFull => "too many moves are kept",
+            Refusal::Closed => "the database is closed",
+            Refusal::WrongState => "the call does not fit the state that its role is in",
+            Refusal::NoTransaction => "the session has no open transaction",
+            Refusal::Unknown => "no role, entry or message has this number",
+        };
+        f.write_str(sentence)
     }
 }
 

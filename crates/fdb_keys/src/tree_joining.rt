@@ -1,5 +1,5 @@
 // Many ranges added to a map at once, or none of them: what may lack memory comes first, and is undone where it does.
-ghost use Rattle.std.specs.Prelude.{◌≡◌, ◌∷◌, None, IfOk, OnOk, OnErr, IsTrue};
+ghost use Rattle.std.specs.Prelude.{◌≡◌, ◌∷◌, ◌++◌, [], None, IfOk, OnOk, OnErr, IsTrue};
 ghost use Rattle.std.specs.BTreeMap.{values, insert_entry, is_at};
 ghost use Rattle.std.specs.Cmp.Lexicographic.{slice_cmp};
 ghost use Rattle.std.specs.Map.{lookup};
@@ -102,11 +102,25 @@ fn put(
         ≡ insert_entry (slice_cmp nat_cmp) ranges.old.entries range.now.begin range.now) }
     ensures back { all_put_back held.new.items ranges.new.entries ≡ all_put_back held.old.items ranges.old.entries }
 {
-    let begin = range.begin_text().clone()?;
     let copy = range.clone()?;
-    let before = copy_under(ranges, &begin)?;
-    held.push((begin.clone()?, before))?;
+    let begin = range.begin_text().clone()?;
+    hold(ranges, &begin, held)?;
     ranges.insert(begin, copy)?;
+    Ok(())
+}
+
+// Adds to the list what is under the begin.
+fn hold(
+    ranges: &BTreeMap<Bytes, KeyRange>,
+    begin: &Bytes,
+    held: &mut Vec<(Bytes, Option<KeyRange>)>,
+) -> Result<(), AllocError>
+    ensures ok { OnOk result (held.new.items ≡ held.old.items
+        ++ (begin.now, lookup (is_at (slice_cmp nat_cmp begin.now)) ranges.now.entries) ∷ []) }
+    ensures err { OnErr result (held.new.items ≡ held.old.items) }
+{
+    let before = copy_under(ranges, begin)?;
+    held.push((begin.clone()?, before))?;
     Ok(())
 }
 
