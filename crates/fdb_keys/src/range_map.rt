@@ -201,7 +201,7 @@ fn replace_in_both(
             first_range,
             first_others,
             second,
-            begin,
+            &begin,
             second_range,
         )?;
     }
@@ -215,20 +215,20 @@ fn replace_beside_new(
     first_range: KeyRange,
     first_others: &[Bytes],
     second: &mut BTreeMap<Bytes, KeyRange>,
-    begin: Bytes,
+    begin: &Bytes,
     second_range: KeyRange,
 ) -> Result<(), AllocError>
-    requires absent { lookup (is_at (slice_cmp nat_cmp begin)) second.old.entries ≡ None }
+    requires absent { lookup (is_at (slice_cmp nat_cmp begin.now)) second.old.entries ≡ None }
     ensures first { OnOk result (first.new.entries
         ≡ without first_others.now (insert_entry (slice_cmp nat_cmp) first.old.entries first_range.begin first_range)) }
     ensures second { OnOk result (second.new.entries
-        ≡ insert_entry (slice_cmp nat_cmp) second.old.entries begin second_range) }
+        ≡ insert_entry (slice_cmp nat_cmp) second.old.entries begin.now second_range) }
     ensures first_err { OnErr result (first.new.entries ≡ first.old.entries) }
     ensures second_err { OnErr result (second.new.entries ≡ second.old.entries) }
 {
     second.insert(begin.clone()?, second_range)?;
     if let Err(why) = replace(first, first_range, first_others) {
-        second.remove(&begin);
+        second.remove(begin);
         return Err(why);
     }
     Ok(())
