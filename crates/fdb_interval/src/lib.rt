@@ -3,7 +3,5 @@
 
 mod last_commit;
 mod marks;
-#[cfg(test)]
-mod tests;
 
 pub use last_commit::LastCommit;

@@ -11,8 +11,6 @@ mod range_map;
 mod range_set;
 mod refusal;
 mod removal;
-#[cfg(test)]
-mod tests;
 mod tree_joining;
 mod tree_range_set;
 

@@ -7,8 +7,6 @@ mod numbers;
 mod operands;
 mod pairs;
 mod plain_map;
-#[cfg(test)]
-mod tests;
 
 pub use mutation::{Mutation, Named, VALUE_LIMIT};
 pub use plain_map::PlainMap;

@@ -1,5 +1,5 @@
 // Marks with known answers.
-use crate::last_commit::LastCommit;
+use fdb_interval::LastCommit;
 use fdb_keys::{KeyRange, Refusal};
 use std::alloc::Global;
 use std::test::Fail;

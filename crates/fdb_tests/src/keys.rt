@@ -1,34 +1,14 @@
 // Calls with known answers. A test that holds a value leaves early nowhere, since the prover goes over all that is held
 // at each exit: what asks the value answers plain data.
-use crate::items::Items;
-use crate::key::Key;
-use crate::key_range::KeyRange;
-use crate::range_set::RangeSet;
-use crate::refusal::Refusal;
-use crate::tree_range_set::TreeRangeSet;
+use crate::making::{code_of, has_bounds, is_one_range};
+use fdb_keys::{Items, Key, KeyRange, RangeSet, Refusal, TreeRangeSet};
 use std::alloc::Global;
 use std::test::Fail;
-
-// The code of the refusal, or 0 where the text is a key.
-fn key_code(alloc: Global, text: &[u8]) -> u32 {
-    match Key::new(alloc, text) {
-        Ok(_key) => 0,
-        Err(why) => why.code(),
-    }
-}
-
-// The code of the refusal, or 0 where the two texts are a range.
-fn range_code(alloc: Global, begin: &[u8], end: &[u8]) -> u32 {
-    match KeyRange::new(alloc, begin, end) {
-        Ok(_range) => 0,
-        Err(why) => why.code(),
-    }
-}
 
 // The code of a key of as many bytes.
 fn long_key_code(alloc: Global, count: usize) -> Result<u32, Refusal> {
     let text = vec![in alloc; b'a'; count]?;
-    Ok(key_code(alloc, text.as_slice()))
+    Ok(code_of(Key::new(alloc, text.as_slice())))
 }
 
 // Whether the range has the key. There is no answer where memory ran out.
@@ -127,18 +107,6 @@ fn add_all(alloc: Global, tree: &mut TreeRangeSet, bounds: &[(&[u8], &[u8])]) ->
     tree.add_all(&set).is_ok()
 }
 
-fn has_bounds(range: &KeyRange, begin: &[u8], end: &[u8]) -> bool {
-    range.begin() == begin && range.end() == end
-}
-
-// Whether the set is the one range.
-fn is_one_range(set: &RangeSet, begin: &[u8], end: &[u8]) -> bool {
-    match set.iter().as_slice() {
-        [range] => has_bounds(range, begin, end),
-        _ => false,
-    }
-}
-
 // The set of the ranges, which are added one after another.
 fn tree_of(alloc: Global, bounds: &[(&[u8], &[u8])]) -> Result<TreeRangeSet, Refusal> {
     let mut tree = TreeRangeSet::new(alloc);
@@ -156,7 +124,7 @@ fn tree_is_one_range(alloc: Global, tree: &TreeRangeSet, begin: &[u8], end: &[u8
         None => false,
     };
     match tree.to_set(alloc) {
-        Ok(set) => one && is_one_range(&set, begin, end),
+        Ok(set) => one && is_one_range(set.iter().as_slice(), begin, end),
         Err(_why) => false,
     }
 }
@@ -230,15 +198,15 @@ fn outside(alloc: Global, bounds: &[(&[u8], &[u8])]) -> Result<RangeSet, Refusal
 fn keys_are_short_and_come_before_ff(rt: HostRuntime) -> Result<(), Fail> {
     assert_eq!(rt; long_key_code(rt.alloc(), 10_000)?, 0);
     assert_eq!(rt; long_key_code(rt.alloc(), 10_001)?, 2102);
-    assert_eq!(rt; key_code(rt.alloc(), &[0xff]), 2004);
+    assert_eq!(rt; code_of(Key::new(rt.alloc(), &[0xff])), 2004);
     Ok(())
 }
 
 #[test]
 fn ranges_are_ordered_and_end_at_ff(rt: HostRuntime) {
-    assert_eq!(rt; range_code(rt.alloc(), b"a", &[0xff]), 0);
-    assert_eq!(rt; range_code(rt.alloc(), b"a", &[0xff, 0]), 2004);
-    assert_eq!(rt; range_code(rt.alloc(), b"b", b"a"), 2005);
+    assert_eq!(rt; code_of(KeyRange::new(rt.alloc(), b"a", &[0xff])), 0);
+    assert_eq!(rt; code_of(KeyRange::new(rt.alloc(), b"a", &[0xff, 0])), 2004);
+    assert_eq!(rt; code_of(KeyRange::new(rt.alloc(), b"b", b"a")), 2005);
 }
 
 #[test]
@@ -283,7 +251,7 @@ fn range_is_cut_at_a_key(rt: HostRuntime) -> Result<(), Fail> {
 fn touching_ranges_are_joined(rt: HostRuntime) {
     let mut set = RangeSet::new(rt.alloc());
     assert!(rt; add_to_d(&mut set, rt.alloc()));
-    assert!(rt; is_one_range(&set, b"a", b"d"));
+    assert!(rt; is_one_range(set.iter().as_slice(), b"a", b"d"));
     assert!(rt; !set.is_empty());
 }
 

@@ -1,93 +1,20 @@
 // Calls with known answers. The prover goes over every kind of mutation where one goes out of scope, so few functions
 // hold one, each drops it by a call, and none leaves early.
-use crate::mutation::Mutation;
-use crate::plain_map::PlainMap;
+use crate::making::{
+    add, and, applies, byte_max, byte_min, clear, clear_range, code_of, compare_and_clear, fill,
+    has_bounds, max, min, or, set, xor,
+};
 use bytes::Bytes;
 use fdb_keys::{Items, Key, KeyRange, Refusal};
+use fdb_mutations::{Mutation, PlainMap};
 use std::alloc::Global;
 use std::test::Fail;
-
-// The key a, and an operand.
-fn parts(alloc: Global, operand: &[u8]) -> Result<(Key, Bytes), Refusal> {
-    let key = Key::new(alloc, b"a")?;
-    let operand = Bytes::copy_from_slice(alloc, operand)?;
-    Ok((key, operand))
-}
-
-fn add(alloc: Global, operand: &[u8]) -> Result<Mutation, Refusal> {
-    let (key, operand) = parts(alloc, operand)?;
-    Ok(Mutation::Add { key, operand })
-}
-
-fn and(alloc: Global, operand: &[u8]) -> Result<Mutation, Refusal> {
-    let (key, operand) = parts(alloc, operand)?;
-    Ok(Mutation::And { key, operand })
-}
-
-fn or(alloc: Global, operand: &[u8]) -> Result<Mutation, Refusal> {
-    let (key, operand) = parts(alloc, operand)?;
-    Ok(Mutation::Or { key, operand })
-}
-
-fn xor(alloc: Global, operand: &[u8]) -> Result<Mutation, Refusal> {
-    let (key, operand) = parts(alloc, operand)?;
-    Ok(Mutation::Xor { key, operand })
-}
-
-fn max(alloc: Global, operand: &[u8]) -> Result<Mutation, Refusal> {
-    let (key, operand) = parts(alloc, operand)?;
-    Ok(Mutation::Max { key, operand })
-}
-
-fn min(alloc: Global, operand: &[u8]) -> Result<Mutation, Refusal> {
-    let (key, operand) = parts(alloc, operand)?;
-    Ok(Mutation::Min { key, operand })
-}
-
-fn byte_min(alloc: Global, operand: &[u8]) -> Result<Mutation, Refusal> {
-    let (key, operand) = parts(alloc, operand)?;
-    Ok(Mutation::ByteMin { key, operand })
-}
-
-fn byte_max(alloc: Global, operand: &[u8]) -> Result<Mutation, Refusal> {
-    let (key, operand) = parts(alloc, operand)?;
-    Ok(Mutation::ByteMax { key, operand })
-}
-
-fn compare_and_clear(alloc: Global, operand: &[u8]) -> Result<Mutation, Refusal> {
-    let (key, operand) = parts(alloc, operand)?;
-    Ok(Mutation::CompareAndClear { key, operand })
-}
-
-fn set(alloc: Global, key: &[u8], value: &[u8]) -> Result<Mutation, Refusal> {
-    let key = Key::new(alloc, key)?;
-    let value = Bytes::copy_from_slice(alloc, value)?;
-    Ok(Mutation::Set { key, value })
-}
-
-fn clear(alloc: Global, key: &[u8]) -> Result<Mutation, Refusal> {
-    let key = Key::new(alloc, key)?;
-    Ok(Mutation::Clear { key })
-}
-
-fn clear_range(alloc: Global, begin: &[u8], end: &[u8]) -> Result<Mutation, Refusal> {
-    let range = KeyRange::new(alloc, begin, end)?;
-    Ok(Mutation::ClearRange { range })
-}
-
-// The code of the refusal, or 0 where the mutation is a legal one.
-fn check_code(mutation: &Mutation) -> u32 {
-    match mutation.check() {
-        Ok(()) => 0,
-        Err(why) => why.code(),
-    }
-}
 
 // The code of the refusal, or 0, and the size. There is none where memory ran out.
 fn code_and_size(mutation: Result<Mutation, Refusal>) -> Option<(u32, u64)> {
     match mutation {
         Ok(mutation) => {
-            let found = (check_code(&mutation), mutation.size());
+            let found = (code_of(mutation.check()), mutation.size());
             drop(mutation);
             Some(found)
         }
@@ -98,7 +25,7 @@ fn code_and_size(mutation: Result<Mutation, Refusal>) -> Option<(u32, u64)> {
 // The same of an `Add` of as many bytes.
 fn of_add(alloc: Global, count: usize) -> Result<Option<(u32, u64)>, Refusal> {
     let operand = vec![in alloc; 1u8; count]?;
-    Ok(code_and_size(add(alloc, operand.as_slice())))
+    Ok(code_and_size(add(alloc, b"a", operand.as_slice())))
 }
 
 // The same of a `Set` to as many bytes.
@@ -174,29 +101,6 @@ fn clears(alloc: Global, mutation: Result<Mutation, Refusal>, value: &[u8]) -> b
     leaves(alloc, mutation, Some(value), None)
 }
 
-fn is_applied(map: &mut PlainMap, mutation: &Mutation) -> bool {
-    map.apply(mutation).is_ok()
-}
-
-// Whether the mutation could be made and applied.
-fn applies(map: &mut PlainMap, mutation: Result<Mutation, Refusal>) -> bool {
-    match mutation {
-        Ok(mutation) => {
-            let holds = is_applied(map, &mutation);
-            drop(mutation);
-            holds
-        }
-        Err(_why) => false,
-    }
-}
-
-// Gives the keys a, b and c the values 1, 2 and 3.
-fn fill(map: &mut PlainMap, alloc: Global) -> bool {
-    applies(map, set(alloc, b"c", b"3"))
-        && applies(map, set(alloc, b"a", b"1"))
-        && applies(map, set(alloc, b"b", b"2"))
-}
-
 fn pairs(
     map: &PlainMap,
     alloc: Global,
@@ -220,10 +124,6 @@ fn is_pair(pairs: &[(Key, Bytes)], key: &[u8], value: &[u8]) -> bool {
 fn clipped(alloc: Global, mutation: &Mutation) -> Result<Option<Mutation>, Refusal> {
     let range = KeyRange::new(alloc, b"m", b"t")?;
     mutation.clip(&range)
-}
-
-fn has_bounds(range: &KeyRange, begin: &[u8], end: &[u8]) -> bool {
-    range.begin() == begin && range.end() == end
 }
 
 // Whether there is a clear of just these keys, or nothing where none are given.
@@ -311,47 +211,54 @@ fn added_numbers_have_1_to_16_bytes(rt: HostRuntime) -> Result<(), Fail> {
 #[test]
 fn sums_have_the_length_of_the_operand(rt: HostRuntime) {
     let alloc = rt.alloc();
-    assert!(rt; turns(alloc, add(alloc, &[1, 0]), &[0xff], &[0, 1]));
-    assert!(rt; turns(alloc, add(alloc, &[1]), &[0xff, 7], &[0]));
-    assert!(rt; makes(alloc, add(alloc, &[5]), &[5]));
+    assert!(rt; turns(alloc, add(alloc, b"a", &[1, 0]), &[0xff], &[0, 1]));
+    assert!(rt; turns(alloc, add(alloc, b"a", &[1]), &[0xff, 7], &[0]));
+    assert!(rt; makes(alloc, add(alloc, b"a", &[5]), &[5]));
 }
 
 #[test]
 fn bits_are_those_of_the_fitted_value(rt: HostRuntime) {
     let alloc = rt.alloc();
-    assert!(rt; turns(alloc, and(alloc, &[0x0f, 0x0f]), &[0xff], &[0x0f, 0]));
-    assert!(rt; turns(alloc, or(alloc, &[]), &[7], &[]));
-    assert!(rt; turns(alloc, xor(alloc, &[0xff]), &[0x0f, 1], &[0xf0]));
+    assert!(rt; turns(alloc, and(alloc, b"a", &[0x0f, 0x0f]), &[0xff], &[0x0f, 0]));
+    assert!(rt; turns(alloc, or(alloc, b"a", &[]), &[7], &[]));
+    assert!(rt; turns(alloc, xor(alloc, b"a", &[0xff]), &[0x0f, 1], &[0xf0]));
 }
 
 #[test]
 fn operand_stands_where_no_value_did(rt: HostRuntime) {
     let alloc = rt.alloc();
-    assert!(rt; makes(alloc, and(alloc, &[0x0f]), &[0x0f]));
-    assert!(rt; makes(alloc, xor(alloc, &[0xff]), &[0xff]));
-    assert!(rt; makes(alloc, min(alloc, &[5]), &[5]));
+    assert!(rt; makes(alloc, and(alloc, b"a", &[0x0f]), &[0x0f]));
+    assert!(rt; makes(alloc, xor(alloc, b"a", &[0xff]), &[0xff]));
+    assert!(rt; makes(alloc, min(alloc, b"a", &[5]), &[5]));
 }
 
 #[test]
 fn numbers_are_compared_from_the_last_byte(rt: HostRuntime) {
     let alloc = rt.alloc();
-    assert!(rt; turns(alloc, max(alloc, &[1, 2]), &[0xff, 1], &[1, 2]));
-    assert!(rt; turns(alloc, min(alloc, &[1, 2]), &[0xff, 1], &[0xff, 1]));
-    assert!(rt; turns(alloc, min(alloc, &[5, 0]), &[9], &[5, 0]));
+    assert!(rt; turns(alloc, max(alloc, b"a", &[1, 2]), &[0xff, 1], &[1, 2]));
+    assert!(rt; turns(alloc, min(alloc, b"a", &[1, 2]), &[0xff, 1], &[0xff, 1]));
+    assert!(rt; turns(alloc, min(alloc, b"a", &[5, 0]), &[9], &[5, 0]));
 }
 
 #[test]
 fn bytes_are_compared_from_the_first_one(rt: HostRuntime) {
     let alloc = rt.alloc();
-    assert!(rt; turns(alloc, byte_max(alloc, &[1, 2]), &[0xff, 1], &[0xff, 1]));
-    assert!(rt; turns(alloc, byte_min(alloc, &[1, 2]), &[0xff, 1], &[1, 2]));
+    assert!(rt;
+        turns(
+            alloc,
+            byte_max(alloc, b"a", &[1, 2]),
+            &[0xff, 1],
+            &[0xff, 1]
+        )
+    );
+    assert!(rt; turns(alloc, byte_min(alloc, b"a", &[1, 2]), &[0xff, 1], &[1, 2]));
 }
 
 #[test]
 fn only_an_equal_value_is_cleared(rt: HostRuntime) {
     let alloc = rt.alloc();
-    assert!(rt; clears(alloc, compare_and_clear(alloc, &[7]), &[7]));
-    assert!(rt; turns(alloc, compare_and_clear(alloc, &[7]), &[8], &[8]));
+    assert!(rt; clears(alloc, compare_and_clear(alloc, b"a", &[7]), &[7]));
+    assert!(rt; turns(alloc, compare_and_clear(alloc, b"a", &[7]), &[8], &[8]));
 }
 
 #[test]
@@ -360,8 +267,8 @@ fn ranges_are_read_in_both_orders(rt: HostRuntime) -> Result<(), Fail> {
     assert!(rt; fill(&mut map, rt.alloc()));
     let first = pairs(&map, rt.alloc(), b"c", 1, false)?;
     let last = pairs(&map, rt.alloc(), b"c", 1, true)?;
-    assert!(rt; is_pair(first.as_slice(), b"a", b"1"));
-    assert!(rt; is_pair(last.as_slice(), b"b", b"2"));
+    assert!(rt; is_pair(first.as_slice(), b"a", &[1]));
+    assert!(rt; is_pair(last.as_slice(), b"b", &[2]));
     Ok(())
 }
 
@@ -391,7 +298,7 @@ fn other_keys_keep_their_values(rt: HostRuntime) -> Result<(), Fail> {
     assert!(rt; fill(&mut map, rt.alloc()));
     assert!(rt; applies(&mut map, clear_range(rt.alloc(), b"a", b"c")));
     let left = pairs(&map, rt.alloc(), b"z", 0, false)?;
-    assert!(rt; is_pair(left.as_slice(), b"c", b"3"));
+    assert!(rt; is_pair(left.as_slice(), b"c", &[3]));
     Ok(())
 }
 
