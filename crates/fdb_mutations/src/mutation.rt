@@ -7,14 +7,14 @@ ghost use Rattle.fdb_keys.specs.Ranges.{Range, in_range};
 ghost use Rattle.fdb_mutations.specs.Maps.{Map};
 ghost use Rattle.fdb_mutations.specs.Mutations.{mutation_fault, named, names, named_range, is_blind, mutation_size, new_value, effect, clipped_mutation, effect_of, carried};
 ghost use Rattle.fdb_mutations.specs.Naming.{named_by};
-ghost use Rattle.fdb_mutations.specs.declared.mutation.Mutation.TheVariants.{Clear, ClearRange};
+ghost use Rattle.fdb_mutations.specs.declared.mutation.Mutation.TheVariants.{Set, Clear, ClearRange};
 
 use crate::operands::{
     added, and, byte_max, byte_min, copy, is_addend, max, min, or, without, xor,
 };
 use bytes::Bytes;
 use fdb_keys::{Key, KeyRange, Refusal};
-use std::alloc::Global;
+use std::alloc::{AllocError, Global};
 
 /// The most bytes that a value may have.
 pub const VALUE_LIMIT: usize = 100_000;
@@ -24,7 +24,7 @@ pub const VALUE_LIMIT: usize = 100_000;
 /// What an operand is put to is the old value, cut to the operand's length or extended to it with zero bytes at its
 /// end. Numbers are little-endian. Where a key has no value, the mutations that compare, and `And`, set the operand,
 /// and the others take zero bytes for it.
-#[derive(Clone, Drop, PartialEq, Eq)]
+#[derive(Drop, PartialEq, Eq)]
 pub enum Mutation {
     /// The key has the value from now on.
     Set { key: Key, value: Bytes },
@@ -211,4 +211,84 @@ impl Mutation {
             | Mutation::CompareAndClear { operand, .. } => operand.as_slice(),
         }
     }
+}
+
+// Written out, since a derived one takes the prover four times as long: there each case holds the copied key while it
+// copies the value.
+impl Clone for Mutation {
+    ghost is_clone = { λ mutation copy. copy ≡ mutation };
+
+    fn clone(&self) -> Result<Self, AllocError> {
+        match self {
+            Mutation::Set { key, value } => set_copy(key, value),
+            Mutation::Clear { key } => clear_copy(key),
+            Mutation::ClearRange { range } => clear_range_copy(range),
+            Mutation::Add { key, operand } => {
+                let (key, operand) = copies(key, operand)?;
+                Ok(Mutation::Add { key, operand })
+            }
+            Mutation::And { key, operand } => {
+                let (key, operand) = copies(key, operand)?;
+                Ok(Mutation::And { key, operand })
+            }
+            Mutation::Or { key, operand } => {
+                let (key, operand) = copies(key, operand)?;
+                Ok(Mutation::Or { key, operand })
+            }
+            Mutation::Xor { key, operand } => {
+                let (key, operand) = copies(key, operand)?;
+                Ok(Mutation::Xor { key, operand })
+            }
+            Mutation::Max { key, operand } => {
+                let (key, operand) = copies(key, operand)?;
+                Ok(Mutation::Max { key, operand })
+            }
+            Mutation::Min { key, operand } => {
+                let (key, operand) = copies(key, operand)?;
+                Ok(Mutation::Min { key, operand })
+            }
+            Mutation::ByteMin { key, operand } => {
+                let (key, operand) = copies(key, operand)?;
+                Ok(Mutation::ByteMin { key, operand })
+            }
+            Mutation::ByteMax { key, operand } => {
+                let (key, operand) = copies(key, operand)?;
+                Ok(Mutation::ByteMax { key, operand })
+            }
+            Mutation::CompareAndClear { key, operand } => {
+                let (key, operand) = copies(key, operand)?;
+                Ok(Mutation::CompareAndClear { key, operand })
+            }
+        }
+    }
+}
+
+// A copy of the key and one of the value or operand.
+fn copies(key: &Key, carried: &Bytes) -> Result<(Key, Bytes), AllocError>
+    ensures { IfOk result (λ copies. copies ≡ (key.now, carried.now)) }
+{
+    let key = key.clone()?;
+    let carried = carried.clone()?;
+    Ok((key, carried))
+}
+
+fn set_copy(key: &Key, value: &Bytes) -> Result<Mutation, AllocError>
+    ensures { IfOk result (λ copy. copy ≡ Set key.now value.now) }
+{
+    let (key, value) = copies(key, value)?;
+    Ok(Mutation::Set { key, value })
+}
+
+fn clear_copy(key: &Key) -> Result<Mutation, AllocError>
+    ensures { IfOk result (λ copy. copy ≡ Clear key.now) }
+{
+    let key = key.clone()?;
+    Ok(Mutation::Clear { key })
+}
+
+fn clear_range_copy(range: &KeyRange) -> Result<Mutation, AllocError>
+    ensures { IfOk result (λ copy. copy ≡ ClearRange range.now) }
+{
+    let range = range.clone()?;
+    Ok(Mutation::ClearRange { range })
 }
