@@ -2,7 +2,7 @@
 ghost use Rattle.std.specs.Prelude.{◌≡◌};
 ghost use Rattle.std.specs.Bool.{Decides};
 ghost use Rattle.fdb_mutations.specs.Equality.{mutation_eq};
-ghost use Rattle.fdb_mutations.specs.Examples.{WorkedExamples};
+ghost use Rattle.fdb_mutations.specs.Examples.{WorkedExamples, WorkedSizes, OperandsAreCarried};
 ghost use Rattle.fdb_mutations.specs.Mutations.{EffectAtEveryPoint, BlindIsBlind, RangesAreCleared};
 ghost use Rattle.fdb_mutations.specs.PairExamples.{WorkedReads};
 ghost use Rattle.fdb_mutations.specs.PairLaws.{RangeHasThePairsOfItsParts, PairsFromAKeyOn, KeyHasItsPair, SameValuesSamePairs, NoValuesNoPairs, ScannedLiesInTheRange, ScannedHasWhatWasGiven, ScannedDecidesWhatIsGiven};
@@ -55,9 +55,11 @@ pub fn scanned_decides_what_is_given()
     ensures decided { ScannedDecidesWhatIsGiven }
 {}
 
-/// What mutations leave of some values.
+/// What mutations of each kind leave of some values, how many bytes they have, and what they carry.
 pub fn worked_examples()
-    ensures { WorkedExamples }
+    ensures left { WorkedExamples }
+    ensures sizes { WorkedSizes }
+    ensures carried { OperandsAreCarried }
 {}
 
 /// What reads of some ranges are given and scanned.
