@@ -1,4 +1,5 @@
 pub mod Appending
+pub mod Examples
 pub mod Facts
 pub mod Fronts
 pub mod Laws

@@ -2,6 +2,7 @@ pub mod Answers
 pub mod Clipping
 pub mod Cutting
 pub mod Equality
+pub mod Examples
 pub mod Insertion
 pub mod Joining
 pub mod KeyOrder

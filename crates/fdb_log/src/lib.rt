@@ -2,6 +2,7 @@
 #![tactic(auto)]
 
 mod copying;
+pub mod laws;
 mod log_core;
 mod message;
 mod peek;

@@ -1,4 +1,5 @@
 //! What a resolver's rule says of the book, for the proofs of the crates that use it.
+ghost use Rattle.fdb_resolver.specs.Examples.{WorkedRefusals};
 ghost use Rattle.fdb_resolver.specs.RuleLaws.{VerdictsAreByTheBook, PlacesKeepState};
 
 /// A resolver that has its part of a place alone, and has forgotten what lies below the window, says of
@@ -6,4 +7,9 @@ ghost use Rattle.fdb_resolver.specs.RuleLaws.{VerdictsAreByTheBook, PlacesKeepSt
 pub fn verdicts_are_by_the_book()
     ensures verdicts { VerdictsAreByTheBook }
     ensures states { PlacesKeepState }
+{}
+
+/// Why parts are refused, by examples: which refusal comes first.
+pub fn worked_refusals()
+    ensures { WorkedRefusals }
 {}

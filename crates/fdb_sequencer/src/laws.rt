@@ -2,6 +2,7 @@
 ghost use Rattle.std.specs.Prelude.{◌≡◌};
 ghost use Rattle.std.specs.Bool.{Decides};
 ghost use Rattle.fdb_sequencer.specs.Equality.{ticket_eq};
+ghost use Rattle.fdb_sequencer.specs.Examples.{WorkedVersions, WorkedPlans, WorkedTickets, WorkedMoves, WorkedReports, WorkedNumbers};
 ghost use Rattle.fdb_sequencer.specs.TicketLaws.{PlannedAreAccepted, AcceptedArePlanned, AcceptedOnce, IndicesCountUp, TicketsMakeABook, FirstTicketsAreABook, EachMoveTakesEffectOnce, EachProxyGetsEachMoveOnce, PlannedMayBeLearnt};
 
 use crate::ticket::Ticket;
@@ -44,4 +45,14 @@ pub fn each_proxy_gets_each_move_once()
 /// that exist.
 pub fn planned_tickets_may_be_learnt()
     ensures { PlannedMayBeLearnt }
+{}
+
+/// Which versions tickets have, and why calls are refused, by examples: each limit, and which refusal comes first.
+pub fn worked_refusals()
+    ensures versions { WorkedVersions }
+    ensures plans { WorkedPlans }
+    ensures tickets { WorkedTickets }
+    ensures moves { WorkedMoves }
+    ensures reports { WorkedReports }
+    ensures numbers { WorkedNumbers }
 {}

@@ -1,4 +1,5 @@
 //! Which shards a mutation concerns, and what messages leave, for the proofs of the crates that use these types.
+ghost use Rattle.fdb_storage.specs.Examples.{WorkedReads, WorkedParts, WorkedApplies, WorkedFloors};
 ghost use Rattle.fdb_storage.specs.LogMessages.{LogsAreSentTheMessages, MessagesAboveAVersion};
 ghost use Rattle.fdb_storage.specs.ShardMaps.{TagsAreTheShards};
 
@@ -13,4 +14,12 @@ pub fn tags_are_the_shards_that_a_mutation_concerns()
 pub fn logs_are_sent_the_messages_of_their_tags()
     ensures sent { LogsAreSentTheMessages }
     ensures above { MessagesAboveAVersion }
+{}
+
+/// Why calls are refused, by examples: which refusal comes first, and where a shard serves.
+pub fn worked_refusals()
+    ensures reads { WorkedReads }
+    ensures parts { WorkedParts }
+    ensures applies { WorkedApplies }
+    ensures floors { WorkedFloors }
 {}

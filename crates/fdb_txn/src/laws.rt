@@ -7,7 +7,7 @@ ghost use Rattle.fdb_txn.specs.declared.batch.TheConstants.{PLACE_LIMIT};
 ghost use Rattle.fdb_txn.specs.declared.limits.TheConstants.{RESOLVER_LIMIT, WINDOW};
 ghost use Rattle.fdb_txn.specs.Limits.{place_limit, resolver_limit};
 ghost use Rattle.fdb_txn.specs.rules.Owners.{window};
-ghost use Rattle.fdb_txn.specs.laws.Examples.{OneBatch, WriteSkew, FalseConflict, FormerOwner, ThereAndBack, EqualIsNotNewer, Window, OldReading, TwoMoves, Spans, AtBounds, ShardMessages, Entries, Books};
+ghost use Rattle.fdb_txn.specs.laws.Examples.{Sizes, OneBatch, WriteSkew, FalseConflict, FormerOwner, ThereAndBack, EqualIsNotNewer, Window, OldReading, TwoMoves, Spans, AtBounds, ShardMessages, Entries, Books};
 ghost use Rattle.fdb_txn.specs.laws.AdmissionLaws.{OverlapsAtSomePoint, AskedAtSomePoint, OwnedAtSomeVersion, AdmitsWithoutConflict, CommittedByTheAsked, OldIsAsked};
 ghost use Rattle.fdb_txn.specs.laws.ResolverLaws.{AskedWhereItHasAPart, LastVersionsDecide, OnePlaceMore, StateDecides, StateTakesPlace, StateForgets, ForgottenAgree};
 ghost use Rattle.fdb_txn.specs.rules.Splits.{PiecesPartTheKeys};
@@ -160,8 +160,9 @@ pub fn messages_of_a_shard_leave_the_serial_map_on_its_range()
 
 /// What the rules say of each transaction of some small books: which resolvers are asked about it, which
 /// admit it, whether it is old, and whether it is committed; what shards are sent of it; which entries may
-/// stand in a book, and which lists of them are books.
+/// stand in a book, and which lists of them are books; and how many bytes transactions have.
 pub fn worked_examples()
+    ensures sizes { Sizes }
     ensures one_batch { OneBatch }
     ensures write_skew { WriteSkew }
     ensures false_conflict { FalseConflict }

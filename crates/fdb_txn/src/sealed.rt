@@ -1,4 +1,4 @@
-use crate::size::{SIZE_LIMIT, size_of};
+use crate::size::{SIZE_LIMIT, least_size, size_of};
 use crate::txn_id::TxnId;
 use crate::writes::joined;
 use fdb_keys::{Items, RangeSet, Refusal, Refused};
@@ -41,20 +41,21 @@ impl Model for Sealed {
 }
 
 impl Sealed {
-    ghost use Rattle.std.specs.Prelude.{◌≡◌, ◌≤◌, ◌||◌, All, None, IfOk};
+    ghost use Rattle.std.specs.Prelude.{◌≡◌, ◌+◌, ◌<◌, ◌≤◌, ◌||◌, All, Some, None, IfOk, sum_by};
     ghost use Rattle.fdb_keys.specs.Answers.{AnswersOrHandsBack, AnswersExactlyOrHandsBack, unless_memory};
     ghost use Rattle.fdb_keys.specs.Points.{Point};
     ghost use Rattle.fdb_keys.specs.Ranges.{in_set};
-    ghost use Rattle.fdb_mutations.specs.Mutations.{mutation_fault};
+    ghost use Rattle.fdb_keys.specs.declared.refusal.Refusal.TheVariants.{TransactionTooLarge};
+    ghost use Rattle.fdb_mutations.specs.Mutations.{mutation_fault, mutation_size};
     ghost use Rattle.fdb_txn.specs.Limits.{size_limit};
-    ghost use Rattle.fdb_txn.specs.book.Size.{size_of, size_fault};
+    ghost use Rattle.fdb_txn.specs.book.Size.{bounds_size, size_of, size_fault};
     ghost use Rattle.fdb_txn.specs.book.Transactions.{with_named, some_names, NamesWrites};
 
     /// Seals a transaction with its read version, its read set, its write set and its mutations, each of
     /// which passes `check`. What the mutations name joins the write set. Refused as `TransactionTooLarge` where the
     /// transaction has more than 10,000,000 bytes: those of both bounds of each range of the joined sets, and of the
-    /// mutations; as `NoMemory` where memory runs out before that is known. A refusal hands the sets and the mutations
-    /// back.
+    /// mutations; as `NoMemory` where memory runs out before that is known. Where the read set and the mutations alone
+    /// have more, it is known without memory. A refusal hands the sets and the mutations back.
     pub fn new(
         alloc: Global,
         id: TxnId,
@@ -79,9 +80,22 @@ impl Sealed {
               writes = with_named writes mutations;
               mutations = mutations;
             }) }
+        ensures known { size_limit < bounds_size reads + sum_by mutation_size mutations
+            → AnswersExactlyOrHandsBack result (record { reads = reads; writes = writes; mutations = mutations })
+            (Some TransactionTooLarge) (λ _. ⊥) }
         ensures points { IfOk result
             (λ sealed. (x : Point) → in_set sealed.writes x ≡ (some_names mutations x || in_set writes x)) }
     {
+        if least_size(&reads, mutations.as_slice()) > SIZE_LIMIT {
+            return Err(Refused {
+                why: Refusal::TransactionTooLarge,
+                back: Unsealed {
+                    reads,
+                    writes,
+                    mutations,
+                },
+            });
+        }
         let joined = match joined(alloc, &writes, mutations.as_slice()) {
             Ok(joined) => joined,
             Err(why) => {

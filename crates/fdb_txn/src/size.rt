@@ -31,6 +31,13 @@ fn mutations_size(mutations: &[Mutation]) -> u64
     total
 }
 
+// The size without the write set.
+pub(crate) fn least_size(reads: &RangeSet, mutations: &[Mutation]) -> u64
+    ensures { result ≡ min (bounds_size reads.now + sum_by mutation_size mutations.now) (2 ^ 64 - 1) }
+{
+    bounds_size(reads).saturating_add(mutations_size(mutations))
+}
+
 pub(crate) fn size_of(reads: &RangeSet, writes: &RangeSet, mutations: &[Mutation]) -> u64
     ensures { result
         ≡ min (bounds_size reads.now + bounds_size writes.now + sum_by mutation_size mutations.now) (2 ^ 64 - 1) }

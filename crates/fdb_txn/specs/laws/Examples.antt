@@ -11,6 +11,7 @@ use Rattle.fdb_txn.specs.declared.entry.Move.{Move}
 use Rattle.fdb_txn.specs.declared.entry.Entry.{Entry}
 use Rattle.fdb_txn.specs.declared.tag_msg.TagMsg.{TagMsg}
 use Rattle.fdb_txn.specs.book.Transactions.{Transaction}
+use Rattle.fdb_txn.specs.book.Size.{size_of}
 use Rattle.fdb_txn.specs.book.Book.{Place, seen_of}
 use Rattle.fdb_txn.specs.book.History.{AreEntries, IsBook}
 use Rattle.fdb_txn.specs.rules.Owners.{is_asked}
@@ -350,3 +351,11 @@ Books =
     × (IsBook 2 (entry_of 1 0 [] (reads_and_sets 0 0 [] [] ∷ reads_and_sets 0 0 [] [] ∷ []) ∷ []) → ⊥)
     × (IsBook 2
     (entry_of 1 0 [] (reads_and_sets 0 0 [] [] ∷ []) ∷ entry_of 2 1 [] (reads_and_sets 0 1 [] [] ∷ []) ∷ []) → ⊥)
+
+-- How many bytes transactions have: of both bounds of what they read, of both bounds of what they write, and of their
+-- mutations.
+abbrev pub Sizes : Type 0
+Sizes =
+    (size_of (reads_and_sets 0 0 (codes "abc" ∷ []) (codes "de" ∷ [])) ≡ 15)
+    × (size_of (reads_and_sets 0 0 (codes "a" ∷ codes "b" ∷ []) []) ≡ 6)
+    × (size_of (reads_and_sets 0 0 [] (codes "de" ∷ [])) ≡ 8)
