@@ -3,6 +3,7 @@ pub mod CommitFields
 pub mod CommitProxies
 pub mod Configs
 pub mod Deciding
+pub mod Examples
 pub mod Flags
 pub mod Logging
 pub mod MessageLaws

@@ -1,5 +1,6 @@
 //! What the rule over the book says of resolvers' verdicts and of the messages for logs, for the proofs of the crates
 //! that use the proxies.
+ghost use Rattle.fdb_proxy.specs.Examples.{WorkedSubmits, WorkedSeals, WorkedTickets, WorkedVerdicts, WorkedDecisions, WorkedLogging};
 ghost use Rattle.fdb_proxy.specs.MessageLaws.{MessagesHoldTheCommitted};
 ghost use Rattle.fdb_proxy.specs.VerdictLaws.{BatchesAreJudgedByTheRule, EntriesAreJudgedByTheRule, ItemsWhereAsked, BatchesAreDecidedByTheRule, EntriesAreDecidedByTheRule};
 
@@ -26,4 +27,15 @@ pub fn verdicts_of_the_asked_decide_as_the_rule()
 /// transactions of which it keeps a tag.
 pub fn logs_are_sent_what_the_committed_write()
     ensures { MessagesHoldTheCommitted }
+{}
+
+/// Why a commit proxy's calls are refused, and what verdicts decide, by examples: which refusal comes first, which verdicts
+/// and acknowledgements are stale, and what a batch waits for.
+pub fn worked_refusals()
+    ensures submits { WorkedSubmits }
+    ensures seals { WorkedSeals }
+    ensures tickets { WorkedTickets }
+    ensures verdicts { WorkedVerdicts }
+    ensures decisions { WorkedDecisions }
+    ensures logging { WorkedLogging }
 {}

@@ -1,0 +1,158 @@
+-- Refusals of a commit proxy and what verdicts decide, computed.
+use Rattle.std.specs.Prelude.{◌≡◌, ℕ, Bool, true, false, List, [], ◌∷◌, Option, Some, None}
+use Rattle.fdb_keys.specs.declared.refusal.Refusal.TheVariants.{NotYet, Stale, Failed, Repeated, WrongState}
+use Rattle.fdb_txn.specs.book.Transactions.{Transaction}
+use Rattle.fdb_resolver.specs.declared.part.Item.{Item}
+use Rattle.fdb_resolver.specs.declared.part.Part.{Part}
+use Rattle.fdb_resolver.specs.declared.verdict.Verdict.{Verdict}
+use Rattle.fdb_resolver.specs.declared.verdict.Verdict.TheVariants as verdict
+use Rattle.fdb_resolver.specs.declared.verdict.Verdicts.{Verdicts}
+use Rattle.fdb_sequencer.specs.declared.ticket.Ticket.{Ticket}
+use Rattle.fdb_log.specs.declared.message.LogAck.{LogAck}
+use Rattle.fdb_proxy.specs.declared.outcome.Outcome.TheVariants as outcome
+use Rattle.fdb_proxy.specs.declared.position.Position.{Position}
+use Rattle.fdb_proxy.specs.declared.stage.Stage.{Stage}
+use Rattle.fdb_proxy.specs.declared.stage.Stage.TheVariants as stage
+use Rattle.fdb_proxy.specs.CommitProxies.{CommitProxy, submit_fault, seal_fault, unsealing, learn_fault, parts_fault, verdict_fault, decide_fault, messages_fault, logged_fault, all_logged_fault, done_fault}
+use Rattle.fdb_proxy.specs.Deciding.{Said, outcomes_by}
+
+-- the first transaction of a session, which reads and writes nothing
+abbrev pub first_of : ℕ → Transaction
+first_of session =
+    record { id = record { session = session; number = 0 }; read = 0; reads = []; writes = []; mutations = [] }
+
+-- A proxy whose last ticket was of version 100, with the transaction of session 0 in flight at the stage and that of
+-- session 1 waiting.
+abbrev pub proxy : Stage → Bool → CommitProxy
+proxy at is_failed =
+    record {
+      index = 0;
+      logs = 1;
+      shard_splits = [];
+      owners = record { splits = []; moves = []; last = 100; floor = 0 };
+      last = 100;
+      waiting = first_of 1 ∷ [];
+      batch = first_of 0 ∷ [];
+      stage = at;
+      is_failed = is_failed;
+    }
+
+-- entry 4 of version 200
+abbrev pub here : Position
+here = record { index = 4; version = 200; prev = 100 }
+
+abbrev pub ticket : ℕ → Ticket
+ticket version = record { proxy = 0; index = 4; version = version; prev = 100; moves = []; pending = [] }
+
+-- the part of a resolver, which is asked about the first place or about none
+abbrev pub part : ℕ → Bool → Part
+part resolver is_asked =
+    record { resolver = resolver; index = 4; version = 200; prev = 100; items = items is_asked }
+  where
+    items : Bool → List Item
+    items true = record { place = 0; read_version = 0; has_reads = true; reads = []; writes = [] } ∷ []
+    items false = []
+
+-- the verdict of the resolver on the first place of an entry
+abbrev pub says : ℕ → ℕ → Verdicts
+says resolver index = record { resolver = resolver; index = index; answers = (0, verdict.Yes) ∷ [] }
+
+-- resolvers 0 and 2 are asked, and these verdicts came
+abbrev pub resolving : List (Option Said) → Stage
+resolving verdicts =
+    stage.Resolving (record {
+      position = here;
+      parts = part 0 true ∷ part 1 false ∷ part 2 true ∷ [];
+      verdicts = verdicts;
+    })
+
+-- it is decided, and the log hasn't acknowledged it, or has
+abbrev pub logging : Bool → Stage
+logging is_logged =
+    stage.Logging (record {
+      position = here;
+      answers = ((first_of 0).id, outcome.Commit 200 0) ∷ [];
+      acknowledged = is_logged ∷ [];
+    })
+
+abbrev pub said : Verdict → Option Said
+said one = Some ((0, one) ∷ [])
+
+-- That the proxy failed comes first. A request whose id is in flight or waits is refused with its place.
+abbrev pub WorkedSubmits : Type 0
+WorkedSubmits =
+    (submit_fault (proxy stage.Sealed true) (first_of 0) ≡ Some Failed)
+    × (submit_fault (proxy stage.Sealed false) (first_of 0) ≡ Some (Repeated 0))
+    × (submit_fault (proxy stage.Sealed false) (first_of 1) ≡ Some (Repeated 1))
+    × (submit_fault (proxy stage.Sealed false) (first_of 2) ≡ None)
+
+-- A batch is sealed by an idle proxy alone, and one that is unsealed waits before those who wait.
+abbrev pub WorkedSeals : Type 0
+WorkedSeals =
+    (seal_fault (proxy stage.Sealed true) ≡ Some Failed)
+    × (seal_fault (proxy stage.Sealed false) ≡ Some WrongState)
+    × (seal_fault (proxy (logging true) false) ≡ Some WrongState)
+    × (seal_fault (proxy stage.Idle false) ≡ None)
+    × ((unsealing (proxy stage.Sealed false)).waiting ≡ first_of 0 ∷ first_of 1 ∷ [])
+    × ((unsealing (proxy (logging false) false)).waiting ≡ first_of 1 ∷ [])
+
+-- A ticket comes at the wrong stage before it comes again, and once it was learnt it comes again.
+abbrev pub WorkedTickets : Type 0
+WorkedTickets =
+    (learn_fault (proxy stage.Sealed true) (ticket 100) ≡ Some Failed)
+    × (learn_fault (proxy stage.Idle false) (ticket 100) ≡ Some WrongState)
+    × (learn_fault (proxy stage.Sealed false) (ticket 100) ≡ Some Stale)
+    × (learn_fault (proxy stage.Sealed false) (ticket 101) ≡ None)
+    × (parts_fault (proxy stage.Sealed false) ≡ Some WrongState)
+    × (parts_fault (proxy (resolving (None ∷ None ∷ None ∷ [])) false) ≡ None)
+
+-- Verdicts are stale that came before, that are on another entry, on a place that wasn't asked about or of a resolver
+-- that isn't there, and all after the decision.
+abbrev pub WorkedVerdicts : Type 0
+WorkedVerdicts =
+    (verdict_fault (proxy (logging false) true) (says 0 4) ≡ Some Failed)
+    × (verdict_fault (proxy (resolving (None ∷ None ∷ None ∷ [])) false) (says 0 4) ≡ None)
+    × (verdict_fault (proxy (resolving (said verdict.Yes ∷ None ∷ None ∷ [])) false) (says 0 4) ≡ Some Stale)
+    × (verdict_fault (proxy (resolving (None ∷ None ∷ None ∷ [])) false) (says 0 3) ≡ Some Stale)
+    × (verdict_fault (proxy (resolving (None ∷ None ∷ None ∷ [])) false) (says 1 4) ≡ Some Stale)
+    × (verdict_fault (proxy (resolving (None ∷ None ∷ None ∷ [])) false) (says 3 4) ≡ Some Stale)
+    × (verdict_fault (proxy (logging false) false) (says 0 4) ≡ Some Stale)
+    × (verdict_fault (proxy stage.Idle false) (says 0 4) ≡ Some Stale)
+
+-- The decision waits for the least resolver that is asked. Verdicts that mix a conflict and an old one are old, and one
+-- conflict is a conflict, in either order.
+abbrev pub WorkedDecisions : Type 0
+WorkedDecisions =
+    (decide_fault (proxy stage.Sealed true) ≡ Some Failed)
+    × (decide_fault (proxy stage.Sealed false) ≡ Some WrongState)
+    × (decide_fault (proxy (resolving (None ∷ None ∷ None ∷ [])) false) ≡ Some (NotYet 0))
+    × (decide_fault (proxy (resolving (said verdict.Yes ∷ None ∷ None ∷ [])) false) ≡ Some (NotYet 2))
+    × (decide_fault (proxy (resolving (said verdict.Yes ∷ None ∷ said verdict.Yes ∷ [])) false) ≡ None)
+    × (outcomes_by 200 (said verdict.Yes ∷ None ∷ said verdict.Yes ∷ []) 1 ≡ outcome.Commit 200 0 ∷ [])
+    × (outcomes_by 200 (said verdict.Conflict ∷ None ∷ said verdict.Yes ∷ []) 1 ≡ outcome.Conflict ∷ [])
+    × (outcomes_by 200 (said verdict.Yes ∷ None ∷ said verdict.Conflict ∷ []) 1 ≡ outcome.Conflict ∷ [])
+    × (outcomes_by 200 (said verdict.Conflict ∷ None ∷ said verdict.Old ∷ []) 1 ≡ outcome.Old ∷ [])
+    × (outcomes_by 200 (said verdict.Old ∷ None ∷ said verdict.Conflict ∷ []) 1 ≡ outcome.Old ∷ [])
+
+-- the log's acknowledgement of an entry
+abbrev pub acknowledges : ℕ → ℕ → LogAck
+acknowledges log index = record { log = log; index = index }
+
+-- An acknowledgement is stale that came before, that is of another entry or of a log that isn't there. The batch is done
+-- once every log has acknowledged it.
+abbrev pub WorkedLogging : Type 0
+WorkedLogging =
+    (messages_fault (proxy (resolving []) false) ≡ Some WrongState)
+    × (messages_fault (proxy (logging false) false) ≡ None)
+    × (logged_fault (proxy (logging false) true) (acknowledges 0 4) ≡ Some Failed)
+    × (logged_fault (proxy (logging false) false) (acknowledges 0 4) ≡ None)
+    × (logged_fault (proxy (logging true) false) (acknowledges 0 4) ≡ Some Stale)
+    × (logged_fault (proxy (logging false) false) (acknowledges 0 3) ≡ Some Stale)
+    × (logged_fault (proxy (logging false) false) (acknowledges 1 4) ≡ Some Stale)
+    × (logged_fault (proxy (resolving []) false) (acknowledges 0 4) ≡ Some Stale)
+    × (all_logged_fault (proxy (logging false) false) ≡ Some (NotYet 0))
+    × (all_logged_fault (proxy (logging true) false) ≡ None)
+    × (all_logged_fault (proxy stage.Idle false) ≡ Some WrongState)
+    × (done_fault (proxy (logging false) false) ≡ Some WrongState)
+    × (done_fault (proxy (logging true) false) ≡ None)
+    × (done_fault (proxy (logging true) true) ≡ Some Failed)
