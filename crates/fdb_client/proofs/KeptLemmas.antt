@@ -126,29 +126,33 @@ first-change entries decided key mutation absent undecided blind =
     sym (ap (λ (left : Left). left_after left mutation) (unwritten entries decided key absent undecided)
     ∙ cond-false _ _ _ blind)
 
--- where the key is decided, what is kept at other points stays
-pub kept-grown : (entries : List (List ℕ × Left)) (decided new_decided : List Range) (key : Point) (left : Left)
-    (new : Point → Left) → ((x : Point) → new x ≡ (if point_eq x key then left else kept_at entries new_decided x))
-    → new_decided ≡ with_range (single_range key) decided
-    → (x : Point) → new x ≡ (if point_eq x key then left else kept_at entries decided x)
-kept-grown entries decided new_decided key left new put grown x =
-    put x ∙ by_point (point_eq x key) refl
+-- where the key has an entry and is decided, what is kept stays
+pub kept-decided_entry : (entries : List (List ℕ × Left)) (decided new_decided : List Range) (key : Point)
+    → is_some (found entries key) ≡ true → new_decided ≡ with_range (single_range key) decided
+    → (x : Point) → kept_at entries new_decided x ≡ kept_at entries decided x
+kept-decided_entry entries decided new_decided key entry grown x =
+    ⊎_elim
+    (λ (same : point_eq x key ≡ true).
+    by_entry (found entries x) (λ none.
+    both_ways _ (ap (λ (y : Point). is_some (found entries y)) (sym ((bytes_decides x key).0 same)) ∙ none) entry))
+    (λ (other : point_eq x key ≡ false). by_set (same_set other) (found entries x))
+    (cases_Bool (point_eq x key))
   where
+    by_entry : (there : Option Left) → (is_some there ≡ false → ⊥)
+        → kept_of new_decided x there ≡ kept_of decided x there
+    by_entry None some = absurd (some refl)
+    by_entry (Some there) some = refl
+
     same_set : point_eq x key ≡ false → in_set new_decided x ≡ in_set decided x
     same_set other =
         ap (λ (set : List Range). in_set set x) grown
         ∙ in_with_range (single_range key) decided x
         ∙ ap (λ (here : Bool). here || in_set decided x) (in_range-single key x ∙ other)
 
-    same_kept : in_set new_decided x ≡ in_set decided x → (there : Option Left)
+    by_set : in_set new_decided x ≡ in_set decided x → (there : Option Left)
         → kept_of new_decided x there ≡ kept_of decided x there
-    same_kept same None = ap (λ (is : Bool). cond is (Value None) (Changes [])) same
-    same_kept same (Some there) = refl
-
-    by_point : (same : Bool) → point_eq x key ≡ same
-        → cond same left (kept_at entries new_decided x) ≡ cond same left (kept_at entries decided x)
-    by_point true is = refl
-    by_point false is = same_kept (same_set is) (found entries x)
+    by_set same None = ap (λ (is : Bool). cond is (Value None) (Changes [])) same
+    by_set same (Some there) = refl
 
 -- a key of the set adds nothing to it
 pub key-held : (key : Point) (set : List Range) → is_apart set ≡ true → in_set set key ≡ true

@@ -1,6 +1,5 @@
 -- What a read of a key adds to the read set, by whether earlier operations decide the key.
-use Rattle.std.proofs.Common.{◌≡◌, ◌∙◌, sym, ap, refl, subst, ℕ, Bool, true, false, not, ◌&&◌, List, if◌then◌else◌}
-use Rattle.fdb_keys.specs.Answers.{Answers}
+use Rattle.std.proofs.Common.{◌≡◌, ◌∙◌, sym, ap, refl, ℕ, Bool, true, false, not, ◌&&◌, List, if◌then◌else◌}
 use Rattle.fdb_keys.specs.Insertion.{with_range}
 use Rattle.fdb_keys.specs.Points.{Point}
 use Rattle.fdb_keys.specs.Ranges.{Range, single_range, in_set}

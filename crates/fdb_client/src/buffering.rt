@@ -1,11 +1,11 @@
 // A mutation is buffered: what it leaves is kept, and what it names joins the write set.
-ghost use Rattle.std.specs.Prelude.{◌≡◌, false, [], None, OnOk, OnErr, IsTrue, if◌then◌else◌};
+ghost use Rattle.std.specs.Prelude.{◌≡◌, false, [], None, OnOk, OnErr, IsSome, IsTrue, if◌then◌else◌};
 ghost use Rattle.fdb_keys.specs.Answers.{Answers};
 ghost use Rattle.fdb_keys.specs.Insertion.{with_range};
 ghost use Rattle.fdb_keys.specs.Points.{Point, point_eq};
 ghost use Rattle.fdb_keys.specs.Ranges.{single_range, in_range, in_set};
 ghost use Rattle.fdb_mutations.specs.Mutations.{named_range, is_blind};
-ghost use Rattle.fdb_client.specs.Kept.{kept, HasLegalKeys};
+ghost use Rattle.fdb_client.specs.Kept.{kept, entry_of, HasLegalKeys};
 ghost use Rattle.fdb_client.specs.OwnWrites.{left_after, left_with, is_value};
 ghost use Rattle.fdb_client.specs.declared.left.Left.TheVariants.{Value, Changes};
 
@@ -91,12 +91,40 @@ fn decide(
     if own.decided.contains(key) && writes.contains(key) {
         return own.put(key, left);
     }
+    match make_decided(alloc, own, writes, key) {
+        Ok(()) => {
+            own.set(key, left);
+            Ok(())
+        }
+        Err(why) => {
+            drop(left);
+            Err(why)
+        }
+    }
+}
+
+// Adds the key, which isn't decided, to what is decided and to the write set, and makes an entry for it. What is kept
+// stays as it is.
+fn make_decided(
+    alloc: Global,
+    own: &mut OwnWrites,
+    writes: &mut TreeRangeSet,
+    key: &Key,
+) -> Result<(), Refusal>
+    requires legal_keys { HasLegalKeys own.old }
+    requires undecided { is_value (kept own.old key.now) ≡ false }
+    ensures answers { Answers result None (λ _. IsSome (entry_of own.new key.now)) }
+    ensures kept { (x : Point) → kept own.new x ≡ kept own.old x }
+    ensures decided { OnOk result (own.new.decided ≡ with_range (single_range key.now) own.old.decided) }
+    ensures writes { OnOk result (writes.new ≡ with_range (single_range key.now) writes.old) }
+    ensures legal_keys { HasLegalKeys own.new }
+    ensures decided_err { OnErr result (own.new.decided ≡ own.old.decided) }
+    ensures writes_err { OnErr result (writes.new ≡ writes.old) }
+{
     let range = KeyRange::single(alloc, key)?;
     // Once the key has an entry, only the sets may lack memory.
     own.make_entry(alloc, key)?;
-    TreeRangeSet::add_to_both(&mut own.decided, writes, &range)?;
-    own.set(key, left);
-    Ok(())
+    TreeRangeSet::add_to_both(&mut own.decided, writes, &range)
 }
 
 // Buffers a mutation of the key that decides nothing. Where memory runs out, nothing changes.

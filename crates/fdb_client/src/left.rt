@@ -18,14 +18,14 @@ impl Left {
     ghost use Rattle.fdb_client.specs.OwnWrites.{left_after, is_value};
 
     // One mutation more, which decides nothing. Where memory runs out, nothing changes.
-    pub(crate) fn change(&mut self, mutation: Mutation) -> Result<(), AllocError>
-        requires blind { is_blind mutation ≡ false }
+    pub(crate) fn change(&mut self, mutation: &Mutation) -> Result<(), AllocError>
+        requires blind { is_blind mutation.now ≡ false }
         requires undecided { is_value self.old ≡ false }
-        ensures ok { OnOk result (self.new ≡ left_after self.old mutation) }
+        ensures ok { OnOk result (self.new ≡ left_after self.old mutation.now) }
         ensures err { OnErr result (self.new ≡ self.old) }
     {
         if let Left::Changes(mutations) = self {
-            mutations.push(mutation)?;
+            mutations.push(mutation.clone()?)?;
         }
         Ok(())
     }

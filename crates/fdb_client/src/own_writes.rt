@@ -108,13 +108,12 @@ impl OwnWrites {
         ensures legal_keys { HasLegalKeys self.new }
         ensures err { OnErr result ((x : Point) → kept self.new x ≡ kept self.old x) }
     {
-        let copy = mutation.clone()?;
         if let Some(left) = self.keys.get_mut(key.text()) {
-            left.change(copy)?;
+            left.change(mutation)?;
             return Ok(());
         }
         let mut mutations = Items::new(alloc);
-        mutations.push(copy)?;
+        mutations.push(mutation.clone()?)?;
         self.put(key, Left::Changes(mutations))
     }
 

@@ -19,7 +19,7 @@ use crate::finished::Finished;
 use crate::own_writes::OwnWrites;
 use crate::program::{Op, Reply, Transcript};
 use crate::range_read::pairs_of;
-use crate::reading::{copied, pairs_copy, scanned_part, value_of};
+use crate::reading::{copied, pairs_copy, undecided_part, value_of};
 use crate::snapshot::Snapshot;
 use bytes::Bytes;
 use fdb_keys::{Items, Key, KeyRange, RangeSet, Refusal, Refused, TreeRangeSet};
@@ -62,31 +62,34 @@ impl Parts {
         }
     }
 
-    // Notes an operation that neither reads nor writes anything new. Where memory runs out, nothing changes.
-    fn note(&mut self, op: Op, reply: Reply) -> Result<(), Refusal>
+    // Notes an operation with its reply, which neither reads nor writes anything new. Where memory runs out, nothing
+    // changes.
+    fn note(&mut self, done: (Op, Reply)) -> Result<(), Refusal>
         requires kept { AreKept self.old }
-        requires unwritten { WritesNothing op }
-        requires unread { add_reads (program self.old.transcript.ops) op reply self.old.reads ≡ self.old.reads }
-        ensures answers { Answers result None (λ _. self.new.transcript ≡ with_op self.old.transcript op reply) }
+        requires unwritten { WritesNothing done.0 }
+        requires unread { add_reads (program self.old.transcript.ops) done.0 done.1 self.old.reads ≡ self.old.reads }
+        ensures answers { Answers result None (λ _. self.new.transcript
+            ≡ with_op self.old.transcript done.0 done.1) }
         ensures err { OnErr result (self.new ≡ self.old) }
         ensures kept { OnOk result (AreKept self.new) }
     {
-        self.transcript.ops.push((op, reply))?;
+        self.transcript.ops.push(done)?;
         Ok(())
     }
 
-    // Notes an operation that reads a range. Where memory runs out, nothing changes.
-    fn note_read(&mut self, op: Op, reply: Reply, range: &KeyRange) -> Result<(), Refusal>
+    // Notes an operation with its reply, which reads a range. Where memory runs out, nothing changes.
+    fn note_read(&mut self, done: (Op, Reply), range: &KeyRange) -> Result<(), Refusal>
         requires kept { AreKept self.old }
-        requires unwritten { WritesNothing op }
-        requires read { add_reads (program self.old.transcript.ops) op reply self.old.reads
+        requires unwritten { WritesNothing done.0 }
+        requires read { add_reads (program self.old.transcript.ops) done.0 done.1 self.old.reads
             ≡ with_range range.now self.old.reads }
-        ensures answers { Answers result None (λ _. self.new.transcript ≡ with_op self.old.transcript op reply) }
+        ensures answers { Answers result None (λ _. self.new.transcript
+            ≡ with_op self.old.transcript done.0 done.1) }
         ensures err { OnErr result (self.new ≡ self.old) }
         ensures kept { OnOk result (AreKept self.new) }
     {
         let count = self.transcript.ops.len();
-        self.transcript.ops.push((op, reply))?;
+        self.transcript.ops.push(done)?;
         if let Err(why) = self.reads.add(range) {
             self.transcript.ops.truncate(count);
             return Err(why);
@@ -94,18 +97,19 @@ impl Parts {
         Ok(())
     }
 
-    // Notes an operation that reads several ranges. Where memory runs out, nothing changes.
-    fn note_reads(&mut self, op: Op, reply: Reply, ranges: &RangeSet) -> Result<(), Refusal>
+    // Notes an operation with its reply, which reads several ranges. Where memory runs out, nothing changes.
+    fn note_reads(&mut self, done: (Op, Reply), ranges: &RangeSet) -> Result<(), Refusal>
         requires kept { AreKept self.old }
-        requires unwritten { WritesNothing op }
-        requires read { add_reads (program self.old.transcript.ops) op reply self.old.reads
+        requires unwritten { WritesNothing done.0 }
+        requires read { add_reads (program self.old.transcript.ops) done.0 done.1 self.old.reads
             ≡ with_ranges ranges.now self.old.reads }
-        ensures answers { Answers result None (λ _. self.new.transcript ≡ with_op self.old.transcript op reply) }
+        ensures answers { Answers result None (λ _. self.new.transcript
+            ≡ with_op self.old.transcript done.0 done.1) }
         ensures err { OnErr result (self.new ≡ self.old) }
         ensures kept { OnOk result (AreKept self.new) }
     {
         let count = self.transcript.ops.len();
-        self.transcript.ops.push((op, reply))?;
+        self.transcript.ops.push(done)?;
         if let Err(why) = self.reads.add_all(ranges) {
             self.transcript.ops.truncate(count);
             return Err(why);
@@ -134,16 +138,11 @@ impl Parts {
         ensures err { OnErr result (self.new ≡ self.old) }
         ensures kept { OnOk result (AreKept self.new) }
     {
-        let op = Op::Get {
-            key: key.clone()?,
-            snapshot: is_snapshot,
-        };
-        let reply = Reply::Value(copied(value)?);
         if !self.is_read(key, is_snapshot) {
-            return self.note(op, reply);
+            return self.note(answered_get(key, is_snapshot, value)?);
         }
         let range = KeyRange::single(self.alloc, key)?;
-        self.note_read(op, reply, &range)
+        self.note_read(answered_get(key, is_snapshot, value)?, &range)
     }
 
     // What stands at the key after its own writes.
@@ -193,19 +192,22 @@ impl Parts {
         ensures err { OnErr result (self.new ≡ self.old) }
         ensures kept { OnOk result (AreKept self.new) }
     {
-        let op = Op::Range {
-            range: range.clone()?,
+        if is_snapshot {
+            return self.note(answered_range(range, limit, reverse, true, pairs)?);
+        }
+        let given = pairs.as_slice();
+        let undecided = undecided_part(
+            self.alloc,
+            &self.own.decided,
+            range,
             limit,
             reverse,
-            snapshot: is_snapshot,
-        };
-        let reply = Reply::Pairs(pairs_copy(pairs)?);
-        if is_snapshot {
-            return self.note(op, reply);
-        }
-        let part = scanned_part(self.alloc, range, limit, reverse, pairs.as_slice())?;
-        let undecided = self.own.decided.outside(self.alloc, &part)?;
-        self.note_reads(op, reply, &undecided)
+            given,
+        )?;
+        self.note_reads(
+            answered_range(range, limit, reverse, false, pairs)?,
+            &undecided,
+        )
     }
 
     // Reads the range after its own writes, and notes that. Where it is refused, nothing changes.
@@ -238,8 +240,8 @@ impl Parts {
         ensures err { OnErr result (self.new ≡ self.old) }
         ensures kept { OnOk result (AreKept self.new) }
     {
-        let op = Op::AddRead(range.clone()?);
-        self.note_read(op, Reply::Done, range)
+        let noted = range.clone()?;
+        self.note_read((Op::AddRead(noted), Reply::Done), range)
     }
 
     // Adds a range to the write set. Where memory runs out, nothing changes.
@@ -250,9 +252,11 @@ impl Parts {
         ensures err { OnErr result (self.new ≡ self.old) }
         ensures kept { OnOk result (AreKept self.new) }
     {
-        let op = Op::AddWrite(range.clone()?);
+        let noted = range.clone()?;
         let count = self.transcript.ops.len();
-        self.transcript.ops.push((op, Reply::Done))?;
+        self.transcript
+            .ops
+            .push((Op::AddWrite(noted), Reply::Done))?;
         if let Err(why) = self.writes.add(range) {
             self.transcript.ops.truncate(count);
             return Err(why);
@@ -261,18 +265,18 @@ impl Parts {
     }
 
     // Lists a write among the operations and among the mutations. Where memory runs out, nothing changes.
-    fn list_write(&mut self, op: Op, mutation: Mutation) -> Result<(), Refusal>
+    fn list_write(&mut self, mutation: &Mutation) -> Result<(), Refusal>
         ensures answers { Answers result None (λ _. self.new ≡ record self.old {
-          transcript = with_op self.old.transcript op answer.Done;
-          mutations = self.old.mutations ++ mutation ∷ [];
+          transcript = with_op self.old.transcript (operation.Write mutation.now) answer.Done;
+          mutations = self.old.mutations ++ mutation.now ∷ [];
         }) }
         ensures err { OnErr result (self.new ≡ self.old) }
     {
         let count = self.mutations.len();
-        self.mutations.push(mutation)?;
-        if let Err(failed) = self.transcript.ops.push((op, Reply::Done)) {
+        self.mutations.push(copy_of(mutation)?)?;
+        if let Err(why) = push_write(&mut self.transcript.ops, mutation) {
             self.mutations.truncate(count);
-            return Err(Refusal::from(failed));
+            return Err(why);
         }
         Ok(())
     }
@@ -286,9 +290,8 @@ impl Parts {
         ensures err { OnErr result (self.new.transcript ≡ self.old.transcript) }
         ensures kept { AreKept self.new }
     {
-        let op = Op::Write(copy_of(mutation)?);
         let (noted, listed) = (self.transcript.ops.len(), self.mutations.len());
-        self.list_write(op, copy_of(mutation)?)?;
+        self.list_write(mutation)?;
         if let Err(why) = buffer(self.alloc, &mut self.own, &mut self.writes, mutation) {
             self.transcript.ops.truncate(noted);
             self.mutations.truncate(listed);
@@ -370,10 +373,54 @@ impl Parts {
     }
 }
 
+// Lists a write among the operations. Where memory runs out, nothing changes.
+fn push_write(ops: &mut Items<(Op, Reply)>, mutation: &Mutation) -> Result<(), Refusal>
+    ensures answers { Answers result None
+        (λ _. ops.new ≡ ops.old ++ (operation.Write mutation.now, answer.Done) ∷ []) }
+    ensures err { OnErr result (ops.new ≡ ops.old) }
+{
+    let noted = copy_of(mutation)?;
+    ops.push((Op::Write(noted), Reply::Done))?;
+    Ok(())
+}
+
 // A copy of the mutation.
 fn copy_of(mutation: &Mutation) -> Result<Mutation, AllocError>
     ensures { IfOk result (λ copy. copy ≡ mutation.now) }
 {
     let copy = mutation.clone()?;
     Ok(copy)
+}
+
+// The read of the key, with the value that it was answered. It is made in the call that notes it: where an operation
+// falls out of scope, the prover goes over every kind of operation.
+fn answered_get(key: &Key, snapshot: bool, value: Option<&Bytes>) -> Result<(Op, Reply), AllocError>
+    ensures { IfOk result
+        (λ done. done ≡ (operation.Get key.now snapshot, answer.Value (option_copied value.entry))) }
+{
+    let key = key.clone()?;
+    let value = copied(value)?;
+    Ok((Op::Get { key, snapshot }, Reply::Value(value)))
+}
+
+// The read of the range, with the pairs that it was answered.
+fn answered_range(
+    range: &KeyRange,
+    limit: u32,
+    reverse: bool,
+    snapshot: bool,
+    pairs: &Items<(Key, Bytes)>,
+) -> Result<(Op, Reply), AllocError>
+    ensures { IfOk result
+        (λ done. done ≡ (operation.Range range.now limit reverse snapshot, answer.Pairs pairs.now)) }
+{
+    let range = range.clone()?;
+    let pairs = pairs_copy(pairs)?;
+    let op = Op::Range {
+        range,
+        limit,
+        reverse,
+        snapshot,
+    };
+    Ok((op, Reply::Pairs(pairs)))
 }

@@ -1,10 +1,13 @@
+ghost use Rattle.std.specs.Prelude.{◌≡◌};
+
 use bytes::Bytes;
 use fdb_keys::{Items, Key, KeyRange};
 use fdb_mutations::Mutation;
 use fdb_txn::TxnId;
+use std::alloc::AllocError;
 
 /// An operation of a transaction.
-#[derive(Clone, Drop, PartialEq, Eq)]
+#[derive(Drop, PartialEq, Eq)]
 pub enum Op {
     /// Reads the value of a key. A snapshot read adds nothing to the read set.
     Get {
@@ -25,6 +28,49 @@ pub enum Op {
     AddRead(KeyRange),
     /// Adds a range to the write set, whole.
     AddWrite(KeyRange),
+}
+
+// Written out, since a derived one copies each field by a call that may lack memory, and holds the fields before it.
+impl Clone for Op {
+    ghost is_clone = { λ op copy. copy ≡ op };
+
+    fn clone(&self) -> Result<Self, AllocError> {
+        match self {
+            Op::Get { key, snapshot } => {
+                let key = key.clone()?;
+                Ok(Op::Get {
+                    key,
+                    snapshot: *snapshot,
+                })
+            }
+            Op::Range {
+                range,
+                limit,
+                reverse,
+                snapshot,
+            } => {
+                let range = range.clone()?;
+                Ok(Op::Range {
+                    range,
+                    limit: *limit,
+                    reverse: *reverse,
+                    snapshot: *snapshot,
+                })
+            }
+            Op::Write(mutation) => {
+                let mutation = mutation.clone()?;
+                Ok(Op::Write(mutation))
+            }
+            Op::AddRead(range) => {
+                let range = range.clone()?;
+                Ok(Op::AddRead(range))
+            }
+            Op::AddWrite(range) => {
+                let range = range.clone()?;
+                Ok(Op::AddWrite(range))
+            }
+        }
+    }
 }
 
 /// What an operation was answered.

@@ -1,5 +1,5 @@
 // A read of a range: the pairs of a snapshot's pages and a transaction's own writes, side by side.
-ghost use Rattle.std.specs.Prelude.{◌≡◌, ◌++◌, ◌-◌, ◌<◌, None, OnOk, IsTrue, length, true};
+ghost use Rattle.std.specs.Prelude.{◌≡◌, ◌++◌, ◌-◌, ◌<◌, [], None, OnOk, IsTrue, length, true};
 ghost use Rattle.std.specs.Option.{option_copied};
 ghost use Rattle.fdb_keys.specs.Answers.{Answers};
 ghost use Rattle.fdb_keys.specs.Cutting.{range_behind};
@@ -10,6 +10,7 @@ ghost use Rattle.fdb_mutations.specs.PairLaws.{given_of, pair_of};
 ghost use Rattle.fdb_client.specs.Kept.{kept, HasLegalKeys};
 ghost use Rattle.fdb_client.specs.Merging.{HasFirst, HasNoValue, IsCopyOf, IsFirstOwn, IsWithin, LiesIn, ReadsOn, ReadsPage, TookOwn, TookPage, ahead_of};
 ghost use Rattle.fdb_client.specs.OwnWrites.{value_over};
+ghost use Rattle.fdb_client.specs.Pages.{IsPage};
 
 use crate::own_writes::OwnWrites;
 use crate::reading::value_over;
@@ -74,8 +75,19 @@ impl<'a> RangeRead<'a> {
             (ahead_of left.now self.now.reverse (option_copied next.entry)) self.now.reverse key) }
     {
         let ahead = self.ahead_of(left, next)?;
-        match self.own.next_in(&ahead, self.reverse) {
-            Some(text) => Ok(Some(Key::from_text(text.clone()?))),
+        self.first_own(&ahead)
+    }
+
+    // The first own key of the range.
+    fn first_own(&self, range: &KeyRange) -> Result<Option<Key>, Refusal>
+        requires { HasLegalKeys self.now.own.now }
+        ensures { Answers result None (λ key. IsFirstOwn self.now.own.now range.now self.now.reverse key) }
+    {
+        match self.own.next_in(range, self.reverse) {
+            Some(text) => {
+                let text = text.clone()?;
+                Ok(Some(Key::from_text(text)))
+            }
             None => Ok(None),
         }
     }
@@ -174,6 +186,28 @@ impl<'a> RangeRead<'a> {
         let page = snapshot.page(&progress.left, self.room(progress), self.reverse)?;
         self.merge_page(progress, page)
     }
+
+    // Reads all of what is left, which the snapshot doesn't refuse and whose first page this is.
+    fn take_all<S: Snapshot>(
+        &self,
+        snapshot: &S,
+        progress: &mut Progress,
+        page: Page,
+    ) -> Result<(), Refusal>
+        requires legal_keys { HasLegalKeys self.now.own.now }
+        requires copy { (copy : Map) × IsCopyOf (kept self.now.own.now) (S.map snapshot.now) copy }
+        requires start { progress.old.given ≡ [] }
+        requires served { S.range_fault snapshot.now progress.old.left ≡ None }
+        requires page { IsPage (S.map snapshot.now) progress.old.left self.now.limit self.now.reverse page }
+        ensures { Answers result None (λ _. (copy : Map) → IsCopyOf (kept self.now.own.now) (S.map snapshot.now) copy
+            → progress.new.given ≡ given_of copy progress.old.left self.now.limit self.now.reverse) }
+    {
+        let mut more = self.merge_page(progress, page)?;
+        while more {
+            more = self.take_page(snapshot, progress)?;
+        }
+        Ok(())
+    }
 }
 
 // What a read of the range is given after the writes: the first pairs, or the last ones from its end, as many as the
@@ -204,9 +238,6 @@ pub(crate) fn pairs_of<S: Snapshot>(
         given: Items::new(alloc),
         left: range.clone()?,
     };
-    let mut more = read.merge_page(&mut progress, page)?;
-    while more {
-        more = read.take_page(snapshot, &mut progress)?;
-    }
+    read.take_all(snapshot, &mut progress, page)?;
     Ok(progress.given)
 }

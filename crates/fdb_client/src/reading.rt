@@ -3,6 +3,7 @@ ghost use Rattle.std.specs.Prelude.{◌≡◌, None, IfOk, fold, if◌then◌els
 ghost use Rattle.std.specs.FinMap.{get};
 ghost use Rattle.std.specs.Option.{option_copied};
 ghost use Rattle.fdb_keys.specs.Answers.{Answers};
+ghost use Rattle.fdb_keys.specs.Removal.{outside};
 ghost use Rattle.fdb_mutations.specs.Maps.{Map};
 ghost use Rattle.fdb_mutations.specs.Mutations.{new_value};
 ghost use Rattle.fdb_mutations.specs.PairLaws.{given_of};
@@ -13,7 +14,7 @@ ghost use Rattle.fdb_client.specs.OwnWrites.{is_value, value_over};
 use crate::own_writes::{Kept, OwnWrites};
 use crate::snapshot::Snapshot;
 use bytes::Bytes;
-use fdb_keys::{Items, Key, KeyRange, Refusal};
+use fdb_keys::{Items, Key, KeyRange, RangeSet, Refusal, TreeRangeSet};
 use fdb_mutations::Mutation;
 use std::alloc::{AllocError, Global};
 
@@ -38,7 +39,7 @@ pub(crate) fn pairs_copy(pairs: &Items<(Key, Bytes)>) -> Result<Items<(Key, Byte
 }
 
 // What a read of the range scanned, by the pairs that it was given.
-pub(crate) fn scanned_part(
+fn scanned_part(
     alloc: Global,
     range: &KeyRange,
     limit: u32,
@@ -54,6 +55,23 @@ pub(crate) fn scanned_part(
         }
         _ => Ok(range.clone()?),
     }
+}
+
+// The parts of what a read of the range scanned, by the pairs that it was given, that aren't decided.
+pub(crate) fn undecided_part(
+    alloc: Global,
+    decided: &TreeRangeSet,
+    range: &KeyRange,
+    limit: u32,
+    reverse: bool,
+    pairs: &[(Key, Bytes)],
+) -> Result<RangeSet, Refusal>
+    requires { (map : Map) × (pairs.now ≡ given_of map range.now limit reverse) }
+    ensures { Answers result None
+        (λ undecided. undecided ≡ outside decided.now (scanned range.now limit reverse pairs.now)) }
+{
+    let part = scanned_part(alloc, range, limit, reverse, pairs)?;
+    decided.outside(alloc, &part)
 }
 
 // The value after mutations that name its key.

@@ -12,7 +12,7 @@ ghost use Rattle.fdb_client.specs.ProgramLaws.{is_ordinary, AgreeWhereOrdinary};
 
 use crate::buffering::add_key;
 use crate::program::{Op, Reply, Transcript};
-use crate::reading::scanned_part;
+use crate::reading::undecided_part;
 use bytes::Bytes;
 use fdb_keys::{Items, Key, KeyRange, RangeSet, Refusal, TreeRangeSet};
 use fdb_mutations::{Mutation, Named};
@@ -51,6 +51,22 @@ fn written(alloc: Global, ops: &[(Op, Reply)]) -> Result<TreeRangeSet, Refusal>
     Ok(writes)
 }
 
+// The write set of the operations, as it is submitted.
+fn write_set(alloc: Global, ops: &[(Op, Reply)]) -> Result<RangeSet, Refusal>
+    ensures { Answers result None (λ writes. writes ≡ write_ranges (program ops.now)) }
+{
+    let writes = written(alloc, ops)?;
+    writes.to_set(alloc)
+}
+
+// Whether the operations write no point.
+fn has_no_write(alloc: Global, ops: &[(Op, Reply)]) -> Result<bool, Refusal>
+    ensures { Answers result None (λ nothing. IsTrue nothing ↔ (write_ranges (program ops.now) ≡ [])) }
+{
+    let writes = written(alloc, ops)?;
+    Ok(writes.is_empty())
+}
+
 // Adds the mutation of the operation, if it is a write.
 fn add_listed(mutations: &mut Items<Mutation>, op: &Op) -> Result<(), Refusal>
     ensures { Answers result None (λ _. mutations.new ≡ add_mutation op.now mutations.old) }
@@ -73,6 +89,14 @@ fn listed(alloc: Global, ops: &[(Op, Reply)]) -> Result<Items<Mutation>, Refusal
         add_listed(&mut mutations, op)?;
     }
     Ok(mutations)
+}
+
+// Whether the operations have no mutation.
+fn has_no_mutation(alloc: Global, ops: &[(Op, Reply)]) -> Result<bool, Refusal>
+    ensures { Answers result None (λ nothing. IsTrue nothing ↔ (mutations_of (program ops.now) ≡ [])) }
+{
+    let mutations = listed(alloc, ops)?;
+    Ok(mutations.is_empty())
 }
 
 // Adds what the operation decides.
@@ -99,8 +123,7 @@ fn add_scan(
     ensures { (earlier : List Op) → decided.now ≡ decided_ranges earlier → Answers result None
         (λ _. reads.new ≡ add_scanned earlier (scanned range.now limit reverse pairs.now) reads.old) }
 {
-    let part = scanned_part(alloc, range, limit, reverse, pairs)?;
-    let undecided = decided.outside(alloc, &part)?;
+    let undecided = undecided_part(alloc, decided, range, limit, reverse, pairs)?;
     reads.add_all(&undecided)
 }
 
@@ -165,6 +188,15 @@ fn read(alloc: Global, ops: &[(Op, Reply)]) -> Result<TreeRangeSet, Refusal>
     Ok(reads)
 }
 
+// The read set of such operations, as it is submitted.
+fn read_set(alloc: Global, ops: &[(Op, Reply)]) -> Result<RangeSet, Refusal>
+    requires { (map : Map) × AgreeWhereOrdinary (program ops.now) (replies_of ops.now) (exec map (program ops.now)) }
+    ensures { Answers result None (λ reads. reads ≡ read_ranges (program ops.now) (replies_of ops.now)) }
+{
+    let reads = read(alloc, ops)?;
+    reads.to_set(alloc)
+}
+
 // Whether the transaction has this name, this read version, these sets and these mutations.
 fn has_parts(
     transaction: &Sealed,
@@ -209,8 +241,8 @@ pub fn is_request_of(
     ensures { Answers result None (λ same. IsTrue same ↔ (transaction.now ≡ commit_request_of transcript.now)) }
 {
     let ops = transcript.ops.as_slice();
-    let reads = read(alloc, ops)?.to_set(alloc)?;
-    let writes = written(alloc, ops)?.to_set(alloc)?;
+    let reads = read_set(alloc, ops)?;
+    let writes = write_set(alloc, ops)?;
     let mutations = listed(alloc, ops)?;
     Ok(has_parts(
         transaction,
@@ -227,7 +259,7 @@ pub fn has_written_nothing(alloc: Global, transcript: &Transcript) -> Result<boo
         ↔ ((mutations_of (program transcript.now.ops) ≡ []) × (write_ranges (program transcript.now.ops) ≡ []))) }
 {
     let ops = transcript.ops.as_slice();
-    let writes = written(alloc, ops)?;
-    let mutations = listed(alloc, ops)?;
-    Ok(mutations.is_empty() && writes.is_empty())
+    let has_no_write = has_no_write(alloc, ops)?;
+    let has_no_mutation = has_no_mutation(alloc, ops)?;
+    Ok(has_no_mutation && has_no_write)
 }

@@ -110,8 +110,18 @@ impl Txn {
             (λ _. self.new ≡ with_op self.old (operation.Write mutation) answer.Done) }
         ensures err { OnErr result (self.new ≡ self.old) }
     {
+        let answer = self.take_write(&mutation);
+        drop(mutation);
+        answer
+    }
+
+    fn take_write(&mut self, mutation: &Mutation) -> Result<(), Refusal>
+        ensures answers { Answers result (mutation_fault mutation.now)
+            (λ _. self.new ≡ with_op self.old (operation.Write mutation.now) answer.Done) }
+        ensures err { OnErr result (self.new ≡ self.old) }
+    {
         mutation.check()?;
-        self.parts.write(&mutation)
+        self.parts.write(mutation)
     }
 
     /// Adds the range to the read set, whole, also where its keys are decided. An empty range adds nothing. Refused

@@ -1,13 +1,8 @@
 use Rattle.std.proofs.Common.{◌≡◌, ◌∙◌, sym, subst, true, false, List, None, rules}
 use Rattle.fdb_keys.specs.Answers.{Answers}
 use Rattle.fdb_keys.specs.Ranges.{Range}
-use Rattle.fdb_mutations.specs.Maps.{Map}
-use Rattle.fdb_mutations.specs.PairLaws.{given_of}
 use Rattle.fdb_client.specs.declared.program.Op.TheVariants.{Get}
 use Rattle.fdb_client.specs.declared.program.Op.TheVariants as operation
-use Rattle.fdb_client.specs.declared.program.Reply.{Reply}
-use Rattle.fdb_client.specs.declared.program.Reply.TheVariants.{Pairs}
-use Rattle.fdb_client.specs.Programs.{add_reads, reply_on}
 use Rattle.fdb_client.proofs.RequestLemmas.{reads-key, scanned-map}
 use Rattle.fdb_client.proofs.request.add_read.Goals as goal
 

@@ -1,4 +1,4 @@
-use Rattle.std.proofs.Common.{◌≡◌, ◌∙◌, sym, ap, refl, false, true, not, Bool}
+use Rattle.std.proofs.Common.{◌≡◌, ◌∙◌, sym, ap, refl, not}
 use Rattle.std.proofs.lemmas.Bool.{both_ways, not-false}
 use Rattle.fdb_keys.specs.Equality.{range_set_eq_decides, items_eq_decides}
 use Rattle.fdb_mutations.specs.Equality.{mutation_eq, mutation_eq_decides}

@@ -19,7 +19,7 @@ returns-in_err-change-clause-err c =
     ≡ cond (is_at (slice_cmp nat_cmp key) x) (Some c.change.new.self) (found own.keys.entries x)
     = λ x. let follows = c.get_mut.follows.holds c.change.new.self in search rules in
     let same : c.change.new.self ≡ kept own key = search rules in
-    on_err c.from_residual-in_err-change.result _ (λ x.
+    on_err c.from_residual.result _ (λ x.
     kept-changed own.keys.entries after.entries own.decided key c.change.new.self (λ (left : Left). left) there same x
     ∙ either_way (point_eq x key) (kept own x))
 

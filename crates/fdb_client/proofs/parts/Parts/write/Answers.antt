@@ -1,8 +1,7 @@
-use Rattle.std.proofs.Common.{◌≡◌, ◌∙◌, sym, ap, ap₂, refl, subst, List, [], ◌∷◌, ◌++◌}
+use Rattle.std.proofs.Common.{◌≡◌, ◌∙◌, sym, ap, refl, subst, List, [], ◌∷◌, ◌++◌}
 use Rattle.fdb_keys.specs.Insertion.{with_range}
 use Rattle.fdb_keys.specs.Points.{Point}
 use Rattle.fdb_keys.specs.Ranges.{Range, in_set}
-use Rattle.fdb_mutations.specs.declared.mutation.Mutation.{Mutation}
 use Rattle.fdb_mutations.specs.Mutations.{named_range}
 use Rattle.fdb_client.specs.declared.own_writes.OwnWrites.{OwnWrites}
 use Rattle.fdb_client.specs.declared.parts.Parts.{Parts}
@@ -10,17 +9,9 @@ use Rattle.fdb_client.specs.declared.program.Op.TheVariants as operation
 use Rattle.fdb_client.specs.declared.program.Reply.TheVariants as answer
 use Rattle.fdb_client.specs.Kept.{kept, HasLegalKeys}
 use Rattle.fdb_client.specs.OwnWrites.{left_with, is_value}
-use Rattle.fdb_client.specs.Parts.{with_op}
 use Rattle.fdb_client.specs.Programs.{add_decided}
 use Rattle.fdb_client.proofs.PartsLemmas.{are-push, kept-decided, kept-unwritten, legal-push}
 use Rattle.fdb_client.proofs.parts.Parts.write.Goals as goal
-
--- with a write listed among the operations and among the mutations
-abbrev listed_with : Parts → Mutation → Mutation → Parts
-listed_with old noted mutation = record old {
-  transcript = with_op old.transcript (operation.Write noted) answer.Done;
-  mutations = old.mutations ++ mutation ∷ [];
-}
 
 pub buffer-requires-clause-legal_keys : goal.buffer-requires-clause-legal_keys
 buffer-requires-clause-legal_keys c =
@@ -48,8 +39,7 @@ pub returns-clause-kept : goal.returns-clause-kept
 returns-clause-kept c =
     let old = c.args.self.now in
     let mutation = c.args.mutation.now in
-    let listed = c.in_ok-list_write.ensures.answers ∙ ap₂ (listed_with old)
-    c.in_ok-copy_of.ensures c.in_ok-copy_of-2.ensures in
+    let listed = c.in_ok-list_write.ensures.answers in
     let own = ap (λ (parts : Parts). parts.own) listed in
     let writes = ap (λ (parts : Parts). parts.writes) listed in
     let pushed = are-push old.transcript.ops (operation.Write mutation, answer.Done) old.own c.buffer.new.own
