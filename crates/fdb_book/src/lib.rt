@@ -12,8 +12,6 @@ mod latest;
 pub mod laws;
 mod name;
 mod repeated;
-#[cfg(test)]
-mod tests;
 
 pub use agreeing::agree;
 pub use appending::append;

@@ -7,8 +7,6 @@ mod log_core;
 mod message;
 mod peek;
 mod telling;
-#[cfg(test)]
-mod tests;
 
 pub use fdb_txn::TagMsg;
 pub use log_core::{LOG_LIMIT, LogCore, TAG_LIMIT};

@@ -5,8 +5,6 @@ pub mod laws;
 mod learnt;
 mod owners;
 mod parts;
-#[cfg(test)]
-mod tests;
 
 pub use owners::Owners;
 pub use parts::Owned;

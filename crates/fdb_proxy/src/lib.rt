@@ -14,8 +14,6 @@ mod position;
 mod requests;
 mod resolving;
 mod stage;
-#[cfg(test)]
-mod tests;
 mod ticketing;
 
 pub use commit_core::CommitCore;

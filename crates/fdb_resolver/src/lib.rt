@@ -5,8 +5,6 @@ mod judging;
 pub mod laws;
 mod part;
 mod resolver_core;
-#[cfg(test)]
-mod tests;
 mod verdict;
 
 pub use part::{Item, Part};

@@ -5,8 +5,6 @@
 pub mod laws;
 mod moves;
 mod sequencer_core;
-#[cfg(test)]
-mod tests;
 mod ticket;
 
 pub use sequencer_core::{

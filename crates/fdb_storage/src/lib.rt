@@ -8,8 +8,6 @@ mod page;
 mod replaying;
 mod shard;
 mod shard_map;
-#[cfg(test)]
-mod tests;
 mod values;
 
 pub use page::Page;

@@ -2,10 +2,32 @@
 #![tactic(auto)]
 
 #[cfg(test)]
+mod books;
+#[cfg(test)]
+mod clients;
+#[cfg(test)]
 mod intervals;
 #[cfg(test)]
 mod keys;
 #[cfg(test)]
+mod logs;
+#[cfg(test)]
 mod making;
 #[cfg(test)]
 mod mutations;
+#[cfg(test)]
+mod owning;
+#[cfg(test)]
+mod proxies;
+#[cfg(test)]
+mod random;
+#[cfg(test)]
+mod resolving;
+#[cfg(test)]
+mod sequencing;
+#[cfg(test)]
+mod storage;
+#[cfg(test)]
+mod transactions;
+#[cfg(test)]
+mod worlds;

@@ -12,8 +12,6 @@ mod size;
 mod splits;
 mod spot;
 mod tag_msg;
-#[cfg(test)]
-mod tests;
 mod txn_id;
 mod writes;
 

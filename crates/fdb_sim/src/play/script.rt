@@ -1,10 +1,11 @@
-ghost use Rattle.std.specs.Prelude.{◌≡◌, ◌<◌, ◌≤◌, ◌++◌, ℕ, List, [], Some, None, true, false, IfOk, IfErr, OnOk, string_bytes};
+ghost use Rattle.std.specs.Prelude.{◌≡◌, ◌<◌, ◌≤◌, ◌++◌, ℕ, List, [], Some, None, true, false, IfOk, IfErr, OnOk, string_bytes, codes};
+ghost use Rattle.std.specs.Io.KnownBytes.{Appends};
 ghost use Rattle.fdb_proxy.specs.Configs.{config_fault};
 ghost use Rattle.fdb_core.specs.machine.Worlds.{start};
 ghost use Rattle.fdb_sim.specs.Streams.{FailsWith, IsLimitedError, IsStreamError};
 ghost use Rattle.fdb_sim.specs.script.Configs.{WritesConfig, line_fault};
 ghost use Rattle.fdb_sim.specs.script.Lines.{left, line_text, line_number};
-ghost use Rattle.fdb_sim.specs.play.Scripts.{is_silent, AnswersLine, PlaysOn, PlaysFrom, Plays, Unconfigured, StopsAt, Printed, Knows, Says, Reaches};
+ghost use Rattle.fdb_sim.specs.play.Scripts.{is_silent, printed_line, AnswersLine, PlaysOn, PlaysFrom, Plays, Unconfigured, StopsAt, Printed, Knows, Says, Reaches};
 
 use crate::play::driving::drive;
 use crate::play::showing::push_shown;
@@ -67,9 +68,46 @@ fn run_to_end<R: Source, W: Sink>(alloc: Global, reader: &mut R, writer: &mut W)
 {
     let mut lines = Lines::new(alloc, reader)?;
     let config = first_config(alloc, &mut lines)?;
-    let mut world = make_world(alloc, config)?;
-    writer.write_all(b"ok\n")?;
-    take_steps(alloc, &mut lines, &mut world, writer)
+    let world = greet(make_world(alloc, config)?, writer)?;
+    play_on(alloc, &mut lines, world, writer)
+}
+
+// Prints that the configuration was taken, and gives the world back.
+fn greet<W: Sink>(world: World, writer: &mut W) -> Result<World, Stop>
+    ensures ok { IfOk result (λ same. same ≡ world) }
+    ensures printed { OnOk result (Appends (W.contents writer.old) (W.contents writer.new) (printed_line (codes "ok"))) }
+    ensures stops { IfErr result (λ stop. Says stop (λ _. ⊥)) }
+    ensures errors { IfErr result (FailsWith W.errors) }
+{
+    match writer.write_all(b"ok\n") {
+        Ok(()) => Ok(world),
+        Err(error) => {
+            drop(world);
+            Err(Stop::Io(error))
+        }
+    }
+}
+
+// Takes the steps of the lines that are left, and lets the world go.
+fn play_on<R: Source + Drop, W: Sink>(
+    alloc: Global,
+    lines: &mut Lines<R>,
+    world: World,
+    writer: &mut W,
+) -> Result<u8, Stop>
+    ensures bound { IfOk result (λ status. status < 2) }
+    ensures printed { IfOk result (λ status. Printed (W.contents writer.old) (W.contents writer.new) (λ printed.
+        Knows (left R.remaining lines.old) (λ all. PlaysOn (line_number lines.old) world.machine all printed status))) }
+    ensures stops { IfErr result (λ stop. Says stop (λ last.
+        Printed (W.contents writer.old) (W.contents writer.new) (λ printed.
+        Knows (left R.remaining lines.old) (λ all.
+        PlaysOn (line_number lines.old) world.machine all (printed ++ last) 2)))) }
+    ensures errors { IfErr result (FailsWith (IsStreamError R.errors W.errors)) }
+{
+    let mut world = world;
+    let ended = take_steps(alloc, lines, &mut world, writer);
+    drop(world);
+    ended
 }
 
 // The configuration, which stands in the first line that says anything.

@@ -1,8 +1,5 @@
 // Batches that are driven.
-pub const TABLES: [&str; 2] = [
-    DRIVES_REFUSED,
-    DRIVES_OF_MANY,
-];
+pub const TABLES: [&str; 2] = [DRIVES_REFUSED, DRIVES_OF_MANY];
 
 // The drive that comes after a step of its own ends at that step's refusal, and takes none of those after.
 const DRIVES_REFUSED: &str = "\

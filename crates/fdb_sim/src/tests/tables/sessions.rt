@@ -1,8 +1,5 @@
 // What sessions are told that compete, or that don't do what comes next.
-pub const TABLES: [&str; 2] = [
-    CONFLICT,
-    SESSIONS,
-];
+pub const TABLES: [&str; 2] = [CONFLICT, SESSIONS];
 
 // The lines of examples/conflict.txt, and what they print.
 const CONFLICT: &str = "\

@@ -1,9 +1,5 @@
 // What joins the read and the write set of a transaction, and what doesn't.
-pub const TABLES: [&str; 3] = [
-    INVERTED_AND_EMPTY,
-    WRITE_RANGE_ALONE,
-    SHOWN,
-];
+pub const TABLES: [&str; 3] = [INVERTED_AND_EMPTY, WRITE_RANGE_ALONE, SHOWN];
 
 // An inverted range is refused, and an empty one adds nothing.
 const INVERTED_AND_EMPTY: &str = "\

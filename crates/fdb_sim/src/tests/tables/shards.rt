@@ -1,9 +1,5 @@
 // Scripts with several logs and shards, and what a shard forgets and drops.
-pub const TABLES: [&str; 3] = [
-    FORGETTING,
-    TWO_LOGS_AND_SHARDS,
-    TWO_LOGS_BY_STEPS,
-];
+pub const TABLES: [&str; 3] = [FORGETTING, TWO_LOGS_AND_SHARDS, TWO_LOGS_BY_STEPS];
 
 const FORGETTING: &str = "\
     config proxies 1 logs 1 resolvers m shards - book 100

@@ -1,8 +1,5 @@
 // Writes of every kind, and what they come to one after another.
-pub const TABLES: [&str; 2] = [
-    IN_ORDER,
-    EVERY_KIND,
-];
+pub const TABLES: [&str; 2] = [IN_ORDER, EVERY_KIND];
 
 // Two sessions add to one key and flip bits of it, and read nothing.
 const IN_ORDER: &str = "\

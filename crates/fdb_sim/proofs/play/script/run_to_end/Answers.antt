@@ -15,26 +15,26 @@ returns-in_err-config-clause-stops g c =
     (run_unconfigured (g.R.Source.remaining c.args.reader.now) _ (g.W.Sink.contents c.args.writer.now) _ _ made.left
     made.number c.in_err-config.ensures.stops))
 
-pub returns-in_err-world-clause-stops : goal.returns-in_err-world-clause-stops
-returns-in_err-world-clause-stops g c =
-    let p = err_from_is_err_and c.from_residual-in_err-world.result c.from_residual-in_err-world.ensures.1 in
+pub returns-in_err-make_world-clause-stops : goal.returns-in_err-make_world-clause-stops
+returns-in_err-make_world-clause-stops g c =
+    let p = err_from_is_err_and c.from_residual-in_err-make_world.result c.from_residual-in_err-make_world.ensures.1 in
     let made = c.in_ok-lines.ensures in
     rw p.1 (rw p.2
     (run_refused (g.R.Source.remaining c.args.reader.now) _ _ (g.W.Sink.contents c.args.writer.now) _ _
-    c.in_ok-config.config _ made.left made.number c.in_ok-config.ensures.ok c.in_err-world.ensures.stops))
+    c.in_ok-config.config _ made.left made.number c.in_ok-config.ensures.ok c.in_err-make_world.ensures.stops))
 
 pub returns-clause-printed : goal.returns-clause-printed
 returns-clause-printed g c =
     let made = c.in_ok-lines.ensures in
-    if_ok_map c.take_steps.result _ _
+    if_ok_map c.play_on.result _ _
     (λ status played. run_played _ _ _ _ _ _ _ _ status c.in_ok-config.config c.in_ok-world.world.machine made.left
-    made.number c.in_ok-config.ensures.ok c.in_ok-world.ensures.ok c.in_ok-write_all.ensures.bytes played)
-    c.take_steps.ensures.printed
+    made.number c.in_ok-config.ensures.ok c.in_ok-make_world.ensures.ok c.in_ok-world.ensures.printed played)
+    c.play_on.ensures.printed
 
 pub returns-clause-stops : goal.returns-clause-stops
 returns-clause-stops g c =
     let made = c.in_ok-lines.ensures in
-    if_err_map c.take_steps.result _ _
+    if_err_map c.play_on.result _ _
     (λ stopped played. run_stopped _ _ _ _ _ _ _ _ c.in_ok-config.config c.in_ok-world.world.machine stopped made.left
-    made.number c.in_ok-config.ensures.ok c.in_ok-world.ensures.ok c.in_ok-write_all.ensures.bytes played)
-    c.take_steps.ensures.stops
+    made.number c.in_ok-config.ensures.ok c.in_ok-make_world.ensures.ok c.in_ok-world.ensures.printed played)
+    c.play_on.ensures.stops
