@@ -14,7 +14,7 @@ use Rattle.fdb_client.specs.declared.program.Op.{Op}
 use Rattle.fdb_client.specs.declared.program.Reply.{Reply}
 use Rattle.fdb_client.specs.Kept.{kept, HasLegalKeys}
 use Rattle.fdb_client.specs.OwnWrites.{left_by, left_at, is_value, value_over}
-use Rattle.fdb_client.specs.Parts.{AreOf}
+use Rattle.fdb_client.specs.Parts.{AreOf, WritesNothing}
 use Rattle.fdb_client.specs.Programs.{program, copy, decided, add_decided, add_reads, add_writes, add_mutation, decided_ranges, read_ranges, write_ranges, mutations_of}
 use Rattle.fdb_client.proofs.DecidedLemmas.{in_decided_ranges}
 use Rattle.fdb_client.proofs.OwnWritesLemmas.{decided-left, copy-left, unwritten-left}
@@ -47,6 +47,16 @@ module _ (ops : List (Op × Reply)) (done : Op × Reply) where
         are_mutations = added ∙ ap (add_mutation done.0) are.are_mutations ∙ ap mutations_of pushed;
         legal = legal;
       }
+
+  -- and with one that writes nothing, where the read set has what it reads
+  pub are-noted : (own : OwnWrites) (reads writes new_reads : List Range) (mutations : List Mutation)
+      → AreOf ops own reads writes mutations → WritesNothing done.0
+      → new_reads ≡ add_reads (program ops) done.0 done.1 reads
+      → AreOf (ops ++ done ∷ []) own new_reads writes mutations
+  are-noted own reads writes new_reads mutations are nothing read =
+      are-push own own reads writes new_reads writes mutations mutations are
+      (λ x. sym (nothing.0 x (kept own x))) are.legal_keys (sym (nothing.1 own.decided)) read
+      (sym (nothing.2 writes)) (sym (nothing.3 mutations)) are.legal
 
 module _ (ops : List (Op × Reply)) (own : OwnWrites) (reads writes : List Range) (mutations : List Mutation)
     (are : AreOf ops own reads writes mutations) (key : Point) where

@@ -2,7 +2,7 @@
 use bytes::Bytes;
 use fdb_keys::Items;
 use fdb_mutations::Mutation;
-use std::alloc::AllocError;
+use std::alloc::{AllocError, Global};
 
 #[derive(Drop)]
 pub(crate) enum Left {
@@ -13,9 +13,20 @@ pub(crate) enum Left {
 }
 
 impl Left {
-    ghost use Rattle.std.specs.Prelude.{◌≡◌, false, OnOk, OnErr};
+    ghost use Rattle.std.specs.Prelude.{◌≡◌, [], ◌∷◌, false, IfOk, OnOk, OnErr};
     ghost use Rattle.fdb_mutations.specs.Mutations.{is_blind};
     ghost use Rattle.fdb_client.specs.OwnWrites.{left_after, is_value};
+    ghost use Rattle.fdb_client.specs.declared.left.Left.TheVariants.{Changes};
+
+    // What the mutation alone leaves, where it decides nothing.
+    pub(crate) fn of_change(alloc: Global, mutation: &Mutation) -> Result<Self, AllocError>
+        ensures { IfOk result (λ left. left ≡ Changes (mutation.now ∷ [])) }
+    {
+        let copy = mutation.clone()?;
+        let mut mutations = Items::new(alloc);
+        mutations.push(copy)?;
+        Ok(Left::Changes(mutations))
+    }
 
     // One mutation more, which decides nothing. Where memory runs out, nothing changes.
     pub(crate) fn change(&mut self, mutation: &Mutation) -> Result<(), AllocError>

@@ -112,9 +112,8 @@ impl OwnWrites {
             left.change(mutation)?;
             return Ok(());
         }
-        let mut mutations = Items::new(alloc);
-        mutations.push(mutation.clone()?)?;
-        self.put(key, Left::Changes(mutations))
+        let left = Left::of_change(alloc, mutation)?;
+        self.put(key, left)
     }
 
     // Leaves this at the key, which has an entry. It takes no memory.

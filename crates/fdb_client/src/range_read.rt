@@ -155,20 +155,20 @@ impl<'a> RangeRead<'a> {
     }
 
     // Merges a page of what is left. Whether the read goes on then.
-    fn merge_page(&self, progress: &mut Progress, page: Page) -> Result<bool, Refusal>
+    fn merge_page(&self, progress: &mut Progress, page: &Page) -> Result<bool, Refusal>
         requires legal_keys { HasLegalKeys self.now.own.now }
         requires within { IsWithin self.now.limit progress.old.given }
         requires page { (map : Map) × (copy : Map) × IsCopyOf (kept self.now.own.now) map copy
-            × HasFirst map progress.old.left self.now.reverse page }
-        requires goes_on { page.more ≡ true → 0 < length page.pairs }
+            × HasFirst map progress.old.left self.now.reverse page.now }
+        requires goes_on { page.now.more ≡ true → 0 < length page.now.pairs }
         ensures { Answers result None (λ more. (map copy : Map) (range : Range)
-            → IsCopyOf (kept self.now.own.now) map copy → HasFirst map progress.old.left self.now.reverse page
+            → IsCopyOf (kept self.now.own.now) map copy → HasFirst map progress.old.left self.now.reverse page.now
             → ReadsOn (kept self.now.own.now) map range self.now.reverse self.now.limit progress.old.given
             progress.old.left
             → ReadsPage (kept self.now.own.now) map range self.now.reverse self.now.limit progress.old.left
             progress.new.given progress.new.left more) }
     {
-        self.merge(progress, &page)?;
+        self.merge(progress, page)?;
         Ok(page.more && !self.is_full(progress))
     }
 
@@ -184,21 +184,23 @@ impl<'a> RangeRead<'a> {
             progress.old.left progress.new.given progress.new.left more) }
     {
         let page = snapshot.page(&progress.left, self.room(progress), self.reverse)?;
-        self.merge_page(progress, page)
+        let more = self.merge_page(progress, &page);
+        drop(page);
+        more
     }
 
-    // Reads all of what is left, which the snapshot doesn't refuse and whose first page this is.
+    // Takes all of what is left, which the snapshot doesn't refuse and whose first page this is.
     fn take_all<S: Snapshot>(
         &self,
         snapshot: &S,
         progress: &mut Progress,
-        page: Page,
+        page: &Page,
     ) -> Result<(), Refusal>
         requires legal_keys { HasLegalKeys self.now.own.now }
         requires copy { (copy : Map) × IsCopyOf (kept self.now.own.now) (S.map snapshot.now) copy }
         requires start { progress.old.given ≡ [] }
         requires served { S.range_fault snapshot.now progress.old.left ≡ None }
-        requires page { IsPage (S.map snapshot.now) progress.old.left self.now.limit self.now.reverse page }
+        requires page { IsPage (S.map snapshot.now) progress.old.left self.now.limit self.now.reverse page.now }
         ensures { Answers result None (λ _. (copy : Map) → IsCopyOf (kept self.now.own.now) (S.map snapshot.now) copy
             → progress.new.given ≡ given_of copy progress.old.left self.now.limit self.now.reverse) }
     {
@@ -207,6 +209,34 @@ impl<'a> RangeRead<'a> {
             more = self.take_page(snapshot, progress)?;
         }
         Ok(())
+    }
+
+    // Reads the range, which the snapshot doesn't refuse and whose first page this is.
+    fn read_all<S: Snapshot>(
+        &self,
+        snapshot: &S,
+        range: &KeyRange,
+        page: &Page,
+    ) -> Result<Items<(Key, Bytes)>, Refusal>
+        requires legal_keys { HasLegalKeys self.now.own.now }
+        requires copy { (copy : Map) × IsCopyOf (kept self.now.own.now) (S.map snapshot.now) copy }
+        requires served { S.range_fault snapshot.now range.now ≡ None }
+        requires page { IsPage (S.map snapshot.now) range.now self.now.limit self.now.reverse page.now }
+        ensures { Answers result None (λ given. (copy : Map) → IsCopyOf (kept self.now.own.now) (S.map snapshot.now) copy
+            → given ≡ given_of copy range.now self.now.limit self.now.reverse) }
+    {
+        let left = range.clone()?;
+        let mut progress = Progress {
+            given: Items::new(self.alloc),
+            left,
+        };
+        match self.take_all(snapshot, &mut progress, page) {
+            Ok(()) => Ok(progress.given),
+            Err(why) => {
+                drop(progress);
+                Err(why)
+            }
+        }
     }
 }
 
@@ -234,10 +264,7 @@ pub(crate) fn pairs_of<S: Snapshot>(
     };
     // The snapshot is asked before anything takes memory, since it may refuse the range.
     let page = snapshot.page(range, limit, reverse)?;
-    let mut progress = Progress {
-        given: Items::new(alloc),
-        left: range.clone()?,
-    };
-    read.take_all(snapshot, &mut progress, page)?;
-    Ok(progress.given)
+    let given = read.read_all(snapshot, range, &page);
+    drop(page);
+    given
 }

@@ -1,10 +1,9 @@
-use Rattle.std.proofs.Common.{◌≡◌, ℕ, List, if◌then◌else◌, ◌∙◌, ap, rules, Some, None, [], ◌∷◌, cond}
+use Rattle.std.proofs.Common.{◌≡◌, ℕ, List, if◌then◌else◌, ◌∙◌, ap, rules, Some, None, cond}
 use Rattle.std.specs.Ordering.{nat_cmp}
 use Rattle.std.specs.Cmp.Lexicographic.{slice_cmp}
 use Rattle.std.specs.BTreeMap.{is_at}
 use Rattle.fdb_keys.specs.Points.{Point, point_eq}
 use Rattle.fdb_client.specs.declared.left.Left.{Left}
-use Rattle.fdb_client.specs.declared.left.Left.TheVariants.{Changes}
 use Rattle.fdb_client.specs.Kept.{kept}
 use Rattle.fdb_client.specs.OwnWrites.{left_after, kept_at}
 use Rattle.fdb_client.proofs.KeptLemmas.{found, kept-changed, changed-at, first-change, legal-put, either_way, on_err, answers_also}
@@ -54,13 +53,13 @@ returns-clause-answers c =
     let key = c.args.key.now in
     let mutation = c.args.mutation.now in
     let absent : found own.keys.entries key ≡ None = search rules in
-    let list : c.push.new.self ≡ mutation ∷ [] = search rules in
+    let left = c.in_ok-left.left in
     let same : c.get_mut.follows.lender-at-none.entries ≡ own.keys.entries = search rules in
     answers_also c.put.result _ _ (λ put x.
-    changed-at (kept own) key x (kept c.put.new.self x) (Changes c.push.new.self)
-    (λ (left : Left). left_after left mutation)
+    changed-at (kept own) key x (kept c.put.new.self x) left
+    (λ (before : Left). left_after before mutation)
     (put x ∙ ap (λ (entries : List (List ℕ × Left)).
-    if point_eq x key then Changes c.push.new.self else kept_at entries own.decided x) same)
-    (ap Changes list
+    if point_eq x key then left else kept_at entries own.decided x) same)
+    (c.in_ok-left.ensures
     ∙ first-change own.keys.entries own.decided key mutation absent c.requires.undecided c.requires.blind))
     c.put.ensures.answers
