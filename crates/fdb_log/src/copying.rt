@@ -13,12 +13,13 @@ impl Tagged {
     pub fn copy(&self, alloc: Global) -> Result<Tagged, AllocError>
         ensures { IfOk result (λ copy. copy ≡ self.now) }
     {
+        let tags = Vec::from_slice(alloc, self.tags.as_slice())?;
+        // The mutation comes last: the prover goes over every kind of one where it is dropped.
         let mutation = self.mutation.clone()?;
-        let tags = Items::from_vec(Vec::from_slice(alloc, self.tags.as_slice())?);
         Ok(Tagged {
             place: self.place,
             mutation,
-            tags,
+            tags: Items::from_vec(tags),
         })
     }
 }

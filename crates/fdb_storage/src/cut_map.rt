@@ -13,7 +13,11 @@ fn apply_cut(map: &mut PlainMap, range: &KeyRange, mutation: &Mutation) -> Resul
     ensures { Answers result None (λ _. map.new ≡ cut_effect range.now map.old mutation.now) }
 {
     match mutation.clip(range)? {
-        Some(mutation) => map.apply(&mutation),
+        Some(clipped) => {
+            let answer = map.apply(&clipped);
+            drop(clipped);
+            answer
+        }
         None => Ok(()),
     }
 }
