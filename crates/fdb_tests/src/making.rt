@@ -1,9 +1,89 @@
 // What the tests of several crates make and ask. The prover goes over every kind of mutation wherever one goes out of
 // scope, so each is made in the call that uses it up, and what asks one ends in a call that drops it.
+ghost use Rattle.std.specs.Prelude.{◌≡◌, All, None, IfOk};
+ghost use Rattle.fdb_mutations.specs.Mutations.{mutation_fault};
+
 use bytes::Bytes;
 use fdb_keys::{Items, Key, KeyRange, RangeSet, Refusal};
-use fdb_mutations::{Mutation, PlainMap};
-use std::alloc::Global;
+use fdb_mutations::{Mutation, PlainMap, VALUE_LIMIT};
+use fdb_txn::{Sealed, TxnId};
+use std::alloc::{AllocError, Global};
+use std::fmt::Debug;
+use std::process::Abort;
+
+/// The test fails where it isn't what is wanted. As a call it costs the prover a third of what an assertion costs.
+pub fn same<T: PartialEq + Debug + Drop>(rt: &impl Abort, given: T, wanted: T) {
+    assert_eq!(rt; given, wanted);
+}
+
+/// What is answered of the value that was made, or the code of the refusal.
+pub fn ask<T: Drop, A: Drop, F: FnOnce(&T) -> A + Drop>(
+    made: Result<T, Refusal>,
+    question: F,
+) -> Result<A, u32>
+    requires { F.IsAlwaysCallable question }
+{
+    match made {
+        Ok(value) => Ok(question(&value)),
+        Err(why) => Err(why.code()),
+    }
+}
+
+/// The same of a value that changes meanwhile.
+pub fn ask_mut<T: Drop, A: Drop, F: FnOnce(&mut T) -> A + Drop>(
+    made: Result<T, Refusal>,
+    question: F,
+) -> Result<A, u32>
+    requires { F.IsAlwaysCallable question }
+{
+    match made {
+        Ok(mut value) => Ok(question(&mut value)),
+        Err(why) => Err(why.code()),
+    }
+}
+
+/// The same of two values.
+pub fn ask_both<T: Drop, U: Drop, A: Drop, F: FnOnce(&T, &U) -> A + Drop>(
+    first: Result<T, Refusal>,
+    second: Result<U, Refusal>,
+    question: F,
+) -> Result<A, u32>
+    requires { F.IsAlwaysCallable question }
+{
+    match (first, second) {
+        (Ok(first), Ok(second)) => Ok(question(&first, &second)),
+        (Err(why), _) | (_, Err(why)) => Err(why.code()),
+    }
+}
+
+/// What is made of the value.
+pub fn made_of<T: Drop, U, F: FnOnce(&T) -> Result<U, Refusal> + Drop>(
+    made: Result<T, Refusal>,
+    next: F,
+) -> Result<U, Refusal>
+    requires { F.IsAlwaysCallable next }
+{
+    match made {
+        Ok(value) => next(&value),
+        Err(why) => Err(why),
+    }
+}
+
+/// The value after the change.
+pub fn after<T: Drop, F: FnOnce(&mut T) -> Result<(), Refusal> + Drop>(
+    made: Result<T, Refusal>,
+    change: F,
+) -> Result<T, Refusal>
+    requires { F.IsAlwaysCallable change }
+{
+    match made {
+        Ok(mut value) => match change(&mut value) {
+            Ok(()) => Ok(value),
+            Err(why) => Err(why),
+        },
+        Err(why) => Err(why),
+    }
+}
 
 /// The code of the refusal, or 0.
 pub fn code_of<T: Drop>(answer: Result<T, Refusal>) -> u32 {
@@ -11,6 +91,12 @@ pub fn code_of<T: Drop>(answer: Result<T, Refusal>) -> u32 {
         Ok(_given) => 0,
         Err(why) => why.code(),
     }
+}
+
+/// The byte as many times.
+pub fn text_of(alloc: Global, byte: u8, count: usize) -> Result<Vec<u8>, Refusal> {
+    let text = vec![in alloc; byte; count]?;
+    Ok(text)
 }
 
 pub fn keys_of(alloc: Global, texts: &[&[u8]]) -> Result<Items<Key>, Refusal> {
@@ -34,25 +120,49 @@ pub fn has_bounds(range: &KeyRange, begin: &[u8], end: &[u8]) -> bool {
     range.begin() == begin && range.end() == end
 }
 
-/// Whether there is just the one range.
-pub fn is_one_range(ranges: &[KeyRange], begin: &[u8], end: &[u8]) -> bool {
-    match ranges {
-        [range] => has_bounds(range, begin, end),
-        _ => false,
+/// Whether these are just the ranges with the bounds.
+pub fn are_ranges(ranges: &[KeyRange], bounds: &[(&[u8], &[u8])]) -> bool {
+    ranges.len() == bounds.len()
+        && ranges
+            .iter()
+            .zip(bounds)
+            .all(|(range, (begin, end))| has_bounds(range, begin, end))
+}
+
+/// Whether the value equals its copy.
+pub fn equals_copy<T: PartialEq + Drop>(value: &T, copy: Result<T, AllocError>) -> bool {
+    match copy {
+        Ok(copy) => copy == *value,
+        Err(_error) => false,
     }
+}
+
+fn add_range(set: &mut RangeSet, alloc: Global, begin: &[u8], end: &[u8]) -> Result<(), Refusal> {
+    made_of(KeyRange::new(alloc, begin, end), |range| set.add(range))
+}
+
+/// The set of the ranges, which are added one after another.
+pub fn set_of(alloc: Global, bounds: &[(&[u8], &[u8])]) -> Result<RangeSet, Refusal> {
+    let mut set = RangeSet::new(alloc);
+    for (begin, end) in bounds {
+        add_range(&mut set, alloc, begin, end)?;
+    }
+    Ok(set)
 }
 
 /// The set of the key alone.
 pub fn one_key(alloc: Global, key: &[u8]) -> Result<RangeSet, Refusal> {
-    let key = Key::new(alloc, key)?;
-    let range = KeyRange::single(alloc, &key)?;
-    let mut set = RangeSet::new(alloc);
-    set.add(&range)?;
-    Ok(set)
+    let range = made_of(Key::new(alloc, key), |key| KeyRange::single(alloc, key));
+    made_of(
+        range,
+        |range| after(Ok(RangeSet::new(alloc)), |set| set.add(range)),
+    )
 }
 
 // The key and the bytes of a mutation.
-fn parts(alloc: Global, key: &[u8], bytes: &[u8]) -> Result<(Key, Bytes), Refusal> {
+fn parts(alloc: Global, key: &[u8], bytes: &[u8]) -> Result<(Key, Bytes), Refusal>
+    ensures { IfOk result (λ parts. parts.1 ≡ bytes.now) }
+{
     let key = Key::new(alloc, key)?;
     let bytes = Bytes::copy_from_slice(alloc, bytes)?;
     Ok((key, bytes))
@@ -61,6 +171,44 @@ fn parts(alloc: Global, key: &[u8], bytes: &[u8]) -> Result<(Key, Bytes), Refusa
 pub fn set(alloc: Global, key: &[u8], value: &[u8]) -> Result<Mutation, Refusal> {
     let (key, value) = parts(alloc, key, value)?;
     Ok(Mutation::Set { key, value })
+}
+
+/// The set of a key to a value that isn't too long.
+pub fn legal_set(alloc: Global, key: &[u8], value: &[u8]) -> Result<Mutation, Refusal>
+    ensures { IfOk result (λ mutation. mutation_fault mutation ≡ None) }
+{
+    if value.len() > VALUE_LIMIT {
+        return Err(Refusal::ValueTooLarge);
+    }
+    let (key, value) = parts(alloc, key, value)?;
+    Ok(Mutation::Set { key, value })
+}
+
+/// The set of a key to a value alone.
+pub fn one_set(alloc: Global, key: &[u8], value: &[u8]) -> Result<Items<Mutation>, Refusal>
+    ensures { IfOk result (λ mutations. All (λ mutation. mutation_fault mutation ≡ None) mutations) }
+{
+    let mut mutations = Items::new(alloc);
+    mutations.push(legal_set(alloc, key, value)?)?;
+    Ok(mutations)
+}
+
+/// The transaction with these sets and mutations.
+pub fn seal(
+    alloc: Global,
+    id: TxnId,
+    read_version: u64,
+    reads: RangeSet,
+    writes: RangeSet,
+    mutations: Items<Mutation>,
+) -> Result<Sealed, Refusal>
+    requires { All (λ mutation. mutation_fault mutation ≡ None) mutations }
+    ensures { IfOk result (λ sealed. sealed.read ≡ read_version) }
+{
+    match Sealed::new(alloc, id, read_version, reads, writes, mutations) {
+        Ok(sealed) => Ok(sealed),
+        Err(refused) => Err(refused.why),
+    }
 }
 
 pub fn clear(alloc: Global, key: &[u8]) -> Result<Mutation, Refusal> {
@@ -118,28 +266,16 @@ pub fn compare_and_clear(alloc: Global, key: &[u8], operand: &[u8]) -> Result<Mu
     Ok(Mutation::CompareAndClear { key, operand })
 }
 
-fn is_applied(map: &mut PlainMap, mutation: &Mutation) -> bool {
-    map.apply(mutation).is_ok()
+/// Changes the map.
+pub fn apply(map: &mut PlainMap, mutation: Result<Mutation, Refusal>) -> Result<(), Refusal> {
+    made_of(mutation, |mutation| map.apply(mutation))
 }
 
-/// Whether the mutation could be made and applied.
-pub fn applies(map: &mut PlainMap, mutation: Result<Mutation, Refusal>) -> bool {
-    match mutation {
-        Ok(mutation) => {
-            let holds = is_applied(map, &mutation);
-            drop(mutation);
-            holds
-        }
-        Err(_why) => false,
-    }
-}
-
-/// Whether the key has the value, of one byte, from now on.
-pub fn set_to(map: &mut PlainMap, alloc: Global, key: &[u8], value: u8) -> bool {
-    applies(map, set(alloc, key, &[value]))
-}
-
-/// Gives the keys a, b and c the values 1, 2 and 3.
-pub fn fill(map: &mut PlainMap, alloc: Global) -> bool {
-    set_to(map, alloc, b"c", 3) && set_to(map, alloc, b"a", 1) && set_to(map, alloc, b"b", 2)
+/// The map in which the keys a, b and c have the values 1, 2 and 3.
+pub fn filled(alloc: Global) -> Result<PlainMap, Refusal> {
+    let mut map = PlainMap::new(alloc);
+    apply(&mut map, set(alloc, b"c", &[3]))?;
+    apply(&mut map, set(alloc, b"a", &[1]))?;
+    apply(&mut map, set(alloc, b"b", &[2]))?;
+    Ok(map)
 }

@@ -1,106 +1,56 @@
-// Calls with known answers. The prover goes over every kind of mutation where one goes out of scope, so few functions
-// hold one, each drops it by a call, and none leaves early.
+// Mutations and plain maps with known answers.
 use crate::making::{
-    add, and, applies, byte_max, byte_min, clear, clear_range, code_of, compare_and_clear, fill,
-    has_bounds, max, min, or, set, xor,
+    add, and, apply, ask, ask_mut, byte_max, byte_min, clear, clear_range, code_of,
+    compare_and_clear, filled, has_bounds, made_of, max, min, or, same, set, text_of, xor,
 };
 use bytes::Bytes;
 use fdb_keys::{Items, Key, KeyRange, Refusal};
 use fdb_mutations::{Mutation, PlainMap};
 use std::alloc::Global;
-use std::test::Fail;
 
-// The code of the refusal, or 0, and the size. There is none where memory ran out.
-fn code_and_size(mutation: Result<Mutation, Refusal>) -> Option<(u32, u64)> {
-    match mutation {
-        Ok(mutation) => {
-            let found = (code_of(mutation.check()), mutation.size());
-            drop(mutation);
-            Some(found)
-        }
-        Err(_why) => None,
-    }
+// The code of the refusal, or 0 where the mutation is a legal one, and the size.
+fn code_and_size(mutation: Result<Mutation, Refusal>) -> Result<(u32, u64), u32> {
+    ask(
+        mutation,
+        |mutation| (code_of(mutation.check()), mutation.size()),
+    )
 }
 
 // The same of an `Add` of as many bytes.
-fn of_add(alloc: Global, count: usize) -> Result<Option<(u32, u64)>, Refusal> {
-    let operand = vec![in alloc; 1u8; count]?;
-    Ok(code_and_size(add(alloc, b"a", operand.as_slice())))
+fn of_add(alloc: Global, count: usize) -> Result<(u32, u64), u32> {
+    code_and_size(made_of(
+        text_of(alloc, 1, count),
+        |operand| add(alloc, b"a", operand),
+    ))
 }
 
 // The same of a `Set` to as many bytes.
-fn of_set(alloc: Global, count: usize) -> Result<Option<(u32, u64)>, Refusal> {
-    let value = vec![in alloc; b'v'; count]?;
-    Ok(code_and_size(set(alloc, b"a", value.as_slice())))
+fn of_set(alloc: Global, count: usize) -> Result<(u32, u64), u32> {
+    code_and_size(made_of(text_of(alloc, b'v', count), |value| set(alloc, b"a", value)))
 }
 
-// The new value of a key that has the value, or has none.
-fn applied(
-    alloc: Global,
-    mutation: &Mutation,
-    value: Option<&[u8]>,
-) -> Result<Option<Bytes>, Refusal> {
-    match value {
-        None => mutation.apply_value(alloc, None),
-        Some(value) => {
-            let value = Bytes::copy_from_slice(alloc, value)?;
-            mutation.apply_value(alloc, Some(&value))
-        }
-    }
-}
-
-fn is_value(value: Option<&Bytes>, expected: Option<&[u8]>) -> bool {
-    match (value, expected) {
-        (Some(value), Some(expected)) => value.as_slice() == expected,
-        (None, None) => true,
-        _ => false,
-    }
-}
-
-fn changes(
-    alloc: Global,
-    mutation: &Mutation,
-    value: Option<&[u8]>,
-    expected: Option<&[u8]>,
-) -> bool {
-    match applied(alloc, mutation, value) {
-        Ok(new) => is_value(new.as_ref(), expected),
-        Err(_why) => false,
-    }
-}
-
-// Whether the mutation of a value, or of an absent one, leaves just what is expected.
-fn leaves(
+// What the mutation makes of the value.
+fn turned(
     alloc: Global,
     mutation: Result<Mutation, Refusal>,
-    value: Option<&[u8]>,
-    expected: Option<&[u8]>,
-) -> bool {
-    match mutation {
-        Ok(mutation) => {
-            let holds = changes(alloc, &mutation, value, expected);
-            drop(mutation);
-            holds
-        }
-        Err(_why) => false,
-    }
+    value: &'static [u8],
+) -> Result<Option<Bytes>, Refusal> {
+    made_of(
+        mutation,
+        |mutation| mutation.apply_value(alloc, Some(&Bytes::from_static(value))),
+    )
 }
 
-// Whether the mutation of the value leaves just this one.
-fn turns(alloc: Global, mutation: Result<Mutation, Refusal>, value: &[u8], new: &[u8]) -> bool {
-    leaves(alloc, mutation, Some(value), Some(new))
+// What the mutation makes of no value.
+fn made(alloc: Global, mutation: Result<Mutation, Refusal>) -> Result<Option<Bytes>, Refusal> {
+    made_of(mutation, |mutation| mutation.apply_value(alloc, None))
 }
 
-// Whether the mutation of an absent value leaves just this one.
-fn makes(alloc: Global, mutation: Result<Mutation, Refusal>, new: &[u8]) -> bool {
-    leaves(alloc, mutation, None, Some(new))
+fn value(bytes: &'static [u8]) -> Result<Option<Bytes>, Refusal> {
+    Ok(Some(Bytes::from_static(bytes)))
 }
 
-// Whether the mutation of the value leaves none.
-fn clears(alloc: Global, mutation: Result<Mutation, Refusal>, value: &[u8]) -> bool {
-    leaves(alloc, mutation, Some(value), None)
-}
-
+// The pairs of the keys from a up to the end.
 fn pairs(
     map: &PlainMap,
     alloc: Global,
@@ -108,22 +58,32 @@ fn pairs(
     limit: u32,
     reverse: bool,
 ) -> Result<Items<(Key, Bytes)>, Refusal> {
-    let range = KeyRange::new(alloc, b"a", end)?;
-    map.range(&range, limit, reverse)
+    made_of(
+        KeyRange::new(alloc, b"a", end),
+        |range| map.range(range, limit, reverse),
+    )
 }
 
 // Whether there is just this one pair.
-fn is_pair(pairs: &[(Key, Bytes)], key: &[u8], value: &[u8]) -> bool {
+fn is_pair(pairs: &[(Key, Bytes)], key: &[u8], value: u8) -> bool {
     match pairs {
-        [(found, there)] => found.bytes() == key && there.as_slice() == value,
+        [(found, there)] => found.bytes() == key && there.as_slice() == [value].as_slice(),
         _ => false,
     }
 }
 
-// The mutation cut to the keys from m up to t.
-fn clipped(alloc: Global, mutation: &Mutation) -> Result<Option<Mutation>, Refusal> {
-    let range = KeyRange::new(alloc, b"m", b"t")?;
-    mutation.clip(&range)
+// Whether the call gave just this one pair.
+fn gave(answer: Result<Items<(Key, Bytes)>, Refusal>, key: &[u8], value: u8) -> bool {
+    ask(answer, |pairs| is_pair(pairs.as_slice(), key, value)) == Ok(true)
+}
+
+// How many pairs before c a page has, and whether there is a further one.
+fn page_before_c(map: &PlainMap, alloc: Global, limit: u32) -> Result<(usize, bool), u32> {
+    let page = made_of(
+        KeyRange::new(alloc, b"", b"c"),
+        |range| map.page(range, limit, false),
+    );
+    ask(page, |page| (page.0.len(), page.1))
 }
 
 // Whether there is a clear of just these keys, or nothing where none are given.
@@ -135,31 +95,17 @@ fn is_clear_of(mutation: Option<&Mutation>, bounds: Option<(&[u8], &[u8])>) -> b
     }
 }
 
-fn cuts(alloc: Global, mutation: &Mutation, bounds: Option<(&[u8], &[u8])>) -> bool {
-    match clipped(alloc, mutation) {
-        Ok(clipped) => {
-            let holds = is_clear_of(clipped.as_ref(), bounds);
-            drop(clipped);
-            holds
-        }
-        Err(_why) => false,
-    }
-}
-
-// Whether the cut leaves a clear of just these keys, or nothing where none are given.
-fn is_cut(
+// The mutation cut to the keys from m up to t.
+fn clipped(
     alloc: Global,
     mutation: Result<Mutation, Refusal>,
-    bounds: Option<(&[u8], &[u8])>,
-) -> bool {
-    match mutation {
-        Ok(mutation) => {
-            let holds = cuts(alloc, &mutation, bounds);
-            drop(mutation);
-            holds
-        }
-        Err(_why) => false,
-    }
+) -> Result<Option<Mutation>, Refusal> {
+    made_of(mutation, |mutation| {
+        made_of(
+            KeyRange::new(alloc, b"m", b"t"),
+            |range| mutation.clip(range),
+        )
+    })
 }
 
 fn copied(mutation: &Mutation) -> Result<Mutation, Refusal> {
@@ -167,154 +113,175 @@ fn copied(mutation: &Mutation) -> Result<Mutation, Refusal> {
     Ok(copy)
 }
 
-// Whether they are equal. There is no answer where memory ran out.
-fn is_same(mutation: &Mutation, other: Result<Mutation, Refusal>) -> Option<bool> {
-    match other {
-        Ok(other) => {
-            let holds = *mutation == other;
-            drop(other);
-            Some(holds)
-        }
-        Err(_why) => None,
-    }
-}
-
-// Whether the mutation equals its copy, and whether it equals the clear of a.
-fn compared(alloc: Global, mutation: Result<Mutation, Refusal>) -> Option<(bool, bool)> {
-    match mutation {
-        Ok(mutation) => {
-            let to_copy = is_same(&mutation, copied(&mutation));
-            let to_clear = is_same(&mutation, clear(alloc, b"a"));
-            drop(mutation);
-            to_copy.zip(to_clear)
-        }
-        Err(_why) => None,
-    }
+// Whether the mutation equals the other one.
+fn is_same(mutation: &Mutation, other: Result<Mutation, Refusal>) -> Result<bool, u32> {
+    ask(other, |other| mutation == other)
 }
 
 #[test]
-fn values_have_at_most_100_000_bytes(rt: HostRuntime) -> Result<(), Fail> {
-    assert_eq!(rt; of_set(rt.alloc(), 100_000)?, Some((0, 100_001)));
-    assert_eq!(rt; of_set(rt.alloc(), 100_001)?, Some((2103, 100_002)));
-    Ok(())
+fn values_have_at_most_100_000_bytes(rt: HostRuntime) {
+    let alloc = rt.alloc();
+    same(&rt, of_set(alloc, 100_000), Ok((0, 100_001)));
+    same(&rt, of_set(alloc, 100_001), Ok((2103, 100_002)));
 }
 
 #[test]
-fn added_numbers_have_1_to_16_bytes(rt: HostRuntime) -> Result<(), Fail> {
-    assert_eq!(rt; of_add(rt.alloc(), 0)?, Some((9008, 1)));
-    assert_eq!(rt; of_add(rt.alloc(), 16)?, Some((0, 17)));
-    assert_eq!(rt; of_add(rt.alloc(), 17)?, Some((9008, 18)));
-    assert_eq!(rt; of_add(rt.alloc(), 100_001)?, Some((2103, 100_002)));
-    Ok(())
+fn added_numbers_have_1_to_16_bytes(rt: HostRuntime) {
+    let alloc = rt.alloc();
+    same(&rt, of_add(alloc, 0), Ok((9008, 1)));
+    same(&rt, of_add(alloc, 16), Ok((0, 17)));
+    same(&rt, of_add(alloc, 17), Ok((9008, 18)));
+    same(&rt, of_add(alloc, 100_001), Ok((2103, 100_002)));
 }
 
 #[test]
 fn sums_have_the_length_of_the_operand(rt: HostRuntime) {
     let alloc = rt.alloc();
-    assert!(rt; turns(alloc, add(alloc, b"a", &[1, 0]), &[0xff], &[0, 1]));
-    assert!(rt; turns(alloc, add(alloc, b"a", &[1]), &[0xff, 7], &[0]));
-    assert!(rt; makes(alloc, add(alloc, b"a", &[5]), &[5]));
+    same(
+        &rt,
+        turned(alloc, add(alloc, b"a", &[1, 0]), &[0xff]),
+        value(&[0, 1]),
+    );
+    same(
+        &rt,
+        turned(alloc, add(alloc, b"a", &[1]), &[0xff, 7]),
+        value(&[0]),
+    );
+    same(&rt, made(alloc, add(alloc, b"a", &[5])), value(&[5]));
 }
 
 #[test]
 fn bits_are_those_of_the_fitted_value(rt: HostRuntime) {
     let alloc = rt.alloc();
-    assert!(rt; turns(alloc, and(alloc, b"a", &[0x0f, 0x0f]), &[0xff], &[0x0f, 0]));
-    assert!(rt; turns(alloc, or(alloc, b"a", &[]), &[7], &[]));
-    assert!(rt; turns(alloc, xor(alloc, b"a", &[0xff]), &[0x0f, 1], &[0xf0]));
+    same(
+        &rt,
+        turned(alloc, and(alloc, b"a", &[0x0f, 0x0f]), &[0xff]),
+        value(&[0x0f, 0]),
+    );
+    same(&rt, turned(alloc, or(alloc, b"a", &[]), &[7]), value(&[]));
+    same(
+        &rt,
+        turned(alloc, xor(alloc, b"a", &[0xff]), &[0x0f, 1]),
+        value(&[0xf0]),
+    );
 }
 
 #[test]
 fn operand_stands_where_no_value_did(rt: HostRuntime) {
     let alloc = rt.alloc();
-    assert!(rt; makes(alloc, and(alloc, b"a", &[0x0f]), &[0x0f]));
-    assert!(rt; makes(alloc, xor(alloc, b"a", &[0xff]), &[0xff]));
-    assert!(rt; makes(alloc, min(alloc, b"a", &[5]), &[5]));
+    same(&rt, made(alloc, and(alloc, b"a", &[0x0f])), value(&[0x0f]));
+    same(&rt, made(alloc, xor(alloc, b"a", &[0xff])), value(&[0xff]));
+    same(&rt, made(alloc, min(alloc, b"a", &[5])), value(&[5]));
 }
 
 #[test]
 fn numbers_are_compared_from_the_last_byte(rt: HostRuntime) {
     let alloc = rt.alloc();
-    assert!(rt; turns(alloc, max(alloc, b"a", &[1, 2]), &[0xff, 1], &[1, 2]));
-    assert!(rt; turns(alloc, min(alloc, b"a", &[1, 2]), &[0xff, 1], &[0xff, 1]));
-    assert!(rt; turns(alloc, min(alloc, b"a", &[5, 0]), &[9], &[5, 0]));
+    same(
+        &rt,
+        turned(alloc, max(alloc, b"a", &[1, 2]), &[0xff, 1]),
+        value(&[1, 2]),
+    );
+    same(
+        &rt,
+        turned(alloc, min(alloc, b"a", &[1, 2]), &[0xff, 1]),
+        value(&[0xff, 1]),
+    );
+    same(
+        &rt,
+        turned(alloc, min(alloc, b"a", &[5, 0]), &[9]),
+        value(&[5, 0]),
+    );
 }
 
 #[test]
 fn bytes_are_compared_from_the_first_one(rt: HostRuntime) {
     let alloc = rt.alloc();
-    assert!(rt;
-        turns(
-            alloc,
-            byte_max(alloc, b"a", &[1, 2]),
-            &[0xff, 1],
-            &[0xff, 1]
-        )
+    same(
+        &rt,
+        turned(alloc, byte_max(alloc, b"a", &[1, 2]), &[0xff, 1]),
+        value(&[0xff, 1]),
     );
-    assert!(rt; turns(alloc, byte_min(alloc, b"a", &[1, 2]), &[0xff, 1], &[1, 2]));
+    same(
+        &rt,
+        turned(alloc, byte_min(alloc, b"a", &[1, 2]), &[0xff, 1]),
+        value(&[1, 2]),
+    );
 }
 
 #[test]
 fn only_an_equal_value_is_cleared(rt: HostRuntime) {
     let alloc = rt.alloc();
-    assert!(rt; clears(alloc, compare_and_clear(alloc, b"a", &[7]), &[7]));
-    assert!(rt; turns(alloc, compare_and_clear(alloc, b"a", &[7]), &[8], &[8]));
+    same(
+        &rt,
+        turned(alloc, compare_and_clear(alloc, b"a", &[7]), &[7]),
+        Ok(None),
+    );
+    same(
+        &rt,
+        turned(alloc, compare_and_clear(alloc, b"a", &[7]), &[8]),
+        value(&[8]),
+    );
 }
 
 #[test]
-fn ranges_are_read_in_both_orders(rt: HostRuntime) -> Result<(), Fail> {
-    let mut map = PlainMap::new(rt.alloc());
-    assert!(rt; fill(&mut map, rt.alloc()));
-    let first = pairs(&map, rt.alloc(), b"c", 1, false)?;
-    let last = pairs(&map, rt.alloc(), b"c", 1, true)?;
-    assert!(rt; is_pair(first.as_slice(), b"a", &[1]));
-    assert!(rt; is_pair(last.as_slice(), b"b", &[2]));
-    Ok(())
-}
-
-// How many pairs before c a page has, and whether there is a further one.
-fn page_before_c(map: &PlainMap, alloc: Global, limit: u32) -> Option<(usize, bool)> {
-    let Ok(range) = KeyRange::new(alloc, b"", b"c") else {
-        return None;
-    };
-    match map.page(&range, limit, false) {
-        Ok((pairs, more)) => Some((pairs.len(), more)),
-        Err(_why) => None,
-    }
+fn ranges_are_read_in_both_orders(rt: HostRuntime) {
+    let alloc = rt.alloc();
+    let found = ask(filled(alloc), |map| {
+        [
+            gave(pairs(map, alloc, b"c", 1, false), b"a", 1),
+            gave(pairs(map, alloc, b"c", 1, true), b"b", 2),
+        ]
+    });
+    same(&rt, found, Ok([true, true]));
 }
 
 #[test]
 fn pages_tell_whether_there_is_more(rt: HostRuntime) {
-    let mut map = PlainMap::new(rt.alloc());
-    assert!(rt; fill(&mut map, rt.alloc()));
-    assert_eq!(rt; page_before_c(&map, rt.alloc(), 1), Some((1, true)));
-    assert_eq!(rt; page_before_c(&map, rt.alloc(), 2), Some((2, false)));
-    assert_eq!(rt; page_before_c(&map, rt.alloc(), 0), Some((2, false)));
+    let alloc = rt.alloc();
+    let found = ask(filled(alloc), |map| {
+        [1, 2, 0].map(|limit| page_before_c(map, alloc, limit))
+    });
+    same(
+        &rt,
+        found,
+        Ok([Ok((1, true)), Ok((2, false)), Ok((2, false))]),
+    );
 }
 
 #[test]
-fn other_keys_keep_their_values(rt: HostRuntime) -> Result<(), Fail> {
-    let mut map = PlainMap::new(rt.alloc());
-    assert!(rt; fill(&mut map, rt.alloc()));
-    assert!(rt; applies(&mut map, clear_range(rt.alloc(), b"a", b"c")));
-    let left = pairs(&map, rt.alloc(), b"z", 0, false)?;
-    assert!(rt; is_pair(left.as_slice(), b"c", &[3]));
-    Ok(())
+fn other_keys_keep_their_values(rt: HostRuntime) {
+    let alloc = rt.alloc();
+    let found = ask_mut(filled(alloc), |map| {
+        apply(map, clear_range(alloc, b"a", b"c")).is_ok()
+            && gave(pairs(map, alloc, b"z", 0, false), b"c", 3)
+    });
+    same(&rt, found, Ok(true));
 }
 
 #[test]
 fn mutations_are_cut(rt: HostRuntime) {
     let alloc = rt.alloc();
-    assert!(rt; is_cut(alloc, clear_range(alloc, b"a", b"z"), Some((b"m", b"t"))));
-    assert!(rt; is_cut(alloc, set(alloc, b"b", b"one"), None));
-    assert_eq!(rt; code_and_size(set(alloc, b"b", b"one")), Some((0, 4)));
+    let cleared = ask(clipped(alloc, clear_range(alloc, b"a", b"z")), |cut| {
+        is_clear_of(cut.as_ref(), Some((b"m", b"t")))
+    });
+    same(&rt, cleared, Ok(true));
+    let given = ask(
+        clipped(alloc, set(alloc, b"b", b"one")),
+        |cut| cut.is_some(),
+    );
+    same(&rt, given, Ok(false));
+    same(&rt, code_and_size(set(alloc, b"b", b"one")), Ok((0, 4)));
 }
 
 #[test]
 fn copies_of_mutations_are_equal(rt: HostRuntime) {
     let alloc = rt.alloc();
-    assert_eq!(rt;
-        compared(alloc, set(alloc, b"a", b"one")),
-        Some((true, false))
-    );
+    let found = ask(set(alloc, b"a", b"one"), |mutation| {
+        [
+            is_same(mutation, copied(mutation)),
+            is_same(mutation, clear(alloc, b"a")),
+        ]
+    });
+    same(&rt, found, Ok([Ok(true), Ok(false)]));
 }

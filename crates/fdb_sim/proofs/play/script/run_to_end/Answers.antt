@@ -1,4 +1,6 @@
+use Rattle.std.proofs.Common.{◌∙◌, ap}
 use Rattle.std.proofs.lemmas.Result.{err_from_is_err_and}
+use Rattle.fdb_core.specs.headline.Serving.{System}
 use Rattle.fdb_sim.proofs.lemmas.Script.{if_ok_map, if_err_map, run_out_at_once, run_unconfigured, run_refused, run_played, run_stopped}
 use Rattle.fdb_sim.proofs.play.script.run_to_end.Goals as goal
 
@@ -26,15 +28,19 @@ returns-in_err-make_world-clause-stops g c =
 pub returns-clause-printed : goal.returns-clause-printed
 returns-clause-printed g c =
     let made = c.in_ok-lines.ensures in
+    let world = c.in_ok-make_world.ensures.ok in
+    let same = ap (λ (of : System). of.machine) c.in_ok-world.ensures.ok in
     if_ok_map c.play_on.result _ _
     (λ status played. run_played _ _ _ _ _ _ _ _ status c.in_ok-config.config c.in_ok-world.world.machine made.left
-    made.number c.in_ok-config.ensures.ok c.in_ok-make_world.ensures.ok c.in_ok-world.ensures.printed played)
+    made.number c.in_ok-config.ensures.ok (world.0, same ∙ world.1) c.in_ok-world.ensures.printed played)
     c.play_on.ensures.printed
 
 pub returns-clause-stops : goal.returns-clause-stops
 returns-clause-stops g c =
     let made = c.in_ok-lines.ensures in
+    let world = c.in_ok-make_world.ensures.ok in
+    let same = ap (λ (of : System). of.machine) c.in_ok-world.ensures.ok in
     if_err_map c.play_on.result _ _
     (λ stopped played. run_stopped _ _ _ _ _ _ _ _ c.in_ok-config.config c.in_ok-world.world.machine stopped made.left
-    made.number c.in_ok-config.ensures.ok c.in_ok-make_world.ensures.ok c.in_ok-world.ensures.printed played)
+    made.number c.in_ok-config.ensures.ok (world.0, same ∙ world.1) c.in_ok-world.ensures.printed played)
     c.play_on.ensures.stops
