@@ -1,3 +1,4 @@
+pub mod LentLaws
 pub mod LogLaws
 pub mod NameLemmas
 pub mod OnceLaws

@@ -2,6 +2,7 @@ pub mod ClientSteps
 pub mod CommitProxySteps
 pub mod GrvProxySteps
 pub mod InFlight
+pub mod Lent
 pub mod Machine
 pub mod Opened
 pub mod RoleSteps

@@ -1,9 +1,13 @@
 // The parts of a world: the machine's bookkeeping, and what the roles keep for themselves.
-ghost use Rattle.std.specs.Prelude.{◌≡◌, None, IfOk};
+ghost use Rattle.std.specs.Prelude.{◌≡◌, suc, [], length, replicate, None, IfOk};
 ghost use Rattle.fdb_keys.specs.Answers.{Answers};
 ghost use Rattle.fdb_core.specs.machine.Worlds.{start};
 ghost use Rattle.fdb_core.specs.refinement.Cluster.{machine_of, Refines};
+ghost use Rattle.fdb_core.specs.refinement.CommitProxies.{IsNewCommitProxy};
+ghost use Rattle.fdb_core.specs.refinement.Logs.{Each};
+ghost use Rattle.fdb_core.specs.refinement.Starts.{AreNewLogs, AreNewShards, IsNewResolver};
 ghost use Rattle.fdb_proxy.specs.Configs.{config_fault};
+ghost use Rattle.fdb_sequencer.specs.Sequencer.{fresh};
 
 use crate::roles::client::Placed;
 use crate::roles::client::sessions::Sessions;
@@ -54,14 +58,9 @@ impl Cluster {
         ensures machine { Answers result None (λ cluster. machine_of cluster ≡ start config) }
         ensures refines { IfOk result Refines }
     {
-        let count = config.shard_splits.len() as u32 + 1;
-        let resolver_count = config.resolver_splits.len() as u32 + 1;
-        let sequencer = first_sequencer(alloc, config.proxies, resolver_count)?;
-        let commit_proxies = new_commit_proxies(alloc, &config)?;
-        let resolvers = new_resolvers(alloc, resolver_count)?;
-        let logs = new_logs(alloc, config.logs, count)?;
-        let shards = new_shards(alloc, &shard_map, count)?;
-        let grv_proxies = new_grv_proxies(alloc, config.proxies)?;
+        let (sequencer, resolvers) = new_sequencer_and_resolvers(alloc, &config)?;
+        let (logs, shards) = new_logs_and_shards(alloc, &config, &shard_map)?;
+        let (commit_proxies, grv_proxies) = new_proxies(alloc, &config)?;
         Ok(Cluster {
             alloc,
             config,
@@ -81,4 +80,51 @@ impl Cluster {
             acknowledged: Vec::new(alloc),
         })
     }
+}
+
+// The sequencer, which gave no ticket, and the resolvers, which took nothing. Refused only as `NoMemory`.
+fn new_sequencer_and_resolvers(
+    alloc: Global,
+    config: &Config,
+) -> Result<(SequencerCore, Vec<ResolverRole>), Refusal>
+    requires { config_fault config.now ≡ None }
+    ensures { let count = suc (length config.now.resolver_splits) in Answers result None
+        (λ made. (made.0 ≡ fresh config.now.proxies count 0) × (length made.1.items ≡ count)
+        × Each IsNewResolver made.1.items) }
+{
+    let count = config.resolver_splits.len() as u32 + 1;
+    let sequencer = first_sequencer(alloc, config.proxies, count)?;
+    let resolvers = new_resolvers(alloc, count)?;
+    Ok((sequencer, resolvers))
+}
+
+// The logs and the shards of the configuration, which took nothing. Refused only as `NoMemory`.
+fn new_logs_and_shards(
+    alloc: Global,
+    config: &Config,
+    shard_map: &ShardMap,
+) -> Result<(Vec<LogRole>, Vec<ShardRole>), Refusal>
+    requires served { config_fault config.now ≡ None }
+    requires shard_map { shard_map.now ≡ config.now.shard_splits }
+    ensures { let splits = config.now.shard_splits in let count = suc (length splits) in Answers result None
+        (λ made. AreNewLogs config.now.logs config.now.logs count made.0.items × AreNewShards count splits made.1.items) }
+{
+    let count = config.shard_splits.len() as u32 + 1;
+    let logs = new_logs(alloc, config.logs, count)?;
+    let shards = new_shards(alloc, shard_map, count)?;
+    Ok((logs, shards))
+}
+
+// The proxies of both kinds, without batches and with nobody who waits. Refused only as `NoMemory`.
+fn new_proxies(
+    alloc: Global,
+    config: &Config,
+) -> Result<(Vec<CommitProxyRole>, Vec<GrvCore>), Refusal>
+    requires { config_fault config.now ≡ None }
+    ensures { Answers result None (λ made. (length made.0.items ≡ config.now.proxies)
+        × Each (λ _. IsNewCommitProxy config.now) made.0.items × (made.1.items ≡ replicate config.now.proxies [])) }
+{
+    let commit_proxies = new_commit_proxies(alloc, config)?;
+    let grv_proxies = new_grv_proxies(alloc, config.proxies)?;
+    Ok((commit_proxies, grv_proxies))
 }

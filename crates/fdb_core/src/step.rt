@@ -5,7 +5,7 @@ use fdb_proxy::Outcome;
 use fdb_resolver::Verdict;
 
 /// One step of a client or of a role. Roles, entries and sessions are named by their numbers, from 0.
-#[derive(Drop, PartialEq, Eq)]
+#[derive(Drop)]
 pub enum Step {
     /// The session asks a read-version proxy for a transaction. One that is open is dropped.
     Ask {

@@ -42,11 +42,10 @@ impl Cluster {
                 reverse,
                 snapshot,
             } => {
-                let (limit, reverse) = (*limit, *reverse);
                 let read = Read::Range {
                     range,
-                    limit,
-                    reverse,
+                    limit: *limit,
+                    reverse: *reverse,
                 };
                 self.read(*session, read, *snapshot)
             }

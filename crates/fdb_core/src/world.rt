@@ -1,18 +1,16 @@
 ghost use Rattle.std.specs.Prelude.{◌≡◌};
 ghost use Rattle.fdb_core.specs.machine.Steps.{ran_out as has_run_out};
 
-#[cfg(test)]
-mod tests;
-
 use crate::check::serial::check_all;
 use crate::cluster::Cluster;
 use crate::in_flight::InFlight;
+use crate::roles::client::Placed;
 use crate::step::{Answered, Step};
 use fdb_client::Txn;
 use fdb_keys::Refusal;
 use fdb_proxy::Config;
 use fdb_storage::ShardMap;
-use fdb_txn::TxnId;
+use fdb_txn::{Entry, TxnId};
 use std::alloc::Global;
 use std::marker::Model;
 
@@ -36,7 +34,8 @@ pub struct World {
 }
 
 impl Model for World {
-    ghost use Rattle.std.specs.Prelude.{◌≡◌, false};
+    ghost use Rattle.std.specs.Prelude.{◌≡◌, false, None};
+    ghost use Rattle.fdb_proxy.specs.Configs.{config_fault};
     ghost use Rattle.fdb_core.specs.refinement.Cluster.{machine_of, system_of, Refines};
     ghost use Rattle.fdb_core.specs.headline.Serving.{System};
     ghost use Rattle.fdb_core.specs.invariant.Invariant.{Invariant};
@@ -49,18 +48,23 @@ impl Model for World {
 
     ghost view = { λ world. system_of world.failed world.cluster };
 
-    ghost invariant = { λ world. world.failed ≡ false → Refines world.cluster × Invariant (machine_of world.cluster) };
+    ghost invariant = { λ world. world.failed ≡ false
+        → Refines world.cluster × Invariant (machine_of world.cluster) × (config_fault world.cluster.config ≡ None) };
 }
 
 impl World {
-    ghost use Rattle.std.specs.Prelude.{◌≡◌, List, [], ◌∷◌, ◌++◌, length, Some, IfSome, Result, IfOk, MatchResult};
+    ghost use Rattle.std.specs.Prelude.{◌≡◌, suc, List, [], ◌∷◌, ◌++◌, length, None, Some, IfSome, Result, IfOk, MatchResult};
+    ghost use Rattle.std.specs.List.{AllByRecursion};
     ghost use Rattle.fdb_keys.specs.Answers.{Answers};
     ghost use Rattle.fdb_keys.specs.declared.refusal.Refusal.{Refusal};
     ghost use Rattle.fdb_proxy.specs.declared.config.Config.{Config};
     ghost use Rattle.fdb_core.specs.declared.step.Answered.{Answered};
     ghost use Rattle.fdb_core.specs.declared.step.Step.{Step};
     ghost use Rattle.std.specs.Option.{option_copied};
+    ghost use Rattle.fdb_txn.specs.book.History.{AreEntries, IsBook, IsSealed};
+    ghost use Rattle.fdb_core.specs.check.Checking.{FindsSerialized};
     ghost use Rattle.fdb_core.specs.machine.InFlight.{in_flight};
+    ghost use Rattle.fdb_core.specs.machine.Lent.{config_in, book_in, acknowledged_in};
     ghost use Rattle.fdb_core.specs.machine.Opened.{open_in};
     ghost use Rattle.fdb_core.specs.headline.Headline.{IsStrictlySerializable};
     ghost use Rattle.fdb_core.specs.headline.Serving.{RolesKeep};
@@ -100,7 +104,9 @@ impl World {
             → IsTraceOf config steps answers self.old.machine
             → IsStrictlySerializable config (steps ++ step ∷ []) (answers ++ result ∷ []) self.new }
     {
-        self.take(&step)
+        let answer = self.take(&step);
+        drop(step);
+        answer
     }
 
     pub(crate) fn take(&mut self, step: &Step) -> Result<Answered, Refusal>
@@ -138,14 +144,53 @@ impl World {
         self.cluster.sessions.open(session)
     }
 
+    /// The configuration of the world. There is none once memory ran out in a step.
+    pub fn config(&self) -> Option<&Config>
+        ensures lent { option_copied result ≡ config_in self.now.machine }
+        ensures legal { IfSome result (λ config. config_fault config.now ≡ None) }
+    {
+        if self.failed {
+            return None;
+        }
+        Some(&self.cluster.config)
+    }
+
+    /// The entries of the book, the first one first; none once memory ran out in a step. With the world's configuration
+    /// they meet the conditions of `serial_check`.
+    pub fn book(&self) -> &[Entry]
+        ensures lent { result.now ≡ book_in self.now.machine }
+        ensures is_book { (config : Config) → config_in self.now.machine ≡ Some config
+            → IsBook (suc (length config.resolver_splits)) result.now }
+        ensures each_sealed { AllByRecursion IsSealed result.now }
+    {
+        if self.failed {
+            return &[];
+        }
+        self.cluster.book.as_slice()
+    }
+
+    /// The acknowledged transactions, in the order in which their clients were told; none once memory ran out in a step.
+    pub fn acknowledged(&self) -> &[Placed]
+        ensures { result.now ≡ acknowledged_in self.now.machine }
+    {
+        if self.failed {
+            return &[];
+        }
+        self.cluster.acknowledged.as_slice()
+    }
+
     /// Compares the ordinary replies of every acknowledged transaction, and the shard at its version, with
     /// the run of one transaction at a time. Answers the number of acknowledged transactions, or a fault
     /// that names what differs. As long as memory didn't run out in a step nothing differs, and the check
-    /// fails only where it lacks memory itself. After that, transactions alone are compared.
+    /// fails only where it lacks memory itself. After that, transactions alone are compared, with the entries that there
+    /// are; where these are a book's, the fault is the first transaction in the order of spots that is answered otherwise.
     pub fn check(&self) -> Result<u64, CheckFault>
-        ensures { IfSome self.now.machine
+        ensures sound { IfSome self.now.machine
             (λ machine. MatchResult result (λ count. count ≡ length machine.acknowledged)
             (λ fault. fault ≡ CheckFault.NoMemory)) }
+        ensures failed { let history = self.now.history in let splits = history.config.resolver_splits in
+            self.now.machine ≡ None → AreEntries (suc (length splits)) 0 history.book
+            → FindsSerialized result splits history.book history.acknowledged }
     {
         check_all(&self.cluster, !self.failed)
     }

@@ -1,22 +1,26 @@
 -- A check of a sound world finds no difference.
-use Rattle.std.proofs.Common.{◌≡◌, ◌∙◌, sym, ap, subst, refl, length, take, ℕ, suc, ◌≤◌, le_refl, arith, Bool, true, false, not, if◌then◌else◌, List, [], Option, Some, None, ⊎_elim, Result, Ok, Err, MatchResult, slice_get}
+use Rattle.std.proofs.Common.{◌≡◌, ◌∙◌, sym, ap, subst, refl, length, take, ℕ, suc, ◌≤◌, le_refl, arith, Bool, true, false, not, if◌then◌else◌, List, [], Option, Some, None, ⊎_elim, inl, Result, Ok, Err, MatchResult, slice_get}
 use Rattle.std.specs.Prelude.{IfSome}
 use Rattle.std.specs.FinMap.{get}
 use Rattle.fdb_keys.specs.Points.{Point}
 use Rattle.fdb_keys.specs.Ranges.{Range, in_range}
 use Rattle.fdb_mutations.specs.Maps.{Map}
 use Rattle.fdb_storage.specs.Limits.{shard_limit}
+use Rattle.fdb_proxy.specs.Configs.{config_fault}
 use Rattle.fdb_txn.specs.book.Book.{last_version}
 use Rattle.fdb_txn.specs.book.History.{AreEntries}
+use Rattle.fdb_txn.specs.declared.entry.Entry.{Entry}
 use Rattle.fdb_core.specs.declared.cluster.Cluster.{Cluster}
+use Rattle.fdb_core.specs.declared.roles.client.Placed.{Placed}
 use Rattle.fdb_core.specs.declared.roles.shard.ShardRole.{ShardRole}
 use Rattle.fdb_core.specs.declared.world.CheckFault.{CheckFault}
 use Rattle.fdb_core.specs.declared.world.CheckFault.TheVariants.{NoMemory}
-use Rattle.fdb_core.specs.check.Checking.{Finds}
+use Rattle.fdb_core.specs.check.Checking.{FindsSerialized, Finds}
 use Rattle.fdb_core.specs.check.Spots.{IsFirstOther}
 use Rattle.fdb_core.specs.check.Holding.{HoldsTheRun, ShardDiffers}
 use Rattle.fdb_core.specs.headline.Headline.{IsSerialized}
-use Rattle.fdb_core.specs.refinement.Cluster.{machine_of, Refines}
+use Rattle.fdb_core.specs.headline.Serving.{System}
+use Rattle.fdb_core.specs.refinement.Cluster.{machine_of, system_of, Refines}
 use Rattle.fdb_core.specs.machine.Machine.{Machine}
 use Rattle.fdb_core.specs.invariant.Invariant.{Invariant, IsSerializedIn}
 use Rattle.fdb_core.proofs.common.AllLemmas.{all-at}
@@ -55,8 +59,12 @@ module _ (k : Cluster) (refines : Refines k) where
       absurd (differs.4 (shard-holds differs.0 differs.1 differs.2))))
       finds
 
+-- what holds of a world's parts unless memory ran out
+abbrev pub IsSound : Cluster → Type 0
+IsSound k = Refines k × Invariant (machine_of k) × (config_fault k.config ≡ None)
+
 -- the shards that are compared are few
-pub few-compared : (k : Cluster) (failed : Bool) → (failed ≡ false → Refines k × Invariant (machine_of k))
+pub few-compared : (k : Cluster) (failed : Bool) → (failed ≡ false → IsSound k)
     → not failed ≡ true → length k.shards.items ≤ shard_limit
 few-compared k true holds compared = cc
 few-compared k false holds compared = few-shards k (holds refl).0
@@ -64,7 +72,7 @@ few-compared k false holds compared = few-shards k (holds refl).0
 -- and so of a world, unless memory ran out in a step
 pub world-finds : (k : Cluster) (failed : Bool) (world : Option Machine) (result : Result ℕ CheckFault)
     → (if failed then None else Some (machine_of k)) ≡ world
-    → (failed ≡ false → Refines k × Invariant (machine_of k))
+    → (failed ≡ false → IsSound k)
     → (AreEntries (suc (length k.config.resolver_splits)) 0 k.book.items
     → Finds result k.config.resolver_splits k.book.items k.acknowledged.items (if not failed then k.shards.items else []))
     → IfSome world
@@ -78,3 +86,23 @@ world-finds k false world result is holds finds =
     subst (λ (now : Option Machine). IfSome now
     (λ machine. MatchResult result (λ count. count ≡ length machine.acknowledged) (λ fault. fault ≡ NoMemory))) is
     (sound-finds k sound.0 sound.1 result (finds sound.0.book.entries))
+
+-- a check that compares no shard finds what one of the transcripts finds
+finds-alone : (result : Result ℕ CheckFault) (splits : List Point) (book : List Entry) (placed : List Placed)
+    → Finds result splits book placed [] → FindsSerialized result splits book placed
+finds-alone (Ok count) splits book placed finds = (finds.0, finds.1)
+finds-alone (Err fault) splits book placed finds = ⊎_elim (λ stops. stops)
+    (⊎_elim inl (λ (differs : ShardDiffers (HoldsTheRun splits book) [] fault). absurd (cc differs.2))) finds
+
+-- and such is the check once memory ran out
+pub failed-finds : (k : Cluster) (failed : Bool) (system : System) (result : Result ℕ CheckFault)
+    → system_of failed k ≡ system
+    → (AreEntries (suc (length k.config.resolver_splits)) 0 k.book.items
+    → Finds result k.config.resolver_splits k.book.items k.acknowledged.items (if not failed then k.shards.items else []))
+    → system.machine ≡ None → AreEntries (suc (length system.history.config.resolver_splits)) 0 system.history.book
+    → FindsSerialized result system.history.config.resolver_splits system.history.book system.history.acknowledged
+failed-finds k true system result is finds none = subst (λ (now : System).
+    AreEntries (suc (length now.history.config.resolver_splits)) 0 now.history.book
+    → FindsSerialized result now.history.config.resolver_splits now.history.book now.history.acknowledged) is
+    (λ entries. finds-alone result k.config.resolver_splits k.book.items k.acknowledged.items (finds entries))
+failed-finds k false system result is finds none = absurd (cc (ap (λ (now : System). now.machine) is ∙ none))

@@ -243,11 +243,13 @@ module _ (id : TxnId) where
             (record { within = omega arith; stands = omega (arith, no_lanes) }),
       )
 
+-- so no name is that of two places of the book
+pub names-once : (m : Machine) → ((id : TxnId) → IsOnce id m) → NoIdTwice m.book
+names-once m once id =
+    omega (arith, (once id).1.stands, up_to-one id.number (session_of m.sessions id.session).last_number)
+
 -- and so it is after every trace
 pub machine-once : (config : Config) (steps : List Step) (given : List (Result Answered Refusal))
     → NoIdTwice (machine_of_trace config steps given).book
-machine-once config steps given id =
-    let once : IsOnce id (machine_of_trace config steps given) = kept-by_trace (IsOnce id) (once_steps id)
-    (start config) steps given (once-start id config) in
-    let m = machine_of_trace config steps given in
-    omega (arith, once.1.stands, up_to-one id.number (session_of m.sessions id.session).last_number)
+machine-once config steps given = names-once (machine_of_trace config steps given)
+    (λ id. kept-by_trace (IsOnce id) (once_steps id) (start config) steps given (once-start id config))

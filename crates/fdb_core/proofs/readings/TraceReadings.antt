@@ -128,6 +128,9 @@ config_steps config = record {
   told = λ m proxy commit_proxy entry at reported there same. same;
 }
 
+pub config-after : (m : Machine) (taken : Step) → (after m (next m taken)).config ≡ m.config
+config-after m taken = kept-next (λ n. n.config ≡ m.config) (config_steps m.config) m taken refl
+
 pub config-kept : (config : Config) (steps : List Step) (given : List (Result Answered Refusal))
     → (machine_of_trace config steps given).config ≡ config
 config-kept config steps given = kept-by_trace (λ m. m.config ≡ config) (config_steps config) (start config) steps given

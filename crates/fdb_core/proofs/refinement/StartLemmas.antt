@@ -35,8 +35,8 @@ use Rattle.fdb_sequencer.specs.Sequencer.{fresh}
 use Rattle.fdb_proxy.specs.CommitProxies.{CommitProxy as Core, IsNewProxy}
 use Rattle.fdb_core.specs.refinement.CommitProxies.{CommitProxyRefines, IsNewCommitProxy, StageRefines, known_to, seen_as}
 use Rattle.fdb_core.specs.refinement.Logs.{Each, LogRefines, ShardRefines, TagRefines, LogsRefine, logs_taken, progress_of}
-use Rattle.fdb_core.specs.refinement.Resolving.{ResolverRefines, ResolversRefine, taken_by}
-use Rattle.fdb_core.specs.refinement.Starts.{AreNewLogs, AreNewShards}
+use Rattle.fdb_core.specs.refinement.Resolving.{ResolversRefine, taken_by}
+use Rattle.fdb_core.specs.refinement.Starts.{AreNewLogs, AreNewShards, IsNewResolver}
 use Rattle.fdb_core.proofs.common.ListLemmas.{each-push}
 
 -- what is made of items of which the same is made is so many of it
@@ -198,8 +198,7 @@ module _ (config : Config) (roles : List CommitProxyRole) (count : length roles 
 
 -- resolvers that took nothing
 module _ (splits : List Point) (roles : List ResolverRole) (count : length roles ≡ suc (length splits))
-    (each : Each (λ (i : ℕ) (role : ResolverRole).
-    ((splits : List Point) → ResolverRefines splits [] i role) × (role.taken ≡ 0)) roles) where
+    (each : Each IsNewResolver roles) where
   pub resolvers-start : ResolversRefine splits [] roles
   resolvers-start = record {
     count = omega (arith, count);

@@ -25,12 +25,20 @@ use Rattle.fdb_txn.specs.declared.entry.Entry.{Entry}
 use Rattle.fdb_proxy.specs.declared.config.Config.{Config}
 use Rattle.fdb_proxy.specs.Parting.{AreParts}
 use Rattle.fdb_proxy.specs.Verdicts.{moves_through}
+use Rattle.fdb_core.specs.declared.roles.client.Placed.{Placed}
 use Rattle.fdb_core.specs.machine.Roles.{ShardProgress}
 use Rattle.fdb_core.specs.machine.RoleSteps.{version_of_shard}
 use Rattle.fdb_core.specs.machine.SequencerSteps.{dated_moves}
 use Rattle.fdb_core.specs.machine.Machine.{Machine, is_set}
 
--- What a world shows: the machine, and what each of its roles keeps.
+-- What a check of a world goes by, also once memory ran out in a step: the configuration, the entries that there are,
+-- and those that were acknowledged.
+pub record History : Type 0 where
+  pub config : Config
+  pub book : List Entry
+  pub acknowledged : List Placed
+
+-- What a world shows: the machine, what each of its roles keeps, and what a check goes by.
 pub record System : Type 0 where
   -- none once memory ran out in a step
   pub machine : Option Machine
@@ -42,6 +50,7 @@ pub record System : Type 0 where
   pub messages : List (Option (List LogMsg))
   pub logs : List Log
   pub shards : List Shard
+  pub history : History
 
 -- Each role of the one list, which says how far the roles are, keeps what the property says; there are as many of
 -- these as of those.

@@ -53,7 +53,8 @@ machine_of k =
     }
 
 -- what the world shows: the machine unless memory ran out, and what its sequencer, its resolvers, its logs and its
--- shards keep, with the parts that were made for the resolvers and the messages that were made for the logs
+-- shards keep, with the parts that were made for the resolvers and the messages that were made for the logs, and what
+-- a check goes by
 abbrev pub system_of : Bool → Cluster → System
 system_of failed k =
     record {
@@ -64,6 +65,7 @@ system_of failed k =
       messages = k.messages.items;
       logs = map (λ (role : LogRole). role.core) k.logs.items;
       shards = map (λ (role : ShardRole). role.core) k.shards.items;
+      history = record { config = k.config; book = k.book.items; acknowledged = k.acknowledged.items };
     }
 
 -- each entry's version is above that of the entry before it

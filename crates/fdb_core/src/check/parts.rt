@@ -19,7 +19,10 @@ fn put(map: &mut PlainMap, key: &Key, value: &Bytes) -> Result<(), Refusal>
 {
     let key = key.clone()?;
     let value = value.clone()?;
-    map.apply(&Mutation::Set { key, value })
+    let mutation = Mutation::Set { key, value };
+    let done = map.apply(&mutation);
+    drop(mutation);
+    done
 }
 
 // The pairs of the map that lie in the range, as a map. From the end, since a key that stands twice would have the

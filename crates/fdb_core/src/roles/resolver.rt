@@ -1,8 +1,7 @@
 // A resolver of the world.
-ghost use Rattle.std.specs.Prelude.{◌≡◌, ◌<◌, [], List, length, slice_get, IfOk};
+ghost use Rattle.std.specs.Prelude.{◌≡◌, ◌<◌, length, slice_get, IfOk};
 ghost use Rattle.fdb_core.specs.refinement.Logs.{Each};
-ghost use Rattle.fdb_core.specs.refinement.Resolving.{ResolverRefines};
-ghost use Rattle.fdb_keys.specs.Points.{Point};
+ghost use Rattle.fdb_core.specs.refinement.Starts.{IsNewResolver};
 
 use fdb_keys::{Items, Refusal};
 use fdb_resolver::{Part, ResolverCore, Verdict, Verdicts};
@@ -80,8 +79,7 @@ impl ResolverRole {
 /// So many resolvers, which took nothing.
 pub(crate) fn new_resolvers(alloc: Global, count: u32) -> Result<Vec<ResolverRole>, AllocError>
     ensures count { IfOk result (λ list. length list.items ≡ count) }
-    ensures each { IfOk result
-        (λ list. Each (λ i role. ((splits : List Point) → ResolverRefines splits [] i role) × (role.taken ≡ 0)) list.items) }
+    ensures each { IfOk result (λ list. Each IsNewResolver list.items) }
 {
     let mut list = Vec::new(alloc);
     for index in 0..count {

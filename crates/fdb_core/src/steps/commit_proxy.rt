@@ -1,5 +1,5 @@
 // The steps of the commit proxies.
-ghost use Rattle.std.specs.Prelude.{◌≡◌, MatchResult};
+ghost use Rattle.std.specs.Prelude.{◌≡◌, ◌++◌, [], ◌∷◌, false, None, OnOk, MatchResult};
 ghost use Rattle.fdb_core.specs.machine.CommitProxySteps.{taken_by_sender, seals, receives, decides, reports, answers};
 ghost use Rattle.fdb_core.specs.machine.Roles.{FromResolver, FromLog};
 ghost use Rattle.fdb_core.specs.machine.Steps.{Unless, ran_out, answer_of, after};
@@ -12,10 +12,12 @@ use crate::roles::commit_proxy::Sender;
 use crate::roles::commit_proxy::replying::{place_all, reply_all, tell_all};
 use crate::roles::sequencer::{issue, take_report};
 use crate::step::Answered;
-use fdb_keys::Refusal;
-use fdb_log::LogAck;
+use fdb_keys::{Items, Refusal};
+use fdb_log::{LogAck, LogMsg};
+use fdb_resolver::Part;
 use fdb_sequencer::Ticket;
 use fdb_txn::Entry;
+use std::alloc::AllocError;
 
 impl Cluster {
     #[tactic(auto, unfolding(crate::specs::machine::CommitProxySteps::seals))]
@@ -54,10 +56,14 @@ impl Cluster {
             moves,
             batch,
         })?;
-        self.entry_proxies.push(proxy)?;
-        self.decided.push(false)?;
-        self.parts.push(parts)?;
-        self.messages.push(None)?;
+        add_undecided(
+            proxy,
+            parts,
+            &mut self.entry_proxies,
+            &mut self.decided,
+            &mut self.parts,
+            &mut self.messages,
+        )?;
         Ok(Answered::Issued {
             index,
             version,
@@ -205,4 +211,25 @@ impl Cluster {
         tell_all(&mut self.sessions, transcripts)?;
         Ok(Answered::Answers(told))
     }
+}
+
+// One more entry is of the proxy and has the parts. It isn't decided, so there are no messages of it yet.
+fn add_undecided(
+    proxy: u32,
+    parts: Items<Part>,
+    entry_proxies: &mut Vec<u32>,
+    decided: &mut Vec<bool>,
+    pooled: &mut Vec<Items<Part>>,
+    messages: &mut Vec<Option<Items<LogMsg>>>,
+) -> Result<(), AllocError>
+    ensures parts { OnOk result (pooled.new.items ≡ pooled.old.items ++ parts ∷ []) }
+    ensures entry_proxies { OnOk result (entry_proxies.new.items ≡ entry_proxies.old.items ++ proxy ∷ []) }
+    ensures decided { OnOk result (decided.new.items ≡ decided.old.items ++ false ∷ []) }
+    ensures messages { OnOk result (messages.new.items ≡ messages.old.items ++ None ∷ []) }
+{
+    pooled.push(parts)?;
+    entry_proxies.push(proxy)?;
+    decided.push(false)?;
+    messages.push(None)?;
+    Ok(())
 }

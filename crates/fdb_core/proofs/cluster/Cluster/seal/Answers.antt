@@ -185,8 +185,8 @@ returns-clause-after c =
     (map-at seen_as k.commit_proxies.items c.args.proxy role (there before)) (idle before) (given before).0 (room before))
     (λ i. record (machine_of k) {
       book = (c.in_ok-push.ensures.items ∙ ap (λ (e : Entry). k.book.items ++ e ∷ []) entry) i;
-      entry_proxies = c.in_ok-push-2.ensures.items i;
-      decided = c.in_ok-push-3.ensures.items i;
+      entry_proxies = c.in_ok-add_undecided.ensures.entry_proxies i;
+      decided = c.in_ok-add_undecided.ensures.decided i;
       pending = ap (λ (s : Sequencer). s.pending) c.issue.ensures i;
       commit_proxies = (map-set seen_as k.commit_proxies.items c.args.proxy c.seal.new.self
           ∙ ap (slice_set (map seen_as k.commit_proxies.items) c.args.proxy) proxy) i;
@@ -215,10 +215,10 @@ returns-clause-refines c =
       sequencer = rw (c.issue.ensures, book)
           (sequencer-tied k old c.args.proxy c.args.advance role (there before) ticket (given before).1 batch
           c.in_ok-batch.parts c.seal.new.self is);
-      book = rw (book, c.in_ok-push-2.ensures.items, c.in_ok-push-3.ensures.items, c.in_ok-push-5.ensures.items)
+      book = rw (book, c.in_ok-add_undecided.ensures.entry_proxies, c.in_ok-add_undecided.ensures.decided, c.in_ok-add_undecided.ensures.messages)
           (book-push k.book.items entry k.config k.entry_proxies.items k.decided.items k.messages.items c.args.proxy
           old.book next);
-      parts = rw (book, c.in_ok-push-4.ensures.items)
+      parts = rw (book, c.in_ok-add_undecided.ensures.parts)
           (parts-push k.book.items entry k.config.resolver_splits k.parts.items c.in_ok-batch.parts old.parts parts);
       resolvers = rw book (resolvers-push k.book.items entry k.config.resolver_splits k.resolvers.items old.resolvers);
       logs = rw book (logs-push k.book.items entry k.config k.logs.items k.shards.items old.logs);

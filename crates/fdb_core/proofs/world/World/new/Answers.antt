@@ -1,6 +1,8 @@
 use Rattle.fdb_core.proofs.headline.ServingLaws.{roles_keep}
-use Rattle.std.proofs.Common.{sym, subst}
+use Rattle.std.proofs.Common.{◌≡◌, ◌∙◌, sym, ap, subst, None, rules}
+use Rattle.fdb_proxy.specs.Configs.{config_fault}
 use Rattle.fdb_core.specs.invariant.Invariant.{Invariant}
+use Rattle.fdb_core.specs.machine.Machine.{Machine}
 use Rattle.fdb_core.proofs.invariant.SoundLaws.{sound-start}
 use Rattle.fdb_core.proofs.world.World.new.Goals as goal
 
@@ -12,4 +14,6 @@ pub invariant_of-result : goal.invariant_of-result
 invariant_of-result c same = (
   c.in_ok-cluster.ensures.refines,
   subst Invariant (sym c.in_ok-cluster.ensures.machine) (sound-start c.args.config),
+  let legal : config_fault c.args.config ≡ None = search rules in
+      ap (λ (m : Machine). config_fault m.config) c.in_ok-cluster.ensures.machine ∙ legal,
 )
