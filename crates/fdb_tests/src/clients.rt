@@ -1,20 +1,20 @@
-// The client's calls with known answers.
-//
-// The prover goes over every kind of mutation where one goes out of scope, and over all that a transaction holds at each
-// early exit. So what asks one answers plain data, and no test leaves early.
+// The client's side of transactions, with known answers. What asks a transaction is a closure that is lent it.
 mod cut_snapshot;
 mod marks;
 mod programs;
 mod ranges;
 mod steps;
 
+use crate::making::{
+    add, are_ranges, ask, clear, clear_range, code_of, compare_and_clear, filled, made_of, same,
+    set, text_of,
+};
 use bytes::Bytes;
 use fdb_client::{Finished, Page, PlainSnapshot, Snapshot, Txn};
-use fdb_keys::{Key, KeyRange, Refusal, TreeRangeSet};
+use fdb_keys::{Key, KeyRange, Refusal, Refused, TreeRangeSet};
 use fdb_mutations::{Mutation, PlainMap};
 use fdb_txn::{Sealed, TxnId};
 use std::alloc::Global;
-use std::test::Fail;
 
 // A snapshot that isn't reached yet.
 #[derive(Drop)]
@@ -58,65 +58,14 @@ fn begin(alloc: Global) -> Txn {
     Txn::begin(alloc, id, 40)
 }
 
-fn set(alloc: Global, key: &[u8], value: &[u8]) -> Result<Mutation, Refusal> {
-    let key = Key::new(alloc, key)?;
-    let value = Bytes::copy_from_slice(alloc, value)?;
-    Ok(Mutation::Set { key, value })
-}
-
-fn add(alloc: Global, key: &[u8], operand: &[u8]) -> Result<Mutation, Refusal> {
-    let key = Key::new(alloc, key)?;
-    let operand = Bytes::copy_from_slice(alloc, operand)?;
-    Ok(Mutation::Add { key, operand })
-}
-
-fn compare_and_clear(alloc: Global, key: &[u8], operand: &[u8]) -> Result<Mutation, Refusal> {
-    let key = Key::new(alloc, key)?;
-    let operand = Bytes::copy_from_slice(alloc, operand)?;
-    Ok(Mutation::CompareAndClear { key, operand })
-}
-
-fn clear(alloc: Global, key: &[u8]) -> Result<Mutation, Refusal> {
-    let key = Key::new(alloc, key)?;
-    Ok(Mutation::Clear { key })
-}
-
-fn clear_range(alloc: Global, begin: &[u8], end: &[u8]) -> Result<Mutation, Refusal> {
-    let range = KeyRange::new(alloc, begin, end)?;
-    Ok(Mutation::ClearRange { range })
-}
-
-fn is_applied(map: &mut PlainMap, mutation: &Mutation) -> bool {
-    map.apply(mutation).is_ok()
-}
-
-// Whether the mutation could be made and applied.
-fn applies(map: &mut PlainMap, mutation: Result<Mutation, Refusal>) -> bool {
-    match mutation {
-        Ok(mutation) => {
-            let holds = is_applied(map, &mutation);
-            drop(mutation);
-            holds
-        }
-        Err(_why) => false,
-    }
-}
-
-fn set_to(map: &mut PlainMap, alloc: Global, key: &[u8], value: u8) -> bool {
-    applies(map, set(alloc, key, &[value]))
-}
-
-// Gives the keys a, b and c the values 1, 2 and 3.
-fn fill(map: &mut PlainMap, alloc: Global) -> bool {
-    set_to(map, alloc, b"a", 1) && set_to(map, alloc, b"b", 2) && set_to(map, alloc, b"c", 3)
-}
-
-// The code of the refusal, or 0.
-fn code_of(done: Result<(), Refusal>) -> u32 {
-    match done {
-        Ok(()) => 0,
-        Err(why) => why.code(),
-    }
+// What is answered of a new transaction.
+fn begun<A: Drop, F: FnOnce(&mut Txn) -> A + Drop>(alloc: Global, question: F) -> A
+    requires { F.IsAlwaysCallable question }
+{
+    let mut txn = begin(alloc);
+    let answer = question(&mut txn);
+    drop(txn);
+    answer
 }
 
 // The code of the refusal of a write, or 0.
@@ -127,31 +76,20 @@ fn write(txn: &mut Txn, mutation: Result<Mutation, Refusal>) -> u32 {
     }
 }
 
-// Gives the value to each of as many keys.
-fn write_each(txn: &mut Txn, alloc: Global, count: u8, value: &[u8]) {
-    for key in 0..count {
-        let _code = write(txn, set(alloc, &[key], value));
-    }
-}
-
-fn read_added(txn: &mut Txn, alloc: Global, begin: &[u8], end: &[u8]) -> Result<(), Refusal> {
-    let range = KeyRange::new(alloc, begin, end)?;
-    txn.add_read(&range)
-}
-
-fn write_added(txn: &mut Txn, alloc: Global, begin: &[u8], end: &[u8]) -> Result<(), Refusal> {
-    let range = KeyRange::new(alloc, begin, end)?;
-    txn.add_write(&range)
-}
-
 // Adds the range to the read set. The code of the refusal, or 0.
 fn add_read(txn: &mut Txn, alloc: Global, begin: &[u8], end: &[u8]) -> u32 {
-    code_of(read_added(txn, alloc, begin, end))
+    code_of(made_of(
+        KeyRange::new(alloc, begin, end),
+        |range| txn.add_read(range),
+    ))
 }
 
 // Adds the range to the write set. The code of the refusal, or 0.
 fn add_write(txn: &mut Txn, alloc: Global, begin: &[u8], end: &[u8]) -> u32 {
-    code_of(write_added(txn, alloc, begin, end))
+    code_of(made_of(
+        KeyRange::new(alloc, begin, end),
+        |range| txn.add_write(range),
+    ))
 }
 
 // Reads the key over the map.
@@ -164,8 +102,7 @@ fn get(
 ) -> Result<Option<Bytes>, Refusal> {
     let key = Key::new(alloc, key)?;
     let version = txn.transcript().read_version;
-    let snapshot = PlainSnapshot { version, map };
-    txn.get(&snapshot, &key, is_snapshot)
+    txn.get(&PlainSnapshot { version, map }, &key, is_snapshot)
 }
 
 // Reads the key where the snapshot isn't reached yet.
@@ -175,13 +112,6 @@ fn get_decided(txn: &mut Txn, alloc: Global, key: &[u8]) -> Result<Option<Bytes>
     txn.get(&FutureSnapshot { version }, &key, false)
 }
 
-fn only_byte(value: Option<&Bytes>) -> u8 {
-    match value {
-        Some(value) => first_byte(value.as_slice()),
-        None => 0,
-    }
-}
-
 fn first_byte(bytes: &[u8]) -> u8 {
     match bytes {
         [byte] => *byte,
@@ -189,12 +119,16 @@ fn first_byte(bytes: &[u8]) -> u8 {
     }
 }
 
+fn only_byte(value: Option<&Bytes>) -> u8 {
+    match value {
+        Some(value) => first_byte(value.as_slice()),
+        None => 0,
+    }
+}
+
 // The one byte that was read, or 0 where there is no value, or the code of the refusal.
 fn byte_or_code(read: Result<Option<Bytes>, Refusal>) -> Result<u8, u32> {
-    match read {
-        Ok(value) => Ok(only_byte(value.as_ref())),
-        Err(why) => Err(why.code()),
-    }
+    ask(read, |value| only_byte(value.as_ref()))
 }
 
 // What the key is read as over the map.
@@ -215,48 +149,21 @@ fn after(
     }
 }
 
-// What the key is read as over the map, by a snapshot read.
-fn snapshot_byte(txn: &mut Txn, map: &PlainMap, alloc: Global, key: &[u8]) -> Result<u8, u32> {
-    byte_or_code(get(txn, map, alloc, key, true))
-}
-
-// The same where the snapshot isn't reached yet.
+// What the key is read as where the snapshot isn't reached yet.
 fn decided_byte(txn: &mut Txn, alloc: Global, key: &[u8]) -> Result<u8, u32> {
     byte_or_code(get_decided(txn, alloc, key))
 }
 
-fn has_bounds(range: &KeyRange, begin: &[u8], end: &[u8]) -> bool {
-    range.begin() == begin && range.end() == end
+// Whether the set is just these ranges.
+fn has(set: &TreeRangeSet, alloc: Global, bounds: &[(&[u8], &[u8])]) -> bool {
+    ask(
+        set.to_set(alloc),
+        |set| are_ranges(set.iter().as_slice(), bounds),
+    ) == Ok(true)
 }
 
-fn is_one_of(ranges: &[KeyRange], begin: &[u8], end: &[u8]) -> bool {
-    match ranges {
-        [range] => has_bounds(range, begin, end),
-        _ => false,
-    }
-}
-
-fn is_a_and_b(ranges: &[KeyRange]) -> bool {
-    match ranges {
-        [a, b] => has_bounds(a, b"a", b"a\0") && has_bounds(b, b"b", b"b\0"),
-        _ => false,
-    }
-}
-
-// Whether the set is just the one range.
-fn is_one(set: &TreeRangeSet, alloc: Global, begin: &[u8], end: &[u8]) -> bool {
-    match set.to_set(alloc) {
-        Ok(set) => is_one_of(set.iter().as_slice(), begin, end),
-        Err(_why) => false,
-    }
-}
-
-// Whether the set is just the keys a and b, as a range each.
-fn is_two_keys(set: &TreeRangeSet, alloc: Global) -> bool {
-    match set.to_set(alloc) {
-        Ok(set) => is_a_and_b(set.iter().as_slice()),
-        Err(_why) => false,
-    }
+fn reads(txn: &Txn, alloc: Global, bounds: &[(&[u8], &[u8])]) -> bool {
+    has(txn.read_conflicts(), alloc, bounds)
 }
 
 fn has_no_conflicts(txn: &Txn) -> bool {
@@ -267,13 +174,6 @@ fn op_count(txn: &Txn) -> usize {
     txn.transcript().ops.len()
 }
 
-fn is_read_only(txn: Txn) -> bool {
-    let finished = txn.finish();
-    let holds = matches!(&finished, Ok(Finished::ReadOnly(_)));
-    drop(finished);
-    holds
-}
-
 fn sets_a_to_1(mutations: &[Mutation]) -> bool {
     match mutations {
         [Mutation::Set { key, value }] => key.bytes() == b"a".as_slice()
@@ -282,40 +182,59 @@ fn sets_a_to_1(mutations: &[Mutation]) -> bool {
     }
 }
 
-// Whether the write set is the one range, how many mutations there are, and whether they are just the set of a to 1.
-fn asks_for(sealed: &Sealed, begin: &[u8], end: &[u8]) -> (bool, usize, bool) {
+// Whether the write set is just these ranges, how many mutations there are, and whether they are just the set of a to 1.
+fn asks_for(sealed: &Sealed, writes: &[(&[u8], &[u8])]) -> (bool, usize, bool) {
     (
-        is_one_of(sealed.writes().iter().as_slice(), begin, end),
+        are_ranges(sealed.writes().iter().as_slice(), writes),
         sealed.mutations().len(),
         sets_a_to_1(sealed.mutations()),
     )
 }
 
-// The same of what is to be committed.
-fn to_commit(txn: Txn, begin: &[u8], end: &[u8]) -> (bool, usize, bool) {
+// The same where something is to be committed, and why it is not finished, with how many operations are handed back.
+type Ended = Result<Option<(bool, usize, bool)>, (u32, usize)>;
+
+fn told(finished: &Result<Finished, Refused<Txn>>, writes: &[(&[u8], &[u8])]) -> Ended {
+    match finished {
+        Ok(Finished::ReadOnly(_)) => Ok(None),
+        Ok(Finished::ToCommit(sealed, _)) => Ok(Some(asks_for(sealed, writes))),
+        Err(refused) => Err((refused.why.code(), op_count(&refused.back))),
+    }
+}
+
+fn finish(txn: Txn, writes: &[(&[u8], &[u8])]) -> Ended {
     let finished = txn.finish();
-    let found = match &finished {
-        Ok(Finished::ToCommit(sealed, _)) => asks_for(sealed, begin, end),
-        _ => (false, 0, false),
-    };
+    let found = told(&finished, writes);
     drop(finished);
     found
 }
 
-// Why it isn't finished, with the operations that are handed back.
-fn refused(txn: Txn) -> (u32, usize) {
-    let finished = txn.finish();
-    let found = match &finished {
-        Ok(_) => (0, 0),
-        Err(refused) => (refused.why.code(), op_count(&refused.back)),
-    };
-    drop(finished);
-    found
+// What is answered of a new transaction, which is finished then.
+fn finished<A: Drop, F: FnOnce(&mut Txn) -> A + Drop>(
+    alloc: Global,
+    writes: &[(&[u8], &[u8])],
+    question: F,
+) -> (A, Ended)
+    requires { F.IsAlwaysCallable question }
+{
+    let mut txn = begin(alloc);
+    let answer = question(&mut txn);
+    (answer, finish(txn, writes))
+}
+
+// Gives the value to each of as many keys.
+fn write_each(txn: &mut Txn, alloc: Global, count: u8, value: &[u8]) {
+    for key in 0..count {
+        let _code = write(txn, set(alloc, &[key], value));
+    }
 }
 
 fn page_of(map: &PlainMap, alloc: Global, limit: u32, reverse: bool) -> Result<Page, Refusal> {
-    let range = KeyRange::new(alloc, b"a", b"c")?;
-    PlainSnapshot { version: 40, map }.page(&range, limit, reverse)
+    let snapshot = PlainSnapshot { version: 40, map };
+    made_of(
+        KeyRange::new(alloc, b"a", b"c"),
+        |range| snapshot.page(range, limit, reverse),
+    )
 }
 
 fn first_value(pairs: &[(Key, Bytes)]) -> u8 {
@@ -332,166 +251,199 @@ fn page(
     limit: u32,
     reverse: bool,
 ) -> Result<(usize, u8, bool), u32> {
-    match page_of(map, alloc, limit, reverse) {
-        Ok(page) => Ok((
+    ask(page_of(map, alloc, limit, reverse), |page| {
+        (
             page.pairs.len(),
             first_value(page.pairs.as_slice()),
             page.more,
-        )),
-        Err(why) => Err(why.code()),
-    }
+        )
+    })
 }
 
 #[test]
 fn own_clear_is_read(rt: HostRuntime) {
     let alloc = rt.alloc();
-    let mut map = PlainMap::new(alloc);
-    let mut txn = begin(alloc);
-    assert!(rt; fill(&mut map, alloc));
-    assert_eq!(rt; byte_of(&mut txn, &map, alloc, b"a"), Ok(1));
-    assert_eq!(rt; after(&mut txn, &map, alloc, clear(alloc, b"a")), Ok(0));
-    assert!(rt; is_one(txn.read_conflicts(), alloc, b"a", b"a\0"));
-    assert_eq!(rt; op_count(&txn), 3);
-    drop(txn);
+    let found = ask(filled(alloc), |map| {
+        begun(alloc, |txn| {
+            (
+                byte_of(txn, map, alloc, b"a"),
+                after(txn, map, alloc, clear(alloc, b"a")),
+                reads(txn, alloc, &[(b"a", b"a\0")]),
+                op_count(txn),
+            )
+        })
+    });
+    same(&rt, found, Ok((Ok(1), Ok(0), true, 3)));
 }
 
 #[test]
 fn compared_keys_are_read(rt: HostRuntime) {
     let alloc = rt.alloc();
-    let mut map = PlainMap::new(alloc);
-    let mut txn = begin(alloc);
-    assert!(rt; fill(&mut map, alloc));
-    assert_eq!(rt; write(&mut txn, compare_and_clear(alloc, b"a", &[1])), 0);
-    assert_eq!(rt; write(&mut txn, compare_and_clear(alloc, b"b", &[9])), 0);
-    assert_eq!(rt; byte_of(&mut txn, &map, alloc, b"a"), Ok(0));
-    assert_eq!(rt; byte_of(&mut txn, &map, alloc, b"b"), Ok(2));
-    assert!(rt; is_two_keys(txn.read_conflicts(), alloc));
-    drop(txn);
+    let found = ask(filled(alloc), |map| {
+        begun(alloc, |txn| {
+            (
+                write(txn, compare_and_clear(alloc, b"a", &[1])),
+                write(txn, compare_and_clear(alloc, b"b", &[9])),
+                byte_of(txn, map, alloc, b"a"),
+                byte_of(txn, map, alloc, b"b"),
+                reads(txn, alloc, &[(b"a", b"a\0"), (b"b", b"b\0")]),
+            )
+        })
+    });
+    same(&rt, found, Ok((0, 0, Ok(0), Ok(2), true)));
 }
 
 #[test]
 fn own_additions_are_read(rt: HostRuntime) {
     let alloc = rt.alloc();
-    let mut map = PlainMap::new(alloc);
-    let mut txn = begin(alloc);
-    assert!(rt; fill(&mut map, alloc));
-    assert_eq!(rt; after(&mut txn, &map, alloc, add(alloc, b"a", &[5])), Ok(6));
-    assert_eq!(rt; after(&mut txn, &map, alloc, set(alloc, b"a", &[7])), Ok(7));
-    assert_eq!(rt;
-        after(&mut txn, &map, alloc, add(alloc, b"a", &[5])),
-        Ok(12)
-    );
-    drop(txn);
+    let found = ask(filled(alloc), |map| {
+        begun(alloc, |txn| {
+            [
+                after(txn, map, alloc, add(alloc, b"a", &[5])),
+                after(txn, map, alloc, set(alloc, b"a", &[7])),
+                after(txn, map, alloc, add(alloc, b"a", &[5])),
+            ]
+        })
+    });
+    same(&rt, found, Ok([Ok(6), Ok(7), Ok(12)]));
 }
 
 #[test]
 fn decided_keys_are_not_asked(rt: HostRuntime) {
     let alloc = rt.alloc();
-    let mut txn = begin(alloc);
-    assert_eq!(rt; write(&mut txn, clear_range(alloc, b"a", b"c")), 0);
-    assert_eq!(rt; decided_byte(&mut txn, alloc, b"b"), Ok(0));
-    assert_eq!(rt; decided_byte(&mut txn, alloc, b"c"), Err(1009));
-    assert!(rt; txn.read_conflicts().is_empty());
-    assert_eq!(rt; op_count(&txn), 2);
-    drop(txn);
+    let found = begun(alloc, |txn| {
+        (
+            write(txn, clear_range(alloc, b"a", b"c")),
+            decided_byte(txn, alloc, b"b"),
+            decided_byte(txn, alloc, b"c"),
+            txn.read_conflicts().is_empty(),
+            op_count(txn),
+        )
+    });
+    same(&rt, found, (0, Ok(0), Err(1009), true, 2));
 }
 
 #[test]
 fn entries_of_cleared_keys_go(rt: HostRuntime) {
     let alloc = rt.alloc();
-    let mut txn = begin(alloc);
-    assert_eq!(rt; write(&mut txn, set(alloc, b"b", &[2])), 0);
-    assert_eq!(rt; write(&mut txn, clear_range(alloc, b"a", b"c")), 0);
-    assert_eq!(rt; decided_byte(&mut txn, alloc, b"b"), Ok(0));
-    drop(txn);
+    let found = begun(alloc, |txn| {
+        (
+            write(txn, set(alloc, b"b", &[2])),
+            write(txn, clear_range(alloc, b"a", b"c")),
+            decided_byte(txn, alloc, b"b"),
+        )
+    });
+    same(&rt, found, (0, 0, Ok(0)));
 }
 
 #[test]
 fn snapshot_reads_add_nothing(rt: HostRuntime) {
     let alloc = rt.alloc();
-    let mut map = PlainMap::new(alloc);
-    let mut txn = begin(alloc);
-    assert!(rt; fill(&mut map, alloc));
-    assert_eq!(rt; snapshot_byte(&mut txn, &map, alloc, b"a"), Ok(1));
-    assert!(rt; txn.read_conflicts().is_empty());
-    drop(txn);
+    let found = ask(filled(alloc), |map| {
+        begun(alloc, |txn| {
+            let byte = byte_or_code(get(txn, map, alloc, b"a", true));
+            (byte, txn.read_conflicts().is_empty())
+        })
+    });
+    same(&rt, found, Ok((Ok(1), true)));
 }
 
 #[test]
 fn added_reads_are_whole(rt: HostRuntime) {
     let alloc = rt.alloc();
-    let mut txn = begin(alloc);
-    assert_eq!(rt; write(&mut txn, set(alloc, b"b", &[2])), 0);
-    assert_eq!(rt; add_read(&mut txn, alloc, b"a", b"c"), 0);
-    assert!(rt; is_one(txn.read_conflicts(), alloc, b"a", b"c"));
-    drop(txn);
+    let found = begun(alloc, |txn| {
+        (
+            write(txn, set(alloc, b"b", &[2])),
+            add_read(txn, alloc, b"a", b"c"),
+            reads(txn, alloc, &[(b"a", b"c")]),
+        )
+    });
+    same(&rt, found, (0, 0, true));
 }
 
 #[test]
 fn empty_ranges_add_nothing(rt: HostRuntime) {
     let alloc = rt.alloc();
-    let mut txn = begin(alloc);
-    assert_eq!(rt; add_read(&mut txn, alloc, b"a", b"a"), 0);
-    assert_eq!(rt; add_write(&mut txn, alloc, b"a", b"a"), 0);
-    assert!(rt; has_no_conflicts(&txn));
-    assert!(rt; is_read_only(txn));
+    let found = finished(alloc, &[], |txn| {
+        (
+            add_read(txn, alloc, b"a", b"a"),
+            add_write(txn, alloc, b"a", b"a"),
+            has_no_conflicts(txn),
+        )
+    });
+    same(&rt, found, ((0, 0, true), Ok(None)));
 }
 
 #[test]
 fn reads_alone_are_finished(rt: HostRuntime) {
     let alloc = rt.alloc();
-    let mut map = PlainMap::new(alloc);
-    let mut txn = begin(alloc);
-    assert!(rt; fill(&mut map, alloc));
-    assert_eq!(rt; byte_of(&mut txn, &map, alloc, b"a"), Ok(1));
-    assert!(rt; is_read_only(txn));
+    let found = ask(filled(alloc), |map| {
+        finished(alloc, &[], |txn| byte_of(txn, map, alloc, b"a"))
+    });
+    same(&rt, found, Ok((Ok(1), Ok(None))));
 }
 
 #[test]
 fn added_writes_are_to_commit(rt: HostRuntime) {
     let alloc = rt.alloc();
-    let mut txn = begin(alloc);
-    assert_eq!(rt; add_write(&mut txn, alloc, b"a", b"c"), 0);
-    assert_eq!(rt; to_commit(txn, b"a", b"c"), (true, 0, false));
+    let found = finished(
+        alloc,
+        &[(b"a", b"c")],
+        |txn| add_write(txn, alloc, b"a", b"c"),
+    );
+    same(&rt, found, (0, Ok(Some((true, 0, false)))));
 }
 
 #[test]
 fn mutations_are_to_commit(rt: HostRuntime) {
     let alloc = rt.alloc();
-    let mut txn = begin(alloc);
-    assert_eq!(rt; write(&mut txn, set(alloc, b"a", &[1])), 0);
-    assert_eq!(rt; to_commit(txn, b"a", b"a\0"), (true, 1, true));
+    let found = finished(
+        alloc,
+        &[(b"a", b"a\0")],
+        |txn| write(txn, set(alloc, b"a", &[1])),
+    );
+    same(&rt, found, (0, Ok(Some((true, 1, true)))));
+}
+
+// The code of the refusal of a new transaction's addition of as many bytes, or 0, and whether it is noted.
+fn try_add(alloc: Global, count: usize) -> Result<(u32, bool), u32> {
+    ask(text_of(alloc, 1, count), |operand| {
+        begun(alloc, |txn| {
+            let code = write(txn, add(alloc, b"a", operand));
+            (code, op_count(txn) != 0 || !has_no_conflicts(txn))
+        })
+    })
 }
 
 #[test]
-fn refused_writes_are_not_noted(rt: HostRuntime) -> Result<(), Fail> {
+fn refused_writes_are_not_noted(rt: HostRuntime) {
     let alloc = rt.alloc();
-    let addend = vec![in alloc; 1u8; 17]?;
-    let value = vec![in alloc; 1u8; 100_001]?;
-    let mut txn = begin(alloc);
-    assert_eq!(rt; write(&mut txn, add(alloc, b"a", &addend)), 9008);
-    assert_eq!(rt; write(&mut txn, add(alloc, b"a", &value)), 2103);
-    assert_eq!(rt; op_count(&txn), 0);
-    assert!(rt; txn.write_conflicts().is_empty());
-    drop(txn);
-    Ok(())
+    same(&rt, try_add(alloc, 17), Ok((9008, false)));
+    same(&rt, try_add(alloc, 100_001), Ok((2103, false)));
 }
 
 #[test]
-fn too_large_transactions_are_handed_back(rt: HostRuntime) -> Result<(), Fail> {
-    let value = vec![in rt.alloc(); b'v'; 99_999]?;
-    let mut txn = begin(rt.alloc());
-    write_each(&mut txn, rt.alloc(), 101, &value);
-    assert_eq!(rt; refused(txn), (2101, 101));
-    Ok(())
+fn too_large_transactions_are_handed_back(rt: HostRuntime) {
+    let alloc = rt.alloc();
+    let found = ask(text_of(alloc, b'v', 99_999), |value| {
+        finished(alloc, &[], |txn| write_each(txn, alloc, 101, value))
+    });
+    same(&rt, found, Ok(((), Err((2101, 101)))));
 }
 
 #[test]
 fn pages_say_whether_there_is_more(rt: HostRuntime) {
     let alloc = rt.alloc();
-    let mut map = PlainMap::new(alloc);
-    assert!(rt; fill(&mut map, alloc));
-    assert_eq!(rt; page(&map, alloc, 1, false), Ok((1, 1, true)));
-    assert_eq!(rt; page(&map, alloc, 2, false), Ok((2, 1, false)));
-    assert_eq!(rt; page(&map, alloc, 0, true), Ok((2, 2, false)));
+    let found = ask(filled(alloc), |map| {
+        [
+            page(map, alloc, 1, false),
+            page(map, alloc, 2, false),
+            page(map, alloc, 0, true),
+        ]
+    });
+    same(
+        &rt,
+        found,
+        Ok([Ok((1, 1, true)), Ok((2, 1, false)), Ok((2, 2, false))]),
+    );
 }

@@ -1,32 +1,24 @@
-// Logs with known answers. What holds a mutation goes out of scope in few functions, and none leaves early there.
+// Logs with known answers.
 ghost use Rattle.std.specs.Prelude.{◌<◌};
 
-use fdb_keys::{Items, Key, Refusal};
+use crate::making::{ask, ask_mut, clear, code_of, push, refusal_of, same};
+use fdb_keys::{Items, Refusal};
 use fdb_log::{LogAck, LogCore, LogMsg, Tagged};
 use fdb_mutations::Mutation;
 use fdb_txn::TagMsg;
-use std::alloc::{AllocError, Global};
-use std::test::Fail;
-
-// The code of the refusal, or 0.
-fn code_of<T: Drop>(answer: Result<T, Refusal>) -> u32 {
-    match answer {
-        Ok(_given) => 0,
-        Err(why) => why.code(),
-    }
-}
+use std::alloc::Global;
 
 fn new_code(alloc: Global, log: u32, logs: u32, tags: u32) -> u32 {
     code_of(LogCore::new(alloc, log, logs, tags))
 }
 
-// What the log answers to a message without mutations.
-fn push(
+// What the log answers to a message of entry 7.
+fn take_body(
     core: &mut LogCore,
-    alloc: Global,
     log: u32,
     version: u64,
     prev: u64,
+    body: Items<Tagged>,
 ) -> Result<LogAck, Refusal>
     requires { prev < version }
 {
@@ -35,79 +27,85 @@ fn push(
         index: 7,
         version,
         prev,
-        body: Items::new(alloc),
+        body,
     };
     core.push(&message)
 }
 
-fn is_taken(answer: Result<LogAck, Refusal>) -> bool {
-    match answer {
-        Ok(ack) => ack.log == 0 && ack.index == 7,
-        Err(_why) => false,
-    }
+// The same without mutations.
+fn take(
+    core: &mut LogCore,
+    alloc: Global,
+    log: u32,
+    version: u64,
+    prev: u64,
+) -> Result<LogAck, Refusal>
+    requires { prev < version }
+{
+    take_body(core, log, version, prev, Items::new(alloc))
 }
 
-fn is_refused(answer: Result<LogAck, Refusal>, wanted: Refusal) -> bool {
-    match answer {
-        Ok(_ack) => false,
-        Err(why) => why == wanted,
-    }
-}
-
-// Whether the log took messages at 100 and 200.
+// Whether the log took messages at 100 and 200, and told so.
 fn take_two(core: &mut LogCore, alloc: Global) -> bool {
-    is_taken(push(core, alloc, 0, 100, 0)) && is_taken(push(core, alloc, 0, 200, 100))
+    let first = ask(take(core, alloc, 0, 100, 0), |ack| (ack.log, ack.index));
+    let second = ask(take(core, alloc, 0, 200, 100), |ack| (ack.log, ack.index));
+    first == Ok((0, 7)) && second == Ok((0, 7))
 }
 
-// The code of the refusal, or 0, and then how many messages there are and through which version they go.
-fn peek(core: &LogCore, tag: u32, after: u64, limit: u32) -> (u32, usize, u64) {
-    match core.peek(tag, after, limit) {
-        Ok(peek) => (0, peek.messages.len(), peek.through),
-        Err(why) => (why.code(), 0, 0),
-    }
+// How many messages there are, and through which version they go.
+fn peek(core: &LogCore, tag: u32, after: u64, limit: u32) -> Result<(usize, u64), u32> {
+    ask(
+        core.peek(tag, after, limit),
+        |peek| (peek.messages.len(), peek.through),
+    )
 }
 
-fn clear(alloc: Global, place: u32, key: &[u8], tags: &[u32]) -> Result<Tagged, Refusal> {
+fn tagged(alloc: Global, place: u32, key: &[u8], tags: &[u32]) -> Result<Tagged, Refusal> {
     let tags = Items::from_vec(Vec::from_slice(alloc, tags)?);
-    let key = Key::new(alloc, key)?;
+    let mutation = clear(alloc, key)?;
     Ok(Tagged {
         place,
-        mutation: Mutation::Clear { key },
+        mutation,
         tags,
     })
 }
 
-fn add(alloc: Global, body: &mut Items<Tagged>, place: u32, key: &[u8], tags: &[u32]) -> bool {
-    match clear(alloc, place, key, tags) {
-        Ok(sent) => body.push(sent).is_ok(),
+fn add(body: &mut Items<Tagged>, sent: Result<Tagged, Refusal>) -> Result<(), Refusal> {
+    match sent {
+        Ok(sent) => push(body, sent),
+        Err(why) => Err(why),
+    }
+}
+
+// Three mutations: for tag 0, for tags 0 and 2, and for tag 2.
+fn three_clears(alloc: Global) -> Result<Items<Tagged>, Refusal> {
+    let mut body = Items::new(alloc);
+    add(&mut body, tagged(alloc, 0, b"a", &[0]))?;
+    add(&mut body, tagged(alloc, 3, b"b", &[0, 2]))?;
+    add(&mut body, tagged(alloc, 5, b"c", &[2]))?;
+    Ok(body)
+}
+
+// Whether the log took these at 100.
+fn take_three_clears(core: &mut LogCore, alloc: Global) -> bool {
+    match three_clears(alloc) {
+        Ok(body) => take_body(core, 0, 100, 0, body).is_ok(),
         Err(_why) => false,
     }
 }
 
-// Whether the log took a message at 100 of three mutations: for tag 0, for tags 0 and 2, and for tag 2.
-fn take_three_clears(core: &mut LogCore, alloc: Global) -> bool {
-    let mut body = Items::new(alloc);
-    let is_whole = add(alloc, &mut body, 0, b"a", &[0])
-        && add(alloc, &mut body, 3, b"b", &[0, 2])
-        && add(alloc, &mut body, 5, b"c", &[2]);
-    let message = LogMsg {
-        log: 0,
-        index: 0,
-        version: 100,
-        prev: 0,
-        body,
-    };
-    is_whole && code_of(core.push(&message)) == 0
-}
-
-fn is_clear(sent: &(u32, Mutation), place: u32, wanted: &[u8]) -> bool {
-    match &sent.1 {
-        Mutation::Clear { key } => sent.0 == place && key.bytes() == wanted,
+fn clears(mutation: &Mutation, wanted: &[u8]) -> bool {
+    match mutation {
+        Mutation::Clear { key } => key.bytes() == wanted,
         _ => false,
     }
 }
 
-fn has_two_clears(messages: &[TagMsg], places: [u32; 2], keys: [&[u8]; 2]) -> bool {
+fn is_clear(sent: &(u32, Mutation), place: u32, key: &[u8]) -> bool {
+    sent.0 == place && clears(&sent.1, key)
+}
+
+fn are_two_clears(messages: &[TagMsg], places: [u32; 2], keys: [&[u8]; 2]) -> bool {
     let [message] = messages else {
         return false;
     };
@@ -120,108 +118,108 @@ fn has_two_clears(messages: &[TagMsg], places: [u32; 2], keys: [&[u8]; 2]) -> bo
 }
 
 // Whether the tag has one message, which clears the two keys.
-fn gives_two_clears(core: &LogCore, tag: u32, places: [u32; 2], keys: [&[u8]; 2]) -> bool {
-    match core.peek(tag, 0, 9) {
-        Ok(peek) => has_two_clears(peek.messages.as_slice(), places, keys),
-        Err(_why) => false,
-    }
+fn gives_two_clears(core: &LogCore, tag: u32, places: [u32; 2], keys: [&'static [u8]; 2]) -> bool {
+    let holds = ask(core.peek(tag, 0, 9), |peek| {
+        are_two_clears(peek.messages.as_slice(), places, keys)
+    });
+    holds == Ok(true)
 }
 
-fn is_clear_with_tags(sent: &Tagged, place: u32, wanted: &[u8], tags: &[u32]) -> bool {
-    match &sent.mutation {
-        Mutation::Clear { key } => {
-            sent.place == place && key.bytes() == wanted && sent.tags.as_slice() == tags
-        }
-        _ => false,
-    }
+// Whether it clears b at place 3, with the tags 0 and 2.
+fn clears_b(sent: &Tagged) -> bool {
+    sent.place == 3 && clears(&sent.mutation, b"b") && sent.tags.as_slice() == [0, 2].as_slice()
 }
 
-// Whether the copy clears b at place 3, with the tags 0 and 2.
-fn is_whole_copy(copy: Result<Tagged, AllocError>) -> bool {
-    match copy {
-        Ok(copy) => {
-            let holds = is_clear_with_tags(&copy, 3, b"b", &[0, 2]);
-            drop(copy);
-            holds
-        }
-        Err(_why) => false,
-    }
-}
-
-fn is_copied(alloc: Global, made: Result<Tagged, Refusal>) -> bool {
-    match made {
-        Ok(sent) => {
-            let holds = is_whole_copy(sent.copy(alloc));
-            drop(sent);
-            holds
-        }
-        Err(_why) => false,
-    }
+fn copied(alloc: Global, sent: &Tagged) -> Result<Tagged, Refusal> {
+    let copy = sent.copy(alloc)?;
+    Ok(copy)
 }
 
 #[test]
 fn a_copy_has_the_place_the_mutation_and_the_tags(rt: HostRuntime) {
     let alloc = rt.alloc();
-    assert!(rt; is_copied(alloc, clear(alloc, 3, b"b", &[0, 2])));
+    let found = ask(tagged(alloc, 3, b"b", &[0, 2]), |sent| {
+        ask(copied(alloc, sent), |copy| clears_b(copy))
+    });
+    same(&rt, found, Ok(Ok(true)));
 }
 
 #[test]
 fn configurations_are_within_their_limits(rt: HostRuntime) {
-    assert_eq!(rt; new_code(rt.alloc(), 15, 16, 64), 0);
-    assert_eq!(rt; new_code(rt.alloc(), 1, 1, 1), 9009);
-    assert_eq!(rt; new_code(rt.alloc(), 0, 17, 1), 9009);
-    assert_eq!(rt; new_code(rt.alloc(), 0, 1, 0), 9009);
-    assert_eq!(rt; new_code(rt.alloc(), 0, 1, 65), 9009);
+    let alloc = rt.alloc();
+    same(&rt, new_code(alloc, 15, 16, 64), 0);
+    same(&rt, new_code(alloc, 1, 1, 1), 9009);
+    same(&rt, new_code(alloc, 0, 17, 1), 9009);
+    same(&rt, new_code(alloc, 0, 1, 0), 9009);
+    same(&rt, new_code(alloc, 0, 1, 65), 9009);
 }
 
 #[test]
-fn messages_after_a_version_are_given_up_to_the_limit(rt: HostRuntime) -> Result<(), Fail> {
-    let mut core = LogCore::new(rt.alloc(), 0, 1, 1)?;
-    assert!(rt; take_two(&mut core, rt.alloc()));
-    assert_eq!(rt; peek(&core, 0, 0, 0), (0, 0, 0));
-    assert_eq!(rt; peek(&core, 0, 0, 1), (0, 1, 100));
-    assert_eq!(rt; peek(&core, 0, 0, 9), (0, 2, 200));
-    assert_eq!(rt; peek(&core, 0, 200, 9), (0, 0, 200));
-    assert_eq!(rt; peek(&core, 0, 201, 9), (9009, 0, 0));
-    assert_eq!(rt; peek(&core, 1, 0, 9), (9009, 0, 0));
-    Ok(())
+fn messages_after_a_version_are_given_up_to_the_limit(rt: HostRuntime) {
+    let alloc = rt.alloc();
+    let found = ask_mut(LogCore::new(alloc, 0, 1, 1), |core| {
+        let is_taken = take_two(core, alloc);
+        let own = [(0, 0), (0, 1), (0, 9), (200, 9), (201, 9)].map(|(after, limit)| peek(
+            core, 0, after, limit,
+        ));
+        (is_taken, own, peek(core, 1, 0, 9))
+    });
+    let own = [
+        Ok((0, 0)),
+        Ok((1, 100)),
+        Ok((2, 200)),
+        Ok((0, 200)),
+        Err(9009),
+    ];
+    same(&rt, found, Ok((true, own, Err(9009))));
 }
 
 #[test]
-fn popped_messages_are_gone(rt: HostRuntime) -> Result<(), Fail> {
-    let mut core = LogCore::new(rt.alloc(), 0, 1, 1)?;
-    assert!(rt; take_two(&mut core, rt.alloc()));
-    assert_eq!(rt; code_of(core.pop(0, 999)), 9009);
-    assert_eq!(rt; code_of(core.pop(1, 100)), 9009);
-    assert_eq!(rt; code_of(core.pop(0, 100)), 0);
-    assert_eq!(rt; peek(&core, 0, 0, 9), (1007, 0, 0));
-    assert_eq!(rt; peek(&core, 0, 100, 9), (0, 1, 200));
-    Ok(())
-}
-
-#[test]
-fn messages_out_of_turn_are_refused(rt: HostRuntime) -> Result<(), Fail> {
-    let mut core = LogCore::new(rt.alloc(), 0, 1, 1)?;
-    assert!(rt; is_refused(push(&mut core, rt.alloc(), 1, 100, 0), Refusal::Unknown));
-    assert!(rt; take_two(&mut core, rt.alloc()));
-    assert!(rt; is_refused(push(&mut core, rt.alloc(), 0, 200, 100), Refusal::Stale));
-    assert!(rt;
-        is_refused(
-            push(&mut core, rt.alloc(), 0, 400, 300),
-            Refusal::NotYet(300)
-        )
+fn popped_messages_are_gone(rt: HostRuntime) {
+    let alloc = rt.alloc();
+    let found = ask_mut(LogCore::new(alloc, 0, 1, 1), |core| {
+        let is_taken = take_two(core, alloc);
+        let codes = [(0, 999), (1, 100), (0, 100)].map(|(tag, through)| code_of(core.pop(
+            tag, through,
+        )));
+        (is_taken, codes, peek(core, 0, 0, 9), peek(core, 0, 100, 9))
+    });
+    same(
+        &rt,
+        found,
+        Ok((true, [9009, 9009, 0], Err(1007), Ok((1, 200)))),
     );
-    Ok(())
 }
 
 #[test]
-fn each_tag_of_a_log_has_its_own_mutations(rt: HostRuntime) -> Result<(), Fail> {
-    let mut core = LogCore::new(rt.alloc(), 0, 2, 3)?;
-    assert!(rt; take_three_clears(&mut core, rt.alloc()));
-    assert!(rt; gives_two_clears(&core, 0, [0, 3], [b"a", b"b"]));
-    assert_eq!(rt; peek(&core, 1, 0, 9), (9009, 0, 0));
-    assert_eq!(rt; code_of(core.pop(0, 100)), 0);
-    assert_eq!(rt; peek(&core, 0, 100, 9), (0, 0, 100));
-    assert!(rt; gives_two_clears(&core, 2, [3, 5], [b"b", b"c"]));
-    Ok(())
+fn messages_out_of_turn_are_refused(rt: HostRuntime) {
+    let alloc = rt.alloc();
+    let found = ask_mut(LogCore::new(alloc, 0, 1, 1), |core| {
+        (
+            refusal_of(take(core, alloc, 1, 100, 0)),
+            take_two(core, alloc),
+            refusal_of(take(core, alloc, 0, 200, 100)),
+            refusal_of(take(core, alloc, 0, 400, 300)),
+        )
+    });
+    let (unknown, stale) = (Some(Refusal::Unknown), Some(Refusal::Stale));
+    same(
+        &rt,
+        found,
+        Ok((unknown, true, stale, Some(Refusal::NotYet(300)))),
+    );
+}
+
+#[test]
+fn each_tag_of_a_log_has_its_own_mutations(rt: HostRuntime) {
+    let alloc = rt.alloc();
+    let found = ask_mut(LogCore::new(alloc, 0, 2, 3), |core| {
+        take_three_clears(core, alloc)
+            && gives_two_clears(core, 0, [0, 3], [b"a", b"b"])
+            && peek(core, 1, 0, 9) == Err(9009)
+            && core.pop(0, 100).is_ok()
+            && peek(core, 0, 100, 9) == Ok((0, 100))
+            && gives_two_clears(core, 2, [3, 5], [b"b", b"c"])
+    });
+    same(&rt, found, Ok(true));
 }

@@ -1,11 +1,12 @@
 // What the tests of several crates make and ask. The prover goes over every kind of mutation wherever one goes out of
 // scope, so each is made in the call that uses it up, and what asks one ends in a call that drops it.
-ghost use Rattle.std.specs.Prelude.{◌≡◌, All, None, IfOk};
+ghost use Rattle.std.specs.Prelude.{◌≡◌, [], ◌∷◌, ◌++◌, All, None, IfOk};
 ghost use Rattle.fdb_mutations.specs.Mutations.{mutation_fault};
 
 use bytes::Bytes;
 use fdb_keys::{Items, Key, KeyRange, RangeSet, Refusal};
 use fdb_mutations::{Mutation, PlainMap, VALUE_LIMIT};
+use fdb_proxy::{Config, Outcome};
 use fdb_txn::{Sealed, TxnId};
 use std::alloc::{AllocError, Global};
 use std::fmt::Debug;
@@ -85,6 +86,36 @@ pub fn after<T: Drop, F: FnOnce(&mut T) -> Result<(), Refusal> + Drop>(
     }
 }
 
+/// The configuration with so many proxies and logs, one resolver, one shard and a book of so many entries.
+pub fn count_config(alloc: Global, proxies: u32, logs: u32, book: u32) -> Config
+    ensures { result ≡ record { proxies = proxies; logs = logs; resolver_splits = []; shard_splits = []; book = book } }
+{
+    Config {
+        proxies,
+        logs,
+        resolver_splits: Items::new(alloc),
+        shard_splits: Items::new(alloc),
+        book,
+    }
+}
+
+/// The configuration with these splits, one proxy, one log and a book of one entry.
+pub fn split_config(
+    resolver_splits: Result<Items<Key>, Refusal>,
+    shard_splits: Result<Items<Key>, Refusal>,
+) -> Result<Config, Refusal> {
+    match (resolver_splits, shard_splits) {
+        (Ok(resolver_splits), Ok(shard_splits)) => Ok(Config {
+            proxies: 1,
+            logs: 1,
+            resolver_splits,
+            shard_splits,
+            book: 1,
+        }),
+        (Err(why), _) | (_, Err(why)) => Err(why),
+    }
+}
+
 /// The code of the refusal, or 0.
 pub fn code_of<T: Drop>(answer: Result<T, Refusal>) -> u32 {
     match answer {
@@ -97,6 +128,31 @@ pub fn code_of<T: Drop>(answer: Result<T, Refusal>) -> u32 {
 pub fn text_of(alloc: Global, byte: u8, count: usize) -> Result<Vec<u8>, Refusal> {
     let text = vec![in alloc; byte; count]?;
     Ok(text)
+}
+
+/// Why it is refused, if it is.
+pub fn refusal_of<T: Drop>(answer: Result<T, Refusal>) -> Option<Refusal> {
+    match answer {
+        Ok(_given) => None,
+        Err(why) => Some(why),
+    }
+}
+
+/// The version and the place of a commit, or the code of why there is none.
+pub fn placed(outcome: Outcome) -> Result<(u64, u32), u32> {
+    match outcome {
+        Outcome::Commit { version, place } => Ok((version, place)),
+        Outcome::Conflict => Err(1020),
+        Outcome::Old => Err(1007),
+    }
+}
+
+/// Adds the item at the end.
+pub fn push<T: Drop>(items: &mut Items<T>, item: T) -> Result<(), Refusal>
+    ensures { IfOk result (λ _. items.new ≡ items.old ++ item ∷ []) }
+{
+    items.push(item)?;
+    Ok(())
 }
 
 pub fn keys_of(alloc: Global, texts: &[&[u8]]) -> Result<Items<Key>, Refusal> {

@@ -2,11 +2,11 @@
 ghost use Rattle.std.specs.Prelude.{◌≡◌, ◌<◌, ◌≤◌, length, All, IfOk};
 ghost use Rattle.fdb_owners.specs.Ownership.{resolvers_of};
 
-use fdb_keys::{Items, Key, KeyRange, RangeSet, Refusal};
+use crate::making::{are_ranges, ask, ask_mut, code_of, made_of, same};
+use fdb_keys::{Items, Key, KeyRange, Refusal};
 use fdb_owners::{Owned, Owners};
 use fdb_txn::Move;
 use std::alloc::Global;
-use std::test::Fail;
 
 fn one_split(alloc: Global) -> Result<Items<Key>, Refusal>
     ensures { IfOk result (λ splits. length splits ≡ 1) }
@@ -46,114 +46,115 @@ fn moved(alloc: Global) -> Result<Owners, Refusal>
     Ok(owners)
 }
 
-fn owner_of(owners: &Owners, alloc: Global, key: &[u8]) -> Option<u32> {
-    match Key::new(alloc, key) {
-        Ok(key) => Some(owners.owner(&key)),
-        Err(_) => None,
-    }
+// The same, of which what is below version 300 has expired.
+fn expired(alloc: Global) -> Result<Owners, Refusal>
+    ensures { IfOk result (λ owners. owners.floor ≤ 300) }
+{
+    let mut owners = moved(alloc)?;
+    owners.expire(300);
+    Ok(owners)
 }
 
-fn is_one_range(ranges: &RangeSet, bounds: [&[u8]; 2]) -> bool {
-    let [begin, end] = bounds;
-    !ranges.is_empty()
-        && ranges
-            .iter()
-            .all(|range| range.begin() == begin && range.end() == end)
+fn owner_of(owners: &Owners, alloc: Global, key: &[u8]) -> Result<u32, u32> {
+    ask(Key::new(alloc, key), |key| owners.owner(key))
 }
 
-fn is_part(parts: &[Owned], resolver: u32, bounds: [&[u8]; 2]) -> bool {
-    parts.iter().any(|part| part.resolver == resolver && is_one_range(&part.ranges, bounds))
+// Whether these are parts of just those resolvers, of one range each.
+fn are_parts(parts: &[Owned], wanted: &[(u32, &[u8], &[u8])]) -> bool {
+    parts.len() == wanted.len()
+        && parts.iter().zip(wanted).all(|(part, (resolver, begin, end))| {
+            part.resolver == *resolver
+                && are_ranges(part.ranges.iter().as_slice(), &[(*begin, *end)])
+        })
 }
 
-// Whether these resolvers have a part each, which is that one range.
-fn are_parts(parts: &[Owned], resolvers: &[u32], bounds: [&[u8]; 2]) -> bool {
-    parts.len() == resolvers.len()
-        && resolvers
-            .iter()
-            .all(|resolver| is_part(parts, *resolver, bounds))
+// Whether the call gave just those parts.
+fn gave(answer: Result<Items<Owned>, Refusal>, wanted: &[(u32, &[u8], &[u8])]) -> bool {
+    ask(answer, |parts| are_parts(parts.as_slice(), wanted)) == Ok(true)
 }
 
-// Whether these resolvers, and no others, owned the key p at some version above `from` and at most `version`.
-fn are_readers_of_p(
+// Whether the first resolver owns the keys from a to t, and the second those from t to z.
+fn are_writers_to_z(owners: &Owners, alloc: Global) -> bool {
+    let parts = made_of(
+        KeyRange::new(alloc, b"a", b"z"),
+        |range| owners.writers(range),
+    );
+    gave(parts, &[(0, b"a", b"t"), (1, b"t", b"z")])
+}
+
+// Those who owned the key p at some version above `from` and at most `version`.
+fn readers_of_p(
     owners: &Owners,
     alloc: Global,
     from: u64,
     version: u64,
-    resolvers: &[u32],
-) -> Result<bool, Refusal>
+) -> Result<Items<Owned>, Refusal>
     requires order { from < version }
     requires floor { owners.now.floor ≤ from }
 {
-    let range = KeyRange::new(alloc, b"p", b"p\x00")?;
-    let parts = owners.readers(&range, from, version)?;
-    Ok(are_parts(parts.as_slice(), resolvers, [b"p", b"p\x00"]))
-}
-
-// Whether the first resolver owns the keys from a to t, and the second those from t to z.
-fn are_writers_to_z(owners: &Owners, alloc: Global) -> Result<bool, Refusal> {
-    let range = KeyRange::new(alloc, b"a", b"z")?;
-    let parts = owners.writers(&range)?;
-    let both = parts.as_slice();
-    Ok(both.len() == 2 && is_part(both, 0, [b"a", b"t"]) && is_part(both, 1, [b"t", b"z"]))
-}
-
-fn is_true(answer: Result<bool, Refusal>) -> bool {
-    match answer {
-        Ok(answer) => answer,
-        Err(_) => false,
+    match KeyRange::new(alloc, b"p", b"p\0") {
+        Ok(range) => owners.readers(&range, from, version),
+        Err(why) => Err(why),
     }
 }
 
-// The code of the refusal, or 0.
-fn code_of<T: Drop>(answer: Result<T, Refusal>) -> u32 {
-    match answer {
-        Ok(_given) => 0,
-        Err(why) => why.code(),
+// The same of owners that were made.
+fn readers_by(
+    owners: Result<Owners, Refusal>,
+    alloc: Global,
+    from: u64,
+    version: u64,
+) -> Result<Items<Owned>, Refusal>
+    requires order { from < version }
+    requires floor { IfOk owners (λ owners. owners.floor ≤ from) }
+{
+    match owners {
+        Ok(owners) => readers_of_p(&owners, alloc, from, version),
+        Err(why) => Err(why),
     }
 }
 
 #[test]
-fn moved_keys_belong_to_the_target(rt: HostRuntime) -> Result<(), Fail> {
-    let owners = moved(rt.alloc())?;
-    assert_eq!(rt; owners.version(), 300);
-    assert_eq!(rt; owner_of(&owners, rt.alloc(), b"p"), Some(0));
-    assert!(rt; is_true(are_writers_to_z(&owners, rt.alloc())));
-    drop(owners);
-    Ok(())
+fn moved_keys_belong_to_the_target(rt: HostRuntime) {
+    let alloc = rt.alloc();
+    let found = ask(moved(alloc), |owners| {
+        (
+            owners.version(),
+            owner_of(owners, alloc, b"p"),
+            are_writers_to_z(owners, alloc),
+        )
+    });
+    same(&rt, found, Ok((300, Ok(0), true)));
 }
 
 #[test]
-fn reads_from_before_a_move_are_asked_of_both(rt: HostRuntime) -> Result<(), Fail> {
-    let owners = moved(rt.alloc())?;
-    assert!(rt; is_true(are_readers_of_p(&owners, rt.alloc(), 100, 300, &[0, 1])));
-    assert!(rt; is_true(are_readers_of_p(&owners, rt.alloc(), 299, 300, &[0])));
-    drop(owners);
-    Ok(())
+fn reads_from_before_a_move_are_asked_of_both(rt: HostRuntime) {
+    let alloc = rt.alloc();
+    let before = readers_by(moved(alloc), alloc, 100, 300);
+    assert!(rt; gave(before, &[(0, b"p", b"p\0"), (1, b"p", b"p\0")]));
+    let since = readers_by(moved(alloc), alloc, 299, 300);
+    assert!(rt; gave(since, &[(0, b"p", b"p\0")]));
 }
 
 #[test]
-fn owners_from_an_expired_version_on_are_kept(rt: HostRuntime) -> Result<(), Fail> {
-    let mut owners = moved(rt.alloc())?;
-    owners.expire(300);
-    assert!(rt; is_true(are_readers_of_p(&owners, rt.alloc(), 300, 400, &[0])));
-    drop(owners);
-    Ok(())
+fn owners_from_an_expired_version_on_are_kept(rt: HostRuntime) {
+    let alloc = rt.alloc();
+    let readers = readers_by(expired(alloc), alloc, 300, 400);
+    assert!(rt; gave(readers, &[(0, b"p", b"p\0")]));
 }
 
 #[test]
-fn versions_are_learnt_once(rt: HostRuntime) -> Result<(), Fail> {
-    let mut owners = moved(rt.alloc())?;
-    assert_eq!(rt; code_of(owners.learn(300, &[])), 9003);
-    drop(owners);
-    Ok(())
+fn versions_are_learnt_once(rt: HostRuntime) {
+    let found = ask_mut(moved(rt.alloc()), |owners| code_of(owners.learn(300, &[])));
+    same(&rt, found, Ok(9003));
 }
 
 #[test]
-fn three_resolvers_need_two_splits(rt: HostRuntime) -> Result<(), Fail> {
-    let splits = one_split(rt.alloc())?;
-    assert_eq!(rt;
-        code_of(Owners::new(rt.alloc(), splits.as_slice(), 3)),
-        9009
+fn three_resolvers_need_two_splits(rt: HostRuntime) {
+    let alloc = rt.alloc();
+    let owners = made_of(
+        one_split(alloc),
+        |splits| Owners::new(alloc, splits.as_slice(), 3),
     );
-    Ok(())
+    same(&rt, code_of(owners), 9009);
 }

@@ -1,28 +1,13 @@
-// Calls with known answers.
+// Proxies with known answers.
 mod committing;
 
+use crate::making::{code_of, count_config, keys_of, made_of, rising_keys, same, split_config};
 use fdb_keys::{Items, Key, Refusal};
-use fdb_proxy::{Config, GrvCore};
+use fdb_proxy::GrvCore;
 use std::alloc::Global;
-use std::test::Fail;
-
-// The code of the refusal, or 0.
-fn code_of<T: Drop>(answer: Result<T, Refusal>) -> u32 {
-    match answer {
-        Ok(_given) => 0,
-        Err(why) => why.code(),
-    }
-}
 
 fn counts_code(alloc: Global, proxies: u32, logs: u32, book: u32) -> u32 {
-    let config = Config {
-        proxies,
-        logs,
-        resolver_splits: Items::new(alloc),
-        shard_splits: Items::new(alloc),
-        book,
-    };
-    code_of(config.check())
+    code_of(count_config(alloc, proxies, logs, book).check())
 }
 
 // The code for a configuration with these splits, or why there are none.
@@ -30,71 +15,49 @@ fn splits_code(
     resolver_splits: Result<Items<Key>, Refusal>,
     shard_splits: Result<Items<Key>, Refusal>,
 ) -> u32 {
-    match (resolver_splits, shard_splits) {
-        (Ok(resolver_splits), Ok(shard_splits)) => {
-            let config = Config {
-                proxies: 1,
-                logs: 1,
-                resolver_splits,
-                shard_splits,
-                book: 1,
-            };
-            code_of(config.check())
-        }
-        (Err(why), _) => why.code(),
-        (_, Err(why)) => why.code(),
-    }
-}
-
-fn keys(alloc: Global, texts: &[&[u8]]) -> Result<Items<Key>, Refusal> {
-    let mut keys = Items::new(alloc);
-    for text in texts {
-        keys.push(Key::new(alloc, text)?)?;
-    }
-    Ok(keys)
-}
-
-// As many keys of one byte that rise.
-fn rising_keys(alloc: Global, count: u8) -> Result<Items<Key>, Refusal> {
-    let mut keys = Items::new(alloc);
-    for byte in 0..count {
-        keys.push(Key::new(alloc, &[byte])?)?;
-    }
-    Ok(keys)
+    let config = split_config(resolver_splits, shard_splits);
+    code_of(made_of(config, |config| config.check()))
 }
 
 #[test]
-fn read_versions_are_not_below_what_was_seen(rt: HostRuntime) -> Result<(), Fail> {
-    let mut core = GrvCore::new(rt.alloc());
-    core.ask(4, 0)?;
-    core.ask(2, 150)?;
-    assert_eq!(rt; core.askers(), [(4, 0), (2, 150)].as_slice());
+fn read_versions_are_not_below_what_was_seen(rt: HostRuntime) {
+    let alloc = rt.alloc();
+    let mut core = GrvCore::new(alloc);
+    same(
+        &rt,
+        [code_of(core.ask(4, 0)), code_of(core.ask(2, 150))],
+        [0, 0],
+    );
+    assert!(rt; core.askers() == [(4, 0), (2, 150)].as_slice());
     let granted = core.grant(100);
-    assert_eq!(rt; granted.as_slice(), [(4, 100), (2, 150)].as_slice());
+    assert!(rt; granted.as_slice() == [(4, 100), (2, 150)].as_slice());
     assert!(rt; core.grant(100).is_empty());
-    Ok(())
 }
 
 #[test]
 fn counts_are_within_their_limits(rt: HostRuntime) {
-    assert_eq!(rt; counts_code(rt.alloc(), 16, 16, 1_048_576), 0);
-    assert_eq!(rt; counts_code(rt.alloc(), 0, 1, 1), 9009);
-    assert_eq!(rt; counts_code(rt.alloc(), 1, 17, 1), 9009);
-    assert_eq!(rt; counts_code(rt.alloc(), 1, 1, 0), 9009);
+    let alloc = rt.alloc();
+    same(&rt, counts_code(alloc, 16, 16, 1_048_576), 0);
+    same(&rt, counts_code(alloc, 0, 1, 1), 9009);
+    same(&rt, counts_code(alloc, 1, 17, 1), 9009);
+    same(&rt, counts_code(alloc, 1, 1, 0), 9009);
 }
 
 #[test]
 fn splits_are_keys_that_rise(rt: HostRuntime) {
     let alloc = rt.alloc();
-    assert_eq!(rt;
-        splits_code(rising_keys(alloc, 63), keys(alloc, &[b"a", b"b"])),
-        0
+    let none = || keys_of(alloc, &[]);
+    same(
+        &rt,
+        splits_code(rising_keys(alloc, 63), keys_of(alloc, &[b"a", b"b"])),
+        0,
     );
-    assert_eq!(rt; splits_code(rising_keys(alloc, 64), keys(alloc, &[])), 9009);
-    assert_eq!(rt; splits_code(keys(alloc, &[]), rising_keys(alloc, 64)), 9009);
-    assert_eq!(rt;
-        splits_code(keys(alloc, &[b"b", b"a"]), keys(alloc, &[])),
-        9009
+    same(&rt, splits_code(rising_keys(alloc, 64), none()), 9009);
+    same(&rt, splits_code(none(), rising_keys(alloc, 64)), 9009);
+    same(
+        &rt,
+        splits_code(keys_of(alloc, &[b"b", b"a"]), none()),
+        9009,
     );
-    assert_eq!(rt; splits_code(keys(alloc, &[]), keys(alloc, &[b""])), 9009);
+    same(&rt, splits_code(none(), keys_of(alloc, &[b""])), 9009);
 }

@@ -1,39 +1,79 @@
 // Worlds with known answers, by what a caller of `fdb_core` sees.
 mod acts;
+mod checks;
 mod generated;
 mod legal;
-mod made;
 mod many;
 mod repeats;
 mod serial;
 
+use self::acts::{Act, is_taken};
+use crate::making::{ask, ask_mut, count_config, keys_of, made_of, refusal_of, same};
 use bytes::Bytes;
 use fdb_client::{Op, Reply, Transcript};
-use fdb_core::{Answered, Config, InFlight, Step, World, is_answered_on, run};
+use fdb_core::{Answered, Config, Step, World, is_answered_on, run};
 use fdb_keys::{Items, Key, Refusal};
 use fdb_mutations::PlainMap;
 use fdb_txn::TxnId;
 use std::alloc::Global;
-use std::test::Fail;
 
 // One of each role, and a book of eight entries.
 fn one_of_each(alloc: Global) -> Config {
-    Config {
-        proxies: 1,
-        logs: 1,
-        resolver_splits: Items::new(alloc),
-        shard_splits: Items::new(alloc),
-        book: 8,
+    count_config(alloc, 1, 1, 8)
+}
+
+// A world with so many proxies of each kind, two logs, and a resolver and a shard more than splits.
+fn new_world(
+    alloc: Global,
+    proxies: u32,
+    resolver_splits: &[&[u8]],
+    shard_splits: &[&[u8]],
+) -> Result<World, Refusal> {
+    let resolver_splits = keys_of(alloc, resolver_splits)?;
+    let shard_splits = keys_of(alloc, shard_splits)?;
+    let config = Config {
+        proxies,
+        logs: 2,
+        resolver_splits,
+        shard_splits,
+        book: 4_096,
+    };
+    World::new(alloc, config)
+}
+
+// Whether each of the steps is accepted.
+fn are_taken(world: &mut World, alloc: Global, acts: &[Act]) -> bool {
+    for act in acts {
+        if !is_taken(world, alloc, *act) {
+            return false;
+        }
     }
+    true
+}
+
+// A transaction that read the key a at the version, and was told the value.
+fn reader_of(
+    alloc: Global,
+    id: TxnId,
+    read_version: u64,
+    told: Option<&'static [u8]>,
+    snapshot: bool,
+) -> Result<Transcript, Refusal> {
+    let key = Key::new(alloc, b"a")?;
+    let reply = Reply::Value(told.map(Bytes::from_static));
+    let mut ops = Items::new(alloc);
+    ops.push((Op::Get { key, snapshot }, reply))?;
+    Ok(Transcript {
+        id,
+        read_version,
+        ops,
+    })
 }
 
 // Whether session 0 alone was served, with read version 0.
 fn is_first_grant(answer: &Result<Answered, Refusal>) -> bool {
     match answer {
-        Ok(Answered::Granted(granted)) => match granted.as_slice() {
-            [(session, version)] => *session == 0 && *version == 0,
-            _ => false,
-        },
+        Ok(Answered::Granted(granted)) => granted.as_slice() == [(0, 0)].as_slice(),
         _ => false,
     }
 }
@@ -45,14 +85,11 @@ fn is_done(answer: &Result<Answered, Refusal>) -> bool {
     }
 }
 
-// Whether the two steps are answered as the first ask and the first grant of a world.
-fn begins(alloc: Global, steps: &[Step]) -> bool {
-    match run(alloc, one_of_each(alloc), steps) {
-        Ok((_, answers)) => match answers.as_slice() {
-            [first, second] => is_done(first) && is_first_grant(second),
-            _ => false,
-        },
-        Err(_) => false,
+// Whether these are the answers to the first ask and the first grant of a world.
+fn are_first(answers: &[Result<Answered, Refusal>]) -> bool {
+    match answers {
+        [first, second] => is_done(first) && is_first_grant(second),
+        _ => false,
     }
 }
 
@@ -66,103 +103,90 @@ const FIRST_STEPS: [Step; 2] = [
 
 #[test]
 fn first_grant_is_of_version_zero(rt: HostRuntime) {
-    let steps = FIRST_STEPS;
-    assert!(rt; begins(rt.alloc(), steps.as_slice()));
+    let alloc = rt.alloc();
+    let ran = run(alloc, one_of_each(alloc), FIRST_STEPS.as_slice());
+    same(&rt, ask(ran, |ran| are_first(ran.1.as_slice())), Ok(true));
 }
 
 #[test]
-fn new_world_has_no_batch_and_no_transaction(rt: HostRuntime) -> Result<(), Fail> {
-    let world = World::new(rt.alloc(), one_of_each(rt.alloc()))?;
-    assert!(rt; world.in_flight(0) == Err(Refusal::WrongState));
-    assert!(rt; world.in_flight(7) == Err(Refusal::Unknown));
-    assert!(rt; world.check() == Ok(0));
-    Ok(())
+fn new_world_has_no_batch_and_no_transaction(rt: HostRuntime) {
+    let alloc = rt.alloc();
+    let found = ask(World::new(alloc, one_of_each(alloc)), |world| {
+        (
+            refusal_of(world.in_flight(0)),
+            refusal_of(world.in_flight(7)),
+            world.check() == Ok(0),
+        )
+    });
+    let (wrong, unknown) = (Some(Refusal::WrongState), Some(Refusal::Unknown));
+    same(&rt, found, Ok((wrong, unknown, true)));
 }
 
 // The steps of a first batch, in which nobody waited, and the first step of a second one.
-const BATCHES: [Step; 9] = [
-    Step::Seal {
-        proxy: 0,
-        advance: 100,
-    },
-    Step::Resolve {
-        entry: 0,
-        resolver: 0,
-    },
-    Step::Verdict {
-        entry: 0,
-        resolver: 0,
-    },
-    Step::Decide { proxy: 0 },
-    Step::Push { entry: 0, log: 0 },
-    Step::Logged { entry: 0, log: 0 },
-    Step::Report { proxy: 0 },
-    Step::Answer { proxy: 0 },
-    Step::Seal {
-        proxy: 0,
-        advance: 100,
-    },
+const BATCHES: [Act; 9] = [
+    Act::Seal(0, 100),
+    Act::Resolve(0, 0),
+    Act::Verdict(0, 0),
+    Act::Decide(0),
+    Act::Push(0, 0),
+    Act::Logged(0, 0),
+    Act::Report(0),
+    Act::Answer(0),
+    Act::Seal(0, 100),
 ];
 
-fn in_flight_with(alloc: Global, steps: &[Step]) -> Result<InFlight, Refusal> {
-    let (world, _) = run(alloc, one_of_each(alloc), steps)?;
-    world.in_flight(0)
+// The entry of the batch that is in flight in the world, with how many resolvers and logs there are.
+fn in_flight(world: &World) -> Result<(u32, u32, u32), u32> {
+    ask(
+        world.in_flight(0),
+        |flight| (flight.entry, flight.resolvers, flight.logs),
+    )
 }
 
-// The batch that is in flight after the first so many of those steps.
-fn in_flight_after(alloc: Global, count: usize) -> Result<InFlight, Refusal> {
-    let steps = BATCHES;
-    match steps.get(..count) {
-        Some(first) => in_flight_with(alloc, first),
-        None => Err(Refusal::Failed),
-    }
-}
-
-fn is_entry(flight: Result<InFlight, Refusal>, entry: u32) -> bool {
-    flight
-        == Ok(InFlight {
-            entry,
-            resolvers: 1,
-            logs: 1,
-        })
-}
-
-#[test]
-fn batch_is_in_flight_from_its_seal_to_its_answer(rt: HostRuntime) -> Result<(), Fail> {
-    for count in 1..8 {
-        assert!(rt; is_entry(in_flight_after(rt.alloc(), count), 0));
-    }
-    assert!(rt; in_flight_after(rt.alloc(), 8) == Err(Refusal::WrongState));
-    assert!(rt; is_entry(in_flight_after(rt.alloc(), 9), 1));
-    Ok(())
-}
-
-// A transaction that read the one key, and was told the value.
-fn reader_of(alloc: Global, told: Option<Bytes>, snapshot: bool) -> Result<Transcript, Refusal> {
-    let key = Key::new(alloc, b"a")?;
-    let mut ops = Items::new(alloc);
-    ops.push((Op::Get { key, snapshot }, Reply::Value(told)))?;
-    Ok(Transcript {
-        id: TxnId {
-            session: 3,
-            number: 5,
-        },
-        read_version: 0,
-        ops,
+// What is in flight after each of those steps.
+fn flights(world: &mut World, alloc: Global) -> [Result<(u32, u32, u32), u32>; 9] {
+    BATCHES.map(|act| {
+        if is_taken(world, alloc, act) {
+            in_flight(world)
+        } else {
+            Err(0)
+        }
     })
 }
 
+#[test]
+fn batch_is_in_flight_from_its_seal_to_its_answer(rt: HostRuntime) {
+    let alloc = rt.alloc();
+    let found = ask_mut(
+        World::new(alloc, one_of_each(alloc)),
+        |world| flights(world, alloc),
+    );
+    let mut wanted = [Ok((0, 1, 1)); 9];
+    wanted[7] = Err(9014);
+    wanted[8] = Ok((1, 1, 1));
+    same(&rt, found, Ok(wanted));
+}
+
 // Whether such a transaction was answered as on the empty map.
-fn is_answered(alloc: Global, told: Option<Bytes>, snapshot: bool) -> Result<bool, Refusal> {
+fn is_answered(
+    alloc: Global,
+    told: Option<&'static [u8]>,
+    snapshot: bool,
+) -> Result<bool, Refusal> {
     let map = PlainMap::new(alloc);
-    let transcript = reader_of(alloc, told, snapshot)?;
-    is_answered_on(alloc, &map, &transcript)
+    let id = TxnId {
+        session: 3,
+        number: 5,
+    };
+    made_of(reader_of(alloc, id, 0, told, snapshot), |transcript| {
+        is_answered_on(alloc, &map, transcript)
+    })
 }
 
 #[test]
-fn ordinary_reads_are_compared_with_a_map(rt: HostRuntime) -> Result<(), Fail> {
-    assert!(rt; is_answered(rt.alloc(), None, false)?);
-    assert!(rt; !is_answered(rt.alloc(), Some(Bytes::from_static(b"x")), false)?);
-    assert!(rt; is_answered(rt.alloc(), Some(Bytes::from_static(b"x")), true)?);
-    Ok(())
+fn ordinary_reads_are_compared_with_a_map(rt: HostRuntime) {
+    let alloc = rt.alloc();
+    same(&rt, is_answered(alloc, None, false), Ok(true));
+    same(&rt, is_answered(alloc, Some(b"x"), false), Ok(false));
+    same(&rt, is_answered(alloc, Some(b"x"), true), Ok(true));
 }

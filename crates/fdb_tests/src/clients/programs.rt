@@ -3,10 +3,8 @@
 use super::cut_snapshot::CutSnapshot;
 use super::marks::{Marks, only};
 use super::steps::{Ask, Change, Span, Step};
-use super::{
-    add, add_read, add_write, applies, begin, clear, clear_range, compare_and_clear, set, set_to,
-    write,
-};
+use super::{add_read, add_write, begun, write};
+use crate::making::{add, apply, ask, clear, clear_range, compare_and_clear, set};
 use crate::random::Random;
 use bytes::Bytes;
 use fdb_client::Txn;
@@ -56,29 +54,23 @@ fn range(
     txn: &mut Txn,
     base: Base<'_>,
     range: &KeyRange,
-    ask: Ask,
+    asked: Ask,
 ) -> Result<Items<(Key, Bytes)>, Refusal> {
     let snapshot = CutSnapshot {
         version: txn.transcript().read_version,
         map: base.map,
         cut: base.cut,
     };
-    let limit = u32::from(ask.limit);
-    txn.get_range(&snapshot, range, limit, ask.reverse, ask.is_snapshot)
+    let limit = u32::from(asked.limit);
+    txn.get_range(&snapshot, range, limit, asked.reverse, asked.is_snapshot)
 }
 
 fn is_value(read: Result<Option<Bytes>, Refusal>, wanted: Option<&Bytes>) -> bool {
-    match read {
-        Ok(value) => value.as_ref() == wanted,
-        Err(_why) => false,
-    }
+    ask(read, |value| value.as_ref() == wanted) == Ok(true)
 }
 
 fn are_pairs(read: Result<Items<(Key, Bytes)>, Refusal>, wanted: &Items<(Key, Bytes)>) -> bool {
-    match read {
-        Ok(pairs) => pairs == *wanted,
-        Err(_why) => false,
-    }
+    ask(read, |pairs| pairs == wanted) == Ok(true)
 }
 
 impl Plain {
@@ -92,7 +84,7 @@ impl Plain {
     fn write(&mut self, txn: &mut Txn, alloc: Global, change: Change) -> bool {
         self.marks.change(change);
         write(txn, mutation_of(alloc, change)) == 0
-            && applies(&mut self.copy, mutation_of(alloc, change))
+            && apply(&mut self.copy, mutation_of(alloc, change)).is_ok()
     }
 
     // Whether the key is read as the copy has it.
@@ -107,28 +99,25 @@ impl Plain {
         if !is_snapshot {
             self.marks.read(only(key));
         }
-        match Key::new(alloc, &[key]) {
-            Ok(key) => is_value(get(txn, base, &key, is_snapshot), self.copy.get(&key)),
-            Err(_why) => false,
-        }
+        let holds = ask(Key::new(alloc, &[key]), |key| {
+            is_value(get(txn, base, key, is_snapshot), self.copy.get(key))
+        });
+        holds == Ok(true)
     }
 
     // Whether the range is read as the copy has it.
-    fn read_range(&mut self, txn: &mut Txn, base: Base<'_>, ask: Ask, keys: &KeyRange) -> bool {
-        match self.copy.range(keys, u32::from(ask.limit), ask.reverse) {
-            Ok(pairs) => {
-                self.marks.read_range(ask, pairs.as_slice());
-                are_pairs(range(txn, base, keys, ask), &pairs)
-            }
-            Err(_why) => false,
-        }
+    fn read_range(&mut self, txn: &mut Txn, base: Base<'_>, asked: Ask, keys: &KeyRange) -> bool {
+        let copied = self.copy.range(keys, u32::from(asked.limit), asked.reverse);
+        let holds = ask(copied, |pairs| {
+            self.marks.read_range(asked, pairs.as_slice());
+            are_pairs(range(txn, base, keys, asked), pairs)
+        });
+        holds == Ok(true)
     }
 
-    fn range(&mut self, txn: &mut Txn, base: Base<'_>, alloc: Global, ask: Ask) -> bool {
-        match KeyRange::new(alloc, &[ask.span.begin], &[ask.span.end]) {
-            Ok(keys) => self.read_range(txn, base, ask, &keys),
-            Err(_why) => false,
-        }
+    fn range(&mut self, txn: &mut Txn, base: Base<'_>, alloc: Global, asked: Ask) -> bool {
+        let keys = KeyRange::new(alloc, &[asked.span.begin], &[asked.span.end]);
+        ask(keys, |keys| self.read_range(txn, base, asked, keys)) == Ok(true)
     }
 
     fn add_read(&mut self, txn: &mut Txn, alloc: Global, span: Span) -> bool {
@@ -146,7 +135,7 @@ impl Plain {
         match step {
             Step::Write(change) => self.write(txn, alloc, change),
             Step::Get { key, is_snapshot } => self.get(txn, base, alloc, key, is_snapshot),
-            Step::Range(ask) => self.range(txn, base, alloc, ask),
+            Step::Range(asked) => self.range(txn, base, alloc, asked),
             Step::AddRead(span) => self.add_read(txn, alloc, span),
             Step::AddWrite(span) => self.add_write(txn, alloc, span),
         }
@@ -161,6 +150,20 @@ impl Plain {
         }
         true
     }
+
+    // Whether a new transaction is answered, reads and writes as by the plain execution.
+    fn agrees(&mut self, base: Base<'_>, alloc: Global, random: &mut Random) -> bool {
+        begun(
+            alloc,
+            |txn| self.steps(txn, base, alloc, random) && self.marks.agree(txn, alloc),
+        )
+    }
+}
+
+// Gives the key the value in both maps.
+fn set_both(map: &mut PlainMap, copy: &mut PlainMap, alloc: Global, key: u8, value: u8) -> bool {
+    apply(map, set(alloc, &[key], &[value])).is_ok()
+        && apply(copy, set(alloc, &[key], &[value])).is_ok()
 }
 
 // Gives about half of the keys a value, the same in both maps.
@@ -168,7 +171,7 @@ fn fill_both(map: &mut PlainMap, copy: &mut PlainMap, alloc: Global, random: &mu
     for key in b'a'..b'k' {
         let value = random.value();
         let is_set = random.coin();
-        if is_set && !(set_to(map, alloc, &[key], value) && set_to(copy, alloc, &[key], value)) {
+        if is_set && !set_both(map, copy, alloc, key, value) {
             return false;
         }
     }
@@ -185,12 +188,7 @@ fn agrees(alloc: Global, seed: u64) -> bool {
         map: &map,
         cut: u32::from(random.below(3)) + 1,
     };
-    let mut txn = begin(alloc);
-    let holds = is_filled
-        && plain.steps(&mut txn, base, alloc, &mut random)
-        && plain.marks.agree(&txn, alloc);
-    drop(txn);
-    holds
+    is_filled && plain.agrees(base, alloc, &mut random)
 }
 
 #[test]

@@ -1,14 +1,13 @@
-// A commit proxy with two logs: the second resolver owns the keys from m on, the second shard has those from a on. What
-// holds a mutation goes out of scope in few functions, and none leaves early there.
-ghost use Rattle.std.specs.Prelude.{◌≡◌, ◌<◌, [], length, All, None, IfOk};
+// A commit proxy with two logs: the second resolver owns the keys from m on, the second shard has those from a on.
+ghost use Rattle.std.specs.Prelude.{◌≡◌, ◌<◌, [], length, IfOk};
 ghost use Rattle.std.specs.List.{AllByRecursion};
-ghost use Rattle.fdb_mutations.specs.Mutations.{mutation_fault};
 ghost use Rattle.fdb_txn.specs.book.Transactions.{Transaction};
 ghost use Rattle.fdb_proxy.specs.CommitProxies.{CommitProxy, IsTicketFor};
 
-use super::{code_of, keys};
-use bytes::Bytes;
-use fdb_keys::{Items, Key, KeyRange, RangeSet, Refusal};
+use crate::making::{
+    are_ranges, ask, ask_mut, code_of, keys_of, one_key, one_set, placed, refusal_of, same, seal,
+};
+use fdb_keys::{Items, RangeSet, Refusal};
 use fdb_log::{LogAck, LogMsg, Tagged};
 use fdb_mutations::Mutation;
 use fdb_proxy::{CommitCore, Config, Outcome};
@@ -16,7 +15,6 @@ use fdb_resolver::{Part, Verdict, Verdicts};
 use fdb_sequencer::Ticket;
 use fdb_txn::{Batch, Sealed, TxnId};
 use std::alloc::Global;
-use std::test::Fail;
 
 fn new_core(alloc: Global) -> Result<CommitCore, Refusal>
     ensures batch { IfOk result (λ core. core.proxy.batch ≡ []) }
@@ -25,44 +23,21 @@ fn new_core(alloc: Global) -> Result<CommitCore, Refusal>
     let config = Config {
         proxies: 1,
         logs: 2,
-        resolver_splits: keys(alloc, &[b"m"])?,
-        shard_splits: keys(alloc, &[b"a"])?,
+        resolver_splits: keys_of(alloc, &[b"m"])?,
+        shard_splits: keys_of(alloc, &[b"a"])?,
         book: 1,
     };
     CommitCore::new(alloc, 0, &config)
-}
-
-fn one_key(alloc: Global, key: &[u8]) -> Result<RangeSet, Refusal> {
-    let key = Key::new(alloc, key)?;
-    let range = KeyRange::single(alloc, &key)?;
-    let mut set = RangeSet::new(alloc);
-    set.add(&range)?;
-    Ok(set)
-}
-
-fn one_set(alloc: Global, key: &[u8]) -> Result<Items<Mutation>, Refusal>
-    ensures { IfOk result (λ mutations. All (λ mutation. mutation_fault mutation ≡ None) mutations) }
-{
-    let key = Key::new(alloc, key)?;
-    let value = Bytes::copy_from_slice(alloc, b"1")?;
-    let mutation = Mutation::Set { key, value };
-    mutation.check()?;
-    let mut mutations = Items::new(alloc);
-    mutations.push(mutation)?;
-    Ok(mutations)
 }
 
 // The session's first transaction, which reads z at version 0 and gives a the value 1.
 fn sealed(alloc: Global, session: u32) -> Result<Sealed, Refusal>
     ensures { IfOk result (λ sealed. sealed.read ≡ 0) }
 {
-    let id = TxnId { session, number: 0 };
     let reads = one_key(alloc, b"z")?;
-    let mutations = one_set(alloc, b"a")?;
-    match Sealed::new(alloc, id, 0, reads, RangeSet::new(alloc), mutations) {
-        Ok(sealed) => Ok(sealed),
-        Err(refused) => Err(refused.why),
-    }
+    let mutations = one_set(alloc, b"a", b"1")?;
+    let id = TxnId { session, number: 0 };
+    seal(alloc, id, 0, reads, RangeSet::new(alloc), mutations)
 }
 
 // One more waits, which read at a version below 100.
@@ -110,60 +85,38 @@ fn asking(alloc: Global) -> Result<CommitCore, Refusal> {
     Ok(core)
 }
 
-// Whether the batch has the transactions of these sessions.
-fn is_of_sessions(batch: Result<Batch, Refusal>, wanted: &[u32]) -> bool {
-    match batch {
-        Ok(batch) => {
-            let places = batch.as_slice();
-            places.len() == wanted.len()
-                && places
-                    .iter()
-                    .zip(wanted)
-                    .all(|(place, session)| place.id().session == *session)
-        }
-        Err(_why) => false,
-    }
-}
-
-fn is_one_key(ranges: &RangeSet, bounds: [&[u8]; 2]) -> bool {
-    let [begin, end] = bounds;
-    !ranges.is_empty()
-        && ranges
+// Whether the transactions are those of the sessions.
+fn are_of_sessions(places: &[Sealed], sessions: &[u32]) -> bool {
+    places.len() == sessions.len()
+        && places
             .iter()
-            .all(|range| range.begin() == begin && range.end() == end)
+            .zip(sessions)
+            .all(|(place, session)| place.id().session == *session)
 }
 
-fn are_write_and_read(parts: &[Part]) -> bool {
-    let [first, second] = parts else {
-        return false;
-    };
-    match (first.items.as_slice(), second.items.as_slice()) {
-        ([writer], [reader]) => {
-            writer.reads.is_empty()
-                && is_one_key(&writer.writes, [b"a", b"a\x00"])
-                && reader.writes.is_empty()
-                && is_one_key(&reader.reads, [b"z", b"z\x00"])
-        }
+// Whether the batch has the transactions of these sessions.
+fn is_of_sessions(batch: Result<Batch, Refusal>, sessions: &[u32]) -> bool {
+    ask(batch, |batch| are_of_sessions(batch.as_slice(), sessions)) == Ok(true)
+}
+
+// Whether the part is of one place, which reads and writes the ranges.
+fn is_part(part: &Part, reads: &[(&[u8], &[u8])], writes: &[(&[u8], &[u8])]) -> bool {
+    match part.items.as_slice() {
+        [item] => are_ranges(item.reads.iter().as_slice(), reads)
+            && are_ranges(item.writes.iter().as_slice(), writes),
         _ => false,
     }
 }
 
-// Whether the first resolver is asked about the write alone, and the second about the read alone.
-fn is_each_asked_its_part(parts: Result<Items<Part>, Refusal>) -> bool {
+fn are_write_and_read(parts: &[Part]) -> bool {
     match parts {
-        Ok(parts) => are_write_and_read(parts.as_slice()),
-        Err(_why) => false,
+        [first, second] => is_part(first, &[], &[(b"a", b"a\0")])
+            && is_part(second, &[(b"z", b"z\0")], &[]),
+        _ => false,
     }
 }
 
-// Of whom the call waits to hear, if it does.
-fn awaited<T: Drop>(answer: Result<T, Refusal>) -> Option<u64> {
-    match answer {
-        Err(Refusal::NotYet(number)) => Some(number),
-        _ => None,
-    }
-}
-
+// The verdict on place 0 of the entry.
 fn verdicts(
     alloc: Global,
     resolver: u32,
@@ -186,25 +139,27 @@ fn say(core: &mut CommitCore, alloc: Global, resolver: u32, index: u32, verdict:
     }
 }
 
-// The one outcome that there is.
-fn only_outcome(outcomes: Result<Items<Outcome>, Refusal>) -> Option<Outcome> {
+// What becomes of the one transaction that there is.
+fn only_outcome(outcomes: &[Outcome]) -> Option<Result<(u64, u32), u32>> {
     match outcomes {
-        Ok(outcomes) => match outcomes.as_slice() {
-            [outcome] => Some(*outcome),
-            _ => None,
-        },
-        Err(_why) => None,
+        [outcome] => Some(placed(*outcome)),
+        _ => None,
     }
 }
 
-// What becomes of the transaction once the first resolver says yes, and the second one this.
-fn decide(core: &mut CommitCore, alloc: Global, verdict: Verdict) -> Option<Outcome> {
-    let are_taken = say(core, alloc, 0, 0, Verdict::Yes) == 0
-        && say(core, alloc, 1, 0, verdict) == 0;
-    if are_taken {
-        only_outcome(core.decide())
-    } else {
-        None
+// The same, once the first resolver says yes, and the second one this.
+fn decided(
+    core: &mut CommitCore,
+    alloc: Global,
+    verdict: Verdict,
+) -> Option<Result<(u64, u32), u32>> {
+    let codes = [
+        say(core, alloc, 0, 0, Verdict::Yes),
+        say(core, alloc, 1, 0, verdict),
+    ];
+    match ask(core.decide(), |outcomes| only_outcome(outcomes.as_slice())) {
+        Ok(outcome) if codes == [0, 0] => outcome,
+        _ => None,
     }
 }
 
@@ -213,159 +168,182 @@ fn acknowledge(core: &mut CommitCore, log: u32) -> u32 {
 }
 
 // How many mutations each of the two logs is sent.
-fn counts(messages: Result<Items<LogMsg>, Refusal>) -> Option<(usize, usize)> {
+fn counts(messages: &[LogMsg]) -> Option<[usize; 2]> {
     match messages {
-        Ok(messages) => match messages.as_slice() {
-            [first, second] => Some((first.body.len(), second.body.len())),
-            _ => None,
-        },
-        Err(_why) => None,
+        [first, second] => Some([first.body.len(), second.body.len()]),
+        _ => None,
     }
 }
 
-// Whether it gives a the value 1, at place 0 and for shard 1.
-fn sets_a(sent: &Tagged) -> bool {
-    let is_sent = sent.place == 0 && sent.tags.as_slice() == [1].as_slice();
-    match &sent.mutation {
-        Mutation::Set { key, value } => is_sent
-            && key.bytes() == b"a".as_slice()
+// Whether it gives a the value 1.
+fn sets_a(mutation: &Mutation) -> bool {
+    match mutation {
+        Mutation::Set { key, value } => key.bytes() == b"a".as_slice()
             && value.as_slice() == b"1".as_slice(),
         _ => false,
     }
 }
 
-fn is_of_first_entry(message: &LogMsg) -> bool {
-    message.index == 0 && message.version == 100 && message.prev == 0
+// Whether it does at place 0 and for shard 1.
+fn is_sent(sent: &Tagged) -> bool {
+    sent.place == 0 && sent.tags.as_slice() == [1].as_slice() && sets_a(&sent.mutation)
 }
 
-// Whether all that the second log is sent is that set, of the first entry.
-fn second_log_sets_a(messages: Result<Items<LogMsg>, Refusal>) -> bool {
+// Whether all that the log is sent is that, as of the first entry.
+fn is_of_first_entry(message: &LogMsg) -> bool {
+    let numbers = (message.index, message.version, message.prev);
+    numbers == (0, 100, 0) && message.body.as_slice().iter().all(|sent| is_sent(sent))
+}
+
+fn second_log_sets_a(messages: &[LogMsg]) -> bool {
     match messages {
-        Ok(messages) => match messages.as_slice() {
-            [_first, second] => is_of_first_entry(second)
-                && second.body.as_slice().iter().all(|sent| sets_a(sent)),
-            _ => false,
-        },
-        Err(_why) => false,
+        [_first, second] => is_of_first_entry(second),
+        _ => false,
     }
 }
 
 // The session of the one transaction that is done, with what became of it.
-fn only_answer(answers: Result<Items<(TxnId, Outcome)>, Refusal>) -> Option<(u32, Outcome)> {
+fn only_answer(answers: &[(TxnId, Outcome)]) -> Option<(u32, Result<(u64, u32), u32>)> {
     match answers {
-        Ok(answers) => match answers.as_slice() {
-            [(id, outcome)] => Some((id.session, *outcome)),
-            _ => None,
-        },
-        Err(_why) => None,
+        [(id, outcome)] => Some((id.session, placed(*outcome))),
+        _ => None,
     }
 }
 
 #[test]
-fn an_idle_proxy_seals_an_empty_batch(rt: HostRuntime) -> Result<(), Fail> {
-    let mut core = new_core(rt.alloc())?;
-    assert_eq!(rt; code_of(core.decide()), 9014);
-    assert_eq!(rt; code_of(core.done()), 9014);
-    assert!(rt; is_of_sessions(core.seal(), &[]));
-    drop(core);
-    Ok(())
+fn an_idle_proxy_seals_an_empty_batch(rt: HostRuntime) {
+    let found = ask_mut(new_core(rt.alloc()), |core| {
+        (
+            code_of(core.decide()),
+            code_of(core.done()),
+            is_of_sessions(core.seal(), &[]),
+        )
+    });
+    same(&rt, found, Ok((9014, 9014, true)));
 }
 
 #[test]
-fn a_name_waits_once(rt: HostRuntime) -> Result<(), Fail> {
-    let mut core = new_core(rt.alloc())?;
-    assert_eq!(rt; code_of(core.reserve()), 0);
-    assert_eq!(rt; submit(&mut core, rt.alloc(), 4), Ok(()));
-    assert_eq!(rt; submit(&mut core, rt.alloc(), 4), Err(Refusal::Repeated(0)));
-    drop(core);
-    Ok(())
+fn a_name_waits_once(rt: HostRuntime) {
+    let alloc = rt.alloc();
+    let found = ask_mut(new_core(alloc), |core| {
+        (
+            code_of(core.reserve()),
+            submit(core, alloc, 4),
+            submit(core, alloc, 4),
+        )
+    });
+    same(&rt, found, Ok((0, Ok(()), Err(Refusal::Repeated(0)))));
 }
 
 #[test]
-fn nothing_is_submitted_after_a_failure(rt: HostRuntime) -> Result<(), Fail> {
-    let mut core = new_core(rt.alloc())?;
-    core.fail();
-    assert_eq!(rt; code_of(submit(&mut core, rt.alloc(), 4)), 9004);
-    drop(core);
-    Ok(())
+fn nothing_is_submitted_after_a_failure(rt: HostRuntime) {
+    let alloc = rt.alloc();
+    let found = ask_mut(new_core(alloc), |core| {
+        core.fail();
+        code_of(submit(core, alloc, 4))
+    });
+    same(&rt, found, Ok(9004));
 }
 
 #[test]
-fn batch_that_was_given_up_is_sealed_again(rt: HostRuntime) -> Result<(), Fail> {
-    let mut core = new_core(rt.alloc())?;
-    assert_eq!(rt; code_of(submit(&mut core, rt.alloc(), 4)), 0);
-    assert_eq!(rt; code_of(submit(&mut core, rt.alloc(), 2)), 0);
-    assert!(rt; is_of_sessions(core.seal(), &[4, 2]));
-    assert!(rt; !core.is_idle());
-    core.unseal();
-    assert!(rt; core.is_idle());
-    assert!(rt; is_of_sessions(core.seal(), &[4, 2]));
-    drop(core);
-    Ok(())
+fn batch_that_was_given_up_is_sealed_again(rt: HostRuntime) {
+    let alloc = rt.alloc();
+    let found = ask_mut(new_core(alloc), |core| {
+        let codes = [4, 2].map(|session| code_of(submit(core, alloc, session)));
+        let is_sealed = is_of_sessions(core.seal(), &[4, 2]);
+        let was_idle = core.is_idle();
+        core.unseal();
+        (
+            codes,
+            is_sealed,
+            was_idle,
+            core.is_idle(),
+            is_of_sessions(core.seal(), &[4, 2]),
+        )
+    });
+    same(&rt, found, Ok(([0, 0], true, false, true, true)));
 }
 
 #[test]
-fn all_that_wait_are_refused_by_name(rt: HostRuntime) -> Result<(), Fail> {
-    let mut core = new_core(rt.alloc())?;
-    assert_eq!(rt; code_of(submit(&mut core, rt.alloc(), 4)), 0);
-    assert_eq!(rt; code_of(submit(&mut core, rt.alloc(), 2)), 0);
-    let sessions = [4, 2].map(|session| TxnId { session, number: 0 });
-    assert_eq!(rt; core.refuse_all().as_slice(), sessions.as_slice());
-    drop(core);
-    Ok(())
+fn all_that_wait_are_refused_by_name(rt: HostRuntime) {
+    let alloc = rt.alloc();
+    let found = ask_mut(new_core(alloc), |core| {
+        let codes = [4, 2].map(|session| code_of(submit(core, alloc, session)));
+        let names = [4, 2].map(|session| TxnId { session, number: 0 });
+        (codes, core.refuse_all().as_slice() == names.as_slice())
+    });
+    same(&rt, found, Ok(([0, 0], true)));
 }
 
 #[test]
-fn verdicts_are_taken_once_and_of_their_entry_alone(rt: HostRuntime) -> Result<(), Fail> {
-    let mut core = asking(rt.alloc())?;
-    assert_eq!(rt; say(&mut core, rt.alloc(), 0, 1, Verdict::Yes), 9003);
-    assert_eq!(rt; say(&mut core, rt.alloc(), 0, 0, Verdict::Yes), 0);
-    assert_eq!(rt; say(&mut core, rt.alloc(), 0, 0, Verdict::Yes), 9003);
-    drop(core);
-    Ok(())
+fn verdicts_are_taken_once_and_of_their_entry_alone(rt: HostRuntime) {
+    let alloc = rt.alloc();
+    let found = ask_mut(asking(alloc), |core| {
+        [1, 0, 0].map(|entry| say(core, alloc, 0, entry, Verdict::Yes))
+    });
+    same(&rt, found, Ok([9003, 0, 9003]));
 }
 
 #[test]
-fn all_that_are_asked_are_heard_before_a_decision(rt: HostRuntime) -> Result<(), Fail> {
-    let mut core = asking(rt.alloc())?;
-    assert!(rt; is_each_asked_its_part(core.parts()));
-    assert_eq!(rt; awaited(core.decide()), Some(0));
-    assert_eq!(rt; say(&mut core, rt.alloc(), 0, 0, Verdict::Yes), 0);
-    assert_eq!(rt; awaited(core.decide()), Some(1));
-    drop(core);
-    Ok(())
+fn all_that_are_asked_are_heard_before_a_decision(rt: HostRuntime) {
+    let alloc = rt.alloc();
+    let found = ask_mut(asking(alloc), |core| {
+        (
+            ask(core.parts(), |parts| are_write_and_read(parts.as_slice())),
+            refusal_of(core.decide()),
+            say(core, alloc, 0, 0, Verdict::Yes),
+            refusal_of(core.decide()),
+        )
+    });
+    let (first, second) = (Refusal::NotYet(0), Refusal::NotYet(1));
+    same(&rt, found, Ok((Ok(true), Some(first), 0, Some(second))));
 }
 
 #[test]
-fn a_conflict_is_answered_once_all_logs_have_their_message(rt: HostRuntime) -> Result<(), Fail> {
-    let mut core = asking(rt.alloc())?;
-    assert_eq!(rt;
-        decide(&mut core, rt.alloc(), Verdict::Conflict),
-        Some(Outcome::Conflict)
+fn a_conflict_is_sent_to_no_log(rt: HostRuntime) {
+    let alloc = rt.alloc();
+    let found = ask_mut(asking(alloc), |core| {
+        (
+            decided(core, alloc, Verdict::Conflict),
+            ask(core.messages(), |messages| counts(messages.as_slice())),
+        )
+    });
+    same(&rt, found, Ok((Some(Err(1020)), Ok(Some([0, 0])))));
+}
+
+#[test]
+fn a_conflict_is_answered_once_all_logs_have_their_message(rt: HostRuntime) {
+    let alloc = rt.alloc();
+    let found = ask_mut(asking(alloc), |core| {
+        let outcome = decided(core, alloc, Verdict::Conflict);
+        let early = (code_of(core.done()), refusal_of(core.all_logged()));
+        let codes = [0, 0, 1].map(|log| acknowledge(core, log));
+        let whole = code_of(core.all_logged());
+        let answer = ask(core.done(), |answers| only_answer(answers.as_slice()));
+        (outcome, early, codes, whole, answer, code_of(core.done()))
+    });
+    let early = (9014, Some(Refusal::NotYet(0)));
+    let answer = Ok(Some((4, Err(1020))));
+    let wanted = (Some(Err(1020)), early, [0, 9003, 0], 0, answer, 9014);
+    same(&rt, found, Ok(wanted));
+}
+
+#[test]
+fn a_commit_is_sent_to_the_log_of_its_shard(rt: HostRuntime) {
+    let alloc = rt.alloc();
+    let found = ask_mut(asking(alloc), |core| {
+        (
+            decided(core, alloc, Verdict::Yes),
+            ask(core.messages(), |messages| counts(messages.as_slice())),
+            ask(
+                core.messages(),
+                |messages| second_log_sets_a(messages.as_slice()),
+            ),
+        )
+    });
+    same(
+        &rt,
+        found,
+        Ok((Some(Ok((100, 0))), Ok(Some([0, 1])), Ok(true))),
     );
-    assert_eq!(rt; counts(core.messages()), Some((0, 0)));
-    assert_eq!(rt; code_of(core.done()), 9014);
-    assert_eq!(rt; awaited(core.all_logged()), Some(0));
-    assert_eq!(rt; acknowledge(&mut core, 0), 0);
-    assert_eq!(rt; acknowledge(&mut core, 0), 9003);
-    assert_eq!(rt; acknowledge(&mut core, 1), 0);
-    assert_eq!(rt; code_of(core.all_logged()), 0);
-    assert_eq!(rt; only_answer(core.done()), Some((4, Outcome::Conflict)));
-    assert_eq!(rt; code_of(core.done()), 9014);
-    drop(core);
-    Ok(())
-}
-
-#[test]
-fn a_commit_is_sent_to_the_log_of_its_shard(rt: HostRuntime) -> Result<(), Fail> {
-    let mut core = asking(rt.alloc())?;
-    let outcome = Outcome::Commit {
-        version: 100,
-        place: 0,
-    };
-    assert_eq!(rt; decide(&mut core, rt.alloc(), Verdict::Yes), Some(outcome));
-    assert_eq!(rt; counts(core.messages()), Some((0, 1)));
-    assert!(rt; second_log_sets_a(core.messages()));
-    drop(core);
-    Ok(())
 }

@@ -1,5 +1,5 @@
 // Steps as plain data: their keys and values have one byte each.
-use bytes::Bytes;
+use crate::making::{add, clear_range, code_of, set};
 use fdb_core::{Answered, Step, World};
 use fdb_keys::{Key, KeyRange, Refusal};
 use fdb_mutations::Mutation;
@@ -75,42 +75,16 @@ fn range(
     })
 }
 
-fn set(
+// The session writes the mutation.
+fn write(
     world: &mut World,
-    alloc: Global,
     session: u32,
-    key: u8,
-    value: u8,
+    mutation: Result<Mutation, Refusal>,
 ) -> Result<Answered, Refusal> {
-    let key = Key::new(alloc, &[key])?;
-    let value = Bytes::copy_from_slice(alloc, &[value])?;
-    let mutation = Mutation::Set { key, value };
-    world.step(Step::Write { session, mutation })
-}
-
-fn add(
-    world: &mut World,
-    alloc: Global,
-    session: u32,
-    key: u8,
-    operand: u8,
-) -> Result<Answered, Refusal> {
-    let key = Key::new(alloc, &[key])?;
-    let operand = Bytes::copy_from_slice(alloc, &[operand])?;
-    let mutation = Mutation::Add { key, operand };
-    world.step(Step::Write { session, mutation })
-}
-
-fn clear_range(
-    world: &mut World,
-    alloc: Global,
-    session: u32,
-    begin: u8,
-    end: u8,
-) -> Result<Answered, Refusal> {
-    let range = KeyRange::new(alloc, &[begin], &[end])?;
-    let mutation = Mutation::ClearRange { range };
-    world.step(Step::Write { session, mutation })
+    match mutation {
+        Ok(mutation) => world.step(Step::Write { session, mutation }),
+        Err(why) => Err(why),
+    }
 }
 
 fn add_read(
@@ -156,9 +130,9 @@ fn take_call(
         Call::Get(key) => get(world, alloc, session, key, false),
         Call::SnapshotGet(key) => get(world, alloc, session, key, true),
         Call::Range(begin, end, limit) => range(world, alloc, session, [begin, end], limit),
-        Call::Set(key, value) => set(world, alloc, session, key, value),
-        Call::Add(key, operand) => add(world, alloc, session, key, operand),
-        Call::ClearRange(begin, end) => clear_range(world, alloc, session, begin, end),
+        Call::Set(key, value) => write(world, session, set(alloc, &[key], &[value])),
+        Call::Add(key, operand) => write(world, session, add(alloc, &[key], &[operand])),
+        Call::ClearRange(begin, end) => write(world, session, clear_range(alloc, &[begin], &[end])),
         Call::AddRead(begin, end) => add_read(world, alloc, session, begin, end),
         Call::AddWrite(begin, end) => add_write(world, alloc, session, begin, end),
     }
@@ -184,4 +158,9 @@ pub fn take(world: &mut World, alloc: Global, act: Act) -> Result<Answered, Refu
         Act::Pop(shard) => world.step(Step::Pop { shard }),
         Act::Move(begin, end, to) => move_to(world, alloc, begin, end, to),
     }
+}
+
+/// Whether the step is accepted.
+pub fn is_taken(world: &mut World, alloc: Global, act: Act) -> bool {
+    code_of(take(world, alloc, act)) == 0
 }

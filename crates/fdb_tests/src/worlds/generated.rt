@@ -4,8 +4,9 @@ mod tally;
 
 use self::drawing::Drawing;
 use self::tally::Tally;
-use crate::worlds::acts::{Act, take};
-use crate::worlds::made::new_world;
+use super::acts::{Act, take};
+use super::new_world;
+use crate::making::ask_mut;
 use fdb_core::World;
 use std::alloc::Global;
 
@@ -16,6 +17,7 @@ fn take_one(world: &mut World, drawing: &mut Drawing, tally: &mut Tally, alloc: 
         drawing.note(act);
     }
     tally.note(&answer);
+    drop(answer);
 }
 
 // Takes so many steps, each fourth of them twice.
@@ -35,15 +37,11 @@ fn take_steps(world: &mut World, alloc: Global, seed: u64, steps: u32) -> Tally 
 // Whether the check finds no difference after steps of every outcome. The resolvers part the keys elsewhere than the
 // shards.
 fn agrees(alloc: Global, seed: u64) -> bool {
-    match new_world(alloc, 3, &[b"d", b"g"], &[b"c", b"f"]) {
-        Ok(mut world) => {
-            let tally = take_steps(&mut world, alloc, seed, 8_000);
-            let holds = tally.has_each() && world.check() == Ok(tally.acknowledged());
-            drop(world);
-            holds
-        }
-        Err(_why) => false,
-    }
+    let holds = ask_mut(new_world(alloc, 3, &[b"d", b"g"], &[b"c", b"f"]), |world| {
+        let tally = take_steps(world, alloc, seed, 8_000);
+        tally.has_each() && world.check() == Ok(tally.acknowledged())
+    });
+    holds == Ok(true)
 }
 
 #[test]

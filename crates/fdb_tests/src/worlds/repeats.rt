@@ -1,10 +1,10 @@
 // Messages that come again: beside a world to which one does goes another one, to which it doesn't.
-use crate::worlds::acts::{Act, Call, take};
-use crate::worlds::made::new_world;
+use super::acts::{Act, Call, take};
+use super::new_world;
+use crate::making::{ask_mut, refusal_of, same};
 use fdb_core::World;
 use fdb_keys::Refusal;
 use std::alloc::Global;
-use std::test::Fail;
 
 #[derive(Drop)]
 struct Pair {
@@ -17,18 +17,24 @@ fn one_world(alloc: Global) -> Result<World, Refusal> {
     new_world(alloc, 2, &[b"m"], &[])
 }
 
+fn are_alike<T: PartialEq + Drop>(answer: T, other: T) -> bool {
+    answer == other
+}
+
 impl Pair {
     fn new(alloc: Global) -> Result<Self, Refusal> {
-        Ok(Pair {
-            world: one_world(alloc)?,
-            other: one_world(alloc)?,
-        })
+        let world = one_world(alloc)?;
+        let other = one_world(alloc)?;
+        Ok(Pair { world, other })
     }
 
     // Whether both worlds answer the steps alike.
     fn go(&mut self, alloc: Global, acts: &[Act]) -> bool {
         for act in acts {
-            if take(&mut self.world, alloc, *act) != take(&mut self.other, alloc, *act) {
+            if !are_alike(
+                take(&mut self.world, alloc, *act),
+                take(&mut self.other, alloc, *act),
+            ) {
                 return false;
             }
         }
@@ -37,7 +43,7 @@ impl Pair {
 
     // Whether the first world refuses the step as stale, which the second one doesn't take.
     fn is_stale(&mut self, alloc: Global, act: Act) -> bool {
-        take(&mut self.world, alloc, act) == Err(Refusal::Stale)
+        refusal_of(take(&mut self.world, alloc, act)) == Some(Refusal::Stale)
     }
 
     // Whether both find no difference in so many acknowledged transactions.
@@ -94,34 +100,34 @@ const SECOND_DONE: [Act; 7] = [
 ];
 
 #[test]
-fn a_verdict_that_comes_again_changes_nothing(rt: HostRuntime) -> Result<(), Fail> {
+fn a_verdict_that_comes_again_changes_nothing(rt: HostRuntime) {
     let alloc = rt.alloc();
-    let mut pair = Pair::new(alloc)?;
-    assert!(rt; pair.go(alloc, SEALED.as_slice()));
-    assert!(rt; pair.go(alloc, JUDGED_BY_THE_FIRST.as_slice()));
-    assert!(rt; pair.is_stale(alloc, Act::Verdict(0, 0)));
-    assert!(rt; pair.go(alloc, DONE.as_slice()));
-    assert!(rt; pair.is_stale(alloc, Act::Verdict(0, 1)));
-    assert!(rt; pair.go(alloc, SEALED.as_slice()));
-    assert!(rt; pair.is_checked(1));
-    drop(pair);
-    Ok(())
+    let found = ask_mut(Pair::new(alloc), |pair| {
+        pair.go(alloc, SEALED.as_slice())
+            && pair.go(alloc, JUDGED_BY_THE_FIRST.as_slice())
+            && pair.is_stale(alloc, Act::Verdict(0, 0))
+            && pair.go(alloc, DONE.as_slice())
+            && pair.is_stale(alloc, Act::Verdict(0, 1))
+            && pair.go(alloc, SEALED.as_slice())
+            && pair.is_checked(1)
+    });
+    same(&rt, found, Ok(true));
 }
 
 #[test]
-fn a_verdict_of_another_entry_changes_nothing(rt: HostRuntime) -> Result<(), Fail> {
+fn a_verdict_of_another_entry_changes_nothing(rt: HostRuntime) {
     let alloc = rt.alloc();
-    let mut pair = Pair::new(alloc)?;
-    assert!(rt; pair.go(alloc, SEALED.as_slice()));
-    assert!(rt; pair.go(alloc, JUDGED_BY_THE_FIRST.as_slice()));
-    assert!(rt; pair.go(alloc, DONE.as_slice()));
-    assert!(rt; pair.go(alloc, SEALED.as_slice()));
-    assert!(rt; pair.is_stale(alloc, Act::Verdict(0, 0)));
-    assert!(rt; pair.is_stale(alloc, Act::Verdict(0, 1)));
-    assert!(rt; pair.go(alloc, SECOND_DECIDED.as_slice()));
-    assert!(rt; pair.is_stale(alloc, Act::Logged(0, 0)));
-    assert!(rt; pair.go(alloc, SECOND_DONE.as_slice()));
-    assert!(rt; pair.is_checked(2));
-    drop(pair);
-    Ok(())
+    let found = ask_mut(Pair::new(alloc), |pair| {
+        pair.go(alloc, SEALED.as_slice())
+            && pair.go(alloc, JUDGED_BY_THE_FIRST.as_slice())
+            && pair.go(alloc, DONE.as_slice())
+            && pair.go(alloc, SEALED.as_slice())
+            && pair.is_stale(alloc, Act::Verdict(0, 0))
+            && pair.is_stale(alloc, Act::Verdict(0, 1))
+            && pair.go(alloc, SECOND_DECIDED.as_slice())
+            && pair.is_stale(alloc, Act::Logged(0, 0))
+            && pair.go(alloc, SECOND_DONE.as_slice())
+            && pair.is_checked(2)
+    });
+    same(&rt, found, Ok(true));
 }
