@@ -1,20 +1,17 @@
-// A book of two cells and one that two threads fill, with known answers.
+// Calls with known answers.
 ghost use Rattle.std.specs.Prelude.{◌≡◌};
 
-use crate::making::{ask, ask_both, made_of, same, seal};
 use fdb_book::laws::fronts_are_books;
 use fdb_book::{Blank, Book, BookName, Front, agree, append, empty};
 use fdb_keys::{Items, RangeSet, Refusal, Refused};
-use fdb_txn::{Batch, Entry, TxnId};
+use fdb_txn::{Batch, Entry, Sealed, TxnId};
 use std::alloc::Global;
 use std::cmp::Ordering;
 use std::marker::Brand;
 use std::process::Abort;
+use std::test::Fail;
 use std::thread;
 use std::thread::Threads;
-
-// What an append answers.
-type Appended<B> = Result<Front<B>, Refused<Option<Front<B>>>>;
 
 // An entry of one transaction without a write.
 fn entry_by(
@@ -24,15 +21,24 @@ fn entry_by(
     id: TxnId,
     read_version: u64,
 ) -> Result<Entry, Refusal> {
-    let (reads, writes) = (RangeSet::new(alloc), RangeSet::new(alloc));
-    let sealed = seal(alloc, id, read_version, reads, writes, Items::new(alloc))?;
-    let mut places = Items::new(alloc);
+    let sealed = match Sealed::new(
+        alloc,
+        id,
+        read_version,
+        RangeSet::new(alloc),
+        RangeSet::new(alloc),
+        Items::new(alloc),
+    ) {
+        Ok(sealed) => sealed,
+        Err(refused) => return Err(refused.why),
+    };
+    let mut places = Vec::with_capacity(alloc, 1)?;
     places.push(sealed)?;
     Ok(Entry {
         version,
         prev,
         moves: Items::new(alloc),
-        batch: Batch::new(places),
+        batch: Batch::new(Items::from_vec(places)),
     })
 }
 
@@ -44,183 +50,72 @@ fn entry_of(
     number: u64,
     read_version: u64,
 ) -> Result<Entry, Refusal> {
-    entry_by(
-        alloc,
-        version,
-        prev,
-        TxnId { session: 0, number },
-        read_version,
-    )
+    let id = TxnId { session: 0, number };
+    entry_by(alloc, version, prev, id, read_version)
 }
 
-fn try_append<B: BookName>(
-    alloc: Global,
-    book: &Book<B>,
-    front: &Front<B>,
-    entry: Result<Entry, Refusal>,
-) -> Appended<B> {
-    match entry {
-        Ok(entry) => append(alloc, book, front, entry),
-        Err(why) => Err(Refused { why, back: None }),
+// The refusal's code, and how many entries the front that is handed out shows.
+fn told<B: BookName>(res: &Result<Front<B>, Refused<Option<Front<B>>>>) -> (u32, Option<usize>) {
+    match res {
+        Ok(front) => (0, Some(front.len())),
+        Err(refused) => {
+            let back = match &refused.back {
+                Some(front) => Some(front.len()),
+                None => None,
+            };
+            (refused.why.code(), back)
+        }
     }
 }
 
-// The front one entry longer.
-fn longer<B: BookName>(
-    alloc: Global,
-    book: &Book<B>,
-    front: &Front<B>,
-    entry: Result<Entry, Refusal>,
+fn given<B: BookName>(
+    res: Result<Front<B>, Refused<Option<Front<B>>>>,
 ) -> Result<Front<B>, Refusal> {
-    match try_append(alloc, book, front, entry) {
-        Ok(longer) => Ok(longer),
+    match res {
+        Ok(front) => Ok(front),
         Err(refused) => Err(refused.why),
     }
 }
 
-// The refusal's code, or 0, and how many entries the front that is handed out shows.
-fn told<B: BookName>(answer: &Appended<B>) -> (u32, Option<usize>) {
-    match answer {
-        Ok(front) => (0, Some(front.len())),
-        Err(refused) => match &refused.back {
-            Some(front) => (refused.why.code(), Some(front.len())),
-            None => (refused.why.code(), None),
-        },
-    }
-}
-
-// The same of an append to the front.
-fn tells<B: BookName>(
-    alloc: Global,
-    book: &Book<B>,
-    front: &Front<B>,
-    entry: Result<Entry, Refusal>,
-) -> (u32, Option<usize>) {
-    let answer = try_append(alloc, book, front, entry);
-    let found = told(&answer);
-    drop(answer);
-    found
-}
-
-// The front of the first entry, at version 100, which is appended where it isn't there.
-fn one<B: BookName>(alloc: Global, book: &Book<B>) -> Result<Front<B>, Refusal> {
-    made_of(empty(alloc, book), |none| {
-        longer(alloc, book, none, entry_of(alloc, 100, 0, 0, 0))
-    })
-}
-
-// The same of the first two entries, of which the second is at version 200.
-fn two<B: BookName>(alloc: Global, book: &Book<B>) -> Result<Front<B>, Refusal> {
-    made_of(one(alloc, book), |one| {
-        longer(alloc, book, one, entry_of(alloc, 200, 100, 1, 100))
-    })
-}
-
-fn check_none<B: BookName>(rt: &impl Abort, alloc: Global, book: &Book<B>) {
-    let before = ask(empty(alloc, book), |none| (none.len(), none.version()));
-    same(rt, before, Ok((0, 0)));
-    let first = ask(one(alloc, book), |one| (one.len(), one.version()));
-    same(rt, first, Ok((1, 100)));
-    let again = ask(empty(alloc, book), |none| {
-        [
-            tells(alloc, book, none, entry_of(alloc, 100, 0, 1, 0)),
-            tells(alloc, book, none, entry_of(alloc, 100, 0, 0, 0)),
-        ]
-    });
-    same(rt, again, Ok([(9011, Some(1)), (0, Some(1))]));
-}
-
-fn check_one<B: BookName>(rt: &impl Abort, alloc: Global, book: &Book<B>) {
-    let found = ask(one(alloc, book), |one| {
-        [
-            tells(alloc, book, one, entry_of(alloc, 200, 50, 1, 100)),
-            tells(alloc, book, one, entry_of(alloc, 200, 100, 0, 100)),
-            tells(alloc, book, one, entry_of(alloc, 200, 100, 1, 200)),
-        ]
-    });
-    same(rt, found, Ok([(9010, None), (9007, None), (9010, None)]));
-}
-
-// Whether the front has just the entry at the number.
-fn has<B: BookName>(front: &Front<B>, index: usize, entry: Result<Entry, Refusal>) -> bool {
-    ask(entry, |entry| front.entry(index) == Some(entry)) == Ok(true)
-}
-
-fn check_two<B: BookName>(rt: &impl Abort, alloc: Global, book: &Book<B>) {
-    let found = ask(two(alloc, book), |two| {
-        (
-            two.len(),
-            tells(alloc, book, two, entry_of(alloc, 300, 200, 2, 200)),
-            has(two, 1, entry_of(alloc, 200, 100, 1, 100)),
-            two.entry(2).is_none(),
-            ask(two.cut(0), |cut| cut.len()),
-            ask(two.share(), |shared| shared.len()),
-        )
-    });
-    same(rt, found, Ok((2, (9006, None), true, true, Ok(0), Ok(2))));
-}
-
-// Whether the front shows just the first entry.
-fn is_first_entry<B: BookName>(alloc: Global, front: &Front<B>) -> Result<bool, u32> {
-    ask_both(
-        front.entries(),
-        entry_of(alloc, 100, 0, 0, 0),
-        |entries, entry| {
-            match entries.as_slice() {
-                [first] => first == entry,
-                _ => false,
-            }
-        },
-    )
-}
-
-fn check_both<B: BookName>(rt: &impl Abort, alloc: Global, book: &Book<B>) {
-    let found = ask_both(one(alloc, book), two(alloc, book), |one, two| {
-        (
-            agree(one, two) == Ordering::Less,
-            agree(two, one) == Ordering::Greater,
-            is_first_entry(alloc, one),
-        )
-    });
-    same(rt, found, Ok((true, true, Ok(true))));
-}
-
-fn check_book_of_two<B: BookName>(rt: &impl Abort, alloc: Global, blank: Blank)
+fn fill_book_of_two<B: BookName>(rt: &impl Abort, alloc: Global, blank: Blank) -> Result<(), Fail>
     requires { blank ≡ B.cells }
 {
     let book = Book::<B>::open(blank);
-    check_none(rt, alloc, &book);
-    check_one(rt, alloc, &book);
-    check_two(rt, alloc, &book);
-    check_both(rt, alloc, &book);
+    let none = empty(alloc, &book)?;
+    assert_eq!(rt; none.version(), 0);
+    assert_eq!(rt; none.len(), 0);
+    let one = given(append(alloc, &book, &none, entry_of(alloc, 100, 0, 0, 0)?))?;
+    assert_eq!(rt; one.len(), 1);
+    assert_eq!(rt; one.version(), 100);
+    let apart = append(alloc, &book, &one, entry_of(alloc, 200, 50, 1, 100)?);
+    assert_eq!(rt; told(&apart), (9010, None));
+    let repeated = append(alloc, &book, &one, entry_of(alloc, 200, 100, 0, 100)?);
+    assert_eq!(rt; told(&repeated), (9007, None));
+    let not_below = append(alloc, &book, &one, entry_of(alloc, 200, 100, 1, 200)?);
+    assert_eq!(rt; told(&not_below), (9010, None));
+    let other = append(alloc, &book, &none, entry_of(alloc, 100, 0, 1, 0)?);
+    assert_eq!(rt; told(&other), (9011, Some(1)));
+    let same = append(alloc, &book, &none, entry_of(alloc, 100, 0, 0, 0)?);
+    assert_eq!(rt; told(&same), (0, Some(1)));
+    let two = given(append(alloc, &book, &one, entry_of(alloc, 200, 100, 1, 100)?))?;
+    assert_eq!(rt; two.len(), 2);
+    let third = append(alloc, &book, &two, entry_of(alloc, 300, 200, 2, 200)?);
+    assert_eq!(rt; told(&third), (9006, None));
+    assert!(rt; agree(&one, &two) == Ordering::Less);
+    assert!(rt; agree(&two, &one) == Ordering::Greater);
+    assert_eq!(rt; two.cut(0)?.len(), 0);
+    assert_eq!(rt; two.share()?.len(), 2);
+    assert!(rt; one.entries()?.as_slice() == [entry_of(alloc, 100, 0, 0, 0)?].as_slice());
+    assert!(rt; two.entry(1) == Some(&entry_of(alloc, 200, 100, 1, 100)?));
+    assert!(rt; two.entry(2).is_none());
     fronts_are_books();
+    Ok(())
 }
 
 #[test]
-fn book_of_two(rt: HostRuntime) {
-    match Blank::new(rt.alloc(), 2) {
-        Ok(blank) => check_book_of_two::<Brand>(&rt, rt.alloc(), blank),
-        Err(why) => same(&rt, why.code(), 0),
-    }
-}
-
-// The front one entry longer, by the entry or by the one that was found.
-fn go_on<B: BookName>(
-    alloc: Global,
-    book: &Book<B>,
-    front: &Front<B>,
-    entry: Result<Entry, Refusal>,
-) -> Result<Front<B>, Refusal> {
-    match try_append(alloc, book, front, entry) {
-        Ok(longer) => Ok(longer),
-        Err(
-            Refused {
-                why: Refusal::Taken,
-                back: Some(longer),
-            },
-        ) => Ok(longer),
-        Err(refused) => Err(refused.why),
-    }
+fn book_of_two(rt: HostRuntime) -> Result<(), Fail> {
+    let blank = Blank::new(rt.alloc(), 2)?;
+    fill_book_of_two::<Brand>(&rt, rt.alloc(), blank)
 }
 
 // Appends a session's entries, or goes on with those that were found, until there are as many.
@@ -232,10 +127,19 @@ fn go_through<B: BookName>(
 ) -> Result<Front<B>, Refusal> {
     let mut front = empty(alloc, book)?;
     for index in 0..count {
+        let prev = u64::from(index) * 100;
         let number = u64::from(index);
-        let prev = number * 100;
-        let entry = entry_by(alloc, prev + 100, prev, TxnId { session, number }, prev);
-        front = go_on(alloc, book, &front, entry)?;
+        let entry = entry_by(alloc, prev + 100, prev, TxnId { session, number }, prev)?;
+        front = match append(alloc, book, &front, entry) {
+            Ok(longer) => longer,
+            Err(
+                Refused {
+                    why: Refusal::Taken,
+                    back: Some(longer),
+                },
+            ) => longer,
+            Err(refused) => return Err(refused.why),
+        };
     }
     Ok(front)
 }
@@ -253,44 +157,26 @@ fn race<B: BookName + Send + Sync, R: Threads + Sync>(
     )
 }
 
-// Whether both show the same entries.
-fn are_equal<B: BookName>(first: &Front<B>, second: &Front<B>) -> Result<bool, u32> {
-    ask_both(first.entries(), second.entries(), |entries, others| {
-        entries.as_slice() == others.as_slice() && agree(first, second) == Ordering::Equal
-    })
-}
-
-// The first so many entries of the front.
-fn begun<B: BookName>(front: &Front<B>, count: usize) -> Result<Front<B>, Refusal> {
-    if front.len() < count {
-        return Err(Refusal::BookFull);
-    }
-    front.cut(count)
-}
-
 fn race_for_cells<B: BookName + Send + Sync, R: Threads + Sync + Abort>(
     rt: &R,
     alloc: Global,
     blank: Blank,
-)
+) -> Result<(), Fail>
     requires { blank ≡ B.cells }
 {
     let book = Book::<B>::open(blank);
     let (first, second) = race(rt, alloc, &book);
-    let found = ask_both(first, second, |first, second| {
-        (
-            first.len(),
-            agree(first, second) == Ordering::Greater,
-            ask(begun(first, 60), |begun| are_equal(begun, second)),
-        )
-    });
-    same(rt, found, Ok((100, true, Ok(Ok(true)))));
+    let (first, second) = (first?, second?);
+    assert_eq!(rt; first.len(), 100);
+    assert!(rt; agree(&first, &second) == Ordering::Greater);
+    let begun = first.cut(60)?;
+    assert!(rt; agree(&begun, &second) == Ordering::Equal);
+    assert!(rt; begun.entries()?.as_slice() == second.entries()?.as_slice());
+    Ok(())
 }
 
 #[test]
-fn fronts_of_two_threads_agree(rt: HostRuntime) {
-    match Blank::new(rt.alloc(), 100) {
-        Ok(blank) => race_for_cells::<Brand, HostRuntime>(&rt, rt.alloc(), blank),
-        Err(why) => same(&rt, why.code(), 0),
-    }
+fn fronts_of_two_threads_agree(rt: HostRuntime) -> Result<(), Fail> {
+    let blank = Blank::new(rt.alloc(), 100)?;
+    race_for_cells::<Brand, HostRuntime>(&rt, rt.alloc(), blank)
 }
