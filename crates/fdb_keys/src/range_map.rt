@@ -1,5 +1,5 @@
 // Sorted ranges in a map, each under its begin.
-ghost use Rattle.std.specs.Prelude.{◌≡◌, None, IfOk, OnOk, OnErr, IsTrue};
+ghost use Rattle.std.specs.Prelude.{◌≡◌, None, IsSome, IfOk, OnOk, OnErr, IsTrue};
 ghost use Rattle.std.specs.BTreeMap.{values, insert_entry, is_at};
 ghost use Rattle.std.specs.Cmp.Lexicographic.{slice_cmp};
 ghost use Rattle.std.specs.Map.{lookup};
@@ -193,8 +193,7 @@ fn replace_in_both(
     let begin = second_range.begin_text().clone()?;
     if second.contains_key(&begin) {
         replace(first, first_range, first_others)?;
-        // Nothing is refused where a range is under the begin already.
-        let _put = second.insert(begin, second_range);
+        put_again(second, begin, second_range);
     } else {
         replace_beside_new(
             first,
@@ -207,6 +206,14 @@ fn replace_in_both(
     }
     remove_all(second, second_others);
     Ok(())
+}
+
+// Puts the range under a begin that the map has, which takes no memory.
+fn put_again(ranges: &mut BTreeMap<Bytes, KeyRange>, begin: Bytes, range: KeyRange)
+    requires { IsSome (lookup (is_at (slice_cmp nat_cmp begin)) ranges.old.entries) }
+    ensures { ranges.new.entries ≡ insert_entry (slice_cmp nat_cmp) ranges.old.entries begin range }
+{
+    let _put = ranges.insert(begin, range);
 }
 
 // Puts the second range under a begin that the second map lacks, and does the first map's part, or neither.
