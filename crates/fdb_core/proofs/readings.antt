@@ -1,5 +1,6 @@
 pub mod Agreement
 pub mod AnswerReadings
+pub mod AnswerReplies
 pub mod AnswersByTrace
 pub mod GrantLemmas
 pub mod SessionLists

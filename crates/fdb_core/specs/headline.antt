@@ -5,6 +5,7 @@ pub mod Examples
 pub mod Headline
 pub mod MoveExamples
 pub mod Promises
+pub mod ReadingExamples
 pub mod Readings
 pub mod RealTime
 pub mod Replays

@@ -4,7 +4,8 @@ ghost use Rattle.fdb_core.specs.headline.Answers.{AnsweredByTheTrace};
 ghost use Rattle.fdb_core.specs.headline.Replays.{ReplaysTellTheRun};
 ghost use Rattle.fdb_core.specs.headline.RealTime.{RealTime};
 ghost use Rattle.fdb_core.specs.headline.RoleLaws.{ResolverGoesOn, OwnersGoOn, SequencerGoesOn, LogGoesOn, ShardGoesOn};
-ghost use Rattle.fdb_core.specs.headline.Examples.{OnlyTheFirstIsSerialized, ReadOnlyAtItsVersion, AfterAVersion, AnEmptyShardDoesNotServe, OnlyOrdinaryReadsCount, BegunByServing, ForgetfulRolesDoNotKeep, ReadOffTheTrace, Traced, ShardsGoOnAndForget};
+ghost use Rattle.fdb_core.specs.headline.Examples.{OnlyTheFirstIsSerialized, ReadOnlyAtItsVersion, AfterAVersion, AnEmptyShardDoesNotServe, OnlyOrdinaryReadsCount, BegunByServing, ForgetfulRolesDoNotKeep, ReadOffTheTrace, Traced, ShardsGoOnAndForget, EachServedVersionCounts};
+ghost use Rattle.fdb_core.specs.headline.ReadingExamples.{EachOperationIsNoted, ReadAtTwoProxies};
 ghost use Rattle.fdb_core.specs.headline.Headline.{AcknowledgedAreSerialized};
 ghost use Rattle.fdb_core.specs.headline.MoveExamples.{TheSpanBeginsAtTheWindow, TheLaterMoveCounts, MovesTakeEffectWithTheNextEntry};
 ghost use Rattle.fdb_core.specs.headline.Traces.{TracesDetermineTheMachine, WorldsShowWhatIsTold};
@@ -36,7 +37,9 @@ pub fn gets_answer_as_the_program_run_on_the_map_at_its_read_version()
 /// that was reported; a read what stands at the key, or in the range, after the transaction's own operations, executed
 /// on the serial map at its read version; a transaction that is done when it is submitted wrote nothing; a seal gives the number of the
 /// entry, its version, the previous one and how many places it has; a report the greatest version that was reported;
-/// and an answer tells each client of the batch once, by place, what became of its transaction by the rule.
+/// and an answer tells each client of the batch once, by place, what became of its transaction by the rule: its commit
+/// version and place exactly where it is committed, that it was too old exactly where it is, and else of a conflict. The
+/// transaction is acknowledged exactly where it is committed.
 pub fn accepted_steps_are_answered_by_what_the_trace_told_before()
     ensures { AnsweredByTheTrace }
 {}
@@ -83,8 +86,9 @@ pub fn who_begins_after_an_acknowledgement_is_ordered_after_it()
 
 /// What the headline says of small worlds: which transactions are serialized at which spots and which aren't, who is
 /// ordered after a version, what an empty shard would have to answer, which reads count, who has begun, what a role
-/// that forgets would have to keep, what is read off a trace with a conflict, which answers a trace has, what a
-/// shard of two pulls, forgets and pops, and who is asked where keys go over from one resolver to another.
+/// that forgets would have to keep, what is read off steps of every kind and of a trace with a conflict, which answers a
+/// trace has, what a shard of two pulls, forgets and pops and at which versions it answers from the run, and who is asked
+/// where keys go over from one resolver to another.
 pub fn worked_examples()
     ensures spots { OnlyTheFirstIsSerialized }
     ensures read_only { ReadOnlyAtItsVersion }
@@ -96,6 +100,9 @@ pub fn worked_examples()
     ensures readings { ReadOffTheTrace }
     ensures traces { Traced }
     ensures shards { ShardsGoOnAndForget }
+    ensures served { EachServedVersionCounts }
+    ensures operations { EachOperationIsNoted }
+    ensures proxies { ReadAtTwoProxies }
     ensures moves { MovesTakeEffectWithTheNextEntry }
     ensures span { TheSpanBeginsAtTheWindow }
     ensures overlap { TheLaterMoveCounts }

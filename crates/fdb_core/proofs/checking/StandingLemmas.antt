@@ -38,7 +38,7 @@ use Rattle.fdb_core.proofs.checking.BodyLemmas.{commit-at}
 use Rattle.fdb_core.proofs.checking.ReplayLemmas.{place-map}
 
 -- the place of a transaction of a batch, with its outcome
-place-found : (splits : List Point) (version : ℕ) (moves : List Stamped) (batch : List Transaction) (earlier : List Place)
+pub place-found : (splits : List Point) (version : ℕ) (moves : List Stamped) (batch : List Transaction) (earlier : List Place)
     (n p : ℕ) (t : Transaction) → slice_get batch p ≡ Some t
     → (before : List Place) × (place_in version moves batch earlier p ≡ Some (placed version moves t, before))
     × (slice_get (outcomes_from splits version moves batch earlier n) p
@@ -160,14 +160,14 @@ module _ (splits : List Point) (book : List Entry) (n p version : ℕ) (transcri
 -- and of one that wrote nothing, by the run that has come to its version
 pub reads-there : (splits : List Point) (book : List Entry) (v n : ℕ) (transcript : Transcript) (run : Run) (same : Bool)
     → AreEntries (suc (length splits)) 0 book → n ≡ entries_through book v → HasComeTo splits book n 0 run
-    → v ≡ transcript.read_version → v ≤ last_version book
+    → v ≡ transcript.read_version
     → (same ≡ true) ↔ (WroteNothing transcript × AnsweredOn run.map transcript)
     → (same ≡ true) ↔ IsReadOnlyAt splits book transcript v
-reads-there splits book v n transcript run same entries are come right within answers = (
+reads-there splits book v n transcript run same entries are come right answers = (
   λ yes.
       let both = answers.0 yes in
-      (right, within, both.0, subst (λ (m : Map). AnsweredOn m transcript) map_is both.1),
-  λ stands. answers.1 (stands.2, subst (λ (m : Map). AnsweredOn m transcript) (sym map_is) stands.3),
+      (right, both.0, subst (λ (m : Map). AnsweredOn m transcript) map_is both.1),
+  λ stands. answers.1 (stands.1, subst (λ (m : Map). AnsweredOn m transcript) (sym map_is) stands.2),
 )
   where
     known : IsThrough 0 v book n

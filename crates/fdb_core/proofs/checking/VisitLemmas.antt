@@ -10,7 +10,7 @@ use Rattle.std.proofs.lemmas.Cmp.{then_total, on_total, nat_cmp_total}
 use Rattle.std.proofs.lemmas.List.MinMax.{ranks_by}
 use Rattle.std.proofs.lemmas.Bool.{cases_Bool, both_ways, or_left, or_right, and_from, or_cases, and_parts, ltb-false, ltb-true, eqb-true, eq-eqb}
 use Rattle.std.proofs.lemmas.List.Sorted.{IsPermutation-sym, Contains-permutation, sorted_far}
-use Rattle.std.proofs.lemmas.Option.{slice_get_read, slice_get_within, get_or_from_slice_get}
+use Rattle.std.proofs.lemmas.Option.{slice_get_within, get_or_from_slice_get}
 use Rattle.fdb_keys.specs.Points.{Point}
 use Rattle.fdb_txn.specs.declared.entry.Entry.{Entry}
 use Rattle.fdb_core.specs.declared.check.run.Run.{Run}
@@ -19,18 +19,13 @@ use Rattle.fdb_core.specs.declared.roles.client.Placed.{Placed}
 use Rattle.fdb_core.specs.declared.world.CheckFault.TheVariants.{Txn}
 use Rattle.fdb_core.specs.check.Running.{IsRunAt, IsNotPast, HasComeTo, moment, visits_from, IsInOrder, IsTrueOf}
 use Rattle.fdb_core.specs.check.Spots.{moment_of, comes_before, IsFirstOther}
+use Rattle.fdb_core.proofs.common.AllLemmas.{contains-item, item-contained}
 
 -- what is true of each item by its number is true of each
 pub all-from : {A : Type 0} (P : A → Type 0) (xs : List A)
     → ((k : ℕ) (x : A) → slice_get xs k ≡ Some x → P x) → AllByRecursion P xs
 all-from P [] each = tt
 all-from P (x ∷ xs) each = (each 0 x refl, all-from P xs (λ k y there. each (suc k) y there))
-
-contains-item : {A : Type 0} (xs : List A) (k : ℕ) (x : A) → slice_get xs k ≡ Some x → Contains xs x
-contains-item xs k x there = (k, slice_get_within xs k x there, get_or_from_slice_get xs k x x there)
-
-item-contained : {A : Type 0} (xs : List A) (x : A) → Contains xs x → (k : ℕ) × (slice_get xs k ≡ Some x)
-item-contained xs x has = (has.0, slice_get_read xs (length xs) has.0 x refl has.1 (sym has.2))
 
 -- what one that comes no earlier has
 order-known : (a b c d : ℕ) → (nat_lt a c || (a == c && nat_lt b d)) ≡ false → (c ≤ a) × (a ≡ c → d ≤ b)

@@ -1,6 +1,7 @@
 -- What holds of each item of a list, when the list changes.
-use Rattle.std.proofs.Common.{◌≡◌, ◌<◌, refl, arith, ℕ, zero, suc, List, [], ◌∷◌, ◌++◌, take, drop, map, replicate, length, Some, subst}
-use Rattle.std.specs.List.{AllByRecursion, slice_get, slice_set}
+use Rattle.std.proofs.Common.{◌≡◌, ◌<◌, refl, sym, arith, ℕ, zero, suc, List, [], ◌∷◌, ◌++◌, take, drop, map, replicate, length, Some, subst}
+use Rattle.std.specs.List.{AllByRecursion, Contains, slice_get, slice_set}
+use Rattle.std.proofs.lemmas.Option.{slice_get_read, slice_get_within, get_or_from_slice_get}
 
 module _ {A : Type 0} (P : A → Type 0) where
   pub all-push : (xs : List A) (x : A) → AllByRecursion P xs → P x → AllByRecursion P (xs ++ x ∷ [])
@@ -51,3 +52,10 @@ pub within-item : {A : Type 0} (xs : List A) (i : ℕ) → i < length xs → (x 
 within-item [] i within = absurd (omega (arith, within))
 within-item (x ∷ xs) zero within = (x, refl)
 within-item (x ∷ xs) (suc i) within = within-item xs i (omega (arith, within))
+
+-- an item by its number is in the list, and one that is in it has a number
+pub contains-item : {A : Type 0} (xs : List A) (k : ℕ) (x : A) → slice_get xs k ≡ Some x → Contains xs x
+contains-item xs k x there = (k, slice_get_within xs k x there, get_or_from_slice_get xs k x x there)
+
+pub item-contained : {A : Type 0} (xs : List A) (x : A) → Contains xs x → (k : ℕ) × (slice_get xs k ≡ Some x)
+item-contained xs x has = (has.0, slice_get_read xs (length xs) has.0 x refl has.1 (sym has.2))

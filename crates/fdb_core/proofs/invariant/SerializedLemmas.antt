@@ -24,6 +24,7 @@ use Rattle.fdb_client.specs.declared.program.Transcript.{Transcript}
 use Rattle.fdb_proxy.specs.declared.outcome.Outcome.{Outcome}
 use Rattle.fdb_proxy.specs.declared.outcome.Outcome.TheVariants as outcome
 use Rattle.fdb_core.specs.headline.Headline.{AnsweredOn, IsSerializedAtSpot, WroteNothing}
+use Rattle.fdb_core.specs.headline.RealTime.{spot_version}
 use Rattle.fdb_core.specs.machine.Machine.{Machine}
 use Rattle.fdb_client.specs.ProgramLaws.{AgreeWhereOrdinary}
 use Rattle.fdb_client.specs.Programs.{program, exec, mutations_of, write_ranges, commit_request_of, is_read_only, replies_of}
@@ -32,7 +33,6 @@ use Rattle.fdb_core.specs.invariant.Invariant.{IsReplied, IsSerializedIn, IsRepo
 use Rattle.fdb_proxy.specs.Verdicts.{moves_through, outcomes_from, outcomes_on}
 use Rattle.fdb_client.proofs.ProgramsAgree.{programs_agree}
 use Rattle.fdb_client.proofs.ReadSetLemmas.{in_executed_ranges}
-use Rattle.fdb_core.proofs.refinement.BookLemmas.{last-push}
 
 -- a transaction is serialized at its spot, which is reported
 abbrev pub Stands : Machine → Placed → Type 0
@@ -58,13 +58,11 @@ wrote_nothing transcript empty =
     )
 
 -- an answered transaction that wrote nothing is serialized at its read version
-pub read_only_serialized : (m : Machine) (transcript : Transcript) → m.committed ≤ last_version m.book
-    → IsReplied m transcript
+pub read_only_serialized : (m : Machine) (transcript : Transcript) → IsReplied m transcript
     → is_read_only transcript ≡ true
     → IsSerializedIn m (record { spot = spot.ReadOnly transcript.read_version; transcript = transcript })
-read_only_serialized m transcript reached told empty = (
+read_only_serialized m transcript told empty = (
   refl,
-  le_trans told.0 reached,
   wrote_nothing transcript empty,
   subst (λ (replies : List Reply). AgreeWhereOrdinary (program transcript.ops) replies
       (exec there (program transcript.ops)))
@@ -83,20 +81,19 @@ place-stays seen [] entry (suc n) p there at = cc
 place-stays seen (first ∷ book) entry zero p there at = at
 place-stays seen (first ∷ book) entry (suc n) p there at = place-stays (add_entry seen first) book entry n p there at
 
--- one more entry leaves everyone at his spot
+-- one more entry leaves everyone at a spot to which the entries have come
 pub spot-stays : (m : Machine) (entry : Entry) (transcript : Transcript) (at : Spot)
-    → last_version m.book < entry.version
+    → last_version m.book < entry.version → spot_version at ≤ last_version m.book
     → IsSerializedAtSpot m.config.resolver_splits m.book transcript at
     → IsSerializedAtSpot m.config.resolver_splits (m.book ++ entry ∷ []) transcript at
-spot-stays m entry transcript (spot.Entry n p version) above stands =
+spot-stays m entry transcript (spot.Entry n p version) above reached stands =
     (stands.0, place-stays nothing m.book entry n p stands.0 stands.1, stands.2, stands.3, stands.4, stands.5)
-spot-stays m entry transcript (spot.ReadOnly version) above stands =
-    let below : version < entry.version = omega (arith, stands.1) in (
+spot-stays m entry transcript (spot.ReadOnly version) above reached stands =
+    let below : version < entry.version = omega (arith, above, reached) in (
       stands.0,
-      rw (last-push m.book entry) (le_of_lt below),
-      stands.2,
+      stands.1,
       subst (λ (now : Map). AnsweredOn now transcript)
-          (sym (earlier_maps_stay m.config.resolver_splits m.book entry version below)) stands.3,
+          (sym (earlier_maps_stay m.config.resolver_splits m.book entry version below)) stands.2,
     )
 
 -- the places are the earlier ones after newer ones of at least the version

@@ -23,7 +23,7 @@ use Rattle.fdb_core.specs.machine.Worlds.{start, idle_proxy}
 use Rattle.fdb_client.specs.Programs.{commit_request_of}
 use Rattle.fdb_core.specs.invariant.Once.{IsOnce}
 use Rattle.fdb_core.specs.invariant.Invariant.{IsReplied, IsSerializedIn, IsReported, CommitProxyIsSound, Invariant}
-use Rattle.fdb_core.proofs.common.AllLemmas.{all-at, all-set, all-push, all-drop, all-take, all-replicate}
+use Rattle.fdb_core.proofs.common.AllLemmas.{all-at, all-both, all-set, all-push, all-drop, all-take, all-replicate}
 use Rattle.fdb_core.proofs.invariant.OnceLaws.{once_steps, once-start}
 use Rattle.fdb_core.proofs.invariant.SerializedLemmas.{Stands, spot-stays, batch_serialized, read_only_serialized}
 use Rattle.fdb_core.proofs.invariant.SoundLemmas.{told-push, sealed-batch, version-within, found-front, told-entry, commit_proxy-kept}
@@ -114,9 +114,9 @@ sound-sealed m proxy advance commit_proxy sound at once = record {
         all-take (IsReplied after) place_limit commit_proxy.waiting now.0,
         λ _. (entry, last-at m.book entry, refl, λ reported. cc),
       );
-  acknowledged = all-weaken (IsSerializedIn m) (IsSerializedIn after)
-      (λ placed. spot-stays m entry placed.transcript placed.spot above)
-      m.acknowledged sound.acknowledged;
+  acknowledged = all-both (IsSerializedIn m) (IsReported m) (IsSerializedIn after)
+      (λ placed stands reported. spot-stays m entry placed.transcript placed.spot above
+      (le_trans reported.0 sound.committed) stands) m.acknowledged sound.acknowledged sound.reported;
   reported = sound.reported;
   once = once;
 }
@@ -211,7 +211,7 @@ sound_steps = record {
       let told = opened-at m sound session transcript opened in
       same_book m sound (open-put (IsReplied m) m.sessions session Idle sound.opened tt) sound.commit_proxies
       (all-push (IsSerializedIn m) m.acknowledged _ sound.acknowledged
-      (read_only_serialized m transcript sound.committed told empty))
+      (read_only_serialized m transcript told empty))
       (all-push (IsReported m) m.acknowledged _ sound.reported (told.0, le_refl transcript.read_version))
       (λ id. (once_steps id).read_only m session proxy transcript opened empty (sound.once id));
   submitted = λ m session proxy commit_proxy transcript at opened writes sound.

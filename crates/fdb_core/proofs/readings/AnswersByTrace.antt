@@ -18,29 +18,37 @@ use Rattle.fdb_core.specs.declared.step.Answered.{Answered}
 use Rattle.fdb_core.specs.declared.step.Answered.TheVariants as answered
 use Rattle.fdb_core.specs.declared.step.Step.{Step}
 use Rattle.fdb_core.specs.declared.step.Step.TheVariants as step
-use Rattle.fdb_core.specs.headline.Answers.{IsAnswered, HasOpened, AnsweredByTheTrace}
-use Rattle.fdb_core.specs.headline.Readings.{Readings, readings_of}
+use Rattle.fdb_core.specs.headline.Answers.{IsAnswered, AreReplies, HasOpened, AnsweredByTheTrace}
+use Rattle.fdb_core.specs.headline.Readings.{Readings, SealedBatch, read, readings_of}
+use Rattle.fdb_core.specs.invariant.Invariant.{Invariant, CommitProxyIsSound}
 use Rattle.fdb_core.specs.machine.ClientSteps.{answered_by}
 use Rattle.fdb_core.specs.machine.CommitProxySteps.{is_idle, replies_from}
 use Rattle.fdb_core.specs.machine.Machine.{Machine, Transition}
+use Rattle.fdb_core.specs.machine.Roles.{CommitProxy, Reported}
 use Rattle.fdb_core.specs.machine.Steps.{next, answer_of}
 use Rattle.fdb_proxy.specs.Verdicts.{outcomes_on}
 use Rattle.fdb_core.specs.machine.Worlds.{start, IsRun, IsStep}
-use Rattle.fdb_client.specs.Programs.{program, copy, reply_on}
+use Rattle.fdb_client.specs.Programs.{program, copy, reply_on, commit_request_of}
+use Rattle.fdb_proxy.specs.declared.outcome.Outcome.{Outcome}
+use Rattle.fdb_core.proofs.common.AllLemmas.{all-at}
 use Rattle.fdb_core.proofs.headline.RunsLemmas.{run-last}
 use Rattle.fdb_core.proofs.headline.TraceLaws.{traces_tell}
 use Rattle.fdb_core.proofs.invariant.SerializedLemmas.{wrote_nothing}
+use Rattle.fdb_core.proofs.invariant.SessionPlaces.{in_flight_once}
+use Rattle.fdb_core.proofs.invariant.SoundLaws.{sound_steps, sound-trace}
+use Rattle.fdb_core.proofs.invariant.SoundLemmas.{sessions-stand}
 use Rattle.fdb_core.proofs.machine.AcceptedTransitions.{IfAccepted}
 use Rattle.fdb_core.proofs.machine.Steps.{HoldsOfSteps, holds-next, is_quiet, operation_of}
 use Rattle.fdb_core.proofs.readings.Agreement.{TellsMachine}
 use Rattle.fdb_core.proofs.readings.SessionLists.{found-told}
-use Rattle.fdb_core.proofs.readings.StepReadings.{batch-at}
+use Rattle.fdb_core.proofs.readings.AnswerReplies.{replies-of}
+use Rattle.fdb_core.proofs.readings.StepReadings.{batch-at, tells_steps}
 use Rattle.fdb_core.proofs.readings.TraceReadings.{config-kept, trace-tells}
 
 -- an accepted step is answered by what is told of the machine
 abbrev AnswersTold : Machine → Step → Answered → Machine → Type 0
 AnswersTold m taken answer after =
-    (r : Readings) → TellsMachine r m → IsAnswered m.config.resolver_splits r taken answer
+    (r : Readings) → Invariant m → TellsMachine r m → IsAnswered m.config.resolver_splits r taken answer
 
 -- nothing is said of the answer to a quiet step
 quiet-answered : (splits : List Point) (r : Readings) (taken : Step) (answer : Answered) → is_quiet taken ≡ true
@@ -130,22 +138,58 @@ operation-answered splits r book (step.Forget shard version) session operation t
 operation-answered splits r book (step.Pop shard) session operation transcript same opened is = cc
 operation-answered splits r book (step.Move range to) session operation transcript same opened is = cc
 
+-- the clients of a batch are told what became of their transactions
+all-told : (m : Machine) (proxy : ℕ) (commit_proxy : CommitProxy) (entry : Entry)
+    → slice_get m.commit_proxies proxy ≡ Some commit_proxy → commit_proxy.stage ≡ Reported
+    → slice_get m.book commit_proxy.entry ≡ Some entry
+    → AnswersTold m (step.Answer proxy) (answered.Answers (replies_from commit_proxy.in_flight
+    (outcomes_on m.config.resolver_splits (seen_before m.book commit_proxy.entry) entry))) m
+all-told m proxy commit_proxy entry at reported there r sound tells =
+    subst (λ (book : List Entry). AreReplies splits book (r.sealed proxy) told later.acknowledged) (sym tells.book_told)
+    (subst (λ (b : SealedBatch). AreReplies splits m.book b told later.acknowledged)
+    (sym (batch-at r m proxy commit_proxy entry tells at (ap is_idle reported) there))
+    (subst (AreReplies splits m.book batch told)
+    (sym (tells_steps.told m proxy commit_proxy entry at reported there r sound tells).acknowledged_told)
+    (replies-of splits m.book commit_proxy.entry entry commit_proxy.in_flight m.acknowledged there all
+    (λ session. in_flight_once m session ((sessions-stand m sound).0 session) proxy commit_proxy at)
+    (sound_steps.told m proxy commit_proxy entry at reported there sound).acknowledged)))
+  where
+    splits : List Point
+    splits = m.config.resolver_splits
+
+    told : List (ℕ × Outcome)
+    told = replies_from commit_proxy.in_flight (outcomes_on splits (seen_before m.book commit_proxy.entry) entry)
+
+    later : Readings
+    later = read r (step.Answer proxy) (answered.Answers told)
+
+    batch : SealedBatch
+    batch = record { entry = commit_proxy.entry; version = entry.version; transcripts = commit_proxy.in_flight }
+
+    -- the entry has the transactions of the batch
+    all : entry.batch ≡ map commit_request_of commit_proxy.in_flight
+    all =
+        let flying = (all-at (CommitProxyIsSound m) m.commit_proxies proxy commit_proxy sound.commit_proxies at).2
+        (ap is_idle reported) in
+        let same : flying.0 ≡ entry = same_Some flying.0 entry (sym flying.1 ∙ there) in
+        ap (λ (e : Entry). e.batch) (sym same) ∙ flying.2
+
 answered_steps : HoldsOfSteps AnswersTold
 answered_steps = record {
-  roles = λ m taken answer resolvers logs shards quiet grew r tells. quiet-answered _ r taken answer quiet;
-  asked = λ m session proxy there at free r tells. refl;
-  granted = λ m proxy there at left r tells. all-granted m.committed r.reported there (sym tells.reported_told);
-  operated = λ m taken session transcript operation does opened r tells.
+  roles = λ m taken answer resolvers logs shards quiet grew r sound tells. quiet-answered _ r taken answer quiet;
+  asked = λ m session proxy there at free r sound tells. refl;
+  granted = λ m proxy there at left r sound tells. all-granted m.committed r.reported there (sym tells.reported_told);
+  operated = λ m taken session transcript operation does opened r sound tells.
       operation-answered m.config.resolver_splits r m.book taken session operation transcript tells.book_told
       (found-told r.opened m.sessions tells.opened_told session transcript opened) does;
-  read_only = λ m session proxy transcript opened empty r tells. (
+  read_only = λ m session proxy transcript opened empty r sound tells. (
     transcript,
     found-told r.opened m.sessions tells.opened_told session transcript opened,
     refl,
     wrote_nothing transcript empty,
   );
-  submitted = λ m session proxy commit_proxy transcript at opened writes r tells. refl;
-  sealed = λ m proxy advance commit_proxy at idle few room r tells.
+  submitted = λ m session proxy commit_proxy transcript at opened writes r sound tells. refl;
+  sealed = λ m proxy advance commit_proxy at idle few room r sound tells.
       let was = tells.proxies_told proxy commit_proxy at in (
         ap (λ (b : List Entry). length b) (sym tells.book_told),
         ap last_version (sym tells.book_told),
@@ -153,19 +197,13 @@ answered_steps = record {
         sym (ap (λ (waits : List Transcript). length (take place_limit waits)) was.waiting_told),
       );
   went_on = λ m taken answer proxy commit_proxy stage decided verdicts acknowledgements quiet came at busy goes_on
-      unreported r tells. quiet-answered _ r taken answer quiet;
-  reported_version = λ m proxy commit_proxy entry at logging there whole r tells.
+      unreported r sound tells. quiet-answered _ r taken answer quiet;
+  reported_version = λ m proxy commit_proxy entry at logging there whole r sound tells.
       let batch = batch-at r m proxy commit_proxy entry tells at (ap is_idle logging) there in
       λ k. answered.Version (max (sym tells.reported_told k) (sym batch k).version);
-  moved = λ m range to exists r tells. refl;
-  told = λ m proxy commit_proxy entry at reported there r tells.
-      let batch = batch-at r m proxy commit_proxy entry tells at (ap is_idle reported) there in
-      let splits = m.config.resolver_splits in (
-        entry,
-        (λ k. slice_get (tells.book_told k) (batch k).entry) ∙ there,
-        λ k. replies_from (sym batch k).transcripts
-            (outcomes_on splits (seen_before (sym tells.book_told k) (sym batch k).entry) entry),
-      );
+  moved = λ m range to exists r sound tells. refl;
+  told = λ m proxy commit_proxy entry at reported there r sound tells.
+      all-told m proxy commit_proxy entry at reported there r sound tells;
 }
 
 pub answered_by_trace : AnsweredByTheTrace
@@ -174,13 +212,13 @@ answered_by_trace config steps given taken answer world stands =
     from_mid last.0 last.1 last.2
   where
     from_result : (m : Machine) (r : Readings) (result : Result Transition Refusal)
-        → IfAccepted (λ transition. (r : Readings) → TellsMachine r m
+        → IfAccepted (λ transition. (r : Readings) → Invariant m → TellsMachine r m
         → IsAnswered m.config.resolver_splits r taken transition.answer) result
-        → TellsMachine r m → Ok answer ≡ answer_of result → IsAnswered m.config.resolver_splits r taken answer
-    from_result m r (Ok transition) holds tells is =
+        → Invariant m → TellsMachine r m → Ok answer ≡ answer_of result → IsAnswered m.config.resolver_splits r taken answer
+    from_result m r (Ok transition) holds sound tells is =
         let same : transition.answer ≡ answer = cc in
-        subst (IsAnswered m.config.resolver_splits r taken) same (holds r tells)
-    from_result m r (Err refusal) holds tells is = cc
+        subst (IsAnswered m.config.resolver_splits r taken) same (holds r sound tells)
+    from_result m r (Err refusal) holds sound tells is = cc
 
     from_mid : (mid : Option Machine) → IsRun (Some (start config)) steps given mid → IsStep mid taken (Ok answer) world
         → IsAnswered config.resolver_splits (readings_of steps given) taken answer
@@ -193,6 +231,6 @@ answered_by_trace config steps given taken answer world stands =
         (ap (λ (n : Machine). n.config) is ∙ config-kept config steps given)
         (⊎_elim
         (λ went. from_result m (readings_of steps given) (next m taken) (holds-next AnswersTold answered_steps m taken)
-        tells went.0)
+        (subst Invariant (sym is) (sound-trace config steps given)) tells went.0)
         (λ failed. let wrong = failed.0 in cc)
         stepped)

@@ -1,11 +1,12 @@
 -- After every trace the machine is what the trace tells, and so what holds of the machine holds of what is read off.
-use Rattle.std.proofs.Common.{◌≡◌, ◌∙◌, ◌<◌, ◌≤◌, refl, sym, ap, subst, arith, ⊎_elim, ℕ, zero, suc, min, Bool, true, false, cond, List, [], ◌∷◌, length, take, Option, Some, None, Result, Ok, Err}
+use Rattle.std.proofs.Common.{◌≡◌, ◌∙◌, ◌<◌, ◌≤◌, le_trans, refl, sym, ap, subst, arith, ⊎_elim, ℕ, zero, suc, min, Bool, true, false, cond, List, [], ◌∷◌, length, take, Option, Some, None, Result, Ok, Err}
 use Rattle.std.specs.Prelude.{nat_lt}
 use Rattle.std.specs.List.{AllByRecursion, slice_get}
 use Rattle.std.proofs.lemmas.List.Folds.{sum_by-replicate}
 use Rattle.fdb_keys.specs.declared.refusal.Refusal.{Refusal}
 use Rattle.fdb_keys.specs.Points.{Point}
 use Rattle.fdb_txn.specs.declared.entry.Entry.{Entry}
+use Rattle.fdb_txn.specs.book.Book.{last_version}
 use Rattle.fdb_txn.specs.book.History.{AreEntries, IsBook, IsSealed}
 use Rattle.fdb_txn.proofs.book.HistoryLemmas.{books_are_entries}
 use Rattle.fdb_txn.specs.declared.txn_id.TxnId.{TxnId}
@@ -17,15 +18,15 @@ use Rattle.fdb_core.specs.headline.Headline.{AcknowledgedAreSerialized, IsSerial
 use Rattle.fdb_core.specs.headline.Books.{TracesTellBooks, EntriesAreAnsweredOnce}
 use Rattle.fdb_core.specs.headline.Promises.{CommittedIsGreatestReported}
 use Rattle.fdb_core.specs.headline.Readings.{Readings, nothing_read, read_step, read_steps, readings_of, times_begun}
-use Rattle.fdb_core.specs.headline.RealTime.{RealTime, HasBegun}
+use Rattle.fdb_core.specs.headline.RealTime.{RealTime, HasBegun, spot_version}
 use Rattle.fdb_core.specs.headline.Traces.{after_step, after_steps, machine_of_trace, alone, IsTraceOf, WorldsShowWhatIsTold}
-use Rattle.fdb_core.specs.invariant.Invariant.{Invariant}
+use Rattle.fdb_core.specs.invariant.Invariant.{Invariant, IsSerializedIn, IsReported}
 use Rattle.fdb_core.specs.machine.Sessions.{Session, open_of, next_number, greatest_number}
 use Rattle.fdb_core.specs.machine.Machine.{Machine, Transition}
 use Rattle.fdb_core.specs.machine.Roles.{CommitProxy}
 use Rattle.fdb_core.specs.machine.Steps.{next, answer_of, after}
 use Rattle.fdb_core.specs.machine.Worlds.{start, idle_proxy, IsRun}
-use Rattle.fdb_core.proofs.common.AllLemmas.{all-at, all-replicate}
+use Rattle.fdb_core.proofs.common.AllLemmas.{all-at, all-both, all-replicate}
 use Rattle.fdb_core.proofs.headline.TraceLaws.{after_step-answered, traces_tell}
 use Rattle.fdb_core.proofs.invariant.OnceLaws.{machine-once}
 use Rattle.fdb_core.proofs.invariant.RealTimeLaws.{MachineHasBegun, after-first}
@@ -188,14 +189,20 @@ pub acknowledged_serialized : AcknowledgedAreSerialized
 acknowledged_serialized config steps given world stands =
     let m = machine_of_trace config steps given in
     let told = trace-tells config steps given world stands in
+    let sound = sound-trace config steps given in
     subst (λ (acknowledged : List Placed). AllByRecursion
-    (IsSerialized config.resolver_splits (readings_of steps given).book) acknowledged)
+    (Reached config.resolver_splits (readings_of steps given).book) acknowledged)
     (sym told.acknowledged_told)
-    (subst (λ (book : List Entry). AllByRecursion (IsSerialized config.resolver_splits book) m.acknowledged)
+    (subst (λ (book : List Entry). AllByRecursion (Reached config.resolver_splits book) m.acknowledged)
     (sym told.book_told)
-    (subst (λ (splits : List Point). AllByRecursion (IsSerialized splits m.book) m.acknowledged)
+    (subst (λ (splits : List Point). AllByRecursion (Reached splits m.book) m.acknowledged)
     (ap (λ (c : Config). c.resolver_splits) (config-kept config steps given))
-    (sound-trace config steps given).acknowledged))
+    (all-both (IsSerializedIn m) (IsReported m) (Reached m.config.resolver_splits m.book)
+    (λ placed serialized reported. (serialized, le_trans reported.0 sound.committed))
+    m.acknowledged sound.acknowledged sound.reported)))
+  where
+    Reached : List Point → List Entry → Placed → Type 0
+    Reached splits book placed = IsSerialized splits book placed × (spot_version placed.spot ≤ last_version book)
 
 -- the first steps of a run are one
 run-first : (n : ℕ) (old : Option Machine) (steps : List Step) (given : List (Result Answered Refusal))

@@ -1,6 +1,6 @@
 -- What an accepted step answers, by what the trace told before it.
-use Rattle.std.specs.Prelude.{◌≡◌, ℕ, Bool, max, ⊤, List, [], ◌∷◌, ◌++◌, length, take, Option, Some, Result, Ok, slice_get}
-use Rattle.std.specs.List.{AllByRecursion}
+use Rattle.std.specs.Prelude.{◌≡◌, ◌↔◌, ◌≤◌, ℕ, Bool, true, false, max, ⊤, List, [], ◌∷◌, ◌++◌, length, map, take, Option, Some, Result, Ok, slice_get}
+use Rattle.std.specs.List.{AllByRecursion, Contains, count_by}
 use Rattle.std.specs.FinMap.{get}
 use Rattle.fdb_keys.specs.declared.refusal.Refusal.{Refusal}
 use Rattle.fdb_keys.specs.Points.{Point}
@@ -8,23 +8,60 @@ use Rattle.fdb_keys.specs.Ranges.{Range}
 use Rattle.fdb_mutations.specs.PairLaws.{given_of}
 use Rattle.fdb_txn.specs.Limits.{place_limit}
 use Rattle.fdb_txn.specs.declared.entry.Entry.{Entry}
-use Rattle.fdb_txn.specs.book.Book.{seen_of, last_version, seen_before}
+use Rattle.fdb_txn.specs.declared.spot.Spot.TheVariants as spot
+use Rattle.fdb_txn.specs.book.Book.{Place, seen_of, last_version}
+use Rattle.fdb_txn.specs.book.Places.{place_at}
+use Rattle.fdb_txn.specs.rules.Admission.{is_fresh, committed}
 use Rattle.fdb_txn.specs.rules.SerialMap.{serial_map_at}
 use Rattle.fdb_sequencer.specs.Sequencer.{next_version}
 use Rattle.fdb_proxy.specs.declared.config.Config.{Config}
 use Rattle.fdb_client.specs.declared.program.Transcript.{Transcript}
+use Rattle.fdb_core.specs.declared.roles.client.Placed.{Placed}
 use Rattle.fdb_core.specs.declared.step.Answered.{Answered}
 use Rattle.fdb_core.specs.declared.step.Answered.TheVariants as answered
 use Rattle.fdb_proxy.specs.declared.outcome.Outcome.{Outcome}
+use Rattle.fdb_proxy.specs.declared.outcome.Outcome.TheVariants as outcome
 use Rattle.fdb_core.specs.declared.step.Step.{Step}
 use Rattle.fdb_core.specs.declared.step.Step.TheVariants as step
 use Rattle.fdb_core.specs.headline.Headline.{WroteNothing}
-use Rattle.fdb_core.specs.headline.Readings.{Readings, readings_of, of_session}
+use Rattle.fdb_core.specs.headline.Readings.{Readings, SealedBatch, read, readings_of, is_of_session, of_session}
 use Rattle.fdb_core.specs.headline.Traces.{IsTraceOf}
-use Rattle.fdb_core.specs.machine.CommitProxySteps.{replies_from}
 use Rattle.fdb_core.specs.machine.Machine.{Machine}
-use Rattle.fdb_proxy.specs.Verdicts.{outcomes_on}
-use Rattle.fdb_client.specs.Programs.{program, copy}
+use Rattle.fdb_client.specs.Programs.{program, copy, commit_request_of}
+
+-- What becomes of place p of an entry by the rule, after the places before it: it has a commit version and its place
+-- exactly where it is committed, is too old exactly where it isn't fresh, and else has a conflict.
+pub record IsByRule (splits : List Point) (there : Place × List Place) (p : ℕ) (became : Outcome) : Type 0 where
+  pub commits : (became ≡ outcome.Commit there.0.version p) ↔ (committed splits there.1 there.0 ≡ true)
+  pub is_old : (became ≡ outcome.Old) ↔ (is_fresh there.0 ≡ false)
+  pub conflicts : (became ≡ outcome.Conflict)
+      ↔ ((is_fresh there.0 ≡ true) × (committed splits there.1 there.0 ≡ false))
+
+-- The client of place p of a batch is told, by its session, what became of its transaction by the rule, and the
+-- transaction is acknowledged there exactly where it is committed.
+pub record IsReply (splits : List Point) (book : List Entry) (batch : SealedBatch) (told : List (ℕ × Outcome))
+    (acknowledged : List Placed) (p : ℕ) (transcript : Transcript) : Type 0 where
+  pub there : Place × List Place
+  pub there_is : place_at book batch.entry p ≡ Some there
+  pub asked : there.0.transaction ≡ commit_request_of transcript
+  pub became : Outcome
+  pub by_rule : IsByRule splits there p became
+  pub told_so : slice_get told p ≡ Some (transcript.id.session, became)
+  pub acknowledged_there : Contains acknowledged
+      (record { spot = spot.Entry batch.entry p there.0.version; transcript = transcript })
+      ↔ (committed splits there.1 there.0 ≡ true)
+
+-- A batch has the transactions of its entry, of each session one at most. Each client is told once, by place, and then
+-- these are acknowledged.
+pub record AreReplies (splits : List Point) (book : List Entry) (batch : SealedBatch) (told : List (ℕ × Outcome))
+    (acknowledged : List Placed) : Type 0 where
+  pub entry : Entry
+  pub entry_is : slice_get book batch.entry ≡ Some entry
+  pub all_places : entry.batch ≡ map commit_request_of batch.transcripts
+  pub one_each : (session : ℕ) → count_by (is_of_session session) batch.transcripts ≤ 1
+  pub each_once : length told ≡ length batch.transcripts
+  pub replies : (p : ℕ) (transcript : Transcript) → slice_get batch.transcripts p ≡ Some transcript
+      → IsReply splits book batch told acknowledged p transcript
 
 -- the session has this transaction open
 abbrev pub HasOpened : Readings → ℕ → Transcript → Type 0
@@ -59,13 +96,6 @@ module _ (splits : List Point) (r : Readings) where
       (index ≡ length r.book) × (prev ≡ last_version r.book) × (version ≡ next_version prev advance)
       × (places ≡ length (take place_limit (r.waiting proxy)))
 
-  -- each client of the batch is told once, by place, what became of its transaction by the rule
-  abbrev pub AreReplies : ℕ → List (ℕ × Outcome) → Type 0
-  AreReplies proxy told =
-      let batch = r.sealed proxy in
-      (entry : Entry) × (slice_get r.book batch.entry ≡ Some entry)
-      × (told ≡ replies_from batch.transcripts (outcomes_on splits (seen_before r.book batch.entry) entry))
-
   abbrev pub IsAnswered : Step → Answered → Type 0
   IsAnswered (step.Ask session proxy) answer = answer ≡ answered.Done
   -- whom a grant serves, it gives the greatest version that was reported
@@ -92,7 +122,8 @@ module _ (splits : List Point) (r : Readings) where
   IsAnswered (step.Logged entry log) answer = ⊤
   -- a report answers the greatest version that was reported, with its own
   IsAnswered (step.Report proxy) answer = answer ≡ answered.Version (max r.reported (r.sealed proxy).version)
-  IsAnswered (step.Answer proxy) (answered.Answers told) = AreReplies proxy told
+  IsAnswered (step.Answer proxy) (answered.Answers told) =
+      AreReplies splits r.book (r.sealed proxy) told (read r (step.Answer proxy) (answered.Answers told)).acknowledged
   IsAnswered (step.Answer proxy) answer = ⊥
   IsAnswered (step.Pull shard limit) answer = ⊤
   IsAnswered (step.Forget shard version) answer = ⊤

@@ -1,15 +1,18 @@
 -- What the headline says of small worlds: who stands where, what a shard has to answer, and which answers a trace has.
-use Rattle.std.specs.Prelude.{◌≡◌, ℕ, Bool, true, false, List, [], ◌∷◌, Option, Some, None, Result, Ok, Err, codes}
-use Rattle.std.specs.FinMap.{empty, insert}
+use Rattle.std.specs.Prelude.{◌≡◌, ℕ, Bool, true, false, List, [], ◌∷◌, ◌++◌, Option, Some, None, Result, Ok, Err, codes}
+use Rattle.std.specs.FinMap.{get, empty, insert}
 use Rattle.fdb_keys.specs.declared.refusal.Refusal.{Refusal}
-use Rattle.fdb_keys.specs.declared.refusal.Refusal.TheVariants.{Unknown, FutureVersion}
-use Rattle.fdb_mutations.specs.declared.mutation.Mutation.TheVariants.{Set}
+use Rattle.fdb_keys.specs.declared.refusal.Refusal.TheVariants.{Unknown, Stale, FutureVersion}
+use Rattle.fdb_keys.specs.Points.{Point}
+use Rattle.fdb_mutations.specs.declared.mutation.Mutation.TheVariants.{Set, Clear}
 use Rattle.fdb_txn.specs.declared.entry.Entry.{Entry}
 use Rattle.fdb_txn.specs.declared.spot.Spot.TheVariants as spot
 use Rattle.fdb_txn.specs.book.Book.{seen_of}
 use Rattle.fdb_txn.specs.rules.Resolvers.{IsStateOf}
+use Rattle.fdb_txn.specs.rules.SerialMap.{serial_map_at}
 use Rattle.fdb_txn.specs.rules.Splits.{piece}
 use Rattle.fdb_log.specs.Logs.{Log}
+use Rattle.fdb_storage.specs.Shards.{Shard, value_at}
 use Rattle.fdb_resolver.specs.declared.part.Part.{Part}
 use Rattle.fdb_proxy.specs.declared.config.Config.{Config}
 use Rattle.fdb_client.specs.declared.program.Op.TheVariants as op
@@ -20,11 +23,13 @@ use Rattle.fdb_core.specs.declared.step.Answered.TheVariants as answered
 use Rattle.fdb_proxy.specs.declared.outcome.Outcome.TheVariants as outcome
 use Rattle.fdb_core.specs.declared.step.Step.{Step}
 use Rattle.fdb_core.specs.declared.step.Step.TheVariants as step
-use Rattle.fdb_core.specs.headline.Headline.{AnsweredOn, IsSerializedAtSpot}
+use Rattle.fdb_core.specs.headline.Headline.{AnsweredOn, IsSerializedAtSpot, AllSerialized}
 use Rattle.fdb_core.specs.headline.Readings.{Readings, nothing_read, readings_of}
 use Rattle.fdb_core.specs.machine.Machine.{Machine}
 use Rattle.fdb_client.specs.Programs.{commit_request_of}
-use Rattle.fdb_core.specs.headline.RealTime.{HasBegun, IsAfterVersion}
+use Rattle.fdb_core.specs.declared.roles.client.Placed.{Placed}
+use Rattle.fdb_core.specs.headline.MoveExamples.{from_to}
+use Rattle.fdb_core.specs.headline.RealTime.{HasBegun, IsAfterVersion, AreAfterEarlier}
 use Rattle.fdb_core.specs.headline.Serving.{PartsKeep, LogKeeps, ShardServes}
 use Rattle.fdb_core.specs.headline.Traces.{machine_of_trace, IsTraceOf}
 use Rattle.fdb_core.specs.machine.Sessions.{Asking}
@@ -73,26 +78,40 @@ abbrev pub adds_a_write_range : Transcript
 adds_a_write_range = record does_nothing
     { ops = (op.AddWrite (record { begin = codes "a"; end = codes "b" }), reply.Done) ∷ [] }
 
--- A transaction that wrote nothing is serialized at its read version alone, and at none that the book hasn't reached.
--- One that wrote is serialized at no such spot, and neither is one that added a range to its write set.
+-- of session 0, which read the key a, and was answered so
+abbrev pub reads_only : Bool → Option (List ℕ) → Transcript
+reads_only snapshot answer = record does_nothing { ops = (op.Get (codes "a") snapshot, reply.Value answer) ∷ [] }
+
+-- A transaction that wrote nothing is serialized at its read version alone; at one to which the book hasn't come, too, but
+-- none is acknowledged there. It isn't if it had been answered otherwise. One that wrote is serialized at no such spot, and neither is one that added a
+-- range to its write set.
 abbrev pub ReadOnlyAtItsVersion : Type 0
 ReadOnlyAtItsVersion =
     IsSerializedAtSpot [] two_in_one_entry does_nothing (spot.ReadOnly 0)
     × (IsSerializedAtSpot [] two_in_one_entry does_nothing (spot.ReadOnly 1) → ⊥)
-    × (IsSerializedAtSpot [] two_in_one_entry (record does_nothing { read_version = 101 }) (spot.ReadOnly 101) → ⊥)
+    × IsSerializedAtSpot [] two_in_one_entry (record does_nothing { read_version = 101 }) (spot.ReadOnly 101)
+    × (AllSerialized [] (record nothing_read { book = two_in_one_entry; acknowledged = at_101 ∷ [] }) → ⊥)
     × (IsSerializedAtSpot [] two_in_one_entry (reads_and_sets 0 None) (spot.ReadOnly 0) → ⊥)
     × (IsSerializedAtSpot [] two_in_one_entry adds_a_write_range (spot.ReadOnly 0) → ⊥)
     × (IsSerializedAtSpot [] two_in_one_entry (record does_nothing { read_version = 1 }) (spot.ReadOnly 0) → ⊥)
+    × IsSerializedAtSpot [] two_in_one_entry (reads_only false None) (spot.ReadOnly 0)
+    × (IsSerializedAtSpot [] two_in_one_entry (reads_only false (Some (codes "1"))) (spot.ReadOnly 0) → ⊥)
+  where
+    at_101 : Placed
+    at_101 = record { spot = spot.ReadOnly 101; transcript = record does_nothing { read_version = 101 } }
 
--- of a session, which read the key a, and was answered so
-abbrev pub reads_only : Bool → Option (List ℕ) → Transcript
-reads_only snapshot answer = record does_nothing { ops = (op.Get (codes "a") snapshot, reply.Value answer) ∷ [] }
+-- of session 0, which read the keys from a up to c, and was answered so
+abbrev pub reads_range : Bool → List (Point × List ℕ) → Transcript
+reads_range snapshot pairs =
+    record does_nothing { ops = (op.Range (from_to (codes "a") (codes "c")) 9 false snapshot, reply.Pairs pairs) ∷ [] }
 
--- A snapshot read may be answered otherwise than the run answers, an ordinary one may not.
+-- A snapshot read may be answered otherwise than the run answers, an ordinary one may not; of a key or of a range.
 abbrev pub OnlyOrdinaryReadsCount : Type 0
 OnlyOrdinaryReadsCount =
     AnsweredOn empty (reads_only true (Some (codes "1"))) × AnsweredOn empty (reads_only false None)
     × (AnsweredOn empty (reads_only false (Some (codes "1"))) → ⊥)
+    × AnsweredOn empty (reads_range true ((codes "b", codes "1") ∷ [])) × AnsweredOn empty (reads_range false [])
+    × (AnsweredOn empty (reads_range false ((codes "b", codes "1") ∷ [])) → ⊥)
 
 -- A session's first transaction has begun where the session was served once, and neither its second one nor another
 -- session's.
@@ -105,11 +124,28 @@ BegunByServing =
     served : Readings
     served = record nothing_read { begun = 5 ∷ [] }
 
--- An entry at a version isn't after that version, but who reads at it alone is.
+-- a session read at a version alone, and was acknowledged there
+abbrev pub read_alone : ℕ → ℕ → Placed
+read_alone session version = record {
+  spot = spot.ReadOnly version;
+  transcript = record { id = record { session = session; number = 0 }; read_version = version; ops = [] };
+}
+
+-- An entry at a version isn't after that version, but who reads at it alone is. Who begins after somebody was
+-- acknowledged who read at version 100 alone reads at that version, and not at one below.
 abbrev pub AfterAVersion : Type 0
 AfterAVersion =
     (IsAfterVersion 100 (spot.Entry 0 0 100) → ⊥) × IsAfterVersion 100 (spot.Entry 0 0 101)
     × (IsAfterVersion 100 (spot.ReadOnly 99) → ⊥) × IsAfterVersion 100 (spot.ReadOnly 100)
+    × AreAfterEarlier one_acknowledged (two_acknowledged 100)
+    × (AreAfterEarlier one_acknowledged (two_acknowledged 99) → ⊥)
+  where
+    one_acknowledged : Readings
+    one_acknowledged = record nothing_read { acknowledged = read_alone 5 100 ∷ [] }
+
+    two_acknowledged : ℕ → Readings
+    two_acknowledged version =
+        record nothing_read { acknowledged = read_alone 5 100 ∷ read_alone 6 version ∷ [] }
 
 -- the entry is in the book, and two logs took none and one of the entries; the shard of the first applied nothing, and
 -- that of the second serves from 40 on
@@ -146,6 +182,31 @@ AnEmptyShardDoesNotServe =
       is_failed = false;
       messages = [];
     }) → ⊥
+
+-- the key a is set at version 100, and cleared at 200
+abbrev pub set_and_cleared : List Entry
+set_and_cleared = two_in_one_entry ++ record {
+  version = 200;
+  prev = 100;
+  moves = [];
+  batch = commit_request_of (record does_nothing { ops = (op.Write (Clear (codes "a")), reply.Done) ∷ [] }) ∷ [];
+} ∷ []
+
+-- A shard that has nothing at the key answers from the run at version 200, but not if it still serves version 100.
+abbrev pub EachServedVersionCounts : Type 0
+EachServedVersionCounts =
+    (value_at (empty_from 100) 200 (codes "a") ≡ get (serial_map_at [] 200 (seen_of set_and_cleared).places) (codes "a"))
+    × (ShardServes plain set_and_cleared 0 (empty_from 100) → ⊥)
+  where
+    empty_from : ℕ → Shard
+    empty_from floor = record {
+      tag = 0;
+      range = piece [] 0;
+      version = 200;
+      floor = floor;
+      is_failed = false;
+      messages = [];
+    }
 
 -- the one log after it took the entry's message, which has nothing for any tag
 abbrev pub empty_message_taken : Log
@@ -217,10 +278,12 @@ one_asks = record (start plain) {
   grv_proxies = (5 ∷ []) ∷ [];
 }
 
--- A refused step leaves the machine, and no world stands for a trace with another answer than the machine's.
+-- A refused step leaves the machine, and no world stands for a trace with another answer than the machine's, or with
+-- another refusal.
 abbrev pub Traced : Type 0
 Traced =
     (machine_of_trace plain (step.Grant 7 ∷ []) (Err Unknown ∷ []) ≡ start plain)
     × (machine_of_trace plain (step.Ask 5 0 ∷ []) (Ok answered.Done ∷ []) ≡ one_asks)
     × IsTraceOf plain (step.Ask 5 0 ∷ []) (Ok answered.Done ∷ []) (Some one_asks)
     × ((world : Option Machine) → IsTraceOf plain (step.Grant 0 ∷ []) (Ok answered.Done ∷ []) world → ⊥)
+    × ((world : Option Machine) → IsTraceOf plain (step.Grant 7 ∷ []) (Err Stale ∷ []) world → ⊥)

@@ -21,7 +21,7 @@ use Rattle.fdb_core.specs.headline.Readings.{Readings, readings_of}
 use Rattle.fdb_client.specs.ProgramLaws.{AgreeWhereOrdinary}
 use Rattle.fdb_client.specs.Programs.{program, replies_of, exec, mutations_of, write_ranges, commit_request_of}
 use Rattle.fdb_core.specs.headline.Books.{HasBook}
-use Rattle.fdb_core.specs.headline.RealTime.{KeepsRealTime}
+use Rattle.fdb_core.specs.headline.RealTime.{KeepsRealTime, spot_version}
 use Rattle.fdb_core.specs.headline.Serving.{System, AllServe}
 use Rattle.fdb_core.specs.headline.Traces.{IsTraceOf}
 
@@ -48,8 +48,7 @@ WroteNothing transcript =
 -- its read version.
 abbrev pub IsReadOnlyAt : List Point → List Entry → Transcript → ℕ → Type 0
 IsReadOnlyAt splits book transcript version =
-    (version ≡ transcript.read_version) × (version ≤ last_version book)
-    × WroteNothing transcript
+    (version ≡ transcript.read_version) × WroteNothing transcript
     × AnsweredOn (serial_map_at splits version (seen_of book).places) transcript
 
 -- the transaction is serialized at its spot
@@ -61,9 +60,11 @@ IsSerializedAtSpot splits book transcript (spot.ReadOnly version) = IsReadOnlyAt
 abbrev pub IsSerialized : List Point → List Entry → Placed → Type 0
 IsSerialized splits book placed = IsSerializedAtSpot splits book placed.transcript placed.spot
 
--- each acknowledged transaction is serialized at its spot
+-- each acknowledged transaction is serialized at its spot, whose version the entries have come to
 abbrev pub AllSerialized : List Point → Readings → Type 0
-AllSerialized splits r = AllByRecursion (IsSerialized splits r.book) r.acknowledged
+AllSerialized splits r =
+    AllByRecursion (λ (placed : Placed). IsSerialized splits r.book placed
+    × (spot_version placed.spot ≤ last_version r.book)) r.acknowledged
 
 -- Over every trace, each acknowledged transaction is serialized at its spot: it is committed there, and each of its
 -- ordinary reads was answered as when the committed transactions run one at a time from the empty map, by commit

@@ -3,6 +3,7 @@ ghost use Rattle.std.specs.Prelude.{◌≡◌, ◌<◌, ◌≤◌, ◌⊎◌, su
 ghost use Rattle.std.specs.List.{AllByRecursion};
 ghost use Rattle.std.specs.List.Sorted.{IsPermutation};
 ghost use Rattle.fdb_keys.specs.Points.{Point};
+ghost use Rattle.fdb_txn.specs.book.Transactions.{NamesWrites};
 ghost use Rattle.fdb_txn.specs.book.History.{AreEntries, IsBook, IsSealed};
 ghost use Rattle.fdb_storage.specs.Limits.{shard_limit};
 ghost use Rattle.fdb_proxy.specs.Configs.{config_fault};
@@ -21,7 +22,7 @@ use crate::roles::shard::ShardRole;
 use crate::world::CheckFault;
 use fdb_keys::Key;
 use fdb_proxy::Config;
-use fdb_txn::Entry;
+use fdb_txn::{Entry, Sealed};
 use std::alloc::Global;
 
 // Compares each one at its visit, in the order of the run.
@@ -49,6 +50,24 @@ fn run_visits(
     Ok(())
 }
 
+// What a transaction's mutations name is in its write set, as of every sealed one.
+fn know_named(batch: &[Sealed])
+    ensures { AllByRecursion NamesWrites batch.now }
+{
+    for sealed in batch {
+        let _writes = sealed.writes();
+    }
+}
+
+// So it is of all transactions of the entries.
+fn know_sealed(book: &[Entry])
+    ensures { AllByRecursion IsSealed book.now }
+{
+    for entry in book {
+        know_named(entry.batch.as_slice());
+    }
+}
+
 // Compares them all. Keys that are no splits among at most 64 resolvers are answered as want of memory.
 fn check_placed(
     alloc: Global,
@@ -70,9 +89,9 @@ fn check_placed(
 /// run from the empty map, by version and by place in the batch. Answers the number of transcripts exactly where each
 /// is serialized at its spot. At a spot in an entry the transaction stands at that place, under the spot's version,
 /// with the transcript's name, read version, sets and mutations; it commits there, and each ordinary operation was
-/// answered as on the map right before the place. At a read-only spot, whose version is the transcript's read version
-/// and at most the last entry's, the transcript has no mutation and an empty write set, and was answered as on the map
-/// after all entries up to that version.
+/// answered as on the map right before the place. At a read-only spot, whose version is the transcript's read version,
+/// the transcript has no mutation and an empty write set, and was answered as on the map after all entries up to that
+/// version; after the last one, where the book hasn't come to it.
 ///
 /// A fault `Txn` names the first one that isn't, in the order of the run: by entry and place, and a read-only spot after
 /// the entries of version at most its own. Else it fails only as `NoMemory`.
@@ -89,13 +108,13 @@ pub fn serial_check(
 ) -> Result<u64, CheckFault>
     requires legal { config_fault config.now ≡ None }
     requires book { IsBook (suc (length config.now.resolver_splits)) book.now }
-    requires each_sealed { AllByRecursion IsSealed book.now }
     ensures { MatchResult result
         (λ count. (count ≡ length placed.now)
         × AllByRecursion (IsSerialized config.now.resolver_splits book.now) placed.now)
         (λ fault. (fault ≡ CheckFault.NoMemory)
         ⊎ IsFirstOther book.now (IsSerialized config.now.resolver_splits book.now) placed.now fault) }
 {
+    know_sealed(book);
     check_placed(alloc, config.resolver_splits.as_slice(), book, placed)
 }
 

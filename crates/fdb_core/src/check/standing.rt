@@ -2,14 +2,12 @@
 ghost use Rattle.std.specs.Prelude.{◌≡◌, ◌↔◌, ◌-◌, suc, List, length, IsTrue, None, Ok, Err, IfOk, IfErr};
 ghost use Rattle.fdb_keys.specs.Answers.{Answers};
 ghost use Rattle.fdb_keys.specs.Points.{Point};
-ghost use Rattle.fdb_txn.specs.book.Book.{last_version};
 ghost use Rattle.fdb_txn.specs.book.History.{AreEntries};
 ghost use Rattle.fdb_client.specs.Programs.{commit_request_of};
 ghost use Rattle.fdb_core.specs.check.Running.{IsRunAt, IsNotPast, HasComeTo, moment};
 ghost use Rattle.fdb_core.specs.check.Spots.{entries_through, moment_of};
 ghost use Rattle.fdb_core.specs.headline.Headline.{AnsweredOn, WroteNothing, IsSerializedAt, IsReadOnlyAt, IsSerialized};
 
-use crate::book::last_version;
 use crate::check::compare::is_answered_on;
 use crate::check::run::{Run, commits, go_to};
 use crate::check::visits::Visit;
@@ -108,7 +106,7 @@ fn is_read_only_at(
         × (IsTrue stands → HasComeTo splits book.now entries 0 run.new)) }
     ensures err { IfErr result (λ fault. fault ≡ CheckFault.NoMemory) }
 {
-    if version != transcript.read_version || version > last_version(book, book.len()) {
+    if version != transcript.read_version {
         return Ok(false);
     }
     go_to(run, book, entries, 0)?;

@@ -51,6 +51,8 @@ fn transcripts_beside_a_book_without_entries(rt: HostRuntime) {
     same(&rt, checked(alloc, at_start, 0, None), 1);
     same(&rt, checked(alloc, at_start, 0, Some(b"x")), 101);
     same(&rt, checked(alloc, at_start, 1, None), 101);
-    same(&rt, checked(alloc, later, 1, None), 101);
+    // A version to which no entry has come is after all of them.
+    same(&rt, checked(alloc, later, 1, None), 1);
+    same(&rt, checked(alloc, later, 1, Some(b"x")), 101);
     same(&rt, checked(alloc, nowhere, 0, None), 101);
 }

@@ -1,8 +1,6 @@
-use Rattle.std.proofs.Common.{◌≡◌, ◌≤◌, ◌∙◌, ap, subst, le_refl, length, nat_le, ℕ, arith}
-use Rattle.std.proofs.lemmas.List.{take_all}
+use Rattle.std.proofs.Common.{◌≤◌, length, nat_le, arith}
 use Rattle.std.proofs.lemmas.List.Sums.{count_by-le-length}
 use Rattle.fdb_txn.specs.declared.entry.Entry.{Entry}
-use Rattle.fdb_txn.specs.book.Book.{last_version}
 use Rattle.fdb_core.proofs.checking.StandingLemmas.{reads-there, found-means}
 use Rattle.fdb_core.proofs.check.standing.is_read_only_at.Goals as goal
 
@@ -12,12 +10,9 @@ returns-clause-ok c splits entries at are not_past =
     let few = count_by-le-length (λ (entry : Entry). nat_le entry.version c.args.version) book in
     let within : c.args.entries ≤ length book = omega (arith, few, are) in
     let come = c.in_ok-go_to.ensures.ok splits entries at within not_past in
-    let last : c.last_version.result ≡ last_version book =
-    c.last_version.ensures ∙ ap last_version (take_all (length book) book (le_refl (length book))) in
-    let below : c.args.version ≤ c.last_version.result = omega arith in
     found-means c.is_read_on.result c.found.result _ _ c.found.ensures.ok c.found.ensures.err c.is_read_on.ensures
     (λ same answers. (
       reads-there splits book c.args.version c.args.entries c.args.transcript.now c.go_to.new.run same entries are come
-          c.if-version-transcript.false (subst (λ (n : ℕ). c.args.version ≤ n) last below) answers,
+          c.if-version-transcript.false answers,
       λ yes. come,
     ))
