@@ -1,5 +1,5 @@
 -- Parts of a range, each with its resolver.
-use Rattle.std.specs.Prelude.{◌≡◌, ◌<◌, ⊤, ℕ, Bool, true, ◌&&◌, ◌==◌, nat_lt, List, [], ◌∷◌, if◌then◌else◌}
+use Rattle.std.specs.Prelude.{◌≡◌, ◌<◌, ⊤, ℕ, Bool, true, ◌&&◌, ◌||◌, ◌==◌, nat_lt, List, [], ◌∷◌, if◌then◌else◌}
 use Rattle.std.specs.List.{AllByRecursion}
 use Rattle.fdb_keys.specs.Points.{Point}
 use Rattle.fdb_keys.specs.Ranges.{Range, in_range, in_set}
@@ -26,6 +26,11 @@ pub record ArePartsOf (resolvers : ℕ) (held : ℕ → Point → Bool) (parts :
 -- the parts of the first so many resolvers alone
 abbrev pub AreFirstParts : ℕ → (ℕ → Point → Bool) → List Owned → Type 0
 AreFirstParts resolvers held parts = ArePartsOf resolvers (λ i x. nat_lt i resolvers && held i x) parts
+
+-- some points of a part may have come to a set, no others did, and none left it
+pub record HasSomeOf (part old new : List Range) : Type 0 where
+  pub kept : (x : Point) → in_set old x ≡ true → in_set new x ≡ true
+  pub added : (x : Point) → in_set new x ≡ true → (in_set part x || in_set old x) ≡ true
 
 -- the set has those points of the range whose owner is resolver i, by this owner of each point
 abbrev pub IsPartBy : (Point → ℕ) → ℕ → Range → List Range → Type 0

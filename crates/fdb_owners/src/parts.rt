@@ -1,5 +1,5 @@
 // Parts of a range, by who owns its keys.
-ghost use Rattle.std.specs.Prelude.{◌≡◌, ◌≤◌, ◌<◌, ◌&&◌, ◌||◌, ◌==◌, ℕ, suc, Bool, length, IsTrue, None, if◌then◌else◌};
+ghost use Rattle.std.specs.Prelude.{◌≡◌, ◌≤◌, ◌<◌, ◌&&◌, ◌||◌, ◌==◌, ℕ, suc, Bool, length, IsTrue, None, OnErr, if◌then◌else◌};
 ghost use Rattle.fdb_keys.specs.Answers.{Answers};
 ghost use Rattle.fdb_keys.specs.Points.{Point};
 ghost use Rattle.fdb_keys.specs.Ranges.{in_range, in_set};
@@ -8,7 +8,7 @@ ghost use Rattle.fdb_txn.specs.rules.Splits.{are_splits};
 ghost use Rattle.fdb_owners.specs.Learnt.{owner_after, owns_along};
 ghost use Rattle.fdb_txn.specs.Limits.{resolver_limit};
 ghost use Rattle.fdb_owners.specs.Ownership.{target_after};
-ghost use Rattle.fdb_owners.specs.Parts.{IsPartBy, AreFirstParts};
+ghost use Rattle.fdb_owners.specs.Parts.{IsPartBy, AreFirstParts, HasSomeOf};
 
 use crate::learnt::Learnt;
 use fdb_keys::{Items, KeyRange, RangeSet, Refusal};
@@ -25,15 +25,19 @@ pub struct Owned {
 }
 
 impl Owned {
-    ghost use Rattle.std.specs.Prelude.{◌≡◌, ◌||◌, None};
+    ghost use Rattle.std.specs.Prelude.{◌≡◌, ◌||◌, None, OnErr};
     ghost use Rattle.fdb_keys.specs.Answers.{Answers};
     ghost use Rattle.fdb_keys.specs.Points.{Point};
     ghost use Rattle.fdb_keys.specs.Ranges.{in_set};
+    ghost use Rattle.fdb_owners.specs.Parts.{HasSomeOf};
 
-    /// Adds the keys of the part to the set. Refused only as `NoMemory`, and then some of them may be in the set.
+    /// Adds the keys of the part to the set, in O(m (m + n)) time for m ranges of the part and n of the set. Refused only
+    /// as `NoMemory`. Then the set is half changed: it has all keys that it had, and may have any of the part's. Which
+    /// ones isn't said, so whoever wants the set from before, or the whole one, has to make it anew.
     pub fn add_to(&self, set: &mut RangeSet) -> Result<(), Refusal>
-        ensures { Answers result None
+        ensures answers { Answers result None
             (λ _. (x : Point) → in_set set.new x ≡ (in_set self.now.ranges x || in_set set.old x)) }
+        ensures refused { OnErr result (HasSomeOf self.now.ranges set.old set.new) }
     {
         add_all(set, &self.ranges)
     }
@@ -122,7 +126,9 @@ fn part_after(
 }
 
 fn add_all(set: &mut RangeSet, added: &RangeSet) -> Result<(), Refusal>
-    ensures { Answers result None (λ _. (x : Point) → in_set set.new x ≡ (in_set added.now x || in_set set.old x)) }
+    ensures answers { Answers result None
+        (λ _. (x : Point) → in_set set.new x ≡ (in_set added.now x || in_set set.old x)) }
+    ensures refused { OnErr result (HasSomeOf added.now set.old set.new) }
 {
     for range in added.iter() {
         set.add(range)?;

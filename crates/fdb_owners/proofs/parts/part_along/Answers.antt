@@ -28,7 +28,7 @@ loop-step-preserved c owner_of held =
     in (
       part,
       λ x.
-          c.in_ok-add_all.ensures x
+          c.in_ok-add_all.ensures.answers x
           ∙ ap₂ (λ (now was : Bool). now || was) (part x) (kept.1 x)
           ∙ found-more (in_range c.args.range.now x) _ _ _
           (ap (λ (steps : List Learnt). owns_along steps c.args.resolver x (owner_of x)) more
