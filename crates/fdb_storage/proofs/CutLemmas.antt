@@ -51,14 +51,14 @@ module _ (range : Range) (x : Point) (inside : in_range range x ≡ true) where
 
 -- elsewhere they change nothing
 module _ (range : Range) (x : Point) (outside : in_range range x ≡ false) where
-  outside-body : (map : Map) (mutations : List Mutation) → get (fold (cut_effect range) map mutations) x ≡ get map x
+  pub outside-body : (map : Map) (mutations : List Mutation) → get (fold (cut_effect range) map mutations) x ≡ get map x
   outside-body map [] = refl
   outside-body map (mutation ∷ mutations) =
       outside-body (cut_effect range map mutation) mutations
       ∙ effect-clipped range mutation map x
       ∙ cond-false (in_range range x) (get (effect map mutation) x) (get map x) outside
 
-  outside-messages : (v : ℕ) (map : Map) (messages : List TagMsg)
+  pub outside-messages : (v : ℕ) (map : Map) (messages : List TagMsg)
       → get (fold (cut_with range v) map messages) x ≡ get map x
   outside-messages v map [] = refl
   outside-messages v map (message ∷ messages) =

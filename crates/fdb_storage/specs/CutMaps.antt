@@ -1,6 +1,8 @@
 -- What messages change in a range.
-use Rattle.std.specs.Prelude.{ℕ, nat_le, fold, if◌then◌else◌}
-use Rattle.fdb_keys.specs.Ranges.{Range}
+use Rattle.std.specs.Prelude.{◌≡◌, ℕ, false, nat_le, fold, if◌then◌else◌}
+use Rattle.std.specs.FinMap.{get}
+use Rattle.fdb_keys.specs.Points.{Point}
+use Rattle.fdb_keys.specs.Ranges.{Range, in_range}
 use Rattle.fdb_mutations.specs.declared.mutation.Mutation.{Mutation}
 use Rattle.fdb_mutations.specs.Maps.{Map}
 use Rattle.fdb_mutations.specs.Mutations.{clipped_mutation, effect_of}
@@ -15,3 +17,7 @@ cut_effect range map mutation = effect_of map (clipped_mutation range mutation)
 abbrev pub cut_with : Range → ℕ → Map → TagMsg → Map
 cut_with range v map message =
     if nat_le message.version v then fold (cut_effect range) map (mutations_in message.body) else map
+
+-- outside the range a map has what the other one has
+abbrev pub AreSameOutside : Range → Map → Map → Type 0
+AreSameOutside range old new = (x : Point) → in_range range x ≡ false → get new x ≡ get old x

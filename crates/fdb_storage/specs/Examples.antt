@@ -1,5 +1,5 @@
 -- Refusals of a shard, computed.
-use Rattle.std.specs.Prelude.{◌≡◌, ℕ, Bool, true, false, List, [], ◌∷◌, Some, None}
+use Rattle.std.specs.Prelude.{◌≡◌, ℕ, Bool, true, false, [], ◌∷◌, Some, None}
 use Rattle.fdb_keys.specs.declared.refusal.Refusal.TheVariants.{NotYet, Stale, Failed, Unknown, KeyOutsideLegalRange, TransactionTooOld, FutureVersion}
 use Rattle.fdb_keys.specs.Ranges.{Range}
 use Rattle.fdb_log.specs.declared.peek.Peek.{Peek}

@@ -84,12 +84,18 @@ IsPage shard range v limit is_reverse page =
     → (page.pairs ≡ first_of limit (pairs_in map range is_reverse))
     × (page.more ≡ nat_lt (length page.pairs) (length (pairs_in map range is_reverse)))
 
+-- outside the shard's part of the range the map has what it had
+abbrev pub IsKeptOutside : Shard → Range → Map → Map → Type 0
+IsKeptOutside shard range old new =
+    (x : Point) → (in_range range x && in_range shard.range x) ≡ false → get new x ≡ get old x
+
 -- The map has in the shard's part of the range what the shard has there at the version, if it had nothing there before,
--- and elsewhere what it had.
+-- and elsewhere what it had. Where it had a value in that part, what it has there now isn't said: that would tell how the
+-- shard keeps its values.
 pub record HasCopied (shard : Shard) (range : Range) (v : ℕ) (old new : Map) : Type 0 where
   pub inside : (x : Point) → in_range range x ≡ true → in_range shard.range x ≡ true → get old x ≡ None
       → get new x ≡ value_at shard v x
-  pub outside : (x : Point) → (in_range range x && in_range shard.range x) ≡ false → get new x ≡ get old x
+  pub outside : IsKeptOutside shard range old new
 
 -- it has applied nothing, and has no value
 pub record IsNewShard (number : ℕ) (keys : Range) (shard : Shard) : Type 0 where

@@ -30,7 +30,7 @@ loop-peek-preserved c =
     ∙ ap (λ (peek : Peek). take c.loop-peek.peek-index peeks ++ peek ∷ []) (sym c.peek-item.is) in
     let cut = cut_with c.args.range.now c.args.version in
     let before = messages_of (take c.loop-peek.peek-index peeks) in
-    c.in_ok-apply_messages.ensures
+    c.in_ok-apply_messages.ensures.answers
     ∙ ap (λ (messages : List TagMsg). fold cut c.loop-peek.map messages) c.as_slice.ensures
     ∙ ap (λ (map : Map). fold cut map c.peek-item.result.messages) c.loop-peek.invariant
     ∙ sym (ap (fold cut empty) (ap messages_of one_more ∙ messages-append (take c.loop-peek.peek-index peeks)

@@ -15,7 +15,7 @@ returns c =
     let range = c.range-range.result.now in
     let its : HasCopied shard range c.version.result c.new-held.result held =
     (answers-fault (part_fault shard range c.version.result) c.in_ok-copy_into.field-0
-    (λ _. HasCopied shard range c.version.result c.new-held.result held) c.in_ok-copy_into.ensures).1 in
+    (λ _. HasCopied shard range c.version.result c.new-held.result held) c.in_ok-copy_into.ensures.answers).1 in
     let copied : HasCopied shard shard.range shard.version empty held =
     rw (c.range-range.ensures, c.version.ensures, c.new-held.ensures) at its in
     let mine : c.in_ok-pairs.pairs ≡ pairs_in held shard.range false =

@@ -23,7 +23,7 @@ returns c =
     sym (ap (λ (is_held : Bool). read_fault shard is_held c.args.version) held)
     ∙ none-of _ _ _ c.in_ok-check.ensures in
     let built : c.apply_messages.new.map ≡ fold (cut_with c.args.range.now c.args.version) empty shard.messages =
-    c.in_ok-apply_messages.ensures
+    c.in_ok-apply_messages.ensures.answers
     ∙ ap (fold (cut_with c.args.range.now c.args.version) c.new-map.result) messages
     ∙ ap (λ (map : Map). fold (cut_with c.args.range.now c.args.version) map shard.messages) c.new-map.ensures in
     let page : Page = record { pairs = c.in_ok-pairs.pairs; more = c.in_ok-pairs.more } in

@@ -33,7 +33,7 @@ returns-in_err-copy_into c =
     let here = (goal.at.returns-in_err-copy_into c).After-role-item in
     let why = c.in_err-copy_into.field-0.0 in
     let same : c.from_residual.result ≡ Err why = search rules in
-    let lacks : why ≡ NoMemory = rw (gives here) at c.in_err-copy_into.ensures in
+    let lacks : why ≡ NoMemory = rw (gives here) at c.in_err-copy_into.ensures.answers in
     rw same lacks
 
 pub loop-role-preserved : goal.loop-role-preserved
@@ -41,7 +41,7 @@ loop-role-preserved c =
     let here = (goal.at.loop-role-preserved c).After-role-item in
     let role = c.role-item.result in
     let copied : HasCopied role.core c.args.range.now c.self.inside.version c.loop-role.map c.copy_into.new.map =
-    rw (gives here) at c.in_ok-copy_into.ensures in
+    rw (gives here) at c.in_ok-copy_into.ensures.answers in
     one-copied c.args.self.now (readable here) c.args.range.now c.requires.legal c.requires.served
     c.loop-role.role-index role c.loop-role.map c.copy_into.new.map (there here) c.loop-role.invariant
     (subst (λ (it : ShardReads). HasCopied role.core c.args.range.now it.version c.loop-role.map c.copy_into.new.map)
