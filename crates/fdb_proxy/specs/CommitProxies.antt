@@ -56,19 +56,22 @@ pub record ProxyWithRoom : Type 0 where
 abbrev pub is_idle : Stage → Bool
 is_idle stage.Idle = true
 is_idle stage.Sealed = false
+is_idle stage.Entered = false
 is_idle (stage.Resolving batch) = false
 is_idle (stage.Logging decided) = false
 
 abbrev pub is_sealed : Stage → Bool
 is_sealed stage.Idle = false
 is_sealed stage.Sealed = true
+is_sealed stage.Entered = false
 is_sealed (stage.Resolving batch) = false
 is_sealed (stage.Logging decided) = false
 
--- what is known of the batch at each stage
+-- what is known of the batch at each stage; who has a batch with an entry but without its ticket failed
 abbrev pub IsStage : CommitProxy → Stage → Type 0
 IsStage p stage.Idle = p.batch ≡ []
 IsStage p stage.Sealed = ⊤
+IsStage p stage.Entered = p.is_failed ≡ true
 IsStage p (stage.Resolving batch) = length batch.verdicts ≡ length batch.parts
 IsStage p (stage.Logging decided) = length p.batch ≡ length decided.answers
 
@@ -188,12 +191,16 @@ pub record HasLearntTicket (old : CommitProxy) (ticket : Ticket) (new : CommitPr
   pub learnt : HaveLearnt old.owners ticket new.owners
   pub unheard : IsUnheard new.owners ticket old.batch resolving
 
--- it is the same proxy with the same requests, and refuses whatever comes
-pub record HasFailed (old new : CommitProxy) : Type 0 where
-  pub index : new.index ≡ old.index
-  pub waiting : new.waiting ≡ old.waiting
-  pub batch : new.batch ≡ old.batch
-  pub fails : new.is_failed ≡ true
+-- It holds the batch as one with an entry, whose ticket it didn't learn, and refuses whatever comes. The ticket's version
+-- is its last one, and the owners may have learnt some of the moves; all else is as it was.
+pub record HasFailed (old : CommitProxy) (ticket : Ticket) (new : CommitProxy) : Type 0 where
+  pub rest : new ≡ record old {
+    owners = new.owners;
+    last = ticket.version;
+    stage = stage.Entered;
+    is_failed = true;
+  }
+  pub splits : new.owners.splits ≡ old.owners.splits
 
 -- the parts of the batch that waits for verdicts
 abbrev pub parts_in : Stage → List Part

@@ -13,7 +13,7 @@ use Rattle.fdb_proxy.specs.declared.outcome.Outcome.TheVariants as outcome
 use Rattle.fdb_proxy.specs.declared.position.Position.{Position}
 use Rattle.fdb_proxy.specs.declared.stage.Stage.{Stage}
 use Rattle.fdb_proxy.specs.declared.stage.Stage.TheVariants as stage
-use Rattle.fdb_proxy.specs.CommitProxies.{CommitProxy, submit_fault, seal_fault, unsealing, learn_fault, parts_fault, verdict_fault, decide_fault, messages_fault, logged_fault, all_logged_fault, done_fault}
+use Rattle.fdb_proxy.specs.CommitProxies.{CommitProxy, submit_fault, seal_fault, is_idle, unsealing, learn_fault, parts_fault, verdict_fault, decide_fault, messages_fault, logged_fault, all_logged_fault, done_fault}
 use Rattle.fdb_proxy.specs.Deciding.{Said, outcomes_by}
 
 -- the first transaction of a session, which reads and writes nothing
@@ -86,7 +86,8 @@ WorkedSubmits =
     × (submit_fault (proxy stage.Sealed false) (first_of 1) ≡ Some (Repeated 1))
     × (submit_fault (proxy stage.Sealed false) (first_of 2) ≡ None)
 
--- A batch is sealed by an idle proxy alone, and one that is unsealed waits before those who wait.
+-- A batch is sealed by an idle proxy alone, and one that is unsealed waits before those who wait. One that has an entry
+-- isn't unsealed, whether its ticket was learnt or memory ran out then.
 abbrev pub WorkedSeals : Type 0
 WorkedSeals =
     (seal_fault (proxy stage.Sealed true) ≡ Some Failed)
@@ -95,14 +96,26 @@ WorkedSeals =
     × (seal_fault (proxy stage.Idle false) ≡ None)
     × ((unsealing (proxy stage.Sealed false)).waiting ≡ first_of 0 ∷ first_of 1 ∷ [])
     × ((unsealing (proxy (logging false) false)).waiting ≡ first_of 1 ∷ [])
+    × (unsealing (proxy stage.Entered true) ≡ proxy stage.Entered true)
 
--- A ticket comes at the wrong stage before it comes again, and once it was learnt it comes again.
+-- No batch is in flight at one stage alone.
+abbrev pub WorkedStages : Type 0
+WorkedStages =
+    (is_idle stage.Idle ≡ true)
+    × (is_idle stage.Sealed ≡ false)
+    × (is_idle stage.Entered ≡ false)
+    × (is_idle (resolving []) ≡ false)
+    × (is_idle (logging false) ≡ false)
+
+-- A ticket comes at the wrong stage before it comes again, and once it was learnt it comes again. A proxy that didn't
+-- learn one for want of memory says that it failed.
 abbrev pub WorkedTickets : Type 0
 WorkedTickets =
     (learn_fault (proxy stage.Sealed true) (ticket 100) ≡ Some Failed)
     × (learn_fault (proxy stage.Idle false) (ticket 100) ≡ Some WrongState)
     × (learn_fault (proxy stage.Sealed false) (ticket 100) ≡ Some Stale)
     × (learn_fault (proxy stage.Sealed false) (ticket 101) ≡ None)
+    × (learn_fault (proxy stage.Entered true) (ticket 101) ≡ Some Failed)
     × (parts_fault (proxy stage.Sealed false) ≡ Some WrongState)
     × (parts_fault (proxy (resolving (None ∷ None ∷ None ∷ [])) false) ≡ None)
 

@@ -20,7 +20,8 @@ use std::mem;
 ///
 /// A batch is sealed, and given up or, once it has a ticket, resolved; it is decided, logged and done. Then the next one
 /// may be sealed. Once memory ran out while it learnt a ticket, or once it was told to fail, a proxy has failed: every
-/// call that may be refused is, as `Failed`.
+/// call that may be refused is, as `Failed`. A batch whose ticket it didn't learn for want of memory has an entry all the
+/// same. So it stays in flight for good: nothing gives it up, and its requests never wait again.
 #[derive(Drop)]
 pub struct CommitCore {
     alloc: Global,
@@ -78,14 +79,16 @@ impl CommitCore {
         })
     }
 
-    /// Whether no batch is in flight. It takes no memory.
+    /// Whether no batch is in flight. One is from `seal` on, until it is given up or done, and for good once memory ran
+    /// out while its ticket was learnt. It takes no memory, and O(1) time.
     pub fn is_idle(&self) -> bool
         ensures { result ≡ is_idle self.now.proxy.stage }
     {
         matches!(self.stage, Stage::Idle)
     }
 
-    /// Makes room for one more request, so that the next `submit` takes no memory. Nothing else changes. Refused as
+    /// Makes room for one more request, so that a `submit` that comes next takes no memory. It is promised of that one
+    /// alone: what any other call that changes the proxy leaves of the room isn't said. Nothing else changes. Refused as
     /// `Failed`, and as `NoMemory`.
     pub fn reserve(&mut self) -> Result<(), Refusal>
         ensures answers { Answers result (failed_fault self.old.proxy) (λ _. 1 ≤ self.new.spare) }
@@ -143,8 +146,9 @@ impl CommitCore {
         Ok(batch)
     }
 
-    /// Gives a batch up that has no ticket yet: its requests wait again, before all others. At every other stage nothing
-    /// changes. It takes no memory.
+    /// Gives up a sealed batch, which has no entry yet: its requests wait again, before all others. At every other stage
+    /// nothing changes, also once memory ran out while the batch's ticket was learnt: its entry stands, and its requests
+    /// must not come into another one. It takes no memory, and O(1) time.
     pub fn unseal(&mut self)
         ensures { self.new.proxy ≡ unsealing self.old.proxy }
     {
@@ -154,7 +158,9 @@ impl CommitCore {
         }
     }
 
-    /// Drops those that wait, and answers their names in order. It takes no memory.
+    /// Drops those that wait, and answers their names in order. Those in flight stay and aren't named, so neither is a
+    /// batch whose ticket was learnt, or for whose ticket memory ran out. It takes no memory, and O(n) time for n
+    /// requests, ranges and mutations that are dropped.
     pub fn refuse_all(&mut self) -> Items<TxnId>
         ensures names { result ≡ map (λ (t : Transaction). t.id) self.old.proxy.waiting }
         ensures left { self.new.proxy ≡ record self.old.proxy { waiting = [] } }
@@ -165,15 +171,16 @@ impl CommitCore {
     /// Learns the ticket of the batch: its moves, and what each resolver is asked about the batch. The ticket's version is
     /// above what the batch read at, and its moves, at versions that rise up to the ticket's, go to resolvers that exist.
     /// Refused as `Failed`, as `WrongState` unless a batch is sealed, as `Stale` where the ticket's version or that of
-    /// one of its moves isn't above the last ticket's, and then nothing changes; and as `NoMemory`, after which the proxy
-    /// has failed.
+    /// one of its moves isn't above the last ticket's, and then nothing changes; and as `NoMemory`. Then the proxy has
+    /// failed and keeps the batch in flight, whose entry stands, so that it can't be unsealed. The ticket's version is its
+    /// last one, and it may have learnt some of the ticket's moves; all else is as it was.
     pub fn learn(&mut self, ticket: &Ticket) -> Result<(), Refusal>
         requires { IsTicketFor self.old.proxy ticket.now }
         ensures answers { Answers result (learn_fault self.old.proxy ticket.now)
             (λ _. HasLearntTicket self.old.proxy ticket.now self.new.proxy) }
         ensures refused { IsSome (learn_fault self.old.proxy ticket.now) → self.new.proxy ≡ self.old.proxy }
         ensures failed { IsNone (learn_fault self.old.proxy ticket.now)
-            → OnErr result (HasFailed self.old.proxy self.new.proxy) }
+            → OnErr result (HasFailed self.old.proxy ticket.now self.new.proxy) }
     {
         self.check_ticket(ticket)?;
         self.last = ticket.version;
@@ -184,6 +191,7 @@ impl CommitCore {
                 Ok(())
             }
             Err(why) => {
+                self.stage = Stage::Entered;
                 self.is_failed = true;
                 Err(why)
             }

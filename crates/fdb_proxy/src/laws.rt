@@ -1,6 +1,6 @@
 //! What the rule over the book says of resolvers' verdicts and of the messages for logs, for the proofs of the crates
 //! that use the proxies.
-ghost use Rattle.fdb_proxy.specs.Examples.{WorkedSubmits, WorkedSeals, WorkedTickets, WorkedVerdicts, WorkedDecisions, WorkedLogging};
+ghost use Rattle.fdb_proxy.specs.Examples.{WorkedSubmits, WorkedSeals, WorkedStages, WorkedTickets, WorkedVerdicts, WorkedDecisions, WorkedLogging};
 ghost use Rattle.fdb_proxy.specs.MessageLaws.{MessagesHoldTheCommitted};
 ghost use Rattle.fdb_proxy.specs.VerdictLaws.{BatchesAreJudgedByTheRule, EntriesAreJudgedByTheRule, ItemsWhereAsked, BatchesAreDecidedByTheRule, EntriesAreDecidedByTheRule};
 
@@ -29,11 +29,13 @@ pub fn logs_are_sent_what_the_committed_write()
     ensures { MessagesHoldTheCommitted }
 {}
 
-/// Why a commit proxy's calls are refused, and what verdicts decide, by examples: which refusal comes first, which verdicts
-/// and acknowledgements are stale, and what a batch waits for.
+/// Why a commit proxy's calls are refused, and what verdicts decide, by examples: which refusal comes first, which batches
+/// are given up, at which stages one is in flight, which verdicts and acknowledgements are stale, and what a batch waits
+/// for.
 pub fn worked_refusals()
     ensures submits { WorkedSubmits }
     ensures seals { WorkedSeals }
+    ensures stages { WorkedStages }
     ensures tickets { WorkedTickets }
     ensures verdicts { WorkedVerdicts }
     ensures decisions { WorkedDecisions }

@@ -15,6 +15,8 @@ pub(crate) enum Stage {
     Idle,
     /// The batch has no entry yet.
     Sealed,
+    /// The batch has an entry, and memory ran out while its ticket was learnt: the proxy has failed.
+    Entered,
     /// The batch waits for verdicts.
     Resolving(Resolving),
     /// The batch is decided, and waits for logs.

@@ -66,6 +66,7 @@ pub(crate) fn resolve(
     requires floor { owners.old.floor ≤ ticket.now.version - window }
     ensures answers { Answers result None (λ resolving. IsUnheard owners.new ticket.now batch.now resolving) }
     ensures learnt { IfOk result (λ _. HaveLearnt owners.old ticket.now owners.new) }
+    ensures splits { owners.new.splits ≡ owners.old.splits }
     ensures last { owners.new.last ≤ ticket.now.version }
     ensures kept { owners.new.floor ≤ ticket.now.version - window }
 {

@@ -57,6 +57,7 @@ module _ (config : Config) (book : List Entry) (known : Known) (role : CommitPro
           × (entry.batch ≡ map commit_request_of role.in_flight)
       by_stage core.Idle is refines = absurd (true≢false (rw is at busy))
       by_stage core.Sealed is refines = absurd refines
+      by_stage core.Entered is refines = absurd refines
       by_stage (core.Resolving batch) is refines =
           (refines.0, refines.1.there, sym refines.1.places ∙ ok.in_flight)
       by_stage (core.Logging decided) is refines =
@@ -75,6 +76,7 @@ module _ (config : Config) (book : List Entry) (known : Known) (role : CommitPro
           → is_reported (seen_as role).stage ≡ role.is_reported
       by_stage core.Idle is refines = absurd (true≢false (rw is at busy))
       by_stage core.Sealed is refines = absurd refines
+      by_stage core.Entered is refines = absurd refines
       by_stage (core.Resolving batch) is refines = rw is (sym refines.3)
       by_stage (core.Logging decided) is refines = rw is (by_flag role.is_reported)
 
@@ -131,6 +133,7 @@ module _ (config : Config) (book : List Entry) (known : Known) (role : CommitPro
             → StageRefines config book true role.entry role.core.proxy.batch role.core.proxy.stage
         by_stage core.Idle is refines = absurd (true≢false (sym (rw is at logging)))
         by_stage core.Sealed is refines = absurd refines
+        by_stage core.Entered is refines = absurd refines
         by_stage (core.Resolving batch) is refines = absurd (true≢false (sym (rw is at logging)))
         by_stage (core.Logging decided) is refines =
             subst (StageRefines config book true role.entry role.core.proxy.batch) (sym is) (
@@ -155,5 +158,6 @@ seen-reported role logging = by_stage role.core.proxy.stage refl
         → seen_as (record role { is_reported = true }) ≡ record (seen_as role) { stage = Reported }
     by_stage core.Idle is = absurd (true≢false (sym (rw is at logging)))
     by_stage core.Sealed is = absurd (true≢false (sym (rw is at logging)))
+    by_stage core.Entered is = absurd (true≢false (sym (rw is at logging)))
     by_stage (core.Resolving batch) is = absurd (true≢false (sym (rw is at logging)))
     by_stage (core.Logging decided) is = rw is refl

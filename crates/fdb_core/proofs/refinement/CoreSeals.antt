@@ -130,6 +130,7 @@ module _ (config : Config) (book : List Entry) (known : Known) (role : CommitPro
           → StageRefines config book role.is_reported role.entry role.core.proxy.batch stage → role.is_reported ≡ false
       by_stage core.Idle is refines = refines.1
       by_stage core.Sealed is refines = absurd refines
+      by_stage core.Entered is refines = absurd refines
       by_stage (core.Resolving batch) is refines = refines.3
       by_stage (core.Logging decided) is refines = by_flag role.is_reported refl
         where

@@ -136,6 +136,7 @@ module _ (config : Config) (book : List Entry) (known : Known) (role : CommitPro
             → logged_fault role.core.proxy ack ≡ (if AcknowledgementIsAwaited then None else Some Stale)
         by_stage core.Idle is refines = rw (ok.works, is) refl
         by_stage core.Sealed is refines = absurd refines
+        by_stage core.Entered is refines = absurd refines
         by_stage (core.Resolving batch) is refines = rw (ok.works, is) refl
         by_stage (core.Logging decided) is refines =
             rw (ok.works, is) (ap (λ (b : Bool). if b then None else Some Stale)
@@ -154,6 +155,7 @@ module _ (config : Config) (book : List Entry) (known : Known) (role : CommitPro
             × CommitProxyRefines config book known (record role { core = later })
         by_stage core.Idle is refines = absurd (true≢false (sym (rw is at waits)))
         by_stage core.Sealed is refines = absurd refines
+        by_stage core.Entered is refines = absurd refines
         by_stage (core.Resolving batch) is refines = absurd (true≢false (sym (rw is at waits)))
         by_stage (core.Logging decided) is refines =
             let stage = core.Logging (with_acknowledgement decided ack) in
@@ -204,6 +206,7 @@ module _ (config : Config) (book : List Entry) (known : Known) (role : CommitPro
           (first_missing (λ log. true) 0 (acknowledged_at role.core.proxy.stage))
       fault_is core.Idle is = absurd (true≢false (sym (rw is at is_now)))
       fault_is core.Sealed is = absurd (true≢false (sym (rw is at is_now)))
+      fault_is core.Entered is = absurd (true≢false (sym (rw is at is_now)))
       fault_is (core.Resolving batch) is = absurd (true≢false (sym (rw is at is_now)))
       fault_is (core.Logging decided) is =
           rw (ok.works, is) (ap waiting_for

@@ -125,6 +125,7 @@ module _ (config : Config) (book : List Entry) (known : Known) (role : CommitPro
             → verdict_fault role.core.proxy verdicts ≡ (if VerdictsAreAwaited then None else Some Stale)
         by_stage core.Idle is refines = rw (ok.works, is) refl
         by_stage core.Sealed is refines = absurd refines
+        by_stage core.Entered is refines = absurd refines
         by_stage (core.Resolving batch) is refines =
             rw (ok.works, is) (ap (λ (b : Bool). if b then None else Some Stale)
             (same-awaited refines.0 batch refines.1.index refines.1.there refines.2))
@@ -147,6 +148,7 @@ module _ (config : Config) (book : List Entry) (known : Known) (role : CommitPro
             × CommitProxyRefines config book known (record role { core = later })
         by_stage core.Idle is refines = absurd (true≢false (sym (rw is at waits)))
         by_stage core.Sealed is refines = absurd refines
+        by_stage core.Entered is refines = absurd refines
         by_stage (core.Logging decided) is refines = by_flag role.is_reported refl
           where
             by_flag : (reported : Bool) → role.is_reported ≡ reported
@@ -360,6 +362,7 @@ module _ (config : Config) (book : List Entry) (known : Known) (role : CommitPro
             × IsResolving config.resolver_splits book role.entry entry batch × (role.is_reported ≡ false)
         by_stage core.Idle is refines = absurd (true≢false (sym (rw is at resolving_now)))
         by_stage core.Sealed is refines = absurd refines
+        by_stage core.Entered is refines = absurd refines
         by_stage (core.Resolving batch) is refines =
             let same : refines.0 ≡ entry = same_Some refines.0 entry (sym refines.1.there ∙ there) in (
               batch,
@@ -413,6 +416,7 @@ messages-answers config book known role ok logging entry there result answers =
         → Answers result None (λ messages. messages ≡ sent)
     by_stage core.Idle is refines = absurd (true≢false (sym (rw is at logging)))
     by_stage core.Sealed is refines = absurd refines
+    by_stage core.Entered is refines = absurd refines
     by_stage (core.Resolving batch) is refines = absurd (true≢false (sym (rw is at logging)))
     by_stage (core.Logging decided) is refines =
         let its = refines.1 in

@@ -46,6 +46,7 @@ module _ (config : Config) (book : List Entry) (entry : Entry)
       → StageRefines config book is_reported i batch stage → StageRefines config grown is_reported i batch stage
   stage-grown is_reported i batch core.Idle refines = refines
   stage-grown is_reported i batch core.Sealed refines = refines
+  stage-grown is_reported i batch core.Entered refines = refines
   stage-grown is_reported i batch (core.Resolving resolving) refines =
       let e = refines.0 in
       let seen = seen-grown i e refines.1.there in (

@@ -37,11 +37,12 @@ use Rattle.fdb_core.specs.machine.Roles.{CommitProxy, Stage, Idle, Resolving, Lo
 use Rattle.fdb_core.specs.machine.SequencerSteps.{dated_moves}
 use Rattle.fdb_core.specs.machine.Worlds.{idle_proxy}
 
--- how far the machine's commit proxy is, by the core's stage and whether the batch's version is reported; between two
--- steps no batch is without an entry
+-- How far the machine's commit proxy is, by the core's stage and whether the batch's version is reported. Between two
+-- steps no batch is without an entry, and none has a ticket that its proxy failed to learn.
 abbrev pub stage_of : Bool → CoreStage → Stage
 stage_of is_reported core.Idle = Idle
 stage_of is_reported core.Sealed = Resolving
+stage_of is_reported core.Entered = Resolving
 stage_of is_reported (core.Resolving batch) = Resolving
 stage_of is_reported (core.Logging decided) = if is_reported then Reported else Logging
 
@@ -101,6 +102,7 @@ pub record IsLogging (config : Config) (book : List Entry) (is_reported : Bool) 
 abbrev pub StageRefines : Config → List Entry → Bool → ℕ → List Transaction → CoreStage → Type 0
 StageRefines config book is_reported i batch core.Idle = (batch ≡ []) × (is_reported ≡ false)
 StageRefines config book is_reported i batch core.Sealed = ⊥
+StageRefines config book is_reported i batch core.Entered = ⊥
 StageRefines config book is_reported i batch (core.Resolving resolving) =
     (entry : Entry) × IsBatchOf book i batch resolving.position entry
     × IsResolving config.resolver_splits book i entry resolving × (is_reported ≡ false)

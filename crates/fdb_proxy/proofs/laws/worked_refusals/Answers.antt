@@ -17,10 +17,21 @@ returns-clause-seals c = (
   refl,
   refl,
   refl,
+  refl,
+)
+
+pub returns-clause-stages : goal.returns-clause-stages
+returns-clause-stages c = (
+  refl,
+  refl,
+  refl,
+  refl,
+  refl,
 )
 
 pub returns-clause-tickets : goal.returns-clause-tickets
 returns-clause-tickets c = (
+  refl,
   refl,
   refl,
   refl,
