@@ -30,9 +30,11 @@ use std::sync::Arc;
 /// - as `BookFull` where the front has an entry in each cell;
 /// - as `NoMemory` where memory runs out;
 /// - as `Taken` where another entry stands in the cell. Then the front one longer by that entry is handed out wherever that
-///   entry could be appended, which no clause can say of it, since it may be of a front that this one doesn't know.
+///   entry could be appended. Where all entries were put there by `append` it could be, but no clause says so, since
+///   what is found is known by itself alone.
 ///
-/// An equal entry that stands in the cell is as good as the given one. Where a call is refused the book is as it was.
+/// An equal entry that stands in the cell is as good as the given one. No clause says what a refused call leaves in the
+/// cell; that the right entry can still be appended is tested.
 pub fn append<B: BookName>(
     alloc: Global,
     book: &Book<B>,

@@ -1,6 +1,7 @@
 // Calls with known answers.
-ghost use Rattle.std.specs.Prelude.{◌≡◌};
+ghost use Rattle.std.specs.Prelude.{◌≡◌, ◌≤◌, length};
 
+use crate::making::{code_of, same};
 use fdb_book::laws::fronts_are_books;
 use fdb_book::{Blank, Book, BookName, Front, agree, append, empty};
 use fdb_keys::{Items, RangeSet, Refusal, Refused};
@@ -13,6 +14,32 @@ use std::test::Fail;
 use std::thread;
 use std::thread::Threads;
 
+// A transaction without a write.
+fn sealed_by(alloc: Global, id: TxnId, read_version: u64) -> Result<Sealed, Refusal> {
+    match Sealed::new(
+        alloc,
+        id,
+        read_version,
+        RangeSet::new(alloc),
+        RangeSet::new(alloc),
+        Items::new(alloc),
+    ) {
+        Ok(sealed) => Ok(sealed),
+        Err(refused) => Err(refused.why),
+    }
+}
+
+fn entry_with(alloc: Global, version: u64, prev: u64, places: Vec<Sealed>) -> Entry
+    requires { length places.items ≤ 2 }
+{
+    Entry {
+        version,
+        prev,
+        moves: Items::new(alloc),
+        batch: Batch::new(Items::from_vec(places)),
+    }
+}
+
 // An entry of one transaction without a write.
 fn entry_by(
     alloc: Global,
@@ -21,25 +48,17 @@ fn entry_by(
     id: TxnId,
     read_version: u64,
 ) -> Result<Entry, Refusal> {
-    let sealed = match Sealed::new(
-        alloc,
-        id,
-        read_version,
-        RangeSet::new(alloc),
-        RangeSet::new(alloc),
-        Items::new(alloc),
-    ) {
-        Ok(sealed) => sealed,
-        Err(refused) => return Err(refused.why),
-    };
     let mut places = Vec::with_capacity(alloc, 1)?;
-    places.push(sealed)?;
-    Ok(Entry {
-        version,
-        prev,
-        moves: Items::new(alloc),
-        batch: Batch::new(Items::from_vec(places)),
-    })
+    places.push(sealed_by(alloc, id, read_version)?)?;
+    Ok(entry_with(alloc, version, prev, places))
+}
+
+// An entry that has the transaction twice.
+fn entry_twice(alloc: Global, version: u64, prev: u64, id: TxnId) -> Result<Entry, Refusal> {
+    let mut places = Vec::with_capacity(alloc, 2)?;
+    places.push(sealed_by(alloc, id, 0)?)?;
+    places.push(sealed_by(alloc, id, 0)?)?;
+    Ok(entry_with(alloc, version, prev, places))
 }
 
 // The same of a transaction of session 0.
@@ -101,6 +120,8 @@ fn fill_book_of_two<B: BookName>(rt: &impl Abort, alloc: Global, blank: Blank) -
     assert_eq!(rt; two.len(), 2);
     let third = append(alloc, &book, &two, entry_of(alloc, 300, 200, 2, 200)?);
     assert_eq!(rt; told(&third), (9006, None));
+    let again = append(alloc, &book, &two, entry_of(alloc, 300, 200, 0, 200)?);
+    assert_eq!(rt; told(&again), (9007, None));
     assert!(rt; agree(&one, &two) == Ordering::Less);
     assert!(rt; agree(&two, &one) == Ordering::Greater);
     assert_eq!(rt; two.cut(0)?.len(), 0);
@@ -116,6 +137,72 @@ fn fill_book_of_two<B: BookName>(rt: &impl Abort, alloc: Global, blank: Blank) -
 fn book_of_two(rt: HostRuntime) -> Result<(), Fail> {
     let blank = Blank::new(rt.alloc(), 2)?;
     fill_book_of_two::<Brand>(&rt, rt.alloc(), blank)
+}
+
+// The place that repeats a name.
+fn repeated_in<B: BookName>(res: Result<Front<B>, Refused<Option<Front<B>>>>) -> Option<u32> {
+    match res {
+        Err(refused) => match refused.why {
+            Refusal::Repeated(place) => Some(place),
+            _ => None,
+        },
+        Ok(_front) => None,
+    }
+}
+
+// The front that another entry, which was found, gave.
+fn found_by<B: BookName>(
+    res: Result<Front<B>, Refused<Option<Front<B>>>>,
+) -> Result<Front<B>, Refusal> {
+    match res {
+        Err(
+            Refused {
+                why: Refusal::Taken,
+                back: Some(front),
+            },
+        ) => Ok(front),
+        Err(refused) => Err(refused.why),
+        Ok(front) => Ok(front),
+    }
+}
+
+fn append_after_refusals<B: BookName>(
+    rt: &impl Abort,
+    alloc: Global,
+    blank: Blank,
+) -> Result<(), Fail>
+    requires { blank ≡ B.cells }
+{
+    let id = TxnId {
+        session: 7,
+        number: 3,
+    };
+    let book = Book::<B>::open(blank);
+    let none = empty(alloc, &book)?;
+    let twice = append(alloc, &book, &none, entry_twice(alloc, 100, 0, id)?);
+    assert_eq!(rt; repeated_in(twice), Some(1));
+    let nobody = entry_with(alloc, 100, 0, Vec::new(alloc));
+    let one = given(append(alloc, &book, &none, nobody))?;
+    assert_eq!(rt; one.len(), 1);
+    let other = found_by(append(alloc, &book, &none, entry_of(alloc, 100, 0, 0, 0)?))?;
+    assert!(rt; agree(&one, &other) == Ordering::Equal);
+    let two = given(append(alloc, &book, &other, entry_of(alloc, 200, 100, 0, 100)?))?;
+    assert_eq!(rt; two.len(), 2);
+    Ok(())
+}
+
+#[test]
+fn right_entry_is_appended_after_refusals(rt: HostRuntime) -> Result<(), Fail> {
+    let blank = Blank::new(rt.alloc(), 2)?;
+    append_after_refusals::<Brand>(&rt, rt.alloc(), blank)
+}
+
+#[test]
+fn books_have_from_one_to_1_048_576_cells(rt: HostRuntime) {
+    let alloc = rt.alloc();
+    same(&rt, code_of(Blank::new(alloc, 0)), 9009);
+    same(&rt, code_of(Blank::new(alloc, 1)), 0);
+    same(&rt, code_of(Blank::new(alloc, 1_048_577)), 9009);
 }
 
 // Appends a session's entries, or goes on with those that were found, until there are as many.
