@@ -12,10 +12,10 @@ use Rattle.fdb_txn.specs.declared.txn_id.TxnId.{TxnId}
 use Rattle.fdb_txn.specs.book.Transactions.{Transaction}
 use Rattle.fdb_txn.specs.book.Book.{last_version}
 use Rattle.fdb_txn.specs.book.History.{ReadsBelow}
-use Rattle.fdb_txn.specs.book.Once.{same_name, times_named, times_in_book}
-use Rattle.fdb_book.specs.Appending.{goes_on, names_fault, append_fault}
+use Rattle.fdb_txn.specs.book.Once.{same_id, times_with_id, times_in_book}
+use Rattle.fdb_book.specs.Appending.{goes_on, ids_fault, append_fault}
 use Rattle.fdb_book.specs.Fronts.{IsLinkedBook}
-use Rattle.fdb_book.specs.Names.{is_among, repeated_after, repeated_place}
+use Rattle.fdb_book.specs.Ids.{is_among, repeated_after, repeated_place}
 use Rattle.fdb_book.proofs.BookLemmas.{linked-append, all-append}
 
 -- where there is no fault, each part of the rule is met
@@ -24,24 +24,24 @@ record IsFaultless (capacity : ℕ) (book : List Entry) (entry : Entry) : Type 0
   new : repeated_place book entry.batch ≡ None
   room : length book ≢ capacity
 
-names-met : (place : Option ℕ) (is_full : Bool) → names_fault place is_full ≡ None
+ids-met : (place : Option ℕ) (is_full : Bool) → ids_fault place is_full ≡ None
     → (place ≡ None) × (is_full ≡ false)
-names-met (Some place) is_full none = cc
-names-met None true none = cc
-names-met None false none = (refl, refl)
+ids-met (Some place) is_full none = cc
+ids-met None true none = cc
+ids-met None false none = (refl, refl)
 
 faultless : (capacity : ℕ) (book : List Entry) (entry : Entry) → append_fault capacity book entry ≡ None
     → IsFaultless capacity book entry
 faultless capacity book entry none = ⊎_elim met chained (cases_Bool (goes_on (last_version book) entry))
   where
     faults : Option Refusal
-    faults = names_fault (repeated_place book entry.batch) (length book == capacity)
+    faults = ids_fault (repeated_place book entry.batch) (length book == capacity)
 
     met : goes_on (last_version book) entry ≡ true → IsFaultless capacity book entry
     met on =
-        let names = names-met (repeated_place book entry.batch) (length book == capacity)
+        let ids = ids-met (repeated_place book entry.batch) (length book == capacity)
         (sym (cond-true (goes_on (last_version book) entry) faults (Some Chain) on) ∙ none) in
-        record { continues = on; new = names.0; room = eqb-false (length book) capacity names.1 }
+        record { continues = on; new = ids.0; room = eqb-false (length book) capacity ids.1 }
 
     chained : goes_on (last_version book) entry ≡ false → IsFaultless capacity book entry
     chained off =
@@ -62,23 +62,23 @@ reads-met version (t ∷ batch) all =
     (ltb-true t.read version parts.0, reads-met version batch parts.1)
 
 times-push : (id : TxnId) (earlier : List Transaction) (t : Transaction)
-    → times_named id (earlier ++ t ∷ []) ≡ times_named id earlier + cond (same_name id t.id) 1 0
-times-push id earlier t = sum_by_push (λ (u : Transaction). cond (same_name id u.id) 1 0) earlier t
+    → times_with_id id (earlier ++ t ∷ []) ≡ times_with_id id earlier + cond (same_id id t.id) 1 0
+times-push id earlier t = sum_by_push (λ (u : Transaction). cond (same_id id u.id) 1 0) earlier t
 
--- a name that is there at most once is so with a name more that wasn't there
+-- an id that is there at most once is so with an id more that wasn't there
 once-more : (id : TxnId) (book : List Entry) (earlier : List Transaction) (t : Transaction)
-    → is_among t.id book earlier ≡ false → times_in_book id book + times_named id earlier ≤ 1
-    → times_in_book id book + times_named id (earlier ++ t ∷ []) ≤ 1
+    → is_among t.id book earlier ≡ false → times_in_book id book + times_with_id id earlier ≤ 1
+    → times_in_book id book + times_with_id id (earlier ++ t ∷ []) ≤ 1
 once-more id book earlier t new once =
-    rw (times-push id earlier t) (⊎_elim same other (cases_Bool (same_name id t.id)))
+    rw (times-push id earlier t) (⊎_elim same other (cases_Bool (same_id id t.id)))
   where
     goal : ℕ → Type 0
-    goal one = times_in_book id book + (times_named id earlier + one) ≤ 1
+    goal one = times_in_book id book + (times_with_id id earlier + one) ≤ 1
 
-    none : times_in_book t.id book + times_named t.id earlier ≤ 0
+    none : times_in_book t.id book + times_with_id t.id earlier ≤ 0
     none = ltb-false 0 _ new
 
-    same : same_name id t.id ≡ true → goal (cond (same_name id t.id) 1 0)
+    same : same_id id t.id ≡ true → goal (cond (same_id id t.id) 1 0)
     same is =
         let parts = and_parts (t.id.session == id.session) (t.id.number == id.number) is in
         let session : t.id.session ≡ id.session = eqb-true t.id.session id.session parts.0 in
@@ -86,17 +86,17 @@ once-more id book earlier t new once =
         let named : t.id ≡ id =
         ap (λ (s : ℕ). record t.id { session = s }) session
         ∙ ap (λ (n : ℕ). record id { number = n }) number in
-        let here : times_in_book id book + times_named id earlier ≤ 0 =
-        subst (λ (name : TxnId). times_in_book name book + times_named name earlier ≤ 0) named none in
+        let here : times_in_book id book + times_with_id id earlier ≤ 0 =
+        subst (λ (name : TxnId). times_in_book name book + times_with_id name earlier ≤ 0) named none in
         rw is (omega arith)
 
-    other : same_name id t.id ≡ false → goal (cond (same_name id t.id) 1 0)
+    other : same_id id t.id ≡ false → goal (cond (same_id id t.id) 1 0)
     other apart = rw apart (omega arith)
 
--- a name that is there at most once is so with a batch in which none is repeated
+-- an id that is there at most once is so with a batch in which none is repeated
 once-after : (id : TxnId) (book : List Entry) (earlier later : List Transaction)
-    → repeated_after book earlier later ≡ None → times_in_book id book + times_named id earlier ≤ 1
-    → times_in_book id book + times_named id (earlier ++ later) ≤ 1
+    → repeated_after book earlier later ≡ None → times_in_book id book + times_with_id id earlier ≤ 1
+    → times_in_book id book + times_with_id id (earlier ++ later) ≤ 1
 once-after id book earlier [] new once = rw (append-nil earlier) once
 once-after id book earlier (t ∷ later) new once =
     let fresh : is_among t.id book earlier ≡ false = false_from_ne_true (is_among t.id book earlier) (λ is.
@@ -118,6 +118,6 @@ append-book capacity book entry linked none =
       linked = linked-append 0 book entry linked.linked (ltb-true (last_version book) entry.version above.0)
           (eqb-true entry.prev (last_version book) chain.0);
       reads = all-append ReadsBelow book entry linked.reads (reads-met entry.version entry.batch above.1);
-      names = λ id. rw (sum_by_push (λ (e : Entry). times_named id e.batch) book entry)
-          (once-after id book [] entry.batch met.new (omega (arith, linked.names id)));
+      ids = λ id. rw (sum_by_push (λ (e : Entry). times_with_id id e.batch) book entry)
+          (once-after id book [] entry.batch met.new (omega (arith, linked.ids id)));
     }

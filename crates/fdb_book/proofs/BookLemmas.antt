@@ -6,9 +6,9 @@ use Rattle.std.proofs.lemmas.List.Sums.{sum_by-append}
 use Rattle.fdb_txn.specs.declared.entry.Entry.{Entry}
 use Rattle.fdb_txn.specs.declared.txn_id.TxnId.{TxnId}
 use Rattle.fdb_txn.specs.book.History.{AreLinked, ReadsBelow}
-use Rattle.fdb_txn.specs.book.Once.{times_named, times_in_book}
+use Rattle.fdb_txn.specs.book.Once.{times_with_id, times_in_book}
 use Rattle.fdb_book.specs.Fronts.{IsLinkedBook}
-use Rattle.fdb_book.specs.Names.{Latest, Covers}
+use Rattle.fdb_book.specs.Ids.{Latest, Covers}
 
 -- the version of the last of these entries after the version
 abbrev pub last_after : ℕ → List Entry → ℕ
@@ -38,13 +38,13 @@ all-append P (y ∷ first) x all one = (all.0, all-append P first x all.1 one)
 
 times-first : (id : TxnId) (first later : List Entry) → times_in_book id first ≤ times_in_book id (first ++ later)
 times-first id first later =
-    rw (sum_by-append (λ (entry : Entry). times_named id entry.batch) first later) (search arith)
+    rw (sum_by-append (λ (entry : Entry). times_with_id id entry.batch) first later) (search arith)
 
 book-first : (first later : List Entry) → IsLinkedBook (first ++ later) → IsLinkedBook first
 book-first first later book = record {
   linked = linked-first 0 first later book.linked;
   reads = all-first ReadsBelow first later book.reads;
-  names = λ id. grind (arith, times-first id first later, book.names id);
+  ids = λ id. grind (arith, times-first id first later, book.ids id);
 }
 
 covers-first : (latest : Latest) (first later : List Entry) → Covers latest (first ++ later) → Covers latest first
@@ -56,7 +56,7 @@ book-take count book linked =
     book-first (take count book) (drop count book)
     (subst IsLinkedBook (sym (take-append-drop count book)) linked)
 
--- what covers the names of a book covers those of its first entries
+-- what covers the ids of a book covers those of its first entries
 pub covers-take : (latest : Latest) (count : ℕ) (book : List Entry) → Covers latest book
     → Covers latest (take count book)
 covers-take latest count book covers =

@@ -7,7 +7,7 @@ use Rattle.std.proofs.Math.Seq.{take-suc}
 use Rattle.once_cell.specs.Once.{cell_name}
 use Rattle.fdb_txn.specs.declared.entry.Entry.{Entry}
 use Rattle.fdb_book.specs.Fronts.{IsLinkedBook, IsFront, Known, AreOfFirst, IsPrefix, shown}
-use Rattle.fdb_book.specs.Names.{Latest, Covers}
+use Rattle.fdb_book.specs.Ids.{Latest, Covers}
 use Rattle.fdb_book.proofs.BookLemmas.{book-take, covers-take}
 
 abbrev pub cell_of : ℕ × Entry → ℕ

@@ -10,23 +10,23 @@ use Rattle.fdb_keys.specs.declared.refusal.Refusal.TheVariants.{Chain, NoMemory,
 use Rattle.fdb_txn.specs.declared.entry.Entry.{Entry}
 use Rattle.fdb_txn.specs.book.Book.{last_version}
 use Rattle.fdb_book.specs.Fronts.{IsLinkedBook, IsFront, Known, AreOfFirst, shown}
-use Rattle.fdb_book.specs.Names.{Latest, Covers, repeated_place}
+use Rattle.fdb_book.specs.Ids.{Latest, Covers, repeated_place}
 use Rattle.fdb_book.proofs.AppendLemmas.{append-room, append-book}
 use Rattle.fdb_book.proofs.FactLemmas.{shown-count}
-use Rattle.fdb_book.specs.Appending.{goes_on, names_fault, append_fault, with_found, Appends}
+use Rattle.fdb_book.specs.Appending.{goes_on, ids_fault, append_fault, with_found, Appends}
 
 -- what is decided not to hold doesn't
 pub decided-false : {P : Type 0} {test : Bool} → test ≡ false → Decides test P → P → ⊥
 decided-false is_false decides holds = search (rules, sym is_false ∙ decides.1 holds)
 
-names-memory : (repeated : Option ℕ) (is_full : Bool) → names_fault repeated is_full ≡ Some NoMemory → ⊥
-names-memory (Some place) is_full same = search rules
-names-memory None true same = search rules
-names-memory None false same = search rules
+ids-memory : (repeated : Option ℕ) (is_full : Bool) → ids_fault repeated is_full ≡ Some NoMemory → ⊥
+ids-memory (Some place) is_full same = search rules
+ids-memory None true same = search rules
+ids-memory None false same = search rules
 
 goes-memory : (goes : Bool) (repeated : Option ℕ) (is_full : Bool)
-    → (if goes then names_fault repeated is_full else Some Chain) ≡ Some NoMemory → ⊥
-goes-memory true repeated is_full same = names-memory repeated is_full same
+    → (if goes then ids_fault repeated is_full else Some Chain) ≡ Some NoMemory → ⊥
+goes-memory true repeated is_full same = ids-memory repeated is_full same
 goes-memory false repeated is_full same = search rules
 
 -- no fault of an entry is want of memory

@@ -3,4 +3,4 @@ pub mod BookLemmas
 pub mod FactLemmas
 pub mod FoundLemmas
 pub mod Known
-pub mod NameLemmas
+pub mod IdLemmas

@@ -7,7 +7,7 @@ use Rattle.fdb_keys.specs.declared.refusal.Refused.{Refused}
 use Rattle.fdb_txn.specs.declared.entry.Entry.{Entry}
 use Rattle.fdb_txn.specs.book.Transactions.{Transaction}
 use Rattle.fdb_txn.specs.book.Book.{last_version}
-use Rattle.fdb_book.specs.Names.{repeated_place}
+use Rattle.fdb_book.specs.Ids.{repeated_place}
 
 -- the entry goes on from the version: it is the previous one, and the entry's is greater, and above each read version
 abbrev pub goes_on : ℕ → Entry → Bool
@@ -15,15 +15,15 @@ goes_on last entry =
     (entry.prev == last) && (nat_lt last entry.version
     && list_all (λ (t : Transaction). nat_lt t.read entry.version) entry.batch)
 
--- why no transaction may stand there: a name is repeated, or else there is no cell left
-abbrev pub names_fault : Option ℕ → Bool → Option Refusal
-names_fault (Some place) is_full = Some (Repeated place)
-names_fault None is_full = if is_full then Some BookFull else None
+-- why no transaction may stand there: an id is repeated, or else there is no cell left
+abbrev pub ids_fault : Option ℕ → Bool → Option Refusal
+ids_fault (Some place) is_full = Some (Repeated place)
+ids_fault None is_full = if is_full then Some BookFull else None
 
 -- why the entry may not be appended to the book of as many cells
 abbrev pub append_fault : ℕ → List Entry → Entry → Option Refusal
 append_fault capacity book entry =
-    if goes_on (last_version book) entry then names_fault (repeated_place book entry.batch) (length book == capacity)
+    if goes_on (last_version book) entry then ids_fault (repeated_place book entry.batch) (length book == capacity)
     else Some Chain
 
 -- the book with another entry that was found, where that one may be appended

@@ -6,14 +6,15 @@ use Rattle.fdb_keys.specs.declared.refusal.Refusal.TheVariants.{BadConfig}
 use Rattle.fdb_txn.specs.declared.entry.Entry.{Entry}
 use Rattle.fdb_txn.specs.book.History.{AreLinked, ReadsBelow}
 use Rattle.fdb_txn.specs.book.Once.{NoIdTwice}
-use Rattle.fdb_book.specs.Names.{Latest, Covers}
+use Rattle.fdb_txn.specs.Limits.{book_limit}
+use Rattle.fdb_book.specs.Ids.{Latest, Covers}
 
 -- A book, wherever its moves go: versions rise from 0, and each previous one is that of the entry before, 0 for the
--- first; each transaction read below its entry's version; and no name is that of two places.
+-- first; each transaction read below its entry's version; and no id is that of two places.
 pub record IsLinkedBook (book : List Entry) : Type 0 where
   pub linked : AreLinked 0 book
   pub reads : AllByRecursion ReadsBelow book
-  pub names : NoIdTwice book
+  pub ids : NoIdTwice book
 
 -- the longer list begins with the shorter one
 abbrev pub IsPrefix : List Entry → List Entry → Type 0
@@ -32,15 +33,11 @@ pub record AreOfFirst (cells : List ℕ) (known : Known) : Type 0 where
   pub within : length known ≤ length cells
   pub first : map (λ (it : ℕ × Entry). it.0) known ≡ take (length known) cells
 
--- the most entries that a book has room for
-abbrev pub capacity_limit : ℕ
-capacity_limit = 1048576
-
 -- why there is no book with room for as many entries
 abbrev pub capacity_fault : ℕ → Option Refusal
-capacity_fault capacity = if (capacity == 0) || nat_lt capacity_limit capacity then Some BadConfig else None
+capacity_fault capacity = if (capacity == 0) || nat_lt book_limit capacity then Some BadConfig else None
 
--- so many first cells of the book are known, what they hold is a book, and its names are covered
+-- so many first cells of the book are known, what they hold is a book, and its ids are covered
 pub record IsFront (names cells : List ℕ) (known : Known) (len : ℕ) (latest : Latest) : Type 0 where
   pub same : cells ≡ names
   pub first : AreOfFirst cells known

@@ -3,4 +3,4 @@ pub mod Examples
 pub mod Facts
 pub mod Fronts
 pub mod Laws
-pub mod Names
+pub mod Ids

@@ -6,12 +6,12 @@ ghost use Rattle.fdb_keys.specs.Answers.{Answers};
 ghost use Rattle.fdb_keys.specs.declared.refusal.Refusal.TheVariants.{NoMemory, Taken};
 ghost use Rattle.fdb_book.specs.Appending.{goes_on, append_fault, Appends};
 ghost use Rattle.fdb_book.specs.Fronts.{AreOfFirst, shown};
-ghost use Rattle.fdb_book.specs.Names.{Covers};
+ghost use Rattle.fdb_book.specs.Ids.{Covers};
 
 use crate::book::Book;
 use crate::facts::Facts;
 use crate::front::Front;
-use crate::latest::with_names;
+use crate::latest::with_ids;
 use crate::name::BookName;
 use fdb_keys::{Refusal, Refused};
 use fdb_txn::{Entry, Sealed};
@@ -25,7 +25,7 @@ use std::sync::Arc;
 ///
 /// - as `Chain` where the entry's previous version isn't the front's, or its version isn't above that or above each of
 ///   its read versions;
-/// - as `Repeated`, with the first such place, where the name of one of its transactions stands in the front or before it
+/// - as `Repeated`, with the first such place, where the id of one of its transactions stands in the front or before it
 ///   in the batch;
 /// - as `BookFull` where the front has an entry in each cell;
 /// - as `NoMemory` where memory runs out;
@@ -61,7 +61,7 @@ impl<B: BookName> Front<B> {
             return Err(Refusal::Chain);
         }
         let batch = entry.batch.as_slice();
-        let taken = with_names(&self.latest, batch);
+        let taken = with_ids(&self.latest, batch);
         if !matches!(&taken, Ok((_, true))) {
             if let Some(place) = self.repeated_place(batch) {
                 return Err(Refusal::Repeated(place));
@@ -81,7 +81,7 @@ impl<B: BookName> Front<B> {
         latest: Arc<BTreeMap<u32, u64>>,
     ) -> Result<Self, Refused<Option<Self>>>
         requires fits { append_fault (length B.cells) self.now entry ≡ None }
-        requires names { Covers (arc_value latest) (self.now ++ entry ∷ []) }
+        requires ids { Covers (arc_value latest) (self.now ++ entry ∷ []) }
         ensures { Appends (length B.cells) self.now entry result }
     {
         // All that may be refused comes before the cell is set.

@@ -3,14 +3,11 @@ ghost use Rattle.fdb_keys.specs.Answers.{Answers};
 ghost use Rattle.fdb_book.specs.Fronts.{capacity_fault};
 
 use fdb_keys::Refusal;
-use fdb_txn::Entry;
+use fdb_txn::{BOOK_LIMIT, Entry};
 use once_cell::race::OnceBox;
 use std::alloc::{AllocError, Global};
 use std::marker::Model;
 use std::sync::Arc;
-
-/// The most entries that a book may have room for.
-pub const CAPACITY_LIMIT: u32 = 1_048_576;
 
 /// The cells of a book to come, each of them empty. Contracts see it as the list of the cells' names.
 #[derive(Drop)]
@@ -34,7 +31,7 @@ impl Blank {
     pub fn new(alloc: Global, capacity: u32) -> Result<Self, Refusal>
         ensures { Answers result (capacity_fault capacity) (λ blank. length blank ≡ capacity) }
     {
-        if capacity == 0 || capacity > CAPACITY_LIMIT {
+        if capacity == 0 || capacity > BOOK_LIMIT {
             return Err(Refusal::BadConfig);
         }
         let cells = Arc::new(alloc, empty_cells(alloc, capacity)?)?;

@@ -1,14 +1,14 @@
-// The greatest number known of each session, which tells of most names at once that they are new.
+// The greatest number known of each session, which tells of most ids at once that they are new.
 ghost use Rattle.std.specs.Prelude.{◌≡◌, true, IfOk};
-ghost use Rattle.fdb_book.specs.Names.{AreNew, AreTaken};
+ghost use Rattle.fdb_book.specs.Ids.{AreNew, AreTaken};
 
 use fdb_txn::Sealed;
 use std::alloc::AllocError;
 use std::collections::BTreeMap;
 
-// Takes the names of a batch, in the order of their places, into a copy. Says with it whether each was later than all
+// Takes the ids of a batch, in the order of their places, into a copy. Says with it whether each was later than all
 // that were known of its session; where one wasn't, it may be new all the same.
-pub(crate) fn with_names(
+pub(crate) fn with_ids(
     latest: &BTreeMap<u32, u64>,
     batch: &[Sealed],
 ) -> Result<(BTreeMap<u32, u64>, bool), AllocError>

@@ -15,7 +15,7 @@ mod repeated;
 
 pub use agreeing::agree;
 pub use appending::append;
-pub use blank::{Blank, CAPACITY_LIMIT};
+pub use blank::Blank;
 pub use book::Book;
 pub use front::{Front, empty};
 pub use name::BookName;

@@ -18,7 +18,7 @@ use Rattle.fdb_keys.proofs.InsertionLemmas.{in_range-empty}
 use Rattle.fdb_client.specs.declared.left.Left.{Left}
 use Rattle.fdb_client.specs.declared.left.Left.TheVariants.{Value, Changes}
 use Rattle.fdb_client.specs.OwnWrites.{kept_of, kept_at, keys_between}
-use Rattle.fdb_client.proofs.KeptLemmas.{found, same_point}
+use Rattle.fdb_client.proofs.LeftAtLemmas.{found, same_point}
 
 -- between the bounds of a range are its points
 from_begin : (r : Ordering) → is_le r ≡ not (is_lt (ordering_reverse r))
@@ -97,11 +97,11 @@ no_entry range (entry ∷ entries) x inside absent =
         (ap (in_range range) (sym ((bytes_decides x entry.0).0 same)) ∙ inside) same))
 
 -- once a range is cleared, nothing stands at its points, and at every other what is kept stays
-pub kept-cleared : (range : Range) (before after : List (List ℕ × Left)) (cleared new_cleared : List Range)
+pub left_at-cleared : (range : Range) (before after : List (List ℕ × Left)) (cleared new_cleared : List Range)
     → ((x : Point) → found after x ≡ cond (list_any (point_eq x) (keys_between range before)) None (found before x))
     → ((x : Point) → in_set new_cleared x ≡ (in_range range x || in_set cleared x))
     → (x : Point) → kept_at after new_cleared x ≡ (if in_range range x then Value None else kept_at before cleared x)
-kept-cleared range before after cleared new_cleared there sets x = by_range (in_range range x) refl
+left_at-cleared range before after cleared new_cleared there sets x = by_range (in_range range x) refl
   where
     Kept : Bool → Type 0
     Kept inside = kept_at after new_cleared x ≡ cond inside (Value None) (kept_at before cleared x)

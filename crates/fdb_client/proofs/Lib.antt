@@ -2,12 +2,12 @@ pub mod AnsweredLemmas
 mod ClearedLemmas
 pub mod DecidedLemmas
 mod FaultLemmas
-mod KeptLemmas
+mod LeftAtLemmas
 mod MergingLemmas
 mod OwnKeysLemmas
 mod OwnWritesLemmas
 mod PagesLemmas
-mod PartsLemmas
+mod TxnStateLemmas
 pub mod ProgramLemmas
 pub mod ProgramsAgree
 mod ReadExamplesLemmas

@@ -17,7 +17,7 @@ use Rattle.fdb_mutations.proofs.PairsLemmas.{no_values, pairs_from_a_key_on}
 use Rattle.fdb_client.specs.declared.left.Left.{Left}
 use Rattle.fdb_client.specs.declared.left.Left.TheVariants.{Value, Changes}
 use Rattle.fdb_client.specs.declared.own_writes.OwnWrites.{OwnWrites}
-use Rattle.fdb_client.specs.Kept.{kept, entry_of, HasNoEntry}
+use Rattle.fdb_client.specs.LeftAt.{left_at, entry_of, HasNoEntry}
 use Rattle.fdb_client.specs.Merging.{GoesOn, HasNoValue, IsCopyOf, IsFirstOwn, IsPartOf, IsWithin, LiesIn, TookOwn, ahead_of}
 use Rattle.fdb_client.specs.OwnWrites.{kept_of, value_over}
 
@@ -71,7 +71,7 @@ untouched decided x found old none absent =
     either true = refl
     either false = refl
 
-module _ (own : OwnWrites) (map copy : Map) (is_copy : IsCopyOf (kept own) map copy) where
+module _ (own : OwnWrites) (map copy : Map) (is_copy : IsCopyOf (left_at own) map copy) where
   -- where neither the map nor the writes have anything, the copy has nothing
   pub no-value : (range : Range) → HasNoEntry own range → HasNoValue map range → HasNoValue copy range
   no-value range no_entry absent x inside =
@@ -91,7 +91,7 @@ module _ (own : OwnWrites) (map copy : Map) (is_copy : IsCopyOf (kept own) map c
 
     -- the copy's pairs are that of the key and those behind it
     pub own-copy : pairs_in copy left is_reverse
-        ≡ pair_of key (value_over (kept own key) None) ++ pairs_in copy (range_behind left is_reverse key) is_reverse
+        ≡ pair_of key (value_over (left_at own key) None) ++ pairs_in copy (range_behind left is_reverse key) is_reverse
     own-copy =
         pairs_from_a_key_on copy left is_reverse key own-inside
         (no_values copy (range_behind left (not is_reverse) key) is_reverse
@@ -99,7 +99,7 @@ module _ (own : OwnWrites) (map copy : Map) (is_copy : IsCopyOf (kept own) map c
         (subst (HasNoEntry own) (before-ahead left is_reverse next key) first) none_before))
         ∙ ap (λ (value : Option (List ℕ)).
         pair_of key value ++ pairs_in copy (range_behind left is_reverse key) is_reverse)
-        (is_copy key ∙ ap (value_over (kept own key)) (none key inside))
+        (is_copy key ∙ ap (value_over (left_at own key)) (none key inside))
 
     -- and the map's pairs are those behind it
     pub own-map : pairs_in map (range_behind left is_reverse key) is_reverse ≡ pairs_in map left is_reverse
@@ -130,14 +130,14 @@ module _ (own : OwnWrites) (map copy : Map) (is_copy : IsCopyOf (kept own) map c
     pair-map = (first-is map left key value rest is_reverse first).1
 
     pub pair-copy : HasNoValue copy (range_behind left (not is_reverse) key) → pairs_in copy left is_reverse
-        ≡ pair_of key (value_over (kept own key) (Some value))
+        ≡ pair_of key (value_over (left_at own key) (Some value))
         ++ pairs_in copy (range_behind left is_reverse key) is_reverse
     pair-copy none =
         pairs_from_a_key_on copy left is_reverse key pair-inside
         (no_values copy (range_behind left (not is_reverse) key) is_reverse none)
         ∙ ap (λ (there : Option (List ℕ)).
         pair_of key there ++ pairs_in copy (range_behind left is_reverse key) is_reverse)
-        (is_copy key ∙ ap (value_over (kept own key)) (first-is map left key value rest is_reverse first).0)
+        (is_copy key ∙ ap (value_over (left_at own key)) (first-is map left key value rest is_reverse first).0)
 
 -- ---- a read goes on
 pub goes_on-start : (copy : Map) (is_reverse : Bool) (before : List (Point × List ℕ)) (range : Range)
@@ -180,16 +180,16 @@ so_far-start map copy is_reverse next given range none = record {
   none = none;
 }
 
-module _ (own : OwnWrites) (map copy : Map) (is_copy : IsCopyOf (kept own) map copy) (is_reverse : Bool)
+module _ (own : OwnWrites) (map copy : Map) (is_copy : IsCopyOf (left_at own) map copy) (is_reverse : Bool)
     (next : Option Point) (before given : List (Point × List ℕ)) (range left : Range)
     (so_far : TookSoFar map copy is_reverse next before range given left) (lies : LiesIn left next) where
   -- one more own key
   pub so_far-take : (key : Point) → in_range (ahead_of left is_reverse next) key ≡ true
       → HasNoEntry own (range_behind (ahead_of left is_reverse next) (not is_reverse) key)
-      → TookSoFar map copy is_reverse next before range (given ++ pair_of key (value_over (kept own key) None))
+      → TookSoFar map copy is_reverse next before range (given ++ pair_of key (value_over (left_at own key) None))
       (range_behind left is_reverse key)
   so_far-take key inside first = record {
-    goes_on = goes_on-take copy is_reverse before given (pair_of key (value_over (kept own key) None)) range left
+    goes_on = goes_on-take copy is_reverse before given (pair_of key (value_over (left_at own key) None)) range left
         (range_behind left is_reverse key) so_far.goes_on
         (behind-inside left is_reverse key
         (own-inside own map copy is_copy is_reverse left next key inside first lies so_far.none))
@@ -237,7 +237,7 @@ abbrev pub OwnSoFar : OwnWrites → Bool → ℕ → Option Point → List (Poin
     → Range → Type 0
 OwnSoFar own is_reverse limit next before range given left =
     IsWithin limit given × LiesIn left next
-    × ((map copy : Map) → IsCopyOf (kept own) map copy → HasNoValue map (ahead_of range is_reverse next)
+    × ((map copy : Map) → IsCopyOf (left_at own) map copy → HasNoValue map (ahead_of range is_reverse next)
     → TookSoFar map copy is_reverse next before range given left)
 
 pub own-start : (own : OwnWrites) (is_reverse : Bool) (limit : ℕ) (next : Option Point)
@@ -256,23 +256,23 @@ module _ (own : OwnWrites) (is_reverse : Bool) (limit : ℕ) (next : Option Poin
 
   pub own-take : (key : Point) → IsFirstOwn own (ahead_of left is_reverse next) is_reverse (Some key)
       → is_limit_reached limit given ≡ false
-      → OwnSoFar own is_reverse limit next before range (given ++ pair_of key (value_over (kept own key) None))
+      → OwnSoFar own is_reverse limit next before range (given ++ pair_of key (value_over (left_at own key) None))
       (range_behind left is_reverse key)
   own-take key first room = (
-    within-take limit given key (value_over (kept own key) None) room so_far.0,
+    within-take limit given key (value_over (left_at own key) None) room so_far.0,
     next-behind left is_reverse next key so_far.1 first.0,
     λ map copy is_copy none. so_far-take own map copy is_copy is_reverse next before given range left
         (so_far.2 map copy is_copy none) so_far.1 key first.0 first.2,
   )
 
   pub own-all : IsFirstOwn own (ahead_of left is_reverse next) is_reverse None → (map copy : Map)
-      → IsCopyOf (kept own) map copy → HasNoValue map (ahead_of range is_reverse next)
+      → IsCopyOf (left_at own) map copy → HasNoValue map (ahead_of range is_reverse next)
       → TookOwn map copy is_reverse limit next before range given left
   own-all no_entry map copy is_copy none = took-all own map copy is_copy is_reverse next before given range left
       (so_far.2 map copy is_copy none) so_far.1 limit no_entry
 
   pub own-full : is_limit_reached limit given ≡ true → (map copy : Map)
-      → IsCopyOf (kept own) map copy → HasNoValue map (ahead_of range is_reverse next)
+      → IsCopyOf (left_at own) map copy → HasNoValue map (ahead_of range is_reverse next)
       → TookOwn map copy is_reverse limit next before range given left
   own-full full map copy is_copy none = took-full own map copy is_copy is_reverse next before given range left
       (so_far.2 map copy is_copy none) so_far.1 limit full

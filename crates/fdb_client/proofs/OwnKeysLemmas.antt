@@ -20,7 +20,7 @@ use Rattle.fdb_keys.proofs.RangesLemmas.{in_range_parts, in_range_from}
 use Rattle.fdb_client.specs.declared.left.Left.{Left}
 use Rattle.fdb_client.specs.OwnWrites.{keys_between}
 use Rattle.fdb_client.proofs.ClearedLemmas.{between-range}
-use Rattle.fdb_client.proofs.KeptLemmas.{found}
+use Rattle.fdb_client.proofs.LeftAtLemmas.{found}
 
 -- ---- how many keys have an entry there
 -- one entry more, where what counts it for the first list counts it for the second

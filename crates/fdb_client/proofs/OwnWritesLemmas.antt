@@ -13,7 +13,7 @@ use Rattle.fdb_client.specs.declared.left.Left.TheVariants.{Value, Changes}
 use Rattle.fdb_client.specs.declared.program.Op.{Op}
 use Rattle.fdb_client.specs.declared.program.Op.TheVariants.{Get, Write, AddRead, AddWrite}
 use Rattle.fdb_client.specs.declared.program.Op.TheVariants as operation
-use Rattle.fdb_client.specs.OwnWrites.{left_after, left_at, value_over, is_value}
+use Rattle.fdb_client.specs.OwnWrites.{left_after, left_by_ops, value_over, is_value}
 use Rattle.fdb_client.specs.Programs.{copy, decided, write_set, writes_on}
 
 -- what one more mutation leaves is a value where it was one, or where the mutation is blind
@@ -33,7 +33,7 @@ after-is_value (Changes mutations) mutation = by_blind (is_blind mutation)
     by_blind false = refl
 
 -- the writes decide a point exactly where they leave a value there
-pub decided-left : (ops : List Op) (x : Point) → is_value (left_at ops x) ≡ decided ops x
+pub decided-left : (ops : List Op) (x : Point) → is_value (left_by_ops ops x) ≡ decided ops x
 decided-left [] x = refl
 decided-left (Get key snapshot ∷ earlier) x = decided-left earlier x
 decided-left (operation.Range range limit is_reverse snapshot ∷ earlier) x = decided-left earlier x
@@ -44,15 +44,15 @@ decided-left (Write mutation ∷ earlier) x =
     (decided-left earlier x)
   where
     by_name : (named : Bool)
-        → is_value (if named then left_after (left_at earlier x) mutation else left_at earlier x)
-        ≡ (is_blind mutation && named || is_value (left_at earlier x))
-    by_name true = after-is_value (left_at earlier x) mutation
-        ∙ ap (λ (blind : Bool). blind || is_value (left_at earlier x)) (and-true (is_blind mutation))
+        → is_value (if named then left_after (left_by_ops earlier x) mutation else left_by_ops earlier x)
+        ≡ (is_blind mutation && named || is_value (left_by_ops earlier x))
+    by_name true = after-is_value (left_by_ops earlier x) mutation
+        ∙ ap (λ (blind : Bool). blind || is_value (left_by_ops earlier x)) (and-true (is_blind mutation))
       where
         and-true : (b : Bool) → b ≡ (b && true)
         and-true true = refl
         and-true false = refl
-    by_name false = ap (λ (none : Bool). none || is_value (left_at earlier x)) (and-false (is_blind mutation))
+    by_name false = ap (λ (none : Bool). none || is_value (left_by_ops earlier x)) (and-false (is_blind mutation))
       where
         and-false : (b : Bool) → false ≡ (b && false)
         and-false true = refl
@@ -78,7 +78,7 @@ over-after (Changes mutations) mutation old = ⊎_elim
 
 -- what stands at a point of the copy is what the writes make of what stands there on the map
 pub copy-left : (map : Map) (ops : List Op) (x : Point)
-    → get (copy map ops) x ≡ value_over (left_at ops x) (get map x)
+    → get (copy map ops) x ≡ value_over (left_by_ops ops x) (get map x)
 copy-left map [] x = refl
 copy-left map (Get key snapshot ∷ earlier) x = copy-left map earlier x
 copy-left map (operation.Range range limit is_reverse snapshot ∷ earlier) x = copy-left map earlier x
@@ -91,14 +91,14 @@ copy-left map (Write mutation ∷ earlier) x =
     ∙ by_name (names mutation x)
   where
     by_name : (named : Bool)
-        → (if named then new_value mutation (value_over (left_at earlier x) (get map x))
-        else value_over (left_at earlier x) (get map x))
-        ≡ value_over (if named then left_after (left_at earlier x) mutation else left_at earlier x) (get map x)
-    by_name true = sym (over-after (left_at earlier x) mutation (get map x))
+        → (if named then new_value mutation (value_over (left_by_ops earlier x) (get map x))
+        else value_over (left_by_ops earlier x) (get map x))
+        ≡ value_over (if named then left_after (left_by_ops earlier x) mutation else left_by_ops earlier x) (get map x)
+    by_name true = sym (over-after (left_by_ops earlier x) mutation (get map x))
     by_name false = refl
 
 -- at a point that a program doesn't write its writes leave what stood there
-pub unwritten-left : (ops : List Op) (x : Point) → write_set ops x ≡ false → left_at ops x ≡ Changes []
+pub unwritten-left : (ops : List Op) (x : Point) → write_set ops x ≡ false → left_by_ops ops x ≡ Changes []
 unwritten-left [] x none = refl
 unwritten-left (Get key snapshot ∷ earlier) x none = unwritten-left earlier x none
 unwritten-left (operation.Range range limit is_reverse snapshot ∷ earlier) x none = unwritten-left earlier x none

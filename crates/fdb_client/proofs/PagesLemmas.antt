@@ -20,7 +20,7 @@ use Rattle.fdb_mutations.proofs.PairsLemmas.{all_in-pairs_in, no_values}
 use Rattle.fdb_client.specs.declared.left.Left.{Left}
 use Rattle.fdb_client.specs.declared.own_writes.OwnWrites.{OwnWrites}
 use Rattle.fdb_client.specs.declared.snapshot.Page.{Page}
-use Rattle.fdb_client.specs.Kept.{kept}
+use Rattle.fdb_client.specs.LeftAt.{left_at}
 use Rattle.fdb_client.specs.Merging.{GoesOn, HasFirst, HasNoValue, IsCopyOf, IsWithin, ReadsOn, ReadsPage, TookOwn, TookPage}
 use Rattle.fdb_client.specs.OwnWrites.{value_over}
 use Rattle.fdb_client.proofs.MergingLemmas.{goes_on-start, goes_on-take, goes_on-both, pair-copy, pair-inside, pair-map, pair-none}
@@ -35,7 +35,7 @@ abbrev pub PagesSoFar : OwnWrites → Page → Bool → ℕ → ℕ → List (Po
     → Type 0
 PagesSoFar own page is_reverse limit count before range given left =
     IsWithin limit given
-    × ((map copy : Map) → IsCopyOf (kept own) map copy → HasFirst map range is_reverse page
+    × ((map copy : Map) → IsCopyOf (left_at own) map copy → HasFirst map range is_reverse page
     → PageSoFar map copy is_reverse count before range given left)
 
 pub pages-start : (own : OwnWrites) (page : Page) (is_reverse : Bool) (limit : ℕ) (given : List (Point × List ℕ))
@@ -68,7 +68,7 @@ module _ (own : OwnWrites) (page : Page) (is_reverse : Bool) (limit count : ℕ)
     (before given : List (Point × List ℕ)) (range left : Range) (key : Point) (value : List ℕ)
     (so_far : PagesSoFar own page is_reverse limit count before range given left)
     (at : slice_get page.pairs count ≡ Some (key, value))
-    (map copy : Map) (is_copy : IsCopyOf (kept own) map copy) (first : HasFirst map range is_reverse page) where
+    (map copy : Map) (is_copy : IsCopyOf (left_at own) map copy) (first : HasFirst map range is_reverse page) where
   next-is : pairs_in map left is_reverse ≡ (key, value) ∷ drop (count + 1) (pairs_in map range is_reverse)
   next-is = (so_far.1 map copy is_copy first).rest
       ∙ next_pair (pairs_in map range is_reverse) page.pairs count (key, value) first.first at
@@ -93,12 +93,12 @@ module _ (own : OwnWrites) (page : Page) (is_reverse : Bool) (limit count : ℕ)
 
     -- or the pair is taken
     pub next-taken : is_limit_reached limit since ≡ false → PageSoFar map copy is_reverse (count + 1) before range
-        (since ++ pair_of key (value_over (kept own key) (Some value))) (range_behind part is_reverse key)
+        (since ++ pair_of key (value_over (left_at own key) (Some value))) (range_behind part is_reverse key)
     next-taken room =
         let is = took.same ∙ next-is in
         record {
           goes_on = goes_on-take copy is_reverse before since
-              (pair_of key (value_over (kept own key) (Some value))) range part (range_behind part is_reverse key)
+              (pair_of key (value_over (left_at own key) (Some value))) range part (range_behind part is_reverse key)
               (goes_on-both copy is_reverse before given since range left part
               (so_far.1 map copy is_copy first).goes_on took.goes_on)
               (behind-inside part is_reverse key took.lies_in)
@@ -110,7 +110,7 @@ module _ (own : OwnWrites) (page : Page) (is_reverse : Bool) (limit count : ℕ)
 module _ (own : OwnWrites) (page : Page) (is_reverse : Bool) (limit : ℕ)
     (before given : List (Point × List ℕ)) (range left : Range)
     (so_far : PagesSoFar own page is_reverse limit (length page.pairs) before range given left)
-    (map copy : Map) (is_copy : IsCopyOf (kept own) map copy) (first : HasFirst map range is_reverse page) where
+    (map copy : Map) (is_copy : IsCopyOf (left_at own) map copy) (first : HasFirst map range is_reverse page) where
   -- and further ones follow
   pub page-more : page.more ≡ true
       → TookPage map copy is_reverse limit (length page.pairs) page.more before range given left

@@ -1,9 +1,9 @@
 pub mod Finishing
-pub mod Kept
+pub mod LeftAt
 pub mod Merging
 pub mod OwnWrites
 pub mod Pages
-pub mod Parts
+pub mod TxnState
 pub mod ProgramLaws
 pub mod Programs
 pub mod ReadExamples

@@ -13,8 +13,8 @@ use Rattle.fdb_mutations.specs.declared.mutation.Mutation.{Mutation}
 use Rattle.fdb_mutations.specs.Mutations.{names, new_value, is_blind}
 use Rattle.fdb_client.specs.declared.left.Left.{Left}
 use Rattle.fdb_client.specs.declared.left.Left.TheVariants.{Value, Changes}
-use Rattle.fdb_client.specs.declared.own_writes.Kept.{Kept}
-use Rattle.fdb_client.specs.declared.own_writes.Kept.TheVariants as kept
+use Rattle.fdb_client.specs.declared.own_writes.LentLeft.{LentLeft}
+use Rattle.fdb_client.specs.declared.own_writes.LentLeft.TheVariants as lent
 use Rattle.fdb_client.specs.declared.program.Op.{Op}
 use Rattle.fdb_client.specs.declared.program.Op.TheVariants.{Get, Write, AddRead, AddWrite}
 use Rattle.fdb_client.specs.declared.program.Op.TheVariants as operation
@@ -38,9 +38,9 @@ left_by x left (AddRead range) = left
 left_by x left (AddWrite range) = left
 
 -- what a program's writes leave at a point
-abbrev pub left_at : List Op → Point → Left
-left_at [] x = Changes []
-left_at (op ∷ earlier) x = left_by x (left_at earlier x) op
+abbrev pub left_by_ops : List Op → Point → Left
+left_by_ops [] x = Changes []
+left_by_ops (op ∷ earlier) x = left_by x (left_by_ops earlier x) op
 
 -- what stands at a point after these writes, by what stood there
 abbrev pub value_over : Left → Option (List ℕ) → Option (List ℕ)
@@ -54,9 +54,9 @@ is_value (Value value) = true
 is_value (Changes mutations) = false
 
 -- what is lent of it
-abbrev pub as_left : Kept → Left
-as_left (kept.Value value) = Value (option_copied value)
-as_left (kept.Changes mutations) = Changes mutations.now
+abbrev pub as_left : LentLeft → Left
+as_left (lent.Value value) = Value (option_copied value)
+as_left (lent.Changes mutations) = Changes mutations.now
 
 -- what is kept for a point: what is under its own key, else that nothing stands there where it is decided
 abbrev pub kept_of : List Range → Point → Option Left → Left

@@ -5,7 +5,7 @@ ghost use Rattle.fdb_keys.specs.Insertion.{with_range};
 ghost use Rattle.fdb_keys.specs.Points.{Point, point_eq};
 ghost use Rattle.fdb_keys.specs.Ranges.{single_range, in_range, in_set};
 ghost use Rattle.fdb_mutations.specs.Mutations.{named_range, is_blind};
-ghost use Rattle.fdb_client.specs.Kept.{kept, entry_of, HasLegalKeys};
+ghost use Rattle.fdb_client.specs.LeftAt.{left_at, entry_of, HasLegalKeys};
 ghost use Rattle.fdb_client.specs.OwnWrites.{left_after, left_with, is_value};
 ghost use Rattle.fdb_client.specs.declared.left.Left.TheVariants.{Value, Changes};
 
@@ -23,14 +23,14 @@ pub(crate) fn buffer(
     mutation: &Mutation,
 ) -> Result<(), Refusal>
     requires legal_keys { HasLegalKeys own.old }
-    requires decided { (x : Point) → in_set own.old.decided x ≡ is_value (kept own.old x) }
-    requires written { (x : Point) → in_set writes.old x ≡ false → kept own.old x ≡ Changes [] }
-    ensures kept { Answers result None (λ _. (x : Point) → kept own.new x ≡ left_with x (kept own.old x) mutation.now) }
+    requires decided { (x : Point) → in_set own.old.decided x ≡ is_value (left_at own.old x) }
+    requires written { (x : Point) → in_set writes.old x ≡ false → left_at own.old x ≡ Changes [] }
+    ensures kept { Answers result None (λ _. (x : Point) → left_at own.new x ≡ left_with x (left_at own.old x) mutation.now) }
     ensures decided { OnOk result (own.new.decided
         ≡ (if is_blind mutation.now then with_range (named_range mutation.now) own.old.decided else own.old.decided)) }
     ensures writes { OnOk result (writes.new ≡ with_range (named_range mutation.now) writes.old) }
     ensures legal_keys { HasLegalKeys own.new }
-    ensures kept_err { OnErr result ((x : Point) → kept own.new x ≡ kept own.old x) }
+    ensures kept_err { OnErr result ((x : Point) → left_at own.new x ≡ left_at own.old x) }
     ensures decided_err { OnErr result (own.new.decided ≡ own.old.decided) }
     ensures writes_err { OnErr result (writes.new ≡ writes.old) }
 {
@@ -49,15 +49,15 @@ fn buffer_at_key(
     mutation: &Mutation,
 ) -> Result<(), Refusal>
     requires legal_keys { HasLegalKeys own.old }
-    requires decided { in_set own.old.decided key.now ≡ is_value (kept own.old key.now) }
-    requires written { in_set writes.old key.now ≡ false → kept own.old key.now ≡ Changes [] }
-    ensures kept { Answers result None (λ _. (x : Point) → kept own.new x
-        ≡ (if point_eq x key.now then left_after (kept own.old x) mutation.now else kept own.old x)) }
+    requires decided { in_set own.old.decided key.now ≡ is_value (left_at own.old key.now) }
+    requires written { in_set writes.old key.now ≡ false → left_at own.old key.now ≡ Changes [] }
+    ensures kept { Answers result None (λ _. (x : Point) → left_at own.new x
+        ≡ (if point_eq x key.now then left_after (left_at own.old x) mutation.now else left_at own.old x)) }
     ensures decided { OnOk result (own.new.decided
         ≡ (if is_blind mutation.now then with_range (single_range key.now) own.old.decided else own.old.decided)) }
     ensures writes { OnOk result (writes.new ≡ with_range (single_range key.now) writes.old) }
     ensures legal_keys { HasLegalKeys own.new }
-    ensures kept_err { OnErr result ((x : Point) → kept own.new x ≡ kept own.old x) }
+    ensures kept_err { OnErr result ((x : Point) → left_at own.new x ≡ left_at own.old x) }
     ensures decided_err { OnErr result (own.new.decided ≡ own.old.decided) }
     ensures writes_err { OnErr result (writes.new ≡ writes.old) }
 {
@@ -76,15 +76,15 @@ fn decide(
     left: Left,
 ) -> Result<(), Refusal>
     requires legal_keys { HasLegalKeys own.old }
-    requires undecided { in_set own.old.decided key.now ≡ false → is_value (kept own.old key.now) ≡ false }
+    requires undecided { in_set own.old.decided key.now ≡ false → is_value (left_at own.old key.now) ≡ false }
     requires written { IsTrue (in_set own.old.decided key.now) → IsTrue (in_set writes.old key.now) }
     ensures kept { Answers result None (λ _. (x : Point)
-        → kept own.new x ≡ (if point_eq x key.now then left else kept own.old x)) }
+        → left_at own.new x ≡ (if point_eq x key.now then left else left_at own.old x)) }
     ensures decided { OnOk result (own.new.decided ≡ with_range (single_range key.now) own.old.decided) }
     ensures held { IsTrue (in_set own.old.decided key.now) → own.new.decided ≡ own.old.decided }
     ensures writes { OnOk result (writes.new ≡ with_range (single_range key.now) writes.old) }
     ensures legal_keys { HasLegalKeys own.new }
-    ensures kept_err { OnErr result ((x : Point) → kept own.new x ≡ kept own.old x) }
+    ensures kept_err { OnErr result ((x : Point) → left_at own.new x ≡ left_at own.old x) }
     ensures decided_err { OnErr result (own.new.decided ≡ own.old.decided) }
     ensures writes_err { OnErr result (writes.new ≡ writes.old) }
 {
@@ -112,9 +112,9 @@ fn make_decided(
     key: &Key,
 ) -> Result<(), Refusal>
     requires legal_keys { HasLegalKeys own.old }
-    requires undecided { is_value (kept own.old key.now) ≡ false }
+    requires undecided { is_value (left_at own.old key.now) ≡ false }
     ensures answers { Answers result None (λ _. IsSome (entry_of own.new key.now)) }
-    ensures kept { (x : Point) → kept own.new x ≡ kept own.old x }
+    ensures kept { (x : Point) → left_at own.new x ≡ left_at own.old x }
     ensures decided { OnOk result (own.new.decided ≡ with_range (single_range key.now) own.old.decided) }
     ensures writes { OnOk result (writes.new ≡ with_range (single_range key.now) writes.old) }
     ensures legal_keys { HasLegalKeys own.new }
@@ -136,15 +136,15 @@ fn change(
     mutation: &Mutation,
 ) -> Result<(), Refusal>
     requires blind { is_blind mutation.now ≡ false }
-    requires undecided { is_value (kept own.old key.now) ≡ false }
+    requires undecided { is_value (left_at own.old key.now) ≡ false }
     requires legal_keys { HasLegalKeys own.old }
-    requires written { in_set writes.old key.now ≡ false → kept own.old key.now ≡ Changes [] }
-    ensures kept { Answers result None (λ _. (x : Point) → kept own.new x
-        ≡ (if point_eq x key.now then left_after (kept own.old x) mutation.now else kept own.old x)) }
+    requires written { in_set writes.old key.now ≡ false → left_at own.old key.now ≡ Changes [] }
+    ensures kept { Answers result None (λ _. (x : Point) → left_at own.new x
+        ≡ (if point_eq x key.now then left_after (left_at own.old x) mutation.now else left_at own.old x)) }
     ensures decided { own.new.decided ≡ own.old.decided }
     ensures writes { OnOk result (writes.new ≡ with_range (single_range key.now) writes.old) }
     ensures legal_keys { HasLegalKeys own.new }
-    ensures kept_err { OnErr result ((x : Point) → kept own.new x ≡ kept own.old x) }
+    ensures kept_err { OnErr result ((x : Point) → left_at own.new x ≡ left_at own.old x) }
     ensures writes_err { OnErr result (writes.new ≡ writes.old) }
 {
     own.change(alloc, key, mutation)?;
@@ -175,12 +175,12 @@ fn clear_range(
     range: &KeyRange,
 ) -> Result<(), Refusal>
     requires { HasLegalKeys own.old }
-    ensures kept { Answers result None (λ _. (x : Point) → kept own.new x
-        ≡ (if in_range range.now x then Value None else kept own.old x)) }
+    ensures kept { Answers result None (λ _. (x : Point) → left_at own.new x
+        ≡ (if in_range range.now x then Value None else left_at own.old x)) }
     ensures decided { OnOk result (own.new.decided ≡ with_range range.now own.old.decided) }
     ensures writes { OnOk result (writes.new ≡ with_range range.now writes.old) }
     ensures legal_keys { HasLegalKeys own.new }
-    ensures kept_err { OnErr result ((x : Point) → kept own.new x ≡ kept own.old x) }
+    ensures kept_err { OnErr result ((x : Point) → left_at own.new x ≡ left_at own.old x) }
     ensures decided_err { OnErr result (own.new.decided ≡ own.old.decided) }
     ensures writes_err { OnErr result (writes.new ≡ writes.old) }
 {

@@ -7,7 +7,6 @@ mod finished;
 pub mod laws;
 mod left;
 mod own_writes;
-mod parts;
 mod plain_snapshot;
 mod program;
 mod range_read;
@@ -15,6 +14,7 @@ mod reading;
 mod request;
 mod snapshot;
 mod txn;
+mod txn_state;
 
 pub use finished::Finished;
 pub use plain_snapshot::PlainSnapshot;

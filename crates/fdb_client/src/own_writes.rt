@@ -24,28 +24,28 @@ pub(crate) struct OwnWrites {
 }
 
 // What is left at a key, lent.
-pub(crate) enum Kept<'a> {
+pub(crate) enum LentLeft<'a> {
     Value(Option<&'a Bytes>),
     Changes(&'a [Mutation]),
 }
 
-fn lent(left: &Left) -> Kept<'_>
+fn lent(left: &Left) -> LentLeft<'_>
     ensures { as_left result ≡ left.now }
 {
     match left {
-        Left::Value(Some(value)) => Kept::Value(Some(value)),
-        Left::Value(None) => Kept::Value(None),
-        Left::Changes(mutations) => Kept::Changes(mutations.as_slice()),
+        Left::Value(Some(value)) => LentLeft::Value(Some(value)),
+        Left::Value(None) => LentLeft::Value(None),
+        Left::Changes(mutations) => LentLeft::Changes(mutations.as_slice()),
     }
 }
 
 impl OwnWrites {
-    ghost use Rattle.fdb_client.specs.Kept.{kept, entry_of, HasLegalKeys, HasNoEntry};
+    ghost use Rattle.fdb_client.specs.LeftAt.{left_at, entry_of, HasLegalKeys, HasNoEntry};
     ghost use Rattle.fdb_client.specs.OwnWrites.{keys_between};
     ghost use Rattle.std.specs.List.{list_any};
 
     pub(crate) fn new(alloc: Global) -> Self
-        ensures kept { (x : Point) → kept result x ≡ Changes [] }
+        ensures kept { (x : Point) → left_at result x ≡ Changes [] }
         ensures decided { result.decided ≡ [] }
         ensures legal_keys { HasLegalKeys result }
     {
@@ -56,23 +56,23 @@ impl OwnWrites {
     }
 
     // What the writes leave at the key.
-    pub(crate) fn kept(&self, key: &Key) -> Kept<'_>
-        ensures { as_left result ≡ kept self.now key.now }
+    pub(crate) fn left_at(&self, key: &Key) -> LentLeft<'_>
+        ensures { as_left result ≡ left_at self.now key.now }
     {
         match self.keys.get(key.text()) {
             Some(left) => lent(left),
-            None if self.decided.contains(key) => Kept::Value(None),
-            None => Kept::Changes(&[]),
+            None if self.decided.contains(key) => LentLeft::Value(None),
+            None => LentLeft::Changes(&[]),
         }
     }
 
     // Whether the writes decide the key.
     pub(crate) fn decides(&self, key: &Key) -> bool
-        ensures { result ≡ is_value (kept self.now key.now) }
+        ensures { result ≡ is_value (left_at self.now key.now) }
     {
-        match self.kept(key) {
-            Kept::Value(_) => true,
-            Kept::Changes(_) => false,
+        match self.left_at(key) {
+            LentLeft::Value(_) => true,
+            LentLeft::Changes(_) => false,
         }
     }
 
@@ -80,11 +80,11 @@ impl OwnWrites {
     pub(crate) fn put(&mut self, key: &Key, left: Left) -> Result<(), Refusal>
         requires { HasLegalKeys self.old }
         ensures answers { Answers result None (λ _. (x : Point)
-            → kept self.new x ≡ (if point_eq x key.now then left else kept self.old x)) }
+            → left_at self.new x ≡ (if point_eq x key.now then left else left_at self.old x)) }
         ensures entry { OnOk result (IsSome (entry_of self.new key.now)) }
         ensures decided { self.new.decided ≡ self.old.decided }
         ensures legal_keys { HasLegalKeys self.new }
-        ensures err { OnErr result ((x : Point) → kept self.new x ≡ kept self.old x) }
+        ensures err { OnErr result ((x : Point) → left_at self.new x ≡ left_at self.old x) }
     {
         let text = key.text().clone()?;
         self.keys.insert(text, left)?;
@@ -99,14 +99,14 @@ impl OwnWrites {
         mutation: &Mutation,
     ) -> Result<(), Refusal>
         requires blind { is_blind mutation.now ≡ false }
-        requires undecided { is_value (kept self.old key.now) ≡ false }
+        requires undecided { is_value (left_at self.old key.now) ≡ false }
         requires legal_keys { HasLegalKeys self.old }
-        ensures answers { Answers result None (λ _. (x : Point) → kept self.new x
-            ≡ (if point_eq x key.now then left_after (kept self.old x) mutation.now else kept self.old x)) }
+        ensures answers { Answers result None (λ _. (x : Point) → left_at self.new x
+            ≡ (if point_eq x key.now then left_after (left_at self.old x) mutation.now else left_at self.old x)) }
         ensures entry { OnOk result (IsSome (entry_of self.new key.now)) }
         ensures decided { self.new.decided ≡ self.old.decided }
         ensures legal_keys { HasLegalKeys self.new }
-        ensures err { OnErr result ((x : Point) → kept self.new x ≡ kept self.old x) }
+        ensures err { OnErr result ((x : Point) → left_at self.new x ≡ left_at self.old x) }
     {
         if let Some(left) = self.keys.get_mut(key.text()) {
             left.change(mutation)?;
@@ -120,7 +120,7 @@ impl OwnWrites {
     pub(crate) fn set(&mut self, key: &Key, left: Left)
         requires entry { IsSome (entry_of self.old key.now) }
         requires legal_keys { HasLegalKeys self.old }
-        ensures kept { (x : Point) → kept self.new x ≡ (if point_eq x key.now then left else kept self.old x) }
+        ensures kept { (x : Point) → left_at self.new x ≡ (if point_eq x key.now then left else left_at self.old x) }
         ensures decided { self.new.decided ≡ self.old.decided }
         ensures legal_keys { HasLegalKeys self.new }
     {
@@ -131,10 +131,10 @@ impl OwnWrites {
 
     // Makes an entry for the key, which isn't decided. What is kept stays as it is.
     pub(crate) fn make_entry(&mut self, alloc: Global, key: &Key) -> Result<(), Refusal>
-        requires undecided { is_value (kept self.old key.now) ≡ false }
+        requires undecided { is_value (left_at self.old key.now) ≡ false }
         requires legal_keys { HasLegalKeys self.old }
         ensures answers { Answers result None (λ _. IsSome (entry_of self.new key.now)) }
-        ensures kept { (x : Point) → kept self.new x ≡ kept self.old x }
+        ensures kept { (x : Point) → left_at self.new x ≡ left_at self.old x }
         ensures decided { self.new.decided ≡ self.old.decided }
         ensures legal_keys { HasLegalKeys self.new }
     {
@@ -153,22 +153,22 @@ impl OwnWrites {
     ) -> Result<Option<Left>, Refusal>
         ensures answers { Answers result None (λ _. ⊤) }
         ensures decided { IfOk result (λ left. IfSome left
-            (λ value. value ≡ left_after (kept self.now key.now) mutation.now)) }
+            (λ value. value ≡ left_after (left_at self.now key.now) mutation.now)) }
         ensures value { IfOk result (λ left. IfSome left
-            (λ _. is_blind mutation.now ≡ false → IsTrue (is_value (kept self.now key.now)))) }
+            (λ _. is_blind mutation.now ≡ false → IsTrue (is_value (left_at self.now key.now)))) }
         ensures blind { IfOk result (λ left. IfNone left (is_blind mutation.now ≡ false)) }
-        ensures undecided { IfOk result (λ left. IfNone left (is_value (kept self.now key.now) ≡ false)) }
+        ensures undecided { IfOk result (λ left. IfNone left (is_value (left_at self.now key.now) ≡ false)) }
     {
-        match self.kept(key) {
-            Kept::Value(value) => {
+        match self.left_at(key) {
+            LentLeft::Value(value) => {
                 let value = mutation.apply_value(alloc, value)?;
                 Ok(Some(Left::Value(value)))
             }
-            Kept::Changes(_) if mutation.is_blind() => {
+            LentLeft::Changes(_) if mutation.is_blind() => {
                 let value = mutation.apply_value(alloc, None)?;
                 Ok(Some(Left::Value(value)))
             }
-            Kept::Changes(_) => Ok(None),
+            LentLeft::Changes(_) => Ok(None),
         }
     }
 

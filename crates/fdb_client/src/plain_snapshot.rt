@@ -1,8 +1,7 @@
-use crate::reading::copied;
 use crate::snapshot::{Page, Snapshot};
 use bytes::Bytes;
 use fdb_keys::{Key, KeyRange, Refusal};
-use fdb_mutations::PlainMap;
+use fdb_mutations::{PlainMap, copied};
 
 /// A plain map, read at a version. It is refused nothing but memory.
 #[derive(Clone, Copy)]

@@ -87,7 +87,7 @@ pub enum Reply {
 /// A transaction's operations so far with their replies, the first one first.
 #[derive(Clone, Drop, PartialEq, Eq)]
 pub struct Transcript {
-    /// The name of the transaction.
+    /// The id of the transaction.
     pub id: TxnId,
     /// The version that its reads are answered at.
     pub read_version: u64,

@@ -7,7 +7,7 @@ ghost use Rattle.fdb_keys.specs.Ranges.{Range, in_range};
 ghost use Rattle.fdb_mutations.specs.Maps.{Map};
 ghost use Rattle.fdb_mutations.specs.Pairs.{is_limit_reached};
 ghost use Rattle.fdb_mutations.specs.PairLaws.{given_of, pair_of};
-ghost use Rattle.fdb_client.specs.Kept.{kept, HasLegalKeys};
+ghost use Rattle.fdb_client.specs.LeftAt.{left_at, HasLegalKeys};
 ghost use Rattle.fdb_client.specs.Merging.{HasFirst, HasNoValue, IsCopyOf, IsFirstOwn, IsWithin, LiesIn, ReadsOn, ReadsPage, TookOwn, TookPage, ahead_of};
 ghost use Rattle.fdb_client.specs.OwnWrites.{value_over};
 ghost use Rattle.fdb_client.specs.Pages.{IsPage};
@@ -96,7 +96,7 @@ impl<'a> RangeRead<'a> {
     fn take(&self, progress: &mut Progress, key: &Key, old: Option<Bytes>) -> Result<(), Refusal>
         requires { IsTrue (in_range progress.old.left key.now) }
         ensures given { Answers result None (λ _. progress.new.given
-            ≡ progress.old.given ++ pair_of key.now (value_over (kept self.now.own.now key.now) old)) }
+            ≡ progress.old.given ++ pair_of key.now (value_over (left_at self.now.own.now key.now) old)) }
         ensures left { OnOk result (progress.new.left ≡ range_behind progress.old.left self.now.reverse key.now) }
     {
         let value = value_over(self.alloc, self.own, key, old)?;
@@ -112,7 +112,7 @@ impl<'a> RangeRead<'a> {
         requires legal_keys { HasLegalKeys self.now.own.now }
         requires next { LiesIn progress.old.left (option_copied next) }
         requires within { IsWithin self.now.limit progress.old.given }
-        ensures answers { Answers result None (λ _. (map copy : Map) → IsCopyOf (kept self.now.own.now) map copy
+        ensures answers { Answers result None (λ _. (map copy : Map) → IsCopyOf (left_at self.now.own.now) map copy
             → HasNoValue map (ahead_of progress.old.left self.now.reverse (option_copied next.entry))
             → TookOwn map copy self.now.reverse self.now.limit (option_copied next.entry) progress.old.given
             progress.old.left
@@ -133,9 +133,9 @@ impl<'a> RangeRead<'a> {
     fn merge(&self, progress: &mut Progress, page: &Page) -> Result<(), Refusal>
         requires legal_keys { HasLegalKeys self.now.own.now }
         requires within { IsWithin self.now.limit progress.old.given }
-        requires page { (map : Map) × (copy : Map) × IsCopyOf (kept self.now.own.now) map copy
+        requires page { (map : Map) × (copy : Map) × IsCopyOf (left_at self.now.own.now) map copy
             × HasFirst map progress.old.left self.now.reverse page.now }
-        ensures answers { Answers result None (λ _. (map copy : Map) → IsCopyOf (kept self.now.own.now) map copy
+        ensures answers { Answers result None (λ _. (map copy : Map) → IsCopyOf (left_at self.now.own.now) map copy
             → HasFirst map progress.old.left self.now.reverse page.now
             → TookPage map copy self.now.reverse self.now.limit (length page.now.pairs) page.now.more
             progress.old.given progress.old.left progress.new.given progress.new.left) }
@@ -158,14 +158,14 @@ impl<'a> RangeRead<'a> {
     fn merge_page(&self, progress: &mut Progress, page: &Page) -> Result<bool, Refusal>
         requires legal_keys { HasLegalKeys self.now.own.now }
         requires within { IsWithin self.now.limit progress.old.given }
-        requires page { (map : Map) × (copy : Map) × IsCopyOf (kept self.now.own.now) map copy
+        requires page { (map : Map) × (copy : Map) × IsCopyOf (left_at self.now.own.now) map copy
             × HasFirst map progress.old.left self.now.reverse page.now }
         requires goes_on { page.now.more ≡ true → 0 < length page.now.pairs }
         ensures { Answers result None (λ more. (map copy : Map) (range : Range)
-            → IsCopyOf (kept self.now.own.now) map copy → HasFirst map progress.old.left self.now.reverse page.now
-            → ReadsOn (kept self.now.own.now) map range self.now.reverse self.now.limit progress.old.given
+            → IsCopyOf (left_at self.now.own.now) map copy → HasFirst map progress.old.left self.now.reverse page.now
+            → ReadsOn (left_at self.now.own.now) map range self.now.reverse self.now.limit progress.old.given
             progress.old.left
-            → ReadsPage (kept self.now.own.now) map range self.now.reverse self.now.limit progress.old.left
+            → ReadsPage (left_at self.now.own.now) map range self.now.reverse self.now.limit progress.old.left
             progress.new.given progress.new.left more) }
     {
         self.merge(progress, page)?;
@@ -176,11 +176,11 @@ impl<'a> RangeRead<'a> {
     fn take_page<S: Snapshot>(&self, snapshot: &S, progress: &mut Progress) -> Result<bool, Refusal>
         requires legal_keys { HasLegalKeys self.now.own.now }
         requires within { IsWithin self.now.limit progress.old.given }
-        requires copy { (copy : Map) × IsCopyOf (kept self.now.own.now) (S.map snapshot.now) copy }
+        requires copy { (copy : Map) × IsCopyOf (left_at self.now.own.now) (S.map snapshot.now) copy }
         ensures { Answers result (S.range_fault snapshot.now progress.old.left) (λ more. (range : Range)
-            → ReadsOn (kept self.now.own.now) (S.map snapshot.now) range self.now.reverse self.now.limit
+            → ReadsOn (left_at self.now.own.now) (S.map snapshot.now) range self.now.reverse self.now.limit
             progress.old.given progress.old.left
-            → ReadsPage (kept self.now.own.now) (S.map snapshot.now) range self.now.reverse self.now.limit
+            → ReadsPage (left_at self.now.own.now) (S.map snapshot.now) range self.now.reverse self.now.limit
             progress.old.left progress.new.given progress.new.left more) }
     {
         let page = snapshot.page(&progress.left, self.room(progress), self.reverse)?;
@@ -197,11 +197,11 @@ impl<'a> RangeRead<'a> {
         page: &Page,
     ) -> Result<(), Refusal>
         requires legal_keys { HasLegalKeys self.now.own.now }
-        requires copy { (copy : Map) × IsCopyOf (kept self.now.own.now) (S.map snapshot.now) copy }
+        requires copy { (copy : Map) × IsCopyOf (left_at self.now.own.now) (S.map snapshot.now) copy }
         requires start { progress.old.given ≡ [] }
         requires served { S.range_fault snapshot.now progress.old.left ≡ None }
         requires page { IsPage (S.map snapshot.now) progress.old.left self.now.limit self.now.reverse page.now }
-        ensures { Answers result None (λ _. (copy : Map) → IsCopyOf (kept self.now.own.now) (S.map snapshot.now) copy
+        ensures { Answers result None (λ _. (copy : Map) → IsCopyOf (left_at self.now.own.now) (S.map snapshot.now) copy
             → progress.new.given ≡ given_of copy progress.old.left self.now.limit self.now.reverse) }
     {
         let mut more = self.merge_page(progress, page)?;
@@ -219,10 +219,10 @@ impl<'a> RangeRead<'a> {
         page: &Page,
     ) -> Result<Items<(Key, Bytes)>, Refusal>
         requires legal_keys { HasLegalKeys self.now.own.now }
-        requires copy { (copy : Map) × IsCopyOf (kept self.now.own.now) (S.map snapshot.now) copy }
+        requires copy { (copy : Map) × IsCopyOf (left_at self.now.own.now) (S.map snapshot.now) copy }
         requires served { S.range_fault snapshot.now range.now ≡ None }
         requires page { IsPage (S.map snapshot.now) range.now self.now.limit self.now.reverse page.now }
-        ensures { Answers result None (λ given. (copy : Map) → IsCopyOf (kept self.now.own.now) (S.map snapshot.now) copy
+        ensures { Answers result None (λ given. (copy : Map) → IsCopyOf (left_at self.now.own.now) (S.map snapshot.now) copy
             → given ≡ given_of copy range.now self.now.limit self.now.reverse) }
     {
         let left = range.clone()?;
@@ -251,9 +251,9 @@ pub(crate) fn pairs_of<S: Snapshot>(
     reverse: bool,
 ) -> Result<Items<(Key, Bytes)>, Refusal>
     requires legal_keys { HasLegalKeys own.now }
-    requires copy { (copy : Map) × IsCopyOf (kept own.now) (S.map snapshot.now) copy }
+    requires copy { (copy : Map) × IsCopyOf (left_at own.now) (S.map snapshot.now) copy }
     ensures { Answers result (S.range_fault snapshot.now range.now)
-        (λ given. (copy : Map) → IsCopyOf (kept own.now) (S.map snapshot.now) copy
+        (λ given. (copy : Map) → IsCopyOf (left_at own.now) (S.map snapshot.now) copy
         → given ≡ given_of copy range.now limit reverse) }
 {
     let read = RangeRead {

@@ -1,35 +1,21 @@
 // What a key is read as, after a transaction's own writes.
 ghost use Rattle.std.specs.Prelude.{◌≡◌, None, IfOk, fold, if◌then◌else◌};
 ghost use Rattle.std.specs.FinMap.{get};
-ghost use Rattle.std.specs.Option.{option_copied};
 ghost use Rattle.fdb_keys.specs.Answers.{Answers};
 ghost use Rattle.fdb_keys.specs.Removal.{outside};
 ghost use Rattle.fdb_mutations.specs.Maps.{Map};
 ghost use Rattle.fdb_mutations.specs.Mutations.{new_value};
 ghost use Rattle.fdb_mutations.specs.PairLaws.{given_of};
 ghost use Rattle.fdb_mutations.specs.Pairs.{scanned};
-ghost use Rattle.fdb_client.specs.Kept.{kept};
+ghost use Rattle.fdb_client.specs.LeftAt.{left_at};
 ghost use Rattle.fdb_client.specs.OwnWrites.{is_value, value_over};
 
-use crate::own_writes::{Kept, OwnWrites};
+use crate::own_writes::{LentLeft, OwnWrites};
 use crate::snapshot::Snapshot;
 use bytes::Bytes;
 use fdb_keys::{Items, Key, KeyRange, RangeSet, Refusal, TreeRangeSet};
-use fdb_mutations::Mutation;
+use fdb_mutations::{Mutation, copied};
 use std::alloc::{AllocError, Global};
-
-// A copy of the value, if there is one.
-pub(crate) fn copied(value: Option<&Bytes>) -> Result<Option<Bytes>, AllocError>
-    ensures { IfOk result (λ copy. copy ≡ option_copied value.entry) }
-{
-    match value {
-        None => Ok(None),
-        Some(value) => {
-            let copy = value.clone()?;
-            Ok(Some(copy))
-        }
-    }
-}
 
 // A copy of the pairs.
 pub(crate) fn pairs_copy(pairs: &Items<(Key, Bytes)>) -> Result<Items<(Key, Bytes)>, AllocError>
@@ -97,11 +83,11 @@ pub(crate) fn value_over(
     key: &Key,
     old: Option<Bytes>,
 ) -> Result<Option<Bytes>, Refusal>
-    ensures { Answers result None (λ value. value ≡ value_over (kept own.now key.now) old) }
+    ensures { Answers result None (λ value. value ≡ value_over (left_at own.now key.now) old) }
 {
-    match own.kept(key) {
-        Kept::Value(value) => Ok(copied(value)?),
-        Kept::Changes(mutations) => value_after(alloc, old, mutations),
+    match own.left_at(key) {
+        LentLeft::Value(value) => Ok(copied(value)?),
+        LentLeft::Changes(mutations) => value_after(alloc, old, mutations),
     }
 }
 
@@ -112,12 +98,12 @@ pub(crate) fn value_of<S: Snapshot>(
     snapshot: &S,
     key: &Key,
 ) -> Result<Option<Bytes>, Refusal>
-    ensures { Answers result (if is_value (kept own.now key.now) then None else S.key_fault snapshot.now key.now)
-        (λ value. value ≡ value_over (kept own.now key.now) (get (S.map snapshot.now) key.now)) }
+    ensures { Answers result (if is_value (left_at own.now key.now) then None else S.key_fault snapshot.now key.now)
+        (λ value. value ≡ value_over (left_at own.now key.now) (get (S.map snapshot.now) key.now)) }
 {
-    match own.kept(key) {
-        Kept::Value(value) => Ok(copied(value)?),
-        Kept::Changes(mutations) => {
+    match own.left_at(key) {
+        LentLeft::Value(value) => Ok(copied(value)?),
+        LentLeft::Changes(mutations) => {
             let old = snapshot.get(key)?;
             value_after(alloc, old, mutations)
         }

@@ -197,7 +197,7 @@ fn read_set(alloc: Global, ops: &[(Op, Reply)]) -> Result<RangeSet, Refusal>
     reads.to_set(alloc)
 }
 
-// Whether the transaction has this name, this read version, these sets and these mutations.
+// Whether the transaction has this id, this read version, these sets and these mutations.
 fn has_parts(
     transaction: &Sealed,
     transcript: &Transcript,
@@ -228,7 +228,7 @@ fn has_parts(
     transaction.mutations() == mutations
 }
 
-/// Whether the transaction is just what the transcript asks to commit: it has the transcript's name and read version,
+/// Whether the transaction is just what the transcript asks to commit: it has the transcript's id and read version,
 /// the read set and the write set of its operations, and their mutations in order. The transcript's ordinary operations
 /// were answered as on some map. Refused only as `NoMemory`.
 pub fn is_request_of(

@@ -1,7 +1,7 @@
 use crate::finished::Finished;
-use crate::parts::Parts;
 use crate::program::Transcript;
 use crate::snapshot::Snapshot;
+use crate::txn_state::TxnState;
 use bytes::Bytes;
 use fdb_keys::{Items, Key, KeyRange, Refusal, Refused, TreeRangeSet};
 use fdb_mutations::Mutation;
@@ -16,18 +16,18 @@ use std::marker::Model;
 /// the key take that no write decided.
 #[derive(Drop)]
 pub struct Txn {
-    parts: Parts,
+    state: TxnState,
 }
 
 impl Model for Txn {
-    ghost use Rattle.fdb_client.specs.Parts.{AreKept};
+    ghost use Rattle.fdb_client.specs.TxnState.{AreKept};
     ghost use Rattle.fdb_client.specs.declared.program.Transcript.{Transcript};
 
     ghost Value = { Transcript };
 
-    ghost view = { λ txn. txn.parts.transcript };
+    ghost view = { λ txn. txn.state.transcript };
 
-    ghost invariant = { λ txn. AreKept txn.parts };
+    ghost invariant = { λ txn. AreKept txn.state };
 }
 
 impl Txn {
@@ -40,18 +40,18 @@ impl Txn {
     ghost use Rattle.fdb_mutations.specs.Mutations.{mutation_fault};
     ghost use Rattle.fdb_mutations.specs.PairLaws.{given_of};
     ghost use Rattle.fdb_client.specs.Finishing.{finish_fault, IsFinished};
-    ghost use Rattle.fdb_client.specs.Parts.{with_op};
+    ghost use Rattle.fdb_client.specs.TxnState.{with_op};
     ghost use Rattle.fdb_client.specs.ProgramLaws.{IsExecuted};
     ghost use Rattle.fdb_client.specs.Programs.{program, replies_of, copy, decided, read_set, write_set, read_ranges, write_ranges, is_read_only};
     ghost use Rattle.fdb_client.specs.declared.program.Op.TheVariants as operation;
     ghost use Rattle.fdb_client.specs.declared.program.Reply.TheVariants as answer;
 
-    /// A transaction without operations, under the name, that reads at the version. It takes no memory.
+    /// A transaction without operations, under the id, that reads at the version. It takes no memory.
     pub fn begin(alloc: Global, id: TxnId, read_version: u64) -> Self
         ensures { result ≡ record { id = id; read_version = read_version; ops = [] } }
     {
         Txn {
-            parts: Parts::new(alloc, id, read_version),
+            state: TxnState::new(alloc, id, read_version),
         }
     }
 
@@ -73,7 +73,7 @@ impl Txn {
             (λ value. self.new ≡ with_op self.old (operation.Get key.now is_snapshot) (answer.Value value)) }
         ensures err { OnErr result (self.new ≡ self.old) }
     {
-        self.parts.get(snapshot, key, is_snapshot)
+        self.state.get(snapshot, key, is_snapshot)
     }
 
     /// The pairs of the range after the transaction's own writes, from a snapshot at its read version: the first ones
@@ -99,7 +99,7 @@ impl Txn {
             ≡ with_op self.old (operation.Range range.now limit reverse is_snapshot) (answer.Pairs pairs)) }
         ensures err { OnErr result (self.new ≡ self.old) }
     {
-        self.parts
+        self.state
             .get_range(snapshot, range, limit, reverse, is_snapshot)
     }
 
@@ -121,7 +121,7 @@ impl Txn {
         ensures err { OnErr result (self.new ≡ self.old) }
     {
         mutation.check()?;
-        self.parts.write(mutation)
+        self.state.write(mutation)
     }
 
     /// Adds the range to the read set, whole, also where its keys are decided. An empty range adds nothing. Refused
@@ -131,7 +131,7 @@ impl Txn {
             (λ _. self.new ≡ with_op self.old (operation.AddRead range.now) answer.Done) }
         ensures err { OnErr result (self.new ≡ self.old) }
     {
-        self.parts.add_read(range)
+        self.state.add_read(range)
     }
 
     /// Adds the range to the write set, whole. An empty range adds nothing. Refused only as `NoMemory`, and then
@@ -141,14 +141,14 @@ impl Txn {
             (λ _. self.new ≡ with_op self.old (operation.AddWrite range.now) answer.Done) }
         ensures err { OnErr result (self.new ≡ self.old) }
     {
-        self.parts.add_write(range)
+        self.state.add_write(range)
     }
 
-    /// The name, the read version, and the operations so far with their replies.
+    /// The id, the read version, and the operations so far with their replies.
     pub fn transcript(&self) -> &Transcript
         ensures { result.now ≡ self.now }
     {
-        &self.parts.transcript
+        &self.state.transcript
     }
 
     /// The read set: what its ordinary reads read of what wasn't decided, and the ranges that were added. Where its
@@ -158,7 +158,7 @@ impl Txn {
         ensures points { (map : Map) → IsExecuted map self.now.ops → (x : Point)
             → in_set result.now x ≡ read_set map (program self.now.ops) x }
     {
-        &self.parts.reads
+        &self.state.reads
     }
 
     /// The write set: what its mutations name, and the ranges that were added.
@@ -166,7 +166,7 @@ impl Txn {
         ensures value { result.now ≡ write_ranges (program self.now.ops) }
         ensures points { (x : Point) → in_set result.now x ≡ write_set (program self.now.ops) x }
     {
-        &self.parts.writes
+        &self.state.writes
     }
 
     /// What is left to do of it: nothing where it has no mutation and an empty write set, which takes no memory and is
@@ -177,13 +177,13 @@ impl Txn {
         ensures answers { AnswersOrHandsBack result self (finish_fault result self) (IsFinished self) }
         ensures read_only { is_read_only self ≡ true → IsOk result }
     {
-        let Txn { parts } = self;
-        match parts.finish() {
+        let Txn { state } = self;
+        match state.finish() {
             Ok(finished) => Ok(finished),
             Err(refused) => Err(Refused {
                 why: refused.why,
                 back: Txn {
-                    parts: refused.back,
+                    state: refused.back,
                 },
             }),
         }

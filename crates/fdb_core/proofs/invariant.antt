@@ -1,6 +1,6 @@
 pub mod LentLaws
 pub mod LogLaws
-pub mod NameLemmas
+pub mod IdLemmas
 pub mod OnceLaws
 pub mod RealTimeLaws
 pub mod SerializedLemmas

@@ -1,7 +1,7 @@
 // A check runs the committed transactions anew, one at a time, and compares.
 pub(crate) mod compare;
+pub(crate) mod in_range;
 pub(crate) mod judge;
-pub(crate) mod parts;
 pub(crate) mod run;
 pub(crate) mod serial;
 pub(crate) mod shards;

@@ -110,7 +110,7 @@ pub fn worked_examples()
 
 /// Over every trace the entries are a book: their versions rise, and each previous version is that of the entry before;
 /// each transaction reads below its entry's version; moves go to resolvers that exist; and no two places, of one entry
-/// or of two, are of transactions with the same name. Each transaction's write set has all that its mutations name. The
+/// or of two, are of transactions with the same id. Each transaction's write set has all that its mutations name. The
 /// clients of an entry are told at most once.
 pub fn entries_of_traces_are_books()
     ensures books { TracesTellBooks }

@@ -1,8 +1,9 @@
--- The refusals' numbers.
-use Rattle.std.specs.Prelude.{ℕ}
+-- The refusals' numbers and names.
+use Rattle.std.specs.Prelude.{ℕ, List, codes}
 use Rattle.fdb_keys.specs.declared.refusal.Refusal.{Refusal}
 use Rattle.fdb_keys.specs.declared.refusal.Refusal.TheVariants.{TransactionTooOld, FutureVersion, NotCommitted, CommitUnknownResult, KeyOutsideLegalRange, InvertedRange, TransactionTooLarge, KeyTooLarge, ValueTooLarge, NoMemory, NotYet, Stale, Failed, Exhausted, BookFull, Repeated, BadOperand, BadConfig, Chain, Taken, MovesFull, Closed, WrongState, NoTransaction, Unknown}
 
+-- the number of a refusal
 abbrev pub code_of : Refusal → ℕ
 code_of TransactionTooOld = 1007
 code_of FutureVersion = 1009
@@ -29,3 +30,31 @@ code_of Closed = 9013
 code_of WrongState = 9014
 code_of NoTransaction = 9015
 code_of Unknown = 9016
+
+-- the name of a refusal
+abbrev pub name_of : Refusal → List ℕ
+name_of TransactionTooOld = codes "TransactionTooOld"
+name_of FutureVersion = codes "FutureVersion"
+name_of NotCommitted = codes "NotCommitted"
+name_of CommitUnknownResult = codes "CommitUnknownResult"
+name_of KeyOutsideLegalRange = codes "KeyOutsideLegalRange"
+name_of InvertedRange = codes "InvertedRange"
+name_of TransactionTooLarge = codes "TransactionTooLarge"
+name_of KeyTooLarge = codes "KeyTooLarge"
+name_of ValueTooLarge = codes "ValueTooLarge"
+name_of NoMemory = codes "NoMemory"
+name_of (NotYet number) = codes "NotYet"
+name_of Stale = codes "Stale"
+name_of Failed = codes "Failed"
+name_of Exhausted = codes "Exhausted"
+name_of BookFull = codes "BookFull"
+name_of (Repeated place) = codes "Repeated"
+name_of BadOperand = codes "BadOperand"
+name_of BadConfig = codes "BadConfig"
+name_of Chain = codes "Chain"
+name_of Taken = codes "Taken"
+name_of MovesFull = codes "MovesFull"
+name_of Closed = codes "Closed"
+name_of WrongState = codes "WrongState"
+name_of NoTransaction = codes "NoTransaction"
+name_of Unknown = codes "Unknown"

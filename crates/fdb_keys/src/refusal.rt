@@ -1,6 +1,6 @@
 ghost use Rattle.std.specs.Prelude.{◌≡◌};
 ghost use Rattle.fdb_keys.specs.declared.refusal.Refusal.TheVariants.{NoMemory};
-ghost use Rattle.fdb_keys.specs.Refusals.{code_of};
+ghost use Rattle.fdb_keys.specs.Refusals.{code_of, name_of};
 
 use std::alloc::{AllocError, AllocFailed};
 use std::fmt;
@@ -67,6 +67,39 @@ impl Refusal {
             Refusal::WrongState => 9014,
             Refusal::NoTransaction => 9015,
             Refusal::Unknown => 9016,
+        }
+    }
+
+    /// The name of the refusal, which stays the same in every release.
+    pub fn name(&self) -> &'static str
+        ensures { result.now ≡ name_of self.now }
+    {
+        match self {
+            Refusal::TransactionTooOld => "TransactionTooOld",
+            Refusal::FutureVersion => "FutureVersion",
+            Refusal::NotCommitted => "NotCommitted",
+            Refusal::CommitUnknownResult => "CommitUnknownResult",
+            Refusal::KeyOutsideLegalRange => "KeyOutsideLegalRange",
+            Refusal::InvertedRange => "InvertedRange",
+            Refusal::TransactionTooLarge => "TransactionTooLarge",
+            Refusal::KeyTooLarge => "KeyTooLarge",
+            Refusal::ValueTooLarge => "ValueTooLarge",
+            Refusal::NoMemory => "NoMemory",
+            Refusal::NotYet(_) => "NotYet",
+            Refusal::Stale => "Stale",
+            Refusal::Failed => "Failed",
+            Refusal::Exhausted => "Exhausted",
+            Refusal::BookFull => "BookFull",
+            Refusal::Repeated(_) => "Repeated",
+            Refusal::BadOperand => "BadOperand",
+            Refusal::BadConfig => "BadConfig",
+            Refusal::Chain => "Chain",
+            Refusal::Taken => "Taken",
+            Refusal::MovesFull => "MovesFull",
+            Refusal::Closed => "Closed",
+            Refusal::WrongState => "WrongState",
+            Refusal::NoTransaction => "NoTransaction",
+            Refusal::Unknown => "Unknown",
         }
     }
 }
@@ -136,3 +169,11 @@ pub struct Refused<T> {
     /// What the call was given.
     pub back: T,
 }
+
+impl<T> fmt::Display for Refused<T> {
+    fn fmt<W: fmt::Write>(&self, f: &mut fmt::Formatter<W>) -> fmt::Result {
+        write!(f, "{}", self.why)
+    }
+}
+
+impl<T: Drop + fmt::Debug> std::error::Error for Refused<T> {}

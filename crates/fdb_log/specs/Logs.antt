@@ -1,11 +1,12 @@
 -- What a log keeps, why it refuses, and what its calls leave.
 use Rattle.std.specs.Prelude.{◌≡◌, ◌<◌, ◌≤◌, ℕ, max, Bool, true, false, not, ◌&&◌, ◌||◌, ◌==◌, nat_lt, nat_le, List, [], ◌∷◌, ◌++◌, take, length, Option, Some, None, slice_get, unwrap_or, if◌then◌else◌}
 use Rattle.fdb_keys.specs.declared.refusal.Refusal.{Refusal}
-use Rattle.fdb_keys.specs.declared.refusal.Refusal.TheVariants.{NotYet, Stale, Failed, Unknown, BadConfig, TransactionTooOld}
+use Rattle.fdb_keys.specs.declared.refusal.Refusal.TheVariants.{Failed, Unknown, BadConfig, TransactionTooOld}
 use Rattle.fdb_txn.specs.declared.tag_msg.TagMsg.{TagMsg}
 use Rattle.fdb_log.specs.declared.message.LogMsg.{LogMsg}
 use Rattle.fdb_log.specs.declared.peek.Peek.{Peek}
-use Rattle.fdb_log.specs.Limits.{log_limit, tag_limit}
+use Rattle.fdb_txn.specs.Limits.{log_limit, tag_limit}
+use Rattle.fdb_txn.specs.Turn.{turn_fault}
 use Rattle.fdb_log.specs.Messages.{log_of, tag_message, tag_messages, above}
 use Rattle.fdb_log.specs.Peeks.{RiseAfter, through_after}
 
@@ -43,9 +44,7 @@ abbrev pub push_fault : Log → LogMsg → Option Refusal
 push_fault core message =
     if not (message.log == core.log) then Some Unknown
     else (if core.is_failed then Some Failed
-    else (if nat_lt message.prev core.last then Some Stale
-    else (if nat_lt core.last message.prev then Some (NotYet message.prev)
-    else None)))
+    else turn_fault core.last message.prev)
 
 -- why it refuses to speak of a tag and a version
 abbrev pub tag_fault : Log → (tag version : ℕ) → Option Refusal

@@ -9,6 +9,6 @@ mod peek;
 mod telling;
 
 pub use fdb_txn::TagMsg;
-pub use log_core::{LOG_LIMIT, LogCore, TAG_LIMIT};
+pub use log_core::LogCore;
 pub use message::{LogAck, LogMsg, Tagged};
 pub use peek::Peek;

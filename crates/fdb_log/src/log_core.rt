@@ -7,15 +7,9 @@ use crate::message::{LogAck, LogMsg};
 use crate::peek::Peek;
 use crate::telling::tag_messages;
 use fdb_keys::{Items, Refusal};
-use fdb_txn::TagMsg;
+use fdb_txn::{LOG_LIMIT, TAG_LIMIT, TagMsg, check_turn};
 use std::alloc::{AllocError, Global};
 use std::marker::Model;
-
-/// The most logs that there may be.
-pub const LOG_LIMIT: u32 = 16;
-
-/// The most tags that there may be, one for each shard.
-pub const TAG_LIMIT: u32 = 64;
 
 /// A log with the messages that it took, and for each tag the version through which it was popped.
 #[derive(Drop)]
@@ -167,13 +161,7 @@ impl LogCore {
         if self.is_failed {
             return Err(Refusal::Failed);
         }
-        if message.prev < self.last {
-            return Err(Refusal::Stale);
-        }
-        if self.last < message.prev {
-            return Err(Refusal::NotYet(message.prev));
-        }
-        Ok(())
+        check_turn(self.last, message.prev)
     }
 
     fn check_tag(&self, tag: u32, version: u64) -> Result<(), Refusal>

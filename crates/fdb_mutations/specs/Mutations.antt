@@ -82,6 +82,10 @@ mutation_fault mutation =
 abbrev pub names : Mutation → Point → Bool
 names mutation x = is_named (named mutation) x
 
+-- what stands at a point after the mutation, by what stood there
+abbrev pub value_after : Point → Option (List ℕ) → Mutation → Option (List ℕ)
+value_after x value mutation = if names mutation x then new_value mutation value else value
+
 -- the points that the mutation names, as a range
 abbrev pub named_range : Mutation → Range
 named_range mutation = range_of (named mutation)

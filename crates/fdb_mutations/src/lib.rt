@@ -2,6 +2,7 @@
 #![tactic(auto)]
 
 pub mod laws;
+mod making;
 mod mutation;
 mod numbers;
 mod operands;
@@ -9,4 +10,5 @@ mod pairs;
 mod plain_map;
 
 pub use mutation::{Mutation, Named, VALUE_LIMIT};
+pub use operands::copied;
 pub use plain_map::PlainMap;

@@ -5,7 +5,7 @@ ghost use Rattle.fdb_keys.specs.Answers.{Answers, AnswersExactly};
 ghost use Rattle.fdb_keys.specs.Points.{Point};
 ghost use Rattle.fdb_keys.specs.Ranges.{Range, in_range};
 ghost use Rattle.fdb_mutations.specs.Maps.{Map};
-ghost use Rattle.fdb_mutations.specs.Mutations.{mutation_fault, named, names, named_range, is_blind, mutation_size, new_value, effect, clipped_mutation, effect_of, carried};
+ghost use Rattle.fdb_mutations.specs.Mutations.{mutation_fault, named, names, named_range, is_blind, mutation_size, new_value, value_after, effect, clipped_mutation, effect_of, carried};
 ghost use Rattle.fdb_mutations.specs.Naming.{named_by};
 ghost use Rattle.fdb_mutations.specs.declared.mutation.Mutation.TheVariants.{Set, Clear, ClearRange};
 
@@ -167,6 +167,22 @@ impl Mutation {
             Mutation::ByteMax { operand, .. } => Ok(Some(byte_max(value, operand)?)),
             Mutation::CompareAndClear { operand, .. } => without(value, operand),
         }
+    }
+
+    /// What stands at the key after the mutation, by what stood there: the same where the mutation doesn't name the key.
+    /// Refused only as `NoMemory`.
+    pub fn value_after(
+        &self,
+        alloc: Global,
+        key: &Key,
+        value: Option<Bytes>,
+    ) -> Result<Option<Bytes>, Refusal>
+        ensures { Answers result None (λ new. new ≡ value_after key.now value self.now) }
+    {
+        if !self.names(key) {
+            return Ok(value);
+        }
+        self.apply_value(alloc, value.as_ref())
     }
 
     /// The mutation cut to the range, whose effect is that of the mutation at the points of the range and none

@@ -97,7 +97,7 @@ pub(crate) fn added(
         let bytes = sum_bytes(alloc, present(value), operand.as_slice())?;
         Ok(Some(bytes))
     } else {
-        copied(value)
+        Ok(copied(value)?)
     }
 }
 
@@ -191,7 +191,7 @@ pub(crate) fn without(value: Option<&Bytes>, operand: &Bytes) -> Result<Option<B
 {
     match value {
         Some(value) if value == operand => Ok(None),
-        _ => copied(value),
+        _ => Ok(copied(value)?),
     }
 }
 
@@ -203,14 +203,14 @@ pub(crate) fn copy(bytes: &Bytes) -> Result<Bytes, Refusal>
     Ok(copy)
 }
 
-// A copy of the value, if there is one.
-fn copied(value: Option<&Bytes>) -> Result<Option<Bytes>, Refusal>
-    ensures { Answers result None (λ copy. copy ≡ option_copied value.entry) }
+/// A copy of what stands at a key, if anything does. It copies no byte.
+pub fn copied(value: Option<&Bytes>) -> Result<Option<Bytes>, AllocError>
+    ensures { IfOk result (λ copy. copy ≡ option_copied value.entry) }
 {
     match value {
         None => Ok(None),
         Some(value) => {
-            let copy = copy(value)?;
+            let copy = value.clone()?;
             Ok(Some(copy))
         }
     }

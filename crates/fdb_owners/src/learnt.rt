@@ -1,11 +1,10 @@
 // What was learnt, and the owner of one key after it.
-ghost use Rattle.std.specs.Prelude.{◌≡◌, ◌++◌, nat_le, IfOk};
+ghost use Rattle.std.specs.Prelude.{◌≡◌, ◌++◌, nat_le};
 ghost use Rattle.fdb_owners.specs.Learnt.{AreRising, AreUpTo, AreAbove, owner_after};
 ghost use Rattle.fdb_owners.specs.Ownership.{target_after};
 
 use fdb_keys::{Items, Key};
 use fdb_txn::Move;
-use std::alloc::{AllocError, Global};
 
 /// The moves that take effect at a version, the earliest one first.
 #[derive(Drop)]
@@ -51,16 +50,4 @@ pub(crate) fn split_by(steps: &[Learnt], version: u64) -> (&[Learnt], &[Learnt])
         { step.version <= version },
     );
     steps.split_at(count)
-}
-
-pub(crate) fn copies(alloc: Global, moves: &[Move]) -> Result<Items<Move>, AllocError>
-    ensures { IfOk result (λ copies. copies ≡ moves.now) }
-{
-    let mut copies = Items::new(alloc);
-    for one_move in moves {
-        let range = one_move.range.clone()?;
-        let to = one_move.to;
-        copies.push(Move { range, to })?;
-    }
-    Ok(copies)
 }

@@ -1,4 +1,4 @@
-use crate::learnt::{Learnt, copies, owner_after, split_by};
+use crate::learnt::{Learnt, owner_after, split_by};
 use crate::parts::{Owned, parts_after, parts_along};
 use fdb_keys::{Items, Key, KeyRange, Refusal};
 use fdb_txn::{Move, RESOLVER_LIMIT, Splits};
@@ -69,7 +69,7 @@ impl Owners {
         if version <= self.last {
             return Err(Refusal::Stale);
         }
-        let moves = copies(self.alloc, moves)?;
+        let moves = Move::copies(self.alloc, moves)?;
         self.learnt.push(Learnt { version, moves })?;
         self.last = version;
         Ok(())

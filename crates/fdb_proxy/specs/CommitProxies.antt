@@ -110,7 +110,7 @@ failed_fault p = if p.is_failed then Some Failed else None
 abbrev pub fault_of : CommitProxy → Option Refusal → Option Refusal
 fault_of p fault = if p.is_failed then Some Failed else fault
 
--- the place of the first request with the name, as far as numbers of places go
+-- the place of the first request with the id, as far as numbers of places go
 abbrev pub repeated : Option ℕ → Option Refusal
 repeated None = None
 repeated (Some place) = Some (Repeated (min place greatest_place))
@@ -118,12 +118,12 @@ repeated (Some place) = Some (Repeated (min place greatest_place))
     greatest_place : ℕ
     greatest_place = 4294967295
 
--- why a request isn't taken: one of its name is in flight or waits, at a place that is counted from the batch's first
-abbrev pub name_fault : CommitProxy → TxnId → Option Refusal
-name_fault p id = fault_of p (repeated (place_of id (p.batch ++ p.waiting)))
+-- why a request isn't taken: one of its id is in flight or waits, at a place that is counted from the batch's first
+abbrev pub id_fault : CommitProxy → TxnId → Option Refusal
+id_fault p id = fault_of p (repeated (place_of id (p.batch ++ p.waiting)))
 
 abbrev pub submit_fault : CommitProxy → Transaction → Option Refusal
-submit_fault p t = name_fault p t.id
+submit_fault p t = id_fault p t.id
 
 -- one more waits
 abbrev pub submitting : CommitProxy → Transaction → CommitProxy
@@ -167,8 +167,8 @@ abbrev pub position_of : Ticket → Position
 position_of ticket = record { index = ticket.index; version = ticket.version; prev = ticket.prev }
 
 -- before any verdicts came
-abbrev pub unheard : Position → List Part → Resolving
-unheard position parts = record { position = position; parts = parts; verdicts = replicate (length parts) None }
+abbrev pub without_verdicts : Position → List Part → Resolving
+without_verdicts position parts = record { position = position; parts = parts; verdicts = replicate (length parts) None }
 
 -- owners that learnt the ticket's moves, and forgot what lies below the begin of its window
 pub record HaveLearnt (old : Ownership) (ticket : Ticket) (new : Ownership) : Type 0 where
@@ -178,9 +178,9 @@ pub record HaveLearnt (old : Ownership) (ticket : Ticket) (new : Ownership) : Ty
 
 -- a batch at the position of a ticket, before any verdicts came, with a part for each resolver by whatever moves the
 -- owners agree with
-pub record IsUnheard (owners : Ownership) (ticket : Ticket) (batch : List Transaction) (resolving : Resolving) : Type 0
+pub record IsWithoutVerdicts (owners : Ownership) (ticket : Ticket) (batch : List Transaction) (resolving : Resolving) : Type 0
   where
-    pub rest : resolving ≡ unheard (position_of ticket) resolving.parts
+    pub rest : resolving ≡ without_verdicts (position_of ticket) resolving.parts
     pub parts : (moves : List Stamped) → AgreesWith owners moves
         → AreParts owners.splits moves (position_of ticket) batch resolving.parts
 
@@ -189,7 +189,7 @@ pub record HasLearntTicket (old : CommitProxy) (ticket : Ticket) (new : CommitPr
   pub resolving : Resolving
   pub rest : new ≡ record old { owners = new.owners; last = ticket.version; stage = stage.Resolving resolving }
   pub learnt : HaveLearnt old.owners ticket new.owners
-  pub unheard : IsUnheard new.owners ticket old.batch resolving
+  pub without_verdicts : IsWithoutVerdicts new.owners ticket old.batch resolving
 
 -- It holds the batch as one with an entry, whose ticket it didn't learn, and refuses whatever comes. The ticket's version
 -- is its last one, and the owners may have learnt some of the moves; all else is as it was.
@@ -224,12 +224,12 @@ verdict_fault p verdicts = fault_of p (at_resolving p.stage)
     at_resolving other = Some Stale
 
 -- once they were taken
-abbrev pub hearing : CommitProxy → Verdicts → CommitProxy
-hearing p verdicts = record p { stage = heard p.stage }
+abbrev pub with_verdict : CommitProxy → Verdicts → CommitProxy
+with_verdict p verdicts = record p { stage = next p.stage }
   where
-    heard : Stage → Stage
-    heard (stage.Resolving batch) = stage.Resolving (with_verdicts batch verdicts)
-    heard other = other
+    next : Stage → Stage
+    next (stage.Resolving batch) = stage.Resolving (with_verdicts batch verdicts)
+    next other = other
 
 -- waits for the one with the number, if any
 abbrev pub waiting_for : Option ℕ → Option Refusal
@@ -289,12 +289,12 @@ logged_fault p ack = fault_of p (at_logging p.stage)
     at_logging other = Some Stale
 
 -- once it was taken
-abbrev pub acknowledging : CommitProxy → LogAck → CommitProxy
-acknowledging p ack = record p { stage = acknowledged p.stage }
+abbrev pub with_logged : CommitProxy → LogAck → CommitProxy
+with_logged p ack = record p { stage = next p.stage }
   where
-    acknowledged : Stage → Stage
-    acknowledged (stage.Logging decided) = stage.Logging (with_acknowledgement decided ack)
-    acknowledged other = other
+    next : Stage → Stage
+    next (stage.Logging decided) = stage.Logging (with_acknowledgement decided ack)
+    next other = other
 
 -- why not all logs have acknowledged the batch
 abbrev pub all_logged_fault : CommitProxy → Option Refusal
@@ -313,7 +313,7 @@ is_logged other = false
 abbrev pub done_fault : CommitProxy → Option Refusal
 done_fault p = fault_of p (if is_logged p.stage then None else Some WrongState)
 
--- the name of each transaction of a decided batch, with what becomes of it
+-- the id of each transaction of a decided batch, with what becomes of it
 abbrev pub answers_in : Stage → List (TxnId × Outcome)
 answers_in (stage.Logging decided) = decided.answers
 answers_in other = []

@@ -4,21 +4,14 @@ use Rattle.std.specs.Option.{option_or}
 use Rattle.fdb_keys.specs.declared.refusal.Refusal.{Refusal}
 use Rattle.fdb_keys.specs.declared.refusal.Refusal.TheVariants.{BadConfig}
 use Rattle.fdb_txn.specs.rules.Splits.{splits_fault}
-use Rattle.fdb_txn.specs.Limits.{resolver_limit}
-use Rattle.fdb_sequencer.specs.Limits.{proxy_limit}
+use Rattle.fdb_txn.specs.Limits.{resolver_limit, proxy_limit, log_limit, shard_limit, book_limit}
 use Rattle.fdb_sequencer.specs.Sequencer.{is_count}
-use Rattle.fdb_log.specs.Limits.{log_limit}
-use Rattle.fdb_storage.specs.Limits.{shard_limit}
 use Rattle.fdb_proxy.specs.declared.config.Config.{Config}
-
--- the most entries that a book has
-abbrev pub entry_limit : ℕ
-entry_limit = 1048576
 
 -- there are legal numbers of proxies, of logs and of entries
 abbrev pub has_legal_counts : Config → Bool
 has_legal_counts config =
-    is_count proxy_limit config.proxies && is_count log_limit config.logs && is_count entry_limit config.book
+    is_count proxy_limit config.proxies && is_count log_limit config.logs && is_count book_limit config.book
 
 -- why a configuration isn't legal
 abbrev pub config_fault : Config → Option Refusal

@@ -20,7 +20,7 @@ is_commit (outcome.Commit version place) = true
 is_commit outcome.Conflict = false
 is_commit outcome.Old = false
 
--- the name of each transaction of a batch, with what becomes of it
+-- the id of each transaction of a batch, with what becomes of it
 abbrev pub answers_by : List Transaction → List Outcome → List (TxnId × Outcome)
 answers_by [] outcomes = []
 answers_by (t ∷ ts) [] = []

@@ -4,10 +4,10 @@ use Rattle.fdb_txn.specs.Limits.{place_limit}
 use Rattle.fdb_proxy.specs.declared.requests.Requests.TheInside.{Inside}
 use Rattle.fdb_proxy.specs.Requests.{Requests}
 
--- how many more may be submitted without memory, where there is room for the names of the batch
+-- how many more may be submitted without memory, where there is room for the ids of the batch
 abbrev pub spare_of : Inside → ℕ
 spare_of r =
-    if nat_le r.taken (vec_capacity r.room) then min (vec_capacity r.list) (vec_capacity r.names) - vec_len r.list
+    if nat_le r.taken (vec_capacity r.room) then min (vec_capacity r.list) (vec_capacity r.ids) - vec_len r.list
     else 0
 
 abbrev pub requests_of : Inside → Requests
@@ -19,9 +19,9 @@ pub record AreRequests (r : Inside) : Type 0 where
   -- a batch is part of the list, and has no more places than it may have
   pub within : r.taken ≤ vec_len r.list
   pub limit : r.taken ≤ place_limit
-  -- there is room for the names of all
-  pub names : vec_len r.list ≤ vec_capacity r.names
-  -- once the names of those that wait are given away, there is room for those of the batch
+  -- there is room for the ids of all
+  pub ids : vec_len r.list ≤ vec_capacity r.ids
+  -- once the ids of those that wait are given away, there is room for those of the batch
   pub room : r.taken < vec_len r.list → r.taken ≤ vec_capacity r.room
-  pub no_names : r.names.items ≡ []
+  pub no_ids : r.ids.items ≡ []
   pub none_in_room : r.room.items ≡ []

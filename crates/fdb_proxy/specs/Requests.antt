@@ -17,6 +17,6 @@ pub record Holds (requests : Requests) (batch waiting : List Transaction) : Type
   pub in_flight : requests.batch ≡ batch
   pub in_line : requests.waiting ≡ waiting
 
--- the first of the transactions with the name
+-- the first of the transactions with the id
 abbrev pub place_of : TxnId → List Transaction → Option ℕ
 place_of id transactions = position (λ (t : Transaction). txn_id_eq t.id id) transactions

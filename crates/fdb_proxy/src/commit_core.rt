@@ -1,8 +1,8 @@
 use crate::config::Config;
-use crate::logging::{Logging, take_acknowledgement};
+use crate::logging::{Logging, logged};
 use crate::outcome::Outcome;
 use crate::requests::Requests;
-use crate::resolving::take_verdicts;
+use crate::resolving::verdict;
 use crate::stage::Stage;
 use crate::ticketing::{is_stale, resolve};
 use fdb_keys::{Items, Refusal, Refused};
@@ -52,7 +52,7 @@ impl CommitCore {
     ghost use Rattle.fdb_keys.specs.Answers.{Answers, AnswersExactly, AnswersOrHandsBack, AnswersExactlyOrHandsBack};
     ghost use Rattle.fdb_txn.specs.Limits.{place_limit};
     ghost use Rattle.fdb_txn.specs.book.Transactions.{Transaction};
-    ghost use Rattle.fdb_proxy.specs.CommitProxies.{new_fault, IsNewProxy, is_idle, failed_fault, name_fault, submit_fault, submitting, seal_fault, sealing, unsealing, IsTicketFor, learn_fault, HasLearntTicket, HasFailed, parts_fault, parts_in, verdict_fault, hearing, decide_fault, outcomes_in, deciding, messages_fault, messages_of, logged_fault, acknowledging, all_logged_fault, done_fault, answers_in, finishing};
+    ghost use Rattle.fdb_proxy.specs.CommitProxies.{new_fault, IsNewProxy, is_idle, failed_fault, id_fault, submit_fault, submitting, seal_fault, sealing, unsealing, IsTicketFor, learn_fault, HasLearntTicket, HasFailed, parts_fault, parts_in, verdict_fault, with_verdict, decide_fault, outcomes_in, deciding, messages_fault, messages_of, logged_fault, with_logged, all_logged_fault, done_fault, answers_in, finishing};
 
     /// The commit proxy with the number, of so many roles as the configuration says. Nobody waits there yet. Refused as
     /// `BadConfig` where the configuration isn't legal and where it has no proxy with the number, and as `NoMemory`.
@@ -100,7 +100,7 @@ impl CommitCore {
     }
 
     /// Takes a request, which waits for a batch after those that wait already. It takes no memory where there is room
-    /// for one more. Refused as `Failed`; as `Repeated` where a request of its name is in flight or waits, with the place
+    /// for one more. Refused as `Failed`; as `Repeated` where a request of its id is in flight or waits, with the place
     /// of that one, counted from the first place of the batch in flight on through those that wait (and no higher than
     /// 2^32 - 1); and as `NoMemory`. A refusal hands the request back, and nothing changes.
     pub fn submit(&mut self, sealed: Sealed) -> Result<(), Refused<Sealed>>
@@ -110,7 +110,7 @@ impl CommitCore {
             (submit_fault self.old.proxy sealed) (λ _. ⊤) }
         ensures refused { OnErr result (self.new.proxy ≡ self.old.proxy) }
     {
-        if let Err(why) = self.check_name(sealed.id()) {
+        if let Err(why) = self.check_id(sealed.id()) {
             return Err(Refused { why, back: sealed });
         }
         match self.requests.submit(sealed) {
@@ -158,11 +158,11 @@ impl CommitCore {
         }
     }
 
-    /// Drops those that wait, and answers their names in order. Those in flight stay and aren't named, so neither is a
+    /// Drops those that wait, and answers their ids in order. Those in flight stay and aren't named, so neither is a
     /// batch whose ticket was learnt, or for whose ticket memory ran out. It takes no memory, and O(n) time for n
     /// requests, ranges and mutations that are dropped.
     pub fn refuse_all(&mut self) -> Items<TxnId>
-        ensures names { result ≡ map (λ (t : Transaction). t.id) self.old.proxy.waiting }
+        ensures ids { result ≡ map (λ (t : Transaction). t.id) self.old.proxy.waiting }
         ensures left { self.new.proxy ≡ record self.old.proxy { waiting = [] } }
     {
         self.requests.refuse_all()
@@ -216,12 +216,12 @@ impl CommitCore {
     /// changes.
     pub fn verdict(&mut self, verdicts: Verdicts) -> Result<(), Refusal>
         ensures answers { AnswersExactly result (verdict_fault self.old.proxy verdicts)
-            (λ _. self.new.proxy ≡ hearing self.old.proxy verdicts) }
+            (λ _. self.new.proxy ≡ with_verdict self.old.proxy verdicts) }
         ensures refused { OnErr result (self.new ≡ self.old) }
     {
         self.check_works()?;
         match &mut self.stage {
-            Stage::Resolving(batch) => take_verdicts(batch, verdicts),
+            Stage::Resolving(batch) => verdict(batch, verdicts),
             _ => Err(Refusal::Stale),
         }
     }
@@ -274,12 +274,12 @@ impl CommitCore {
     /// it is of its entry, of a log that there is, and the log's first. Then nothing changes.
     pub fn logged(&mut self, ack: LogAck) -> Result<(), Refusal>
         ensures answers { AnswersExactly result (logged_fault self.old.proxy ack)
-            (λ _. self.new.proxy ≡ acknowledging self.old.proxy ack) }
+            (λ _. self.new.proxy ≡ with_logged self.old.proxy ack) }
         ensures refused { OnErr result (self.new ≡ self.old) }
     {
         self.check_works()?;
         match &mut self.stage {
-            Stage::Logging(decided) => take_acknowledgement(decided, ack),
+            Stage::Logging(decided) => logged(decided, ack),
             _ => Err(Refusal::Stale),
         }
     }
@@ -299,7 +299,7 @@ impl CommitCore {
         }
     }
 
-    /// The batch is done: answers the name of each transaction with what became of it, by place. The next batch may be
+    /// The batch is done: answers the id of each transaction with what became of it, by place. The next batch may be
     /// sealed. It takes no memory. Refused as `Failed`, and as `WrongState` unless all logs have acknowledged the batch.
     /// Then nothing changes.
     pub fn done(&mut self) -> Result<Items<(TxnId, Outcome)>, Refusal>
@@ -325,9 +325,9 @@ impl CommitCore {
         Ok(())
     }
 
-    // Whether a request of this name may be taken.
-    fn check_name(&self, id: TxnId) -> Result<(), Refusal>
-        ensures { AnswersExactly result (name_fault self.now.proxy id) (λ _. ⊤) }
+    // Whether a request of this id may be taken.
+    fn check_id(&self, id: TxnId) -> Result<(), Refusal>
+        ensures { AnswersExactly result (id_fault self.now.proxy id) (λ _. ⊤) }
     {
         self.check_works()?;
         match self.requests.place_of(id) {

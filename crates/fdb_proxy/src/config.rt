@@ -1,11 +1,5 @@
 use fdb_keys::{Items, Key, Refusal};
-use fdb_log::LOG_LIMIT;
-use fdb_sequencer::PROXY_LIMIT;
-use fdb_storage::SHARD_LIMIT;
-use fdb_txn::{RESOLVER_LIMIT, Splits};
-
-/// The most entries that a book may have.
-pub const ENTRY_LIMIT: u32 = 1_048_576;
+use fdb_txn::{BOOK_LIMIT, LOG_LIMIT, PROXY_LIMIT, RESOLVER_LIMIT, SHARD_LIMIT, Splits};
 
 /// How many of each role there are, and how keys are divided among them at the start.
 #[derive(Clone, Drop, PartialEq, Eq)]
@@ -36,7 +30,7 @@ impl Config {
     {
         let has_legal_counts = (1..=PROXY_LIMIT).contains(&self.proxies)
             && (1..=LOG_LIMIT).contains(&self.logs)
-            && (1..=ENTRY_LIMIT).contains(&self.book);
+            && (1..=BOOK_LIMIT).contains(&self.book);
         if !has_legal_counts {
             return Err(Refusal::BadConfig);
         }

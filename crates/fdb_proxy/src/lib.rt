@@ -17,7 +17,7 @@ mod stage;
 mod ticketing;
 
 pub use commit_core::CommitCore;
-pub use config::{Config, ENTRY_LIMIT};
+pub use config::Config;
 pub use deciding::outcomes_of;
 pub use grv_core::GrvCore;
 pub use outcome::Outcome;

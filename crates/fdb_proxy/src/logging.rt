@@ -82,7 +82,7 @@ impl Logging {
     }
 
     /// The acknowledgement came, for which the batch waits.
-    pub(crate) fn receive(&mut self, ack: LogAck)
+    pub(crate) fn logged(&mut self, ack: LogAck)
         requires { IsTrue (is_awaited self.old ack) }
         ensures { self.new ≡ with_acknowledgement self.old ack }
     {
@@ -98,7 +98,7 @@ impl Logging {
 }
 
 /// Takes an acknowledgement, where the batch waits for it.
-pub(crate) fn take_acknowledgement(decided: &mut Logging, ack: LogAck) -> Result<(), Refusal>
+pub(crate) fn logged(decided: &mut Logging, ack: LogAck) -> Result<(), Refusal>
     ensures answers { AnswersExactly result (if is_awaited decided.old ack then None else Some Stale)
         (λ _. decided.new ≡ with_acknowledgement decided.old ack) }
     ensures refused { OnErr result (decided.new ≡ decided.old) }
@@ -106,11 +106,11 @@ pub(crate) fn take_acknowledgement(decided: &mut Logging, ack: LogAck) -> Result
     if !decided.is_awaited(ack) {
         return Err(Refusal::Stale);
     }
-    decided.receive(ack);
+    decided.logged(ack);
     Ok(())
 }
 
-// The name of each transaction, with what becomes of it.
+// The id of each transaction, with what becomes of it.
 fn answers_by(
     alloc: Global,
     batch: &[Sealed],

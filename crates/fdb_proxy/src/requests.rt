@@ -12,7 +12,7 @@ use std::mem;
 /// The requests of a commit proxy: those of the batch in flight by place, and those that wait for a batch in order.
 ///
 /// Who gives the batch up, or refuses those that wait, must not need memory for that. So there is always room for the
-/// names of all, and while somebody waits there is as much again for the names of the batch.
+/// ids of all, and while somebody waits there is as much again for the ids of the batch.
 #[derive(Drop)]
 pub(crate) struct Requests {
     // the batch, and then those that wait
@@ -20,7 +20,7 @@ pub(crate) struct Requests {
     // how many are in the batch
     taken: usize,
     // both empty, and kept for their room
-    names: Vec<TxnId>,
+    ids: Vec<TxnId>,
     room: Vec<TxnId>,
 }
 
@@ -48,7 +48,7 @@ impl Requests {
         Requests {
             list: Vec::new(alloc),
             taken: 0,
-            names: Vec::new(alloc),
+            ids: Vec::new(alloc),
             room: Vec::new(alloc),
         }
     }
@@ -60,7 +60,7 @@ impl Requests {
         ensures ready { 1 ≤ self.old.spare → IsOk result }
     {
         self.list.reserve(1)?;
-        self.names.reserve(self.list.len() + 1)?;
+        self.ids.reserve(self.list.len() + 1)?;
         self.room.reserve(self.taken)
     }
 
@@ -79,7 +79,7 @@ impl Requests {
         Ok(())
     }
 
-    /// The place of the first request with the name, counted from the first place of the batch.
+    /// The place of the first request with the id, counted from the first place of the batch.
     pub(crate) fn place_of(&self, id: TxnId) -> Option<usize>
         ensures { result ≡ place_of id (self.now.batch ++ self.now.waiting) }
     {
@@ -124,19 +124,19 @@ impl Requests {
         self.taken = 0;
     }
 
-    /// Those that wait are dropped. Answers their names, in order. It takes no memory.
+    /// Those that wait are dropped. Answers their ids, in order. It takes no memory.
     pub(crate) fn refuse_all(&mut self) -> Items<TxnId>
-        ensures names { result ≡ map (λ (t : Transaction). t.id) self.old.waiting }
+        ensures ids { result ≡ map (λ (t : Transaction). t.id) self.old.waiting }
         ensures left { Holds self.new self.old.batch [] }
     {
         let alloc = *self.list.allocator();
         if self.nobody_waits() {
             return Items::new(alloc);
         }
-        push_names(&mut self.names, &self.list[self.taken..]);
+        push_ids(&mut self.ids, &self.list[self.taken..]);
         self.list.truncate(self.taken);
         let room = mem::replace(&mut self.room, Vec::new(alloc));
-        Items::from_vec(mem::replace(&mut self.names, room))
+        Items::from_vec(mem::replace(&mut self.ids, room))
     }
 
     /// The batch is done: its transactions are dropped. It takes no memory.
@@ -156,13 +156,13 @@ fn place_in(transactions: &[Sealed], id: TxnId) -> Option<usize>
         .position(|transaction| transaction.id() == id)
 }
 
-// Adds the names of the transactions, for which there is room.
-fn push_names(names: &mut Vec<TxnId>, transactions: &[Sealed])
-    requires { vec_len names.old + length transactions.now ≤ vec_capacity names.old }
-    ensures { names.new.items ≡ names.old.items ++ map (λ (t : Transaction). t.id) transactions.now }
+// Adds the ids of the transactions, for which there is room.
+fn push_ids(ids: &mut Vec<TxnId>, transactions: &[Sealed])
+    requires { vec_len ids.old + length transactions.now ≤ vec_capacity ids.old }
+    ensures { ids.new.items ≡ ids.old.items ++ map (λ (t : Transaction). t.id) transactions.now }
 {
     for transaction in transactions {
-        names.push_reserved(transaction.id());
+        ids.push_reserved(transaction.id());
     }
 }
 

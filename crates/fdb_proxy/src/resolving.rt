@@ -61,7 +61,7 @@ impl Resolving {
     }
 
     /// The verdicts came, for which the batch waits.
-    pub(crate) fn receive(&mut self, verdicts: Verdicts)
+    pub(crate) fn verdict(&mut self, verdicts: Verdicts)
         requires { IsTrue (is_awaited self.old verdicts) }
         ensures { self.new ≡ with_verdicts self.old verdicts }
     {
@@ -94,7 +94,7 @@ impl Resolving {
 }
 
 /// Takes verdicts, where the batch waits for them.
-pub(crate) fn take_verdicts(batch: &mut Resolving, verdicts: Verdicts) -> Result<(), Refusal>
+pub(crate) fn verdict(batch: &mut Resolving, verdicts: Verdicts) -> Result<(), Refusal>
     ensures answers { AnswersExactly result (if is_awaited batch.old verdicts then None else Some Stale)
         (λ _. batch.new ≡ with_verdicts batch.old verdicts) }
     ensures refused { OnErr result (batch.new ≡ batch.old) }
@@ -102,7 +102,7 @@ pub(crate) fn take_verdicts(batch: &mut Resolving, verdicts: Verdicts) -> Result
     if !batch.is_awaited(&verdicts) {
         return Err(Refusal::Stale);
     }
-    batch.receive(verdicts);
+    batch.verdict(verdicts);
     Ok(())
 }
 

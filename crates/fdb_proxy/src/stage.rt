@@ -34,7 +34,7 @@ impl Stage {
         }
     }
 
-    /// The name of each transaction of a decided batch, with what became of it.
+    /// The id of each transaction of a decided batch, with what became of it.
     pub(crate) fn into_answers(self, alloc: Global) -> Items<(TxnId, Outcome)>
         ensures { result ≡ answers_in self }
     {

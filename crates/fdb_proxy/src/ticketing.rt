@@ -8,7 +8,7 @@ ghost use Rattle.fdb_txn.specs.rules.Owners.{window};
 ghost use Rattle.fdb_owners.specs.Ownership.{resolvers_of};
 ghost use Rattle.fdb_owners.specs.OwnersLaws.{AgreesWith};
 ghost use Rattle.fdb_sequencer.specs.TicketLaws.{AreRisingUpTo, GoToResolvers};
-ghost use Rattle.fdb_proxy.specs.CommitProxies.{is_stale, moves_with, HaveLearnt, IsUnheard};
+ghost use Rattle.fdb_proxy.specs.CommitProxies.{is_stale, moves_with, HaveLearnt, IsWithoutVerdicts};
 
 use crate::parting::parts_of;
 use crate::position::Position;
@@ -64,7 +64,7 @@ pub(crate) fn resolve(
     requires targets { GoToResolvers (resolvers_of owners.old) ticket.now.moves }
     requires through { owners.old.last ≤ ticket.now.version }
     requires floor { owners.old.floor ≤ ticket.now.version - window }
-    ensures answers { Answers result None (λ resolving. IsUnheard owners.new ticket.now batch.now resolving) }
+    ensures answers { Answers result None (λ resolving. IsWithoutVerdicts owners.new ticket.now batch.now resolving) }
     ensures learnt { IfOk result (λ _. HaveLearnt owners.old ticket.now owners.new) }
     ensures splits { owners.new.splits ≡ owners.old.splits }
     ensures last { owners.new.last ≤ ticket.now.version }

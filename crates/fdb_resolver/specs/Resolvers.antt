@@ -1,12 +1,13 @@
 -- What a resolver keeps, why it refuses a part, and what it makes of one.
-use Rattle.std.specs.Prelude.{◌≡◌, ◌-◌, ℕ, Bool, true, false, not, ◌==◌, nat_lt, Option, Some, None, if◌then◌else◌}
+use Rattle.std.specs.Prelude.{◌≡◌, ◌-◌, ℕ, Bool, true, false, not, ◌==◌, Option, Some, None, if◌then◌else◌}
 use Rattle.fdb_keys.specs.Points.{Point}
 use Rattle.fdb_keys.specs.declared.refusal.Refusal.{Refusal}
-use Rattle.fdb_keys.specs.declared.refusal.Refusal.TheVariants.{NotYet, Stale, Failed, Unknown}
+use Rattle.fdb_keys.specs.declared.refusal.Refusal.TheVariants.{Failed, Unknown}
 use Rattle.fdb_interval.specs.declared.last_commit.LastCommit.{LastCommit}
 use Rattle.fdb_interval.specs.Versions.{version_at, forgetting}
 use Rattle.fdb_txn.specs.rules.Owners.{window}
 use Rattle.fdb_txn.specs.rules.Resolvers.{AgreeFrom}
+use Rattle.fdb_txn.specs.Turn.{turn_fault}
 use Rattle.fdb_resolver.specs.declared.part.Part.{Part}
 use Rattle.fdb_resolver.specs.declared.verdict.Verdicts.{Verdicts}
 use Rattle.fdb_resolver.specs.Rule.{AreVerdicts, versions_after}
@@ -24,9 +25,7 @@ abbrev pub part_fault : Resolver → Part → Option Refusal
 part_fault core part =
     if not (part.resolver == core.index) then Some Unknown
     else (if core.is_failed then Some Failed
-    else (if nat_lt part.prev core.last then Some Stale
-    else (if nat_lt core.last part.prev then Some (NotYet part.prev)
-    else None)))
+    else turn_fault core.last part.prev)
 
 -- it has taken nothing, and no point was written
 pub record IsNew (number : ℕ) (core : Resolver) : Type 0 where

@@ -3,7 +3,7 @@ use crate::part::Part;
 use crate::verdict::Verdicts;
 use fdb_interval::LastCommit;
 use fdb_keys::Refusal;
-use fdb_txn::WINDOW;
+use fdb_txn::{WINDOW, check_turn};
 use std::alloc::Global;
 use std::marker::Model;
 
@@ -52,7 +52,7 @@ impl ResolverCore {
     /// Takes the resolver's part of an entry, and says of each place, as the places before it left the
     /// versions, whether it is old, conflicts, or may commit. Places that may commit give the points that
     /// they write the part's version. Refused as `Unknown` where the part is another resolver's, as `Failed`
-    /// once memory ran out in an earlier call, as `Stale` where the entry before the part's lies after the
+    /// once memory ran out in an earlier call, as `Stale` where the entry before the part's lies before the
     /// last one taken, as `NotYet` with that entry's version where it hasn't been taken, and as `NoMemory`.
     /// The resolver stays as it was where it is refused, but for `NoMemory`, after which it has failed.
     /// A part's version is above that of the entry before it, its places rise, and of a transaction without
@@ -98,12 +98,6 @@ impl ResolverCore {
         if self.is_failed {
             return Err(Refusal::Failed);
         }
-        if part.prev < self.last {
-            return Err(Refusal::Stale);
-        }
-        if self.last < part.prev {
-            return Err(Refusal::NotYet(part.prev));
-        }
-        Ok(())
+        check_turn(self.last, part.prev)
     }
 }

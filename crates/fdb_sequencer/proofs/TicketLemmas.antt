@@ -11,7 +11,7 @@ use Rattle.fdb_txn.specs.book.History.{AreEntries}
 use Rattle.fdb_txn.proofs.book.HistoryLemmas.{all-append, books_are_entries}
 use Rattle.fdb_sequencer.specs.declared.ticket.Ticket.{Ticket}
 use Rattle.fdb_sequencer.specs.Equality.{dated_eq, dated_eq_decides}
-use Rattle.fdb_sequencer.specs.Limits.{ticket_limit, version_limit, greatest_advance}
+use Rattle.fdb_txn.specs.Limits.{ticket_limit, version_limit, greatest_advance}
 use Rattle.fdb_sequencer.specs.Moves.{moves_at}
 use Rattle.fdb_sequencer.specs.Sequencer.{Sequencer, moves_in, next_version, planned, plan_fault, is_planned, accept_fault, accepting, move_fault, moving}
 use Rattle.fdb_sequencer.specs.TicketLaws.{Act, Moves, Takes, after, tickets_in, PlannedAreAccepted, AcceptedArePlanned, AcceptedOnce, IndicesCountUp, Issued, ReadsBelow, AreIssued, TicketsMakeABook, FirstTicketsAreABook, entry_of}

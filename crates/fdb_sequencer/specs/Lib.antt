@@ -1,7 +1,6 @@
 pub mod Cores
 pub mod Equality
 pub mod Examples
-pub mod Limits
 pub mod MoveFields
 pub mod Moves
 pub mod Sequencer

@@ -7,10 +7,9 @@ use Rattle.fdb_keys.specs.declared.refusal.Refusal.TheVariants.{Stale, Exhausted
 use Rattle.fdb_keys.specs.Ranges.{is_empty_range}
 use Rattle.fdb_txn.specs.declared.entry.Move.{Move}
 use Rattle.fdb_txn.specs.Equality.{move_eq}
-use Rattle.fdb_txn.specs.Limits.{resolver_limit}
+use Rattle.fdb_txn.specs.Limits.{resolver_limit, proxy_limit, ticket_limit, version_limit, greatest_advance, move_limit}
 use Rattle.fdb_sequencer.specs.declared.ticket.Ticket.{Ticket}
 use Rattle.fdb_sequencer.specs.Equality.{dated_eq}
-use Rattle.fdb_sequencer.specs.Limits.{proxy_limit, ticket_limit, version_limit, greatest_advance, move_limit}
 use Rattle.fdb_sequencer.specs.Moves.{Dated, Moves, no_moves, with_move, unlearnt_of, moves_at, handed_out}
 
 pub record Sequencer : Type 0 where

@@ -8,7 +8,7 @@ use Rattle.fdb_txn.specs.book.Transactions.{Transaction, NamesWrites}
 use Rattle.fdb_txn.specs.book.Once.{NoIdTwice}
 use Rattle.fdb_txn.specs.book.History.{AreEntries, IsBook}
 use Rattle.fdb_sequencer.specs.declared.ticket.Ticket.{Ticket}
-use Rattle.fdb_sequencer.specs.Limits.{greatest_advance}
+use Rattle.fdb_txn.specs.Limits.{greatest_advance}
 use Rattle.fdb_sequencer.specs.Moves.{Dated, dated}
 use Rattle.fdb_sequencer.specs.Sequencer.{Sequencer, IsSequencer, fresh, unlearnt_by, planned, plan_fault, accept_fault, accepting, move_fault, moving}
 
@@ -89,7 +89,7 @@ TicketsMakeABook =
     → AllByRecursion ReadsBelow issued
     → AreEntries s.resolvers s.last (map entry_of issued)
 
--- from version 0 on they are a book, where no name is that of two of the transactions
+-- from version 0 on they are a book, where no id is that of two of the transactions
 abbrev pub FirstTicketsAreABook : Type 0
 FirstTicketsAreABook =
     (s : Sequencer) (acts : List Act) (issued : List Issued) → IsSequencer s → s.last ≡ 0 → AreIssued s acts issued

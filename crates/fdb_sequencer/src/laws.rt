@@ -26,7 +26,7 @@ pub fn tickets_are_accepted_once()
 
 /// Tickets that are accepted one after another, with moves that are made in between, make a book. Their indices
 /// count up, and batches at them are entries that follow on one another, if each transaction read below its ticket's
-/// version. From version 0 on they are a book, if no two of the transactions have one name.
+/// version. From version 0 on they are a book, if no two of the transactions have one id.
 pub fn accepted_tickets_make_a_book()
     ensures indices { IndicesCountUp }
     ensures entries { TicketsMakeABook }

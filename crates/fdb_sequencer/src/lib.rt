@@ -7,7 +7,5 @@ mod moves;
 mod sequencer_core;
 mod ticket;
 
-pub use sequencer_core::{
-    GREATEST_ADVANCE, MOVE_LIMIT, PROXY_LIMIT, SequencerCore, TICKET_LIMIT, VERSION_LIMIT,
-};
+pub use sequencer_core::SequencerCore;
 pub use ticket::Ticket;

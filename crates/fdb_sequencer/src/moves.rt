@@ -97,7 +97,7 @@ impl Moves {
     pub(crate) fn copy_pending(&self) -> Result<Items<Move>, AllocError>
         ensures { IfOk result (λ moves. moves ≡ self.now.pending) }
     {
-        copies(*self.issued.allocator(), self.pending.as_slice())
+        Move::copies(*self.issued.allocator(), self.pending.as_slice())
     }
 
     /// Whether the list is that of the moves that the proxy hasn't had, once the pending ones take effect at the
@@ -153,18 +153,6 @@ fn are_dated(list: &[(u64, Items<Move>)], version: u64, moves: &Items<Move>) -> 
     }
 }
 
-fn copies(alloc: Global, moves: &[Move]) -> Result<Items<Move>, AllocError>
-    ensures { IfOk result (λ copies. copies ≡ moves.now) }
-{
-    let mut copies = Items::new(alloc);
-    for one_move in moves {
-        let range = one_move.range.clone()?;
-        let to = one_move.to;
-        copies.push(Move { range, to })?;
-    }
-    Ok(copies)
-}
-
 fn copies_by_version(
     alloc: Global,
     dated: &[(u64, Items<Move>)],
@@ -173,7 +161,7 @@ fn copies_by_version(
 {
     let mut copies_by_version = Items::new(alloc);
     for of in dated {
-        copies_by_version.push((of.0, copies(alloc, of.1.as_slice())?))?;
+        copies_by_version.push((of.0, Move::copies(alloc, of.1.as_slice())?))?;
     }
     Ok(copies_by_version)
 }

@@ -1,24 +1,11 @@
 use crate::moves::Moves;
 use crate::ticket::Ticket;
 use fdb_keys::Refusal;
-use fdb_txn::{Move, RESOLVER_LIMIT};
+use fdb_txn::{
+    GREATEST_ADVANCE, MOVE_LIMIT, Move, PROXY_LIMIT, RESOLVER_LIMIT, TICKET_LIMIT, VERSION_LIMIT,
+};
 use std::alloc::Global;
 use std::marker::Model;
-
-/// The most commit proxies that there may be.
-pub const PROXY_LIMIT: u32 = 16;
-
-/// The most tickets that may be accepted.
-pub const TICKET_LIMIT: u64 = 1 << 32;
-
-/// The greatest version.
-pub const VERSION_LIMIT: u64 = 1 << 62;
-
-/// The most versions that one ticket may advance. The least is one.
-pub const GREATEST_ADVANCE: u64 = 5_000_000;
-
-/// The most moves that may be made.
-pub const MOVE_LIMIT: u32 = 65_536;
 
 /// Gives each batch its version and its place in the book, tells each proxy of the moves of keys between resolvers, and
 /// keeps the greatest version that was reported.

@@ -5,7 +5,8 @@ use Rattle.std.proofs.lemmas.Bool.{cond-true, cond-false, le-leb, leb-true, fals
 use Rattle.std.proofs.lemmas.List.Sums.{fold-append}
 use Rattle.fdb_keys.specs.Points.{Point}
 use Rattle.fdb_txn.specs.declared.tag_msg.TagMsg.{TagMsg}
-use Rattle.fdb_txn.specs.rules.Messages.{mutations_in, value_after, value_with, value_in}
+use Rattle.fdb_txn.specs.rules.Messages.{mutations_in, value_with, value_in}
+use Rattle.fdb_mutations.specs.Mutations.{value_after}
 use Rattle.fdb_log.specs.Peeks.{RiseAfter, through_after}
 
 -- each message is of a version up to this one

@@ -10,10 +10,10 @@ use Rattle.fdb_keys.specs.Ranges.{Range, in_range}
 use Rattle.fdb_keys.specs.Clipping.{in_clipped}
 use Rattle.fdb_mutations.specs.declared.mutation.Mutation.{Mutation}
 use Rattle.fdb_mutations.specs.Maps.{Map}
-use Rattle.fdb_mutations.specs.Mutations.{effect}
+use Rattle.fdb_mutations.specs.Mutations.{effect, value_after}
 use Rattle.fdb_mutations.proofs.Effects.{at_every_point, effect-clipped}
 use Rattle.fdb_txn.specs.declared.tag_msg.TagMsg.{TagMsg}
-use Rattle.fdb_txn.specs.rules.Messages.{mutations_in, value_after, value_with, value_in}
+use Rattle.fdb_txn.specs.rules.Messages.{mutations_in, value_with, value_in}
 use Rattle.fdb_storage.specs.CutMaps.{cut_effect, cut_with}
 
 -- at a point of the range stands what the messages leave there

@@ -1,6 +1,5 @@
 pub mod CutMaps
 pub mod Examples
-pub mod Limits
 pub mod LogMessages
 pub mod Replays
 pub mod ShardMaps

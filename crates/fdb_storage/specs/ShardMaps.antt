@@ -7,7 +7,7 @@ use Rattle.fdb_mutations.specs.declared.mutation.Mutation.{Mutation}
 use Rattle.fdb_mutations.specs.Mutations.{names}
 use Rattle.fdb_txn.specs.rules.Messages.{meets_range}
 use Rattle.fdb_txn.specs.rules.Splits.{piece}
-use Rattle.fdb_storage.specs.Limits.{shard_limit}
+use Rattle.fdb_txn.specs.Limits.{shard_limit}
 
 -- the numbers of the shards between the splits
 abbrev pub shards_of : List Point → List ℕ

@@ -3,13 +3,14 @@ use Rattle.std.specs.Prelude.{◌≡◌, ◌≤◌, ℕ, max, Bool, true, false,
 use Rattle.std.specs.List.{AllByRecursion}
 use Rattle.std.specs.FinMap.{get}
 use Rattle.fdb_keys.specs.declared.refusal.Refusal.{Refusal}
-use Rattle.fdb_keys.specs.declared.refusal.Refusal.TheVariants.{NotYet, Stale, Failed, Unknown, KeyOutsideLegalRange, TransactionTooOld, FutureVersion}
+use Rattle.fdb_keys.specs.declared.refusal.Refusal.TheVariants.{Failed, Unknown, KeyOutsideLegalRange, TransactionTooOld, FutureVersion}
 use Rattle.fdb_keys.specs.Points.{Point}
 use Rattle.fdb_keys.specs.Ranges.{Range, in_range, is_within, ranges_meet}
 use Rattle.fdb_mutations.specs.Maps.{Map}
 use Rattle.fdb_mutations.specs.Pairs.{pairs_in, first_of}
 use Rattle.fdb_txn.specs.declared.tag_msg.TagMsg.{TagMsg}
 use Rattle.fdb_txn.specs.rules.Messages.{value_in, value_with}
+use Rattle.fdb_txn.specs.Turn.{turn_fault}
 use Rattle.fdb_log.specs.declared.peek.Peek.{Peek}
 use Rattle.fdb_storage.specs.declared.page.Page.{Page}
 
@@ -62,9 +63,7 @@ abbrev pub apply_fault : Shard → Peek → Option Refusal
 apply_fault shard peek =
     if not (peek.tag == shard.tag) then Some Unknown
     else (if shard.is_failed then Some Failed
-    else (if nat_lt peek.after shard.version then Some Stale
-    else (if nat_lt shard.version peek.after then Some (NotYet peek.after)
-    else None)))
+    else turn_fault shard.version peek.after)
 
 -- why it refuses to raise its floor
 abbrev pub forget_fault : Shard → ℕ → Option Refusal

@@ -13,4 +13,4 @@ mod values;
 pub use page::Page;
 pub use replaying::replay;
 pub use shard::Shard;
-pub use shard_map::{SHARD_LIMIT, ShardMap};
+pub use shard_map::ShardMap;

@@ -6,6 +6,7 @@ use bytes::Bytes;
 use fdb_keys::{Key, KeyRange, Refusal};
 use fdb_log::{Peek, TagMsg};
 use fdb_mutations::PlainMap;
+use fdb_txn::check_turn;
 use std::alloc::Global;
 use std::marker::Model;
 
@@ -186,13 +187,7 @@ impl Shard {
         if self.is_failed {
             return Err(Refusal::Failed);
         }
-        if peek.after < self.version {
-            return Err(Refusal::Stale);
-        }
-        if self.version < peek.after {
-            return Err(Refusal::NotYet(peek.after));
-        }
-        Ok(())
+        check_turn(self.version, peek.after)
     }
 
     // Refused where what is read isn't all held here, and where the version isn't served.

@@ -6,12 +6,9 @@ ghost use Rattle.fdb_storage.specs.ShardMaps.{shards_of};
 
 use fdb_keys::{Items, Key, KeyRange, Refusal};
 use fdb_mutations::{Mutation, Named};
-use fdb_txn::Splits;
+use fdb_txn::{SHARD_LIMIT, Splits};
 use std::alloc::{AllocError, Global};
 use std::marker::Model;
-
-/// The most shards that there may be.
-pub const SHARD_LIMIT: usize = 64;
 
 /// Which shard holds which key: shards are numbered from 0 in the order of their keys. A shard's tag is its number.
 #[derive(Drop)]
@@ -39,7 +36,7 @@ impl ShardMap {
     ghost use Rattle.fdb_keys.specs.Ranges.{in_range, ranges_meet};
     ghost use Rattle.fdb_txn.specs.rules.Owners.{first_owner};
     ghost use Rattle.fdb_txn.specs.rules.Splits.{piece, piece_fault, splits_fault};
-    ghost use Rattle.fdb_storage.specs.Limits.{shard_limit};
+    ghost use Rattle.fdb_txn.specs.Limits.{shard_limit};
     ghost use Rattle.fdb_storage.specs.ShardMaps.{shards_of, tags_of};
 
     /// The shards between the splits, one more than there are. Refused as `BadConfig` where these are more than 64,

@@ -1,28 +1,14 @@
 // What stands at a key after messages.
 ghost use Rattle.std.specs.Prelude.{◌≡◌, fold, None};
 ghost use Rattle.fdb_keys.specs.Answers.{Answers};
-ghost use Rattle.fdb_txn.specs.rules.Messages.{mutations_in, value_after, value_in};
+ghost use Rattle.fdb_txn.specs.rules.Messages.{mutations_in, value_in};
+ghost use Rattle.fdb_mutations.specs.Mutations.{value_after};
 
 use bytes::Bytes;
 use fdb_keys::{Key, Refusal};
 use fdb_log::TagMsg;
 use fdb_mutations::Mutation;
 use std::alloc::Global;
-
-fn value_after(
-    alloc: Global,
-    key: &Key,
-    value: Option<Bytes>,
-    mutation: &Mutation,
-) -> Result<Option<Bytes>, Refusal>
-    ensures { Answers result None (λ new. new ≡ value_after key.now value mutation.now) }
-{
-    if !mutation.names(key) {
-        return Ok(value);
-    }
-    let new = mutation.apply_value(alloc, value.as_ref())?;
-    Ok(new)
-}
 
 fn value_after_body(
     alloc: Global,
@@ -34,7 +20,7 @@ fn value_after_body(
 {
     let mut value = value;
     for (_place, mutation) in body {
-        value = value_after(alloc, key, value, mutation)?;
+        value = mutation.value_after(alloc, key, value)?;
     }
     Ok(value)
 }

@@ -139,7 +139,7 @@ fn book_of_two(rt: HostRuntime) -> Result<(), Fail> {
     fill_book_of_two::<Brand>(&rt, rt.alloc(), blank)
 }
 
-// The place that repeats a name.
+// The place that repeats an id.
 fn repeated_in<B: BookName>(res: Result<Front<B>, Refused<Option<Front<B>>>>) -> Option<u32> {
     match res {
         Err(refused) => match refused.why {

@@ -5,10 +5,7 @@ mod programs;
 mod ranges;
 mod steps;
 
-use crate::making::{
-    add, are_ranges, ask, clear, clear_range, code_of, compare_and_clear, filled, made_of, same,
-    set, text_of,
-};
+use crate::making::{are_ranges, ask, code_of, filled, made_of, same, text_of};
 use bytes::Bytes;
 use fdb_client::{Finished, Page, PlainSnapshot, Snapshot, Txn};
 use fdb_keys::{Key, KeyRange, Refusal, Refused, TreeRangeSet};
@@ -225,7 +222,7 @@ fn finished<A: Drop, F: FnOnce(&mut Txn) -> A + Drop>(
 // Gives the value to each of as many keys.
 fn write_each(txn: &mut Txn, alloc: Global, count: u8, value: &[u8]) {
     for key in 0..count {
-        let _code = write(txn, set(alloc, &[key], value));
+        let _code = write(txn, Mutation::set(alloc, &[key], value));
     }
 }
 
@@ -267,7 +264,7 @@ fn own_clear_is_read(rt: HostRuntime) {
         begun(alloc, |txn| {
             (
                 byte_of(txn, map, alloc, b"a"),
-                after(txn, map, alloc, clear(alloc, b"a")),
+                after(txn, map, alloc, Mutation::clear(alloc, b"a")),
                 reads(txn, alloc, &[(b"a", b"a\0")]),
                 op_count(txn),
             )
@@ -282,8 +279,8 @@ fn compared_keys_are_read(rt: HostRuntime) {
     let found = ask(filled(alloc), |map| {
         begun(alloc, |txn| {
             (
-                write(txn, compare_and_clear(alloc, b"a", &[1])),
-                write(txn, compare_and_clear(alloc, b"b", &[9])),
+                write(txn, Mutation::compare_and_clear(alloc, b"a", &[1])),
+                write(txn, Mutation::compare_and_clear(alloc, b"b", &[9])),
                 byte_of(txn, map, alloc, b"a"),
                 byte_of(txn, map, alloc, b"b"),
                 reads(txn, alloc, &[(b"a", b"a\0"), (b"b", b"b\0")]),
@@ -299,9 +296,9 @@ fn own_additions_are_read(rt: HostRuntime) {
     let found = ask(filled(alloc), |map| {
         begun(alloc, |txn| {
             [
-                after(txn, map, alloc, add(alloc, b"a", &[5])),
-                after(txn, map, alloc, set(alloc, b"a", &[7])),
-                after(txn, map, alloc, add(alloc, b"a", &[5])),
+                after(txn, map, alloc, Mutation::add(alloc, b"a", &[5])),
+                after(txn, map, alloc, Mutation::set(alloc, b"a", &[7])),
+                after(txn, map, alloc, Mutation::add(alloc, b"a", &[5])),
             ]
         })
     });
@@ -313,7 +310,7 @@ fn decided_keys_are_not_asked(rt: HostRuntime) {
     let alloc = rt.alloc();
     let found = begun(alloc, |txn| {
         (
-            write(txn, clear_range(alloc, b"a", b"c")),
+            write(txn, Mutation::clear_range(alloc, b"a", b"c")),
             decided_byte(txn, alloc, b"b"),
             decided_byte(txn, alloc, b"c"),
             txn.read_conflicts().is_empty(),
@@ -328,8 +325,8 @@ fn entries_of_cleared_keys_go(rt: HostRuntime) {
     let alloc = rt.alloc();
     let found = begun(alloc, |txn| {
         (
-            write(txn, set(alloc, b"b", &[2])),
-            write(txn, clear_range(alloc, b"a", b"c")),
+            write(txn, Mutation::set(alloc, b"b", &[2])),
+            write(txn, Mutation::clear_range(alloc, b"a", b"c")),
             decided_byte(txn, alloc, b"b"),
         )
     });
@@ -353,7 +350,7 @@ fn added_reads_are_whole(rt: HostRuntime) {
     let alloc = rt.alloc();
     let found = begun(alloc, |txn| {
         (
-            write(txn, set(alloc, b"b", &[2])),
+            write(txn, Mutation::set(alloc, b"b", &[2])),
             add_read(txn, alloc, b"a", b"c"),
             reads(txn, alloc, &[(b"a", b"c")]),
         )
@@ -400,7 +397,7 @@ fn mutations_are_to_commit(rt: HostRuntime) {
     let found = finished(
         alloc,
         &[(b"a", b"a\0")],
-        |txn| write(txn, set(alloc, b"a", &[1])),
+        |txn| write(txn, Mutation::set(alloc, b"a", &[1])),
     );
     same(&rt, found, (0, Ok(Some((true, 1, true)))));
 }
@@ -409,7 +406,7 @@ fn mutations_are_to_commit(rt: HostRuntime) {
 fn try_add(alloc: Global, count: usize) -> Result<(u32, bool), u32> {
     ask(text_of(alloc, 1, count), |operand| {
         begun(alloc, |txn| {
-            let code = write(txn, add(alloc, b"a", operand));
+            let code = write(txn, Mutation::add(alloc, b"a", operand));
             (code, op_count(txn) != 0 || !has_no_conflicts(txn))
         })
     })

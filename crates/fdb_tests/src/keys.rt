@@ -3,7 +3,7 @@ use crate::making::{
     after, are_ranges, ask, ask_both, ask_mut, code_of, equals_copy, has_bounds, made_of, same,
     set_of, text_of,
 };
-use fdb_keys::{Items, Key, KeyRange, RangeSet, Refusal, TreeRangeSet};
+use fdb_keys::{Items, Key, KeyRange, RangeSet, Refusal, Refused, TreeRangeSet};
 use std::alloc::Global;
 
 // Bounds of a range.
@@ -356,18 +356,19 @@ fn items_are_the_items_of_a_vector(rt: HostRuntime) {
     same(&rt, found, Ok(true));
 }
 
-// Whether a refusal is written as the text.
+// Whether a refusal is written as the text, alone and with what is handed back.
 fn is_written(alloc: Global, why: Refusal, text: &str) -> bool {
-    match format!(in alloc; "{why}") {
-        Ok(written) => written.as_str() == text,
-        Err(_error) => false,
+    let refused = Refused { why, back: 7u8 };
+    match (format!(in alloc; "{why}"), format!(in alloc; "{refused}")) {
+        (Ok(alone), Ok(with_back)) => alone.as_str() == text && with_back.as_str() == text,
+        _ => false,
     }
 }
 
 #[test]
 fn refusals_have_codes_and_texts(rt: HostRuntime) {
     let why = Refusal::NotYet(5);
-    same(&rt, why.code(), 9002);
+    same(&rt, (why.code(), why.name()), (9002, "NotYet"));
     let text = "something that comes before this, numbered 5, has not come yet";
     assert!(rt; is_written(rt.alloc(), why, text));
 }

@@ -1,7 +1,7 @@
 // Logs with known answers.
 ghost use Rattle.std.specs.Prelude.{◌<◌};
 
-use crate::making::{ask, ask_mut, clear, code_of, push, refusal_of, same};
+use crate::making::{ask, ask_mut, code_of, push, refusal_of, same};
 use fdb_keys::{Items, Refusal};
 use fdb_log::{LogAck, LogCore, LogMsg, Tagged};
 use fdb_mutations::Mutation;
@@ -62,7 +62,7 @@ fn peek(core: &LogCore, tag: u32, after: u64, limit: u32) -> Result<(usize, u64)
 
 fn tagged(alloc: Global, place: u32, key: &[u8], tags: &[u32]) -> Result<Tagged, Refusal> {
     let tags = Items::from_vec(Vec::from_slice(alloc, tags)?);
-    let mutation = clear(alloc, key)?;
+    let mutation = Mutation::clear(alloc, key)?;
     Ok(Tagged {
         place,
         mutation,

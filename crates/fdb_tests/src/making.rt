@@ -224,11 +224,6 @@ fn parts(alloc: Global, key: &[u8], bytes: &[u8]) -> Result<(Key, Bytes), Refusa
     Ok((key, bytes))
 }
 
-pub fn set(alloc: Global, key: &[u8], value: &[u8]) -> Result<Mutation, Refusal> {
-    let (key, value) = parts(alloc, key, value)?;
-    Ok(Mutation::Set { key, value })
-}
-
 /// The set of a key to a value that isn't too long.
 pub fn legal_set(alloc: Global, key: &[u8], value: &[u8]) -> Result<Mutation, Refusal>
     ensures { IfOk result (λ mutation. mutation_fault mutation ≡ None) }
@@ -267,61 +262,6 @@ pub fn seal(
     }
 }
 
-pub fn clear(alloc: Global, key: &[u8]) -> Result<Mutation, Refusal> {
-    let key = Key::new(alloc, key)?;
-    Ok(Mutation::Clear { key })
-}
-
-pub fn clear_range(alloc: Global, begin: &[u8], end: &[u8]) -> Result<Mutation, Refusal> {
-    let range = KeyRange::new(alloc, begin, end)?;
-    Ok(Mutation::ClearRange { range })
-}
-
-pub fn add(alloc: Global, key: &[u8], operand: &[u8]) -> Result<Mutation, Refusal> {
-    let (key, operand) = parts(alloc, key, operand)?;
-    Ok(Mutation::Add { key, operand })
-}
-
-pub fn and(alloc: Global, key: &[u8], operand: &[u8]) -> Result<Mutation, Refusal> {
-    let (key, operand) = parts(alloc, key, operand)?;
-    Ok(Mutation::And { key, operand })
-}
-
-pub fn or(alloc: Global, key: &[u8], operand: &[u8]) -> Result<Mutation, Refusal> {
-    let (key, operand) = parts(alloc, key, operand)?;
-    Ok(Mutation::Or { key, operand })
-}
-
-pub fn xor(alloc: Global, key: &[u8], operand: &[u8]) -> Result<Mutation, Refusal> {
-    let (key, operand) = parts(alloc, key, operand)?;
-    Ok(Mutation::Xor { key, operand })
-}
-
-pub fn max(alloc: Global, key: &[u8], operand: &[u8]) -> Result<Mutation, Refusal> {
-    let (key, operand) = parts(alloc, key, operand)?;
-    Ok(Mutation::Max { key, operand })
-}
-
-pub fn min(alloc: Global, key: &[u8], operand: &[u8]) -> Result<Mutation, Refusal> {
-    let (key, operand) = parts(alloc, key, operand)?;
-    Ok(Mutation::Min { key, operand })
-}
-
-pub fn byte_min(alloc: Global, key: &[u8], operand: &[u8]) -> Result<Mutation, Refusal> {
-    let (key, operand) = parts(alloc, key, operand)?;
-    Ok(Mutation::ByteMin { key, operand })
-}
-
-pub fn byte_max(alloc: Global, key: &[u8], operand: &[u8]) -> Result<Mutation, Refusal> {
-    let (key, operand) = parts(alloc, key, operand)?;
-    Ok(Mutation::ByteMax { key, operand })
-}
-
-pub fn compare_and_clear(alloc: Global, key: &[u8], operand: &[u8]) -> Result<Mutation, Refusal> {
-    let (key, operand) = parts(alloc, key, operand)?;
-    Ok(Mutation::CompareAndClear { key, operand })
-}
-
 /// Changes the map.
 pub fn apply(map: &mut PlainMap, mutation: Result<Mutation, Refusal>) -> Result<(), Refusal> {
     made_of(mutation, |mutation| map.apply(mutation))
@@ -330,8 +270,8 @@ pub fn apply(map: &mut PlainMap, mutation: Result<Mutation, Refusal>) -> Result<
 /// The map in which the keys a, b and c have the values 1, 2 and 3.
 pub fn filled(alloc: Global) -> Result<PlainMap, Refusal> {
     let mut map = PlainMap::new(alloc);
-    apply(&mut map, set(alloc, b"c", &[3]))?;
-    apply(&mut map, set(alloc, b"a", &[1]))?;
-    apply(&mut map, set(alloc, b"b", &[2]))?;
+    apply(&mut map, Mutation::set(alloc, b"c", &[3]))?;
+    apply(&mut map, Mutation::set(alloc, b"a", &[1]))?;
+    apply(&mut map, Mutation::set(alloc, b"b", &[2]))?;
     Ok(map)
 }

@@ -1,7 +1,6 @@
 // Mutations and plain maps with known answers.
 use crate::making::{
-    add, and, apply, ask, ask_mut, byte_max, byte_min, clear, clear_range, code_of,
-    compare_and_clear, filled, has_bounds, made_of, max, min, or, same, set, text_of, xor,
+    apply, ask, ask_mut, code_of, equals_copy, filled, has_bounds, made_of, same, text_of,
 };
 use bytes::Bytes;
 use fdb_keys::{Items, Key, KeyRange, Refusal};
@@ -20,13 +19,16 @@ fn code_and_size(mutation: Result<Mutation, Refusal>) -> Result<(u32, u64), u32>
 fn of_add(alloc: Global, count: usize) -> Result<(u32, u64), u32> {
     code_and_size(made_of(
         text_of(alloc, 1, count),
-        |operand| add(alloc, b"a", operand),
+        |operand| Mutation::add(alloc, b"a", operand),
     ))
 }
 
 // The same of a `Set` to as many bytes.
 fn of_set(alloc: Global, count: usize) -> Result<(u32, u64), u32> {
-    code_and_size(made_of(text_of(alloc, b'v', count), |value| set(alloc, b"a", value)))
+    code_and_size(made_of(
+        text_of(alloc, b'v', count),
+        |value| Mutation::set(alloc, b"a", value),
+    ))
 }
 
 // What the mutation makes of the value.
@@ -139,15 +141,19 @@ fn sums_have_the_length_of_the_operand(rt: HostRuntime) {
     let alloc = rt.alloc();
     same(
         &rt,
-        turned(alloc, add(alloc, b"a", &[1, 0]), &[0xff]),
+        turned(alloc, Mutation::add(alloc, b"a", &[1, 0]), &[0xff]),
         value(&[0, 1]),
     );
     same(
         &rt,
-        turned(alloc, add(alloc, b"a", &[1]), &[0xff, 7]),
+        turned(alloc, Mutation::add(alloc, b"a", &[1]), &[0xff, 7]),
         value(&[0]),
     );
-    same(&rt, made(alloc, add(alloc, b"a", &[5])), value(&[5]));
+    same(
+        &rt,
+        made(alloc, Mutation::add(alloc, b"a", &[5])),
+        value(&[5]),
+    );
 }
 
 #[test]
@@ -155,13 +161,17 @@ fn bits_are_those_of_the_fitted_value(rt: HostRuntime) {
     let alloc = rt.alloc();
     same(
         &rt,
-        turned(alloc, and(alloc, b"a", &[0x0f, 0x0f]), &[0xff]),
+        turned(alloc, Mutation::and(alloc, b"a", &[0x0f, 0x0f]), &[0xff]),
         value(&[0x0f, 0]),
     );
-    same(&rt, turned(alloc, or(alloc, b"a", &[]), &[7]), value(&[]));
     same(
         &rt,
-        turned(alloc, xor(alloc, b"a", &[0xff]), &[0x0f, 1]),
+        turned(alloc, Mutation::or(alloc, b"a", &[]), &[7]),
+        value(&[]),
+    );
+    same(
+        &rt,
+        turned(alloc, Mutation::xor(alloc, b"a", &[0xff]), &[0x0f, 1]),
         value(&[0xf0]),
     );
 }
@@ -169,9 +179,28 @@ fn bits_are_those_of_the_fitted_value(rt: HostRuntime) {
 #[test]
 fn operand_stands_where_no_value_did(rt: HostRuntime) {
     let alloc = rt.alloc();
-    same(&rt, made(alloc, and(alloc, b"a", &[0x0f])), value(&[0x0f]));
-    same(&rt, made(alloc, xor(alloc, b"a", &[0xff])), value(&[0xff]));
-    same(&rt, made(alloc, min(alloc, b"a", &[5])), value(&[5]));
+    same(
+        &rt,
+        made(alloc, Mutation::and(alloc, b"a", &[0x0f])),
+        value(&[0x0f]),
+    );
+    same(
+        &rt,
+        made(alloc, Mutation::xor(alloc, b"a", &[0xff])),
+        value(&[0xff]),
+    );
+    same(
+        &rt,
+        made(alloc, Mutation::min(alloc, b"a", &[5])),
+        value(&[5]),
+    );
+    let at_key = made_of(Key::new(alloc, b"a"), |key| {
+        made_of(
+            Mutation::add(alloc, b"a", &[5]),
+            |mutation| mutation.value_after(alloc, key, None),
+        )
+    });
+    same(&rt, at_key, value(&[5]));
 }
 
 #[test]
@@ -179,17 +208,17 @@ fn numbers_are_compared_from_the_last_byte(rt: HostRuntime) {
     let alloc = rt.alloc();
     same(
         &rt,
-        turned(alloc, max(alloc, b"a", &[1, 2]), &[0xff, 1]),
+        turned(alloc, Mutation::max(alloc, b"a", &[1, 2]), &[0xff, 1]),
         value(&[1, 2]),
     );
     same(
         &rt,
-        turned(alloc, min(alloc, b"a", &[1, 2]), &[0xff, 1]),
+        turned(alloc, Mutation::min(alloc, b"a", &[1, 2]), &[0xff, 1]),
         value(&[0xff, 1]),
     );
     same(
         &rt,
-        turned(alloc, min(alloc, b"a", &[5, 0]), &[9]),
+        turned(alloc, Mutation::min(alloc, b"a", &[5, 0]), &[9]),
         value(&[5, 0]),
     );
 }
@@ -199,12 +228,12 @@ fn bytes_are_compared_from_the_first_one(rt: HostRuntime) {
     let alloc = rt.alloc();
     same(
         &rt,
-        turned(alloc, byte_max(alloc, b"a", &[1, 2]), &[0xff, 1]),
+        turned(alloc, Mutation::byte_max(alloc, b"a", &[1, 2]), &[0xff, 1]),
         value(&[0xff, 1]),
     );
     same(
         &rt,
-        turned(alloc, byte_min(alloc, b"a", &[1, 2]), &[0xff, 1]),
+        turned(alloc, Mutation::byte_min(alloc, b"a", &[1, 2]), &[0xff, 1]),
         value(&[1, 2]),
     );
 }
@@ -214,12 +243,12 @@ fn only_an_equal_value_is_cleared(rt: HostRuntime) {
     let alloc = rt.alloc();
     same(
         &rt,
-        turned(alloc, compare_and_clear(alloc, b"a", &[7]), &[7]),
+        turned(alloc, Mutation::compare_and_clear(alloc, b"a", &[7]), &[7]),
         Ok(None),
     );
     same(
         &rt,
-        turned(alloc, compare_and_clear(alloc, b"a", &[7]), &[8]),
+        turned(alloc, Mutation::compare_and_clear(alloc, b"a", &[7]), &[8]),
         value(&[8]),
     );
 }
@@ -253,7 +282,7 @@ fn pages_tell_whether_there_is_more(rt: HostRuntime) {
 fn other_keys_keep_their_values(rt: HostRuntime) {
     let alloc = rt.alloc();
     let found = ask_mut(filled(alloc), |map| {
-        apply(map, clear_range(alloc, b"a", b"c")).is_ok()
+        apply(map, Mutation::clear_range(alloc, b"a", b"c")).is_ok()
             && gave(pairs(map, alloc, b"z", 0, false), b"c", 3)
     });
     same(&rt, found, Ok(true));
@@ -262,26 +291,37 @@ fn other_keys_keep_their_values(rt: HostRuntime) {
 #[test]
 fn mutations_are_cut(rt: HostRuntime) {
     let alloc = rt.alloc();
-    let cleared = ask(clipped(alloc, clear_range(alloc, b"a", b"z")), |cut| {
-        is_clear_of(cut.as_ref(), Some((b"m", b"t")))
-    });
+    let cleared = ask(
+        clipped(alloc, Mutation::clear_range(alloc, b"a", b"z")),
+        |cut| { is_clear_of(cut.as_ref(), Some((b"m", b"t"))) },
+    );
     same(&rt, cleared, Ok(true));
     let given = ask(
-        clipped(alloc, set(alloc, b"b", b"one")),
+        clipped(alloc, Mutation::set(alloc, b"b", b"one")),
         |cut| cut.is_some(),
     );
     same(&rt, given, Ok(false));
-    same(&rt, code_and_size(set(alloc, b"b", b"one")), Ok((0, 4)));
+    same(
+        &rt,
+        code_and_size(Mutation::set(alloc, b"b", b"one")),
+        Ok((0, 4)),
+    );
 }
 
 #[test]
 fn copies_of_mutations_are_equal(rt: HostRuntime) {
     let alloc = rt.alloc();
-    let found = ask(set(alloc, b"a", b"one"), |mutation| {
+    let found = ask(Mutation::set(alloc, b"a", b"one"), |mutation| {
         [
             is_same(mutation, copied(mutation)),
-            is_same(mutation, clear(alloc, b"a")),
+            is_same(mutation, Mutation::clear(alloc, b"a")),
         ]
     });
     same(&rt, found, Ok([Ok(true), Ok(false)]));
+    let bytes = Some(Bytes::from_static(b"one"));
+    same(
+        &rt,
+        equals_copy(&bytes, fdb_mutations::copied(bytes.as_ref())),
+        true,
+    );
 }

@@ -3,8 +3,7 @@ ghost use Rattle.std.specs.Prelude.{IfOk};
 ghost use Rattle.fdb_log.specs.Peeks.{IsPeek};
 
 use crate::making::{
-    add, after, ask, ask_mut, clear_range, code_of, has_bounds, keys_of, made_of, push, refusal_of,
-    rising_keys, same, set, xor,
+    after, ask, ask_mut, code_of, has_bounds, keys_of, made_of, push, refusal_of, rising_keys, same,
 };
 use bytes::Bytes;
 use fdb_keys::{Items, Key, KeyRange, Refusal};
@@ -26,17 +25,17 @@ fn put(body: &mut Body, place: u32, mutation: Result<Mutation, Refusal>) -> Resu
 // The sets of a to 1 and of l to 7.
 fn first_body(alloc: Global) -> Result<Body, Refusal> {
     let mut body = Items::new(alloc);
-    put(&mut body, 0, set(alloc, b"a", b"1"))?;
-    put(&mut body, 1, set(alloc, b"l", b"7"))?;
+    put(&mut body, 0, Mutation::set(alloc, b"a", b"1"))?;
+    put(&mut body, 1, Mutation::set(alloc, b"l", b"7"))?;
     Ok(body)
 }
 
 // What turns the 1 of a into 3, by way of 2, and clears the keys from k on, those of the next shard too.
 fn second_body(alloc: Global) -> Result<Body, Refusal> {
     let mut body = Items::new(alloc);
-    put(&mut body, 0, add(alloc, b"a", &[1]))?;
-    put(&mut body, 0, xor(alloc, b"a", &[1]))?;
-    put(&mut body, 3, clear_range(alloc, b"k", b"z"))?;
+    put(&mut body, 0, Mutation::add(alloc, b"a", &[1]))?;
+    put(&mut body, 0, Mutation::xor(alloc, b"a", &[1]))?;
+    put(&mut body, 3, Mutation::clear_range(alloc, b"k", b"z"))?;
     Ok(body)
 }
 
@@ -331,10 +330,10 @@ fn mutations_have_the_tags_of_the_shards_that_they_name(rt: HostRuntime) {
     let alloc = rt.alloc();
     let found = ask(shards(alloc, keys_of(alloc, &[b"m"])), |shards| {
         [
-            has_tags(shards, set(alloc, b"m", b"1"), &[1]),
-            has_tags(shards, clear_range(alloc, b"l", b"m\0"), &[0, 1]),
-            has_tags(shards, clear_range(alloc, b"l", b"m"), &[0]),
-            has_tags(shards, clear_range(alloc, b"l", b"l"), &[]),
+            has_tags(shards, Mutation::set(alloc, b"m", b"1"), &[1]),
+            has_tags(shards, Mutation::clear_range(alloc, b"l", b"m\0"), &[0, 1]),
+            has_tags(shards, Mutation::clear_range(alloc, b"l", b"m"), &[0]),
+            has_tags(shards, Mutation::clear_range(alloc, b"l", b"l"), &[]),
         ]
     });
     same(&rt, found, Ok([true, true, true, true]));

@@ -8,7 +8,7 @@ use crate::making::{
 };
 use fdb_keys::{Items, Key, KeyRange, RangeSet, Refusal};
 use fdb_mutations::Mutation;
-use fdb_txn::{Batch, Entry, Move, PLACE_LIMIT, Room, Sealed, Splits, Spot, TxnId};
+use fdb_txn::{Batch, Entry, Move, PLACE_LIMIT, Room, Sealed, Splits, Spot, TxnId, check_turn};
 use std::alloc::Global;
 
 // A transaction that read the keys from b to c, and writes the key a and the keys from x to y.
@@ -191,10 +191,11 @@ fn places_of_a_batch_are_in_order(rt: HostRuntime) {
 
 #[test]
 fn copies_of_entries_are_equal(rt: HostRuntime) {
-    let found = ask(
-        entry(rt.alloc(), 50, 1),
-        |entry| equals_copy(entry, entry.clone()),
-    );
+    let alloc = rt.alloc();
+    let found = ask(entry(alloc, 50, 1), |entry| {
+        equals_copy(entry, entry.clone())
+            && equals_copy(&entry.moves, Move::copies(alloc, entry.moves.as_slice()))
+    });
     same(&rt, found, Ok(true));
 }
 
@@ -275,6 +276,7 @@ fn items_wait_for_the_one_before(rt: HostRuntime) {
     same(&rt, refused_item(&mut room, 100, 1), None);
     same(&rt, refused_item(&mut room, 0, 2), None);
     same(&rt, refused_item(&mut room, 0, 3), Some((9003, 3)));
+    same(&rt, code_of(check_turn(100, 100)), 0);
     same(
         &rt,
         [room.ready(0), room.ready(0), room.ready(100)],

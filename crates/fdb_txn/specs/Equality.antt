@@ -12,16 +12,16 @@ use Rattle.fdb_txn.specs.declared.entry.Move.{Move}
 use Rattle.fdb_txn.specs.declared.entry.Entry.{Entry}
 use Rattle.fdb_txn.specs.declared.sealed.Sealed.{Sealed}
 use Rattle.fdb_txn.specs.declared.batch.Batch.{Batch}
-use Rattle.fdb_txn.specs.contracts.txn_id.TxnIdPartialEq.TheImpl as of_names
+use Rattle.fdb_txn.specs.contracts.txn_id.TxnIdPartialEq.TheImpl as of_ids
 use Rattle.fdb_txn.specs.contracts.spot.SpotPartialEq.TheImpl as of_spots
 use Rattle.fdb_txn.specs.contracts.entry.MovePartialEq.TheImpl as of_moves
 use Rattle.fdb_txn.specs.contracts.entry.EntryPartialEq.TheImpl as of_entries
 use Rattle.fdb_txn.specs.contracts.sealed.SealedPartialEq.TheImpl as of_sealed
 use Rattle.fdb_txn.specs.contracts.batch.BatchPartialEq.TheImpl as of_batches
 
--- `==` of two names
+-- `==` of two ids
 abbrev pub txn_id_eq : TxnId → TxnId → Bool
-txn_id_eq = (of_names.ghosts).eq
+txn_id_eq = (of_ids.ghosts).eq
 
 pub txn_id_eq_decides : (a b : TxnId) → Decides (txn_id_eq a b) (a ≡ b)
 txn_id_eq_decides a b =

@@ -1,6 +1,7 @@
 pub mod Equality
 pub mod Limits
 pub mod Room
+pub mod Turn
 pub mod book
 pub mod laws
 pub mod rules

@@ -2,9 +2,6 @@ use crate::sealed::Sealed;
 use fdb_keys::Items;
 use std::marker::Model;
 
-/// The most transactions that a batch may have.
-pub const PLACE_LIMIT: usize = 4_096;
-
 /// The transactions of one entry, in the order of their places.
 #[derive(Clone, Drop, PartialEq, Eq)]
 pub struct Batch {

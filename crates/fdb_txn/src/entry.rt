@@ -1,5 +1,6 @@
 use crate::batch::Batch;
 use fdb_keys::{Items, KeyRange};
+use std::alloc::{AllocError, Global};
 
 /// A range of keys goes over to another resolver.
 #[derive(Clone, Drop, PartialEq, Eq)]
@@ -8,6 +9,23 @@ pub struct Move {
     pub range: KeyRange,
     /// The number of the resolver that owns them from then on.
     pub to: u32,
+}
+
+impl Move {
+    ghost use Rattle.std.specs.Prelude.{◌≡◌, IfOk};
+
+    /// Copies of the moves, in O(n) for n of them.
+    pub fn copies(alloc: Global, moves: &[Move]) -> Result<Items<Move>, AllocError>
+        ensures { IfOk result (λ copies. copies ≡ moves.now) }
+    {
+        let mut copies = Items::new(alloc);
+        for one_move in moves {
+            let range = one_move.range.clone()?;
+            let to = one_move.to;
+            copies.push(Move { range, to })?;
+        }
+        Ok(copies)
+    }
 }
 
 /// An entry of the book: a batch of transactions at a version.

@@ -3,8 +3,7 @@
 ghost use Rattle.std.specs.Prelude.{◌≡◌};
 ghost use Rattle.std.specs.Bool.{Decides};
 ghost use Rattle.fdb_txn.specs.Equality.{txn_id_eq, spot_eq, move_eq, entry_eq, batch_eq, sealed_eq};
-ghost use Rattle.fdb_txn.specs.declared.batch.TheConstants.{PLACE_LIMIT};
-ghost use Rattle.fdb_txn.specs.declared.limits.TheConstants.{RESOLVER_LIMIT, WINDOW};
+ghost use Rattle.fdb_txn.specs.declared.limits.TheConstants.{PLACE_LIMIT, RESOLVER_LIMIT, WINDOW};
 ghost use Rattle.fdb_txn.specs.Limits.{place_limit, resolver_limit};
 ghost use Rattle.fdb_txn.specs.rules.Owners.{window};
 ghost use Rattle.fdb_txn.specs.laws.Examples.{Sizes, OneBatch, WriteSkew, FalseConflict, FormerOwner, ThereAndBack, EqualIsNotNewer, Window, OldReading, TwoMoves, Spans, AtBounds, ShardMessages, Entries, Books};
@@ -20,19 +19,16 @@ use crate::sealed::Sealed;
 use crate::spot::Spot;
 use crate::txn_id::TxnId;
 
-/// A batch is filled up to the limit of the definitions.
-pub fn batches_are_filled_up_to_the_limit()
-    ensures { PLACE_LIMIT ≡ place_limit }
-{}
-
-/// The most resolvers and the window of reads are those of the definitions.
+/// The most places of a batch, the most resolvers and the window of reads are those of the definitions. What a role
+/// refuses pins the other limits.
 pub fn limits_are_those_of_the_definitions()
+    ensures places { PLACE_LIMIT ≡ place_limit }
     ensures resolvers { RESOLVER_LIMIT ≡ resolver_limit }
     ensures window { WINDOW ≡ window }
 {}
 
-/// Two names of transactions are equal exactly where they are the same.
-pub fn equal_names_are_the_same()
+/// Two ids of transactions are equal exactly where they are the same.
+pub fn equal_ids_are_the_same()
     ensures { (a b : TxnId) → Decides (txn_id_eq a b) (a ≡ b) }
 {}
 
@@ -116,7 +112,7 @@ pub fn a_resolver_with_its_part_alone_answers_the_rule_and_keeps_its_state()
     ensures forgotten { ForgottenAgree }
 {}
 
-/// A book of sealed transactions is a list of entries from version 0 on that has no name twice.
+/// A book of sealed transactions is a list of entries from version 0 on that has no id twice.
 pub fn books_are_entries()
     ensures { BooksAreEntries }
 {}

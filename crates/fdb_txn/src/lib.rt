@@ -12,16 +12,20 @@ mod size;
 mod splits;
 mod spot;
 mod tag_msg;
+mod turn;
 mod txn_id;
 mod writes;
 
-pub use batch::{Batch, PLACE_LIMIT};
+pub use batch::Batch;
 pub use entry::{Entry, Move};
-pub use limits::{RESOLVER_LIMIT, WINDOW};
+pub use limits::{
+    BOOK_LIMIT, GREATEST_ADVANCE, LOG_LIMIT, MOVE_LIMIT, PLACE_LIMIT, PROXY_LIMIT, RESOLVER_LIMIT,
+    SHARD_LIMIT, SIZE_LIMIT, TAG_LIMIT, TICKET_LIMIT, VERSION_LIMIT, WINDOW,
+};
 pub use room::Room;
 pub use sealed::{Sealed, Unsealed};
-pub use size::SIZE_LIMIT;
 pub use splits::Splits;
 pub use spot::Spot;
 pub use tag_msg::TagMsg;
+pub use turn::check_turn;
 pub use txn_id::TxnId;

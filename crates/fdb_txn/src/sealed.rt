@@ -1,4 +1,7 @@
-use crate::size::{SIZE_LIMIT, least_size, size_of};
+ghost use Rattle.std.specs.Prelude.{◌≡◌};
+
+use crate::limits::SIZE_LIMIT;
+use crate::size::{least_size, size_of};
 use crate::txn_id::TxnId;
 use crate::writes::joined;
 use fdb_keys::{Items, RangeSet, Refusal, Refused};
@@ -38,6 +41,24 @@ impl Model for Sealed {
     ghost invariant = { λ sealed. MaySeal (record { id = sealed.id; read = sealed.read_version; reads = sealed.reads; writes = sealed.writes; mutations = sealed.mutations }) };
 
     ghost inverse = { λ t. record { id = t.id; read_version = t.read; reads = t.reads; writes = t.writes; mutations = t.mutations } };
+}
+
+// The refusal that hands back what was given.
+fn refused(
+    why: Refusal,
+    reads: RangeSet,
+    writes: RangeSet,
+    mutations: Items<Mutation>,
+) -> Refused<Unsealed>
+    ensures why { result.why ≡ why }
+    ensures back { result.back ≡ record { reads = reads; writes = writes; mutations = mutations } }
+{
+    let back = Unsealed {
+        reads,
+        writes,
+        mutations,
+    };
+    Refused { why, back }
 }
 
 impl Sealed {
@@ -87,38 +108,15 @@ impl Sealed {
             (λ sealed. (x : Point) → in_set sealed.writes x ≡ (some_names mutations x || in_set writes x)) }
     {
         if least_size(&reads, mutations.as_slice()) > SIZE_LIMIT {
-            return Err(Refused {
-                why: Refusal::TransactionTooLarge,
-                back: Unsealed {
-                    reads,
-                    writes,
-                    mutations,
-                },
-            });
+            return Err(refused(Refusal::TransactionTooLarge, reads, writes, mutations));
         }
         let joined = match joined(alloc, &writes, mutations.as_slice()) {
             Ok(joined) => joined,
-            Err(why) => {
-                return Err(Refused {
-                    why,
-                    back: Unsealed {
-                        reads,
-                        writes,
-                        mutations,
-                    },
-                });
-            }
+            Err(why) => return Err(refused(why, reads, writes, mutations)),
         };
         match Sealed::from_joined(id, read_version, reads, joined, mutations) {
             Ok(sealed) => Ok(sealed),
-            Err(refused) => Err(Refused {
-                why: refused.why,
-                back: Unsealed {
-                    reads: refused.back.reads,
-                    writes,
-                    mutations: refused.back.mutations,
-                },
-            }),
+            Err(last) => Err(refused(last.why, last.back.reads, writes, last.back.mutations)),
         }
     }
 
@@ -141,14 +139,7 @@ impl Sealed {
             { id = id; read = read_version; reads = reads; writes = writes; mutations = mutations }) }
     {
         if size_of(&reads, &writes, mutations.as_slice()) > SIZE_LIMIT {
-            return Err(Refused {
-                why: Refusal::TransactionTooLarge,
-                back: Unsealed {
-                    reads,
-                    writes,
-                    mutations,
-                },
-            });
+            return Err(refused(Refusal::TransactionTooLarge, reads, writes, mutations));
         }
         Ok(Sealed {
             id,
@@ -168,7 +159,7 @@ impl Sealed {
         size_of(&self.reads, &self.writes, self.mutations.as_slice())
     }
 
-    /// The name of the transaction.
+    /// The id of the transaction.
     pub fn id(&self) -> TxnId
         ensures { result ≡ self.now.id }
     {

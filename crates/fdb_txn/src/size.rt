@@ -6,10 +6,6 @@ ghost use Rattle.fdb_txn.specs.book.Size.{bounds_size};
 use fdb_keys::RangeSet;
 use fdb_mutations::Mutation;
 
-/// The most bytes that a transaction may have: those of the bounds of its joined read and write ranges, and of its
-/// mutations.
-pub const SIZE_LIMIT: u64 = 10_000_000;
-
 fn bounds_size(set: &RangeSet) -> u64
     ensures { result ≡ min (bounds_size set.now) (2 ^ 64 - 1) }
 {

@@ -1,4 +1,4 @@
-/// The name of a transaction: the session that runs it, and its number among that session's, from 0.
+/// The id of a transaction: the session that runs it, and its number among that session's, from 0.
 #[derive(Clone, Copy, Debug, PartialEq, Eq)]
 pub struct TxnId {
     /// The session's number.

@@ -5,7 +5,7 @@ use Rattle.std.specs.FinMap.{get}
 use Rattle.fdb_keys.specs.Points.{Point}
 use Rattle.fdb_keys.specs.Ranges.{Range, in_range}
 use Rattle.fdb_mutations.specs.Maps.{Map}
-use Rattle.fdb_storage.specs.Limits.{shard_limit}
+use Rattle.fdb_txn.specs.Limits.{shard_limit}
 use Rattle.fdb_proxy.specs.Configs.{config_fault}
 use Rattle.fdb_txn.specs.book.Book.{last_version}
 use Rattle.fdb_txn.specs.book.History.{AreEntries}

@@ -8,13 +8,13 @@ use Rattle.fdb_proxy.specs.declared.config.Config.{Config}
 use Rattle.fdb_core.specs.invariant.Invariant.{Invariant}
 use Rattle.fdb_core.specs.machine.Lent.{config_in}
 use Rattle.fdb_core.specs.machine.Machine.{Machine}
-use Rattle.fdb_core.proofs.invariant.OnceLaws.{names-once}
+use Rattle.fdb_core.proofs.invariant.OnceLaws.{ids-once}
 
 -- the entries are a book of sealed transactions
 pub book-is : (m : Machine) → Invariant m
     → IsBook (suc (length m.config.resolver_splits)) m.book × AllByRecursion IsSealed m.book
 book-is m sound = (books_are_entries (suc (length m.config.resolver_splits)) m.book).1
-    (sound.entries, names-once m sound.once)
+    (sound.entries, ids-once m sound.once)
 
 -- and so they are with the configuration that the world lends
 pub lent-book : (m : Machine) (world : Option Machine) → Invariant m → Some m ≡ world

@@ -1,4 +1,4 @@
--- Each transaction is in the book at most once: how often there is one of a name, kept by every step.
+-- Each transaction is in the book at most once: how often there is one of an id, kept by every step.
 use Rattle.std.proofs.Common.{◌≡◌, ◌≢◌, ◌∙◌, ◌<◌, ◌≤◌, refl, sym, ap, subst, arith, ⊎_elim, ℕ, ◌+◌, min, false, cond, List, [], ◌∷◌, ◌++◌, take, fold, replicate, Option, Some, None, Result, sum_by}
 use Rattle.std.specs.Prelude.{◌==◌, nat_le, unwrap_or}
 use Rattle.std.specs.List.{slice_get, slice_set, list_any}
@@ -15,10 +15,10 @@ use Rattle.fdb_core.specs.machine.Roles.{CommitProxy}
 use Rattle.fdb_client.specs.declared.program.Transcript.{Transcript}
 use Rattle.fdb_core.specs.declared.step.Answered.{Answered}
 use Rattle.fdb_core.specs.declared.step.Step.{Step}
-use Rattle.fdb_txn.specs.book.Once.{NoIdTwice, times_named, times_in_book}
+use Rattle.fdb_txn.specs.book.Once.{NoIdTwice, times_with_id, times_in_book}
 use Rattle.fdb_core.specs.headline.Traces.{machine_of_trace}
 use Rattle.fdb_core.specs.invariant.Once.{up_to, once_for, waiting_in, times_waiting, times_opened, Once, OnceAmong, IsOnce}
-use Rattle.fdb_client.specs.Parts.{with_op}
+use Rattle.fdb_client.specs.TxnState.{with_op}
 use Rattle.fdb_core.specs.machine.GrvProxySteps.{has_no_number}
 use Rattle.fdb_core.specs.machine.Machine.{Machine}
 use Rattle.fdb_core.specs.machine.Sessions.{SessionState, Idle, Asking, Open, Waiting, session_of, with_state, open_of, open_at, next_number, greatest_number, has_used_up, serve, tell_all}
@@ -78,7 +78,7 @@ module _ (id : TxnId) where
   named-elsewhere : (other : TxnId) → other.session ≢ id.session → once_for id other ≡ 0
   named-elsewhere other differs = rw (ne_eqb other.session id.session differs) refl
 
-  -- a session has another state: it is counted where it is the name's, and else stays
+  -- a session has another state: it is counted where it is the id's, and else stays
   changed-once : (m : Machine) (client : ℕ) (state : SessionState) (book : List Entry)
       (commit_proxies : List CommitProxy) → OnceAmong id m.book m.commit_proxies m.sessions
       → (client ≡ id.session → times_in_book id book + times_waiting id commit_proxies + times_opened id state
@@ -142,7 +142,7 @@ module _ (id : TxnId) where
   sealed-once m proxy advance commit_proxy once at =
       let weight : Transcript → ℕ = λ transcript. once_for id transcript.id in
       let entry = sealed_entry m advance commit_proxy in
-      let sealed : times_named id entry.batch ≡ sum_by weight (take place_limit commit_proxy.waiting)
+      let sealed : times_with_id id entry.batch ≡ sum_by weight (take place_limit commit_proxy.waiting)
       = sum-made (λ (t : Transaction). once_for id t.id) commit_request_of (take place_limit commit_proxy.waiting) in
       record {
         within = once.within;
@@ -152,7 +152,7 @@ module _ (id : TxnId) where
           sealed,
           sum_by-take-drop weight commit_proxy.waiting place_limit,
           sum-set (waiting_in id) m.commit_proxies proxy commit_proxy (sealed_proxy m commit_proxy) at,
-          sum_by_push (λ (e : Entry). times_named id e.batch) m.book entry,
+          sum_by_push (λ (e : Entry). times_with_id id e.batch) m.book entry,
         );
       }
 
@@ -243,13 +243,13 @@ module _ (id : TxnId) where
             (record { within = omega arith; stands = omega (arith, no_lanes) }),
       )
 
--- so no name is that of two places of the book
-pub names-once : (m : Machine) → ((id : TxnId) → IsOnce id m) → NoIdTwice m.book
-names-once m once id =
+-- so no id is that of two places of the book
+pub ids-once : (m : Machine) → ((id : TxnId) → IsOnce id m) → NoIdTwice m.book
+ids-once m once id =
     omega (arith, (once id).1.stands, up_to-one id.number (session_of m.sessions id.session).last_number)
 
 -- and so it is after every trace
 pub machine-once : (config : Config) (steps : List Step) (given : List (Result Answered Refusal))
     → NoIdTwice (machine_of_trace config steps given).book
-machine-once config steps given = names-once (machine_of_trace config steps given)
+machine-once config steps given = ids-once (machine_of_trace config steps given)
     (λ id. kept-by_trace (IsOnce id) (once_steps id) (start config) steps given (once-start id config))

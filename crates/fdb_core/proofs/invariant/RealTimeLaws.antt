@@ -19,7 +19,7 @@ use Rattle.fdb_proxy.specs.declared.outcome.Outcome.TheVariants as outcome
 use Rattle.fdb_core.specs.declared.step.Step.{Step}
 use Rattle.fdb_core.specs.headline.RealTime.{IsAfterVersion, spot_version}
 use Rattle.fdb_core.specs.headline.Traces.{after_steps, machine_of_trace}
-use Rattle.fdb_client.specs.Parts.{with_op}
+use Rattle.fdb_client.specs.TxnState.{with_op}
 use Rattle.fdb_core.specs.machine.Sessions.{Session, SessionState, Sessions, EachOpen, Idle, Asking, Open, Waiting, session_of, with_state, open_of, open_at, begins_next, next_number, greatest_number, serve, tell_all}
 use Rattle.fdb_core.specs.machine.CommitProxySteps.{placed_from}
 use Rattle.fdb_core.specs.machine.Machine.{Machine}
@@ -32,7 +32,7 @@ use Rattle.fdb_core.proofs.machine.SessionMaps.{session-there}
 use Rattle.fdb_core.proofs.invariant.SoundLaws.{sound_steps, sound-trace}
 use Rattle.fdb_core.proofs.machine.Steps.{KeptBySteps, kept-by_trace}
 
--- the transaction of this name has begun in the machine: the session's last one has its number or a greater one
+-- the transaction of this id has begun in the machine: the session's last one has its number or a greater one
 abbrev pub MachineHasBegun : Machine → TxnId → Type 0
 MachineHasBegun m id = (last : ℕ) × ((session_of m.sessions id.session).last_number ≡ Some last) × (id.number ≤ last)
 
@@ -44,7 +44,7 @@ MachineAfterEarlier m later =
     → (MachineHasBegun m other.transcript.id → ⊥)
     → (spot_version placed.spot ≤ other.transcript.read_version) × IsAfterVersion (spot_version placed.spot) other.spot
 
--- the name's number is one that there is, and its session has begun it
+-- the id's number is one that there is, and its session has begun it
 abbrev HasBegunBy : TxnId → Session → Type 0
 HasBegunBy id session =
     (id.number ≤ greatest_number) × ((last : ℕ) × (session.last_number ≡ Some last) × (id.number ≤ last))
@@ -119,7 +119,7 @@ all-placed Q index (t ∷ ts) (outcome.Commit version place ∷ outcomes) all =
 all-placed Q index (t ∷ ts) (outcome.Conflict ∷ outcomes) all = all-placed Q index ts outcomes all.1
 all-placed Q index (t ∷ ts) (outcome.Old ∷ outcomes) all = all-placed Q index ts outcomes all.1
 
--- A property of the transactions' names and read versions, where at least so much is committed.
+-- A property of the transactions' ids and read versions, where at least so much is committed.
 module _ (P : Sessions → TxnId → ℕ → Type 0) (low : ℕ) where
   abbrev Has : Sessions → Transcript → Type 0
   Has sessions transcript = P sessions transcript.id transcript.read_version

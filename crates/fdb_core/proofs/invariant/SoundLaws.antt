@@ -16,7 +16,7 @@ use Rattle.fdb_core.specs.declared.step.Step.{Step}
 use Rattle.fdb_core.specs.headline.Traces.{machine_of_trace}
 use Rattle.fdb_core.specs.machine.CommitProxySteps.{is_idle, is_reported}
 use Rattle.fdb_txn.specs.book.Book.{last_version}
-use Rattle.fdb_client.specs.Parts.{with_op}
+use Rattle.fdb_client.specs.TxnState.{with_op}
 use Rattle.fdb_core.specs.machine.Machine.{Machine}
 use Rattle.fdb_core.specs.machine.Sessions.{Sessions, EachOpen, Idle, Asking, Open, Waiting, open_at}
 use Rattle.fdb_core.specs.machine.Worlds.{start, idle_proxy}

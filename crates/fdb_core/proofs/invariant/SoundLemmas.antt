@@ -16,7 +16,7 @@ use Rattle.fdb_client.specs.declared.program.Reply.{Reply}
 use Rattle.fdb_client.specs.declared.program.Transcript.{Transcript}
 use Rattle.fdb_core.specs.machine.Machine.{Machine}
 use Rattle.fdb_client.specs.Programs.{program, copy, reply_on, exec, commit_request_of, replies_of}
-use Rattle.fdb_client.specs.Parts.{with_op}
+use Rattle.fdb_client.specs.TxnState.{with_op}
 use Rattle.fdb_core.specs.invariant.Invariant.{IsReplied, CommitProxyIsSound, Invariant}
 use Rattle.fdb_core.specs.invariant.Places.{AllStand}
 use Rattle.fdb_core.proofs.common.AllLemmas.{all-map}

@@ -3,11 +3,10 @@ use Rattle.std.proofs.Common.{◌≡◌, ◌∙◌, refl, ap, ℕ, ◌<◌, ◌�
 use Rattle.std.specs.List.{slice_get, slice_set}
 use Rattle.std.proofs.lemmas.Bool.{le-ltb, lt-leb}
 use Rattle.std.proofs.lemmas.List.{length-map, length-take}
-use Rattle.fdb_txn.specs.Limits.{place_limit}
+use Rattle.fdb_txn.specs.Limits.{place_limit, version_limit}
 use Rattle.fdb_txn.specs.declared.entry.Entry.{Entry}
 use Rattle.fdb_txn.specs.book.Book.{last_version}
 use Rattle.fdb_txn.specs.book.Transactions.{Transaction}
-use Rattle.fdb_sequencer.specs.Limits.{version_limit}
 use Rattle.fdb_sequencer.specs.Sequencer.{next_version}
 use Rattle.fdb_client.specs.declared.program.Transcript.{Transcript}
 use Rattle.fdb_client.specs.Programs.{commit_request_of}

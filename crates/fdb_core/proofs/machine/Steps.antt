@@ -6,13 +6,12 @@ use Rattle.std.proofs.lemmas.Bool.{and_parts, or_parts, eqb-true, not-false, ltb
 use Rattle.fdb_keys.specs.Ranges.{Range, is_empty_range}
 use Rattle.fdb_keys.specs.declared.refusal.Refusal.{Refusal}
 use Rattle.fdb_mutations.specs.Mutations.{mutation_fault}
-use Rattle.fdb_txn.specs.Limits.{place_limit}
+use Rattle.fdb_txn.specs.Limits.{place_limit, move_limit, version_limit}
 use Rattle.fdb_txn.specs.declared.entry.Entry.{Entry}
 use Rattle.fdb_txn.specs.declared.spot.Spot.TheVariants as spot
 use Rattle.fdb_txn.specs.book.Book.{seen_of, last_version, seen_before}
 use Rattle.fdb_txn.specs.rules.SerialMap.{serial_map_at}
 use Rattle.fdb_log.specs.Messages.{log_of}
-use Rattle.fdb_sequencer.specs.Limits.{move_limit, version_limit}
 use Rattle.fdb_sequencer.specs.Sequencer.{next_version}
 use Rattle.fdb_core.specs.machine.Roles.{CommitProxy, Stage, Idle, Resolving, Logging, Reported, ShardProgress, Sender, FromResolver, FromLog}
 use Rattle.fdb_client.specs.declared.program.Op.{Op}

@@ -7,7 +7,7 @@ use Rattle.fdb_client.specs.declared.program.Reply.{Reply}
 use Rattle.fdb_client.specs.declared.program.Transcript.{Transcript}
 use Rattle.fdb_core.specs.headline.Readings.{is_of_session, of_session, others_than, with_one_more}
 use Rattle.fdb_core.specs.headline.Traces.{alone}
-use Rattle.fdb_client.specs.Parts.{with_op}
+use Rattle.fdb_client.specs.TxnState.{with_op}
 use Rattle.fdb_core.specs.machine.Sessions.{SessionState, Open, Sessions, with_state, open_of, open_at}
 use Rattle.fdb_core.proofs.machine.SessionLemmas.{state-put}
 

@@ -32,7 +32,7 @@ use Rattle.fdb_core.proofs.common.ListLemmas.{map-at, map-set}
 use Rattle.fdb_core.proofs.refinement.CommitProxyTies.{busy-entry, commit_proxies-put, reported-is}
 use Rattle.fdb_core.proofs.refinement.CoreTies.{exactly-map}
 
--- what becomes of a transaction, without its name
+-- what becomes of a transaction, without its id
 abbrev pub outcome_of : TxnId × Outcome → Outcome
 outcome_of answer = answer.1
 
@@ -40,7 +40,7 @@ outcome_of answer = answer.1
 abbrev pub told_of : TxnId × Outcome → ℕ × Outcome
 told_of answer = (answer.0.session, answer.1)
 
--- sessions are told by the names of transactions as they are by their transcripts
+-- sessions are told by the ids of transactions as they are by their transcripts
 pub told-is : (transcripts : List Transcript) (outcomes : List Outcome)
     → map told_of (answers_by (map commit_request_of transcripts) outcomes) ≡ replies_from transcripts outcomes
 told-is [] outcomes = refl

@@ -193,13 +193,13 @@ module _ (config : Config) (book : List Entry) (known : Known) (role : CommitPro
         learnt.resolving.parts) (sym batch_is)
         (subst (λ (splits : List Point). AreParts splits moves (position_of ticket)
         (take place_limit role.core.proxy.waiting) learnt.resolving.parts) splits-are
-        (learnt.unheard.parts moves owners-through))
+        (learnt.without_verdicts.parts moves owners-through))
 
     stage-is : later.core.proxy.stage ≡ core.Resolving learnt.resolving
     stage-is = ap (λ (p : Core). p.stage) learnt.rest
 
     count-is : length learnt.resolving.verdicts ≡ suc (length config.resolver_splits)
-    count-is = ap (λ (r : Unheard). length r.verdicts) learnt.unheard.rest
+    count-is = ap (λ (r : Unheard). length r.verdicts) learnt.without_verdicts.rest
         ∙ length-replicate (length learnt.resolving.parts) None ∙ resolving-parts.count
 
     machine-is : seen_as later ≡ with_batch (seen_as role) ticket.index (suc (length config.resolver_splits))
@@ -208,7 +208,7 @@ module _ (config : Config) (book : List Entry) (known : Known) (role : CommitPro
       in_flight = take place_limit role.waiting;
       stage = Resolving;
       entry = ticket.index;
-      verdicts_received = (ap (λ (r : Unheard). map (λ (of : Option Said). is_some of) r.verdicts) learnt.unheard.rest
+      verdicts_received = (ap (λ (r : Unheard). map (λ (of : Option Said). is_some of) r.verdicts) learnt.without_verdicts.rest
           ∙ flags-unset (length learnt.resolving.parts)
           ∙ ap (λ (n : ℕ). replicate n false) resolving-parts.count) i;
       acknowledgements_received = [];
@@ -219,7 +219,7 @@ module _ (config : Config) (book : List Entry) (known : Known) (role : CommitPro
     stage-refines =
         let entry_at : later.entry ≡ length book = ap (λ (r : CommitProxyRole). r.entry) same ∙ next.index in
         let at : learnt.resolving.position ≡ position_of ticket =
-        ap (λ (r : Unheard). r.position) learnt.unheard.rest in
+        ap (λ (r : Unheard). r.position) learnt.without_verdicts.rest in
         let flag : later.is_reported ≡ false = ap (λ (r : CommitProxyRole). r.is_reported) same ∙ unreported in
         let before = seen_before grown later.entry in
         subst (StageRefines config grown later.is_reported later.entry later.core.proxy.batch) (sym stage-is) (
@@ -239,7 +239,7 @@ module _ (config : Config) (book : List Entry) (known : Known) (role : CommitPro
                 learnt.resolving.parts) (sym (ap (seen_before grown) entry_at ∙ seen)) resolving-parts);
             count = count-is;
             came = λ r said there. absurd (none-came (length learnt.resolving.parts) r said
-                (sym (ap (λ (of : Unheard). slice_get of.verdicts r) learnt.unheard.rest) ∙ there));
+                (sym (ap (λ (of : Unheard). slice_get of.verdicts r) learnt.without_verdicts.rest) ∙ there));
           },
           flag,
         )

@@ -13,7 +13,7 @@ use Rattle.fdb_proxy.specs.declared.logging.Logging.{Logging as Decided}
 use Rattle.fdb_proxy.specs.declared.stage.Stage.{Stage as CoreStage}
 use Rattle.fdb_proxy.specs.declared.stage.Stage.TheVariants as core
 use Rattle.fdb_owners.specs.OwnersLaws.{AgreesWith}
-use Rattle.fdb_proxy.specs.CommitProxies.{CommitProxy as Core, ProxyWithRoom, moves_with, waiting_for, logged_fault, acknowledging, all_logged_fault}
+use Rattle.fdb_proxy.specs.CommitProxies.{CommitProxy as Core, ProxyWithRoom, moves_with, waiting_for, logged_fault, with_logged, all_logged_fault}
 use Rattle.fdb_proxy.specs.Flags.{first_unset}
 use Rattle.fdb_proxy.specs.Logging as logging
 use Rattle.fdb_proxy.specs.Logging.{with_acknowledgement}
@@ -144,7 +144,7 @@ module _ (config : Config) (book : List Entry) (known : Known) (role : CommitPro
 
     -- once it came
     after-acknowledged : (later : ProxyWithRoom) → AcknowledgementIsAwaited ≡ true
-        → later.proxy ≡ acknowledging role.core.proxy ack
+        → later.proxy ≡ with_logged role.core.proxy ack
         → (seen_as (record role { core = later }) ≡ with_received (seen_as role) (FromLog ack.log))
         × CommitProxyRefines config book known (record role { core = later })
     after-acknowledged later waits after = by_stage role.core.proxy.stage refl ok.stage
@@ -183,13 +183,13 @@ module _ (config : Config) (book : List Entry) (known : Known) (role : CommitPro
 
     pub takes-acknowledgement : {T : Type 0} (result : Result T Refusal) (later : ProxyWithRoom)
         → AnswersExactly result (logged_fault role.core.proxy ack)
-        (λ _. later.proxy ≡ acknowledging role.core.proxy ack)
+        (λ _. later.proxy ≡ with_logged role.core.proxy ack)
         → AnswersExactly result (if AcknowledgementIsAwaited then None else Some Stale)
         (λ _. (seen_as (record role { core = later }) ≡ with_received (seen_as role) (FromLog ack.log))
         × CommitProxyRefines config book known (record role { core = later }))
     takes-acknowledgement {T} result later answers =
         exactly-by result (logged_fault role.core.proxy ack) (if AcknowledgementIsAwaited then None else Some Stale)
-        (λ (_ : T). later.proxy ≡ acknowledging role.core.proxy ack) _ fault-acknowledged
+        (λ (_ : T). later.proxy ≡ with_logged role.core.proxy ack) _ fault-acknowledged
         (λ none given after. after-acknowledged later (awaited AcknowledgementIsAwaited none) after) answers
 
   -- whether all logs have acknowledged the batch

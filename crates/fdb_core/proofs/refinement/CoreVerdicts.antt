@@ -24,7 +24,7 @@ use Rattle.fdb_proxy.specs.declared.outcome.Outcome.{Outcome}
 use Rattle.fdb_proxy.specs.declared.resolving.Resolving.{Resolving as Unheard}
 use Rattle.fdb_proxy.specs.declared.stage.Stage.{Stage as CoreStage}
 use Rattle.fdb_proxy.specs.declared.stage.Stage.TheVariants as core
-use Rattle.fdb_proxy.specs.CommitProxies.{ProxyWithRoom, waiting_for, verdict_fault, hearing, decide_fault, outcomes_in, deciding, messages_fault, messages_of}
+use Rattle.fdb_proxy.specs.CommitProxies.{ProxyWithRoom, waiting_for, verdict_fault, with_verdict, decide_fault, outcomes_in, deciding, messages_fault, messages_of}
 use Rattle.fdb_proxy.specs.Deciding.{Said}
 use Rattle.fdb_proxy.specs.Logging.{answers_by, messages_by}
 use Rattle.fdb_proxy.specs.Parting.{AreItems}
@@ -137,7 +137,7 @@ module _ (config : Config) (book : List Entry) (known : Known) (role : CommitPro
             by_flag false flag = rw (ok.works, is, flag) refl
 
     -- once they came
-    after-said : (later : ProxyWithRoom) → VerdictsAreAwaited ≡ true → later.proxy ≡ hearing role.core.proxy verdicts
+    after-said : (later : ProxyWithRoom) → VerdictsAreAwaited ≡ true → later.proxy ≡ with_verdict role.core.proxy verdicts
         → (seen_as (record role { core = later }) ≡ with_received (seen_as role) (FromResolver verdicts.resolver))
         × CommitProxyRefines config book known (record role { core = later })
     after-said later waits after = by_stage role.core.proxy.stage refl ok.stage
@@ -198,13 +198,13 @@ module _ (config : Config) (book : List Entry) (known : Known) (role : CommitPro
 
     pub takes-verdicts : {T : Type 0} (result : Result T Refusal) (later : ProxyWithRoom)
         → AnswersExactly result (verdict_fault role.core.proxy verdicts)
-        (λ _. later.proxy ≡ hearing role.core.proxy verdicts)
+        (λ _. later.proxy ≡ with_verdict role.core.proxy verdicts)
         → AnswersExactly result (if VerdictsAreAwaited then None else Some Stale)
         (λ _. (seen_as (record role { core = later }) ≡ with_received (seen_as role) (FromResolver verdicts.resolver))
         × CommitProxyRefines config book known (record role { core = later }))
     takes-verdicts {T} result later answers =
         exactly-by result (verdict_fault role.core.proxy verdicts) (if VerdictsAreAwaited then None else Some Stale)
-        (λ (_ : T). later.proxy ≡ hearing role.core.proxy verdicts) _ fault-said
+        (λ (_ : T). later.proxy ≡ with_verdict role.core.proxy verdicts) _ fault-said
         (λ none given after. after-said later (awaited VerdictsAreAwaited none) after) answers
 
 -- the least resolver that is missing is the least whose flag is

@@ -6,7 +6,7 @@ use Rattle.std.proofs.lemmas.List.{length-append}
 use Rattle.fdb_keys.specs.Ranges.{Range, is_empty_range}
 use Rattle.fdb_keys.specs.declared.refusal.Refusal.TheVariants.{BadConfig, MovesFull}
 use Rattle.fdb_txn.specs.declared.entry.Move.{Move}
-use Rattle.fdb_sequencer.specs.Limits.{move_limit}
+use Rattle.fdb_txn.specs.Limits.{move_limit}
 use Rattle.fdb_sequencer.specs.Sequencer.{move_fault, moving}
 use Rattle.fdb_core.specs.declared.cluster.Cluster.{Cluster}
 use Rattle.fdb_core.specs.refinement.Cluster.{Refines, SequencerRefines}

@@ -11,14 +11,11 @@ use Rattle.std.proofs.lemmas.Bool.{and_parts, leb-true, ltb-true}
 use Rattle.fdb_keys.specs.Points.{Point}
 use Rattle.fdb_keys.specs.declared.refusal.Refusal.TheVariants.{BadConfig}
 use Rattle.fdb_keys.specs.declared.refusal.Refusal.{Refusal}
-use Rattle.fdb_txn.specs.Limits.{resolver_limit}
+use Rattle.fdb_txn.specs.Limits.{resolver_limit, proxy_limit, log_limit, shard_limit, book_limit}
 use Rattle.fdb_txn.specs.rules.Splits.{are_splits, piece, splits_fault}
-use Rattle.fdb_sequencer.specs.Limits.{proxy_limit}
 use Rattle.fdb_sequencer.specs.Sequencer.{is_count}
-use Rattle.fdb_log.specs.Limits.{log_limit}
-use Rattle.fdb_storage.specs.Limits.{shard_limit}
 use Rattle.fdb_proxy.specs.Askers.{Asker}
-use Rattle.fdb_proxy.specs.Configs.{config_fault, has_legal_counts, entry_limit}
+use Rattle.fdb_proxy.specs.Configs.{config_fault, has_legal_counts}
 use Rattle.fdb_log.specs.Logs.{IsNewLog}
 use Rattle.fdb_log.specs.Messages.{log_of}
 use Rattle.fdb_storage.specs.Shards.{IsNewShard}
@@ -251,7 +248,7 @@ legal-from config none =
     let parts = both (has_legal_counts config) (splits_fault resolver_limit config.resolver_splits)
     (splits_fault shard_limit config.shard_splits) none in
     let books = and_parts (is_count proxy_limit config.proxies && is_count log_limit config.logs)
-    (is_count entry_limit config.book) parts.0 in
+    (is_count book_limit config.book) parts.0 in
     let proxies = and_parts (is_count proxy_limit config.proxies) (is_count log_limit config.logs) books.0 in
     let logs = count-of log_limit config.logs proxies.1 in
     let shards = few-of shard_limit config.shard_splits parts.2 in
@@ -262,7 +259,7 @@ legal-from config none =
       few_logs = logs.1;
       splits = shards.1;
       few_shards = shards.0;
-      book = (count-of entry_limit config.book books.1).1;
+      book = (count-of book_limit config.book books.1).1;
     }
   where
     both : (test : Bool) (first second : Option Refusal)

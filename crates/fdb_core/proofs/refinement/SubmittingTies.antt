@@ -20,7 +20,7 @@ use Rattle.fdb_core.specs.refinement.Cluster.{machine_of, CommitProxiesRefine, R
 use Rattle.fdb_core.specs.refinement.CommitProxies.{CommitProxyRefines, known_to, ReadsWithin, seen_as}
 use Rattle.fdb_core.specs.refinement.Sessions.{OfOpen, Finishes}
 use Rattle.fdb_core.proofs.common.ListLemmas.{map-at, map-set}
-use Rattle.fdb_core.proofs.invariant.NameLemmas.{submits-unrepeated}
+use Rattle.fdb_core.proofs.invariant.IdLemmas.{submits-unrepeated}
 use Rattle.fdb_core.proofs.machine.FinishLemmas.{finished-to_commit}
 use Rattle.fdb_core.proofs.machine.OpenLemmas.{open-given}
 use Rattle.fdb_core.proofs.machine.SessionLemmas.{open-has}
@@ -80,7 +80,7 @@ submits-read_only m session proxy commit_proxy transcript at opened none = rw (a
 module _ (k : Cluster) (before : Refines k) (sound : Invariant (machine_of k)) (session proxy : ℕ)
     (role : CommitProxyRole) (there : slice_get k.commit_proxies.items proxy ≡ Some role) (transcript : Transcript)
     (opened : open_at k.sessions session ≡ Some transcript) where
-  -- none of its name is at the proxy, and it reads within the committed version
+  -- none of its id is at the proxy, and it reads within the committed version
   pub unrepeated : place_of transcript.id
       (map commit_request_of role.in_flight ++ map commit_request_of role.waiting) ≡ None
   unrepeated = submits-unrepeated (machine_of k) sound session proxy transcript (seen_as role) opened

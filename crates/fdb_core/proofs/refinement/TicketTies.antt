@@ -7,7 +7,7 @@ use Rattle.fdb_keys.specs.declared.refusal.Refusal.{Refusal}
 use Rattle.fdb_keys.specs.declared.refusal.Refusal.TheVariants.{Exhausted, NoMemory}
 use Rattle.fdb_keys.specs.Answers.{Answers}
 use Rattle.fdb_sequencer.specs.declared.ticket.Ticket.{Ticket}
-use Rattle.fdb_sequencer.specs.Limits.{ticket_limit, version_limit}
+use Rattle.fdb_txn.specs.Limits.{ticket_limit, version_limit}
 use Rattle.fdb_sequencer.specs.Moves.{dated}
 use Rattle.fdb_sequencer.specs.Sequencer.{next_version, planned, plan_fault, unlearnt_by}
 use Rattle.fdb_core.specs.declared.cluster.Cluster.{Cluster}

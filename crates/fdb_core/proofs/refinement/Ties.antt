@@ -1,6 +1,6 @@
 -- The ties between the machine and the roles' own lists, kept through the steps of sessions.
 use Rattle.std.proofs.Common.{◌≡◌, ℕ, List, Some, Vec, Global}
-use Rattle.fdb_client.specs.Parts.{with_op}
+use Rattle.fdb_client.specs.TxnState.{with_op}
 use Rattle.fdb_client.specs.declared.program.Op.{Op}
 use Rattle.fdb_client.specs.declared.program.Reply.{Reply}
 use Rattle.fdb_client.specs.declared.program.Transcript.{Transcript}

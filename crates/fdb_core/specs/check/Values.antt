@@ -2,7 +2,7 @@
 use Rattle.std.specs.Prelude.{ℕ, List, Option}
 use Rattle.fdb_keys.specs.Points.{Point}
 use Rattle.fdb_mutations.specs.Maps.{Map}
-use Rattle.fdb_txn.specs.rules.Messages.{value_after}
+use Rattle.fdb_mutations.specs.Mutations.{value_after}
 use Rattle.fdb_client.specs.declared.program.Op.{Op}
 use Rattle.fdb_client.specs.declared.program.Op.TheVariants.{Get, Write, AddRead, AddWrite}
 use Rattle.fdb_client.specs.declared.program.Op.TheVariants as operation

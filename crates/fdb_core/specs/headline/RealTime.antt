@@ -17,7 +17,7 @@ abbrev pub spot_version : Spot → ℕ
 spot_version (spot.Entry entry place version) = version
 spot_version (spot.ReadOnly version) = version
 
--- the transaction of this name has begun: its session began more than those before it
+-- the transaction of this id has begun: its session began more than those before it
 abbrev pub HasBegun : Readings → TxnId → Type 0
 HasBegun r id = id.number < times_begun id.session r.begun
 

@@ -1,9 +1,9 @@
--- How often there is a transaction of a name: in the book, at the commit proxies and as the open one of its session
+-- How often there is a transaction of an id: in the book, at the commit proxies and as the open one of its session
 -- once at most.
 use Rattle.std.specs.Prelude.{◌≤◌, ℕ, ◌+◌, cond, nat_le, List, Option, Some, None, unwrap_or, sum_by}
 use Rattle.fdb_txn.specs.declared.entry.Entry.{Entry}
 use Rattle.fdb_txn.specs.declared.txn_id.TxnId.{TxnId}
-use Rattle.fdb_txn.specs.book.Once.{same_name, times_in_book}
+use Rattle.fdb_txn.specs.book.Once.{same_id, times_in_book}
 use Rattle.fdb_client.specs.declared.program.Transcript.{Transcript}
 use Rattle.fdb_core.specs.invariant.Places.{AllStand}
 use Rattle.fdb_core.specs.machine.Machine.{Machine}
@@ -16,10 +16,10 @@ up_to number None = 0
 up_to number (Some last) = cond (nat_le number last) 1 0
 
 module _ (id : TxnId) where
-  -- how often there is a transaction of the name: 1 or 0 for one transaction, then among those who wait at a proxy, and
+  -- how often there is a transaction of the id: 1 or 0 for one transaction, then among those who wait at a proxy, and
   -- at all of them, and as the open one of a session at the state
   abbrev pub once_for : TxnId → ℕ
-  once_for other = cond (same_name id other) 1 0
+  once_for other = cond (same_id id other) 1 0
 
   abbrev pub waiting_in : CommitProxy → ℕ
   waiting_in commit_proxy = sum_by (λ (transcript : Transcript). once_for transcript.id) commit_proxy.waiting
@@ -33,7 +33,7 @@ module _ (id : TxnId) where
   times_opened (Open transcript) = once_for transcript.id
   times_opened Waiting = 0
 
--- In the book, at the proxies and as the open one of its session there is one transaction of the name at most, and none
+-- In the book, at the proxies and as the open one of its session there is one transaction of the id at most, and none
 -- before it has begun.
 pub record Once (id : TxnId) (book : List Entry) (commit_proxies : List CommitProxy) (session : Session) : Type 0 where
   pub within : unwrap_or session.last_number 0 ≤ greatest_number
@@ -43,6 +43,6 @@ pub record Once (id : TxnId) (book : List Entry) (commit_proxies : List CommitPr
 abbrev pub OnceAmong : TxnId → List Entry → List CommitProxy → Sessions → Type 0
 OnceAmong id book commit_proxies sessions = Once id book commit_proxies (session_of sessions id.session)
 
--- all sessions stand, and there is one transaction of the name at most
+-- all sessions stand, and there is one transaction of the id at most
 abbrev pub IsOnce : TxnId → Machine → Type 0
 IsOnce id m = AllStand m × OnceAmong id m.book m.commit_proxies m.sessions

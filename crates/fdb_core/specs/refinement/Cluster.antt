@@ -7,12 +7,8 @@ use Rattle.fdb_txn.specs.book.History.{AreEntries}
 use Rattle.fdb_sequencer.specs.Sequencer.{Sequencer}
 use Rattle.fdb_proxy.specs.declared.config.Config.{Config}
 use Rattle.fdb_proxy.specs.Askers.{Asker}
-use Rattle.fdb_proxy.specs.Configs.{entry_limit}
-use Rattle.fdb_txn.specs.Limits.{resolver_limit}
+use Rattle.fdb_txn.specs.Limits.{resolver_limit, proxy_limit, log_limit, shard_limit, book_limit}
 use Rattle.fdb_txn.specs.rules.Splits.{are_splits}
-use Rattle.fdb_sequencer.specs.Limits.{proxy_limit}
-use Rattle.fdb_log.specs.Limits.{log_limit}
-use Rattle.fdb_storage.specs.Limits.{shard_limit}
 use Rattle.fdb_core.specs.declared.cluster.Cluster.{Cluster}
 use Rattle.fdb_core.specs.declared.roles.commit_proxy.CommitProxyRole.{CommitProxyRole}
 use Rattle.fdb_core.specs.declared.roles.log.LogRole.{LogRole}
@@ -80,7 +76,7 @@ pub record IsLegal (config : Config) : Type 0 where
   pub few_logs : config.logs ≤ log_limit
   pub splits : are_splits config.shard_splits ≡ true
   pub few_shards : length config.shard_splits < shard_limit
-  pub book : config.book ≤ entry_limit
+  pub book : config.book ≤ book_limit
 
 -- the messages of entry i for the logs
 abbrev pub messages_on : Config → ℕ → Seen → Entry → List LogMsg

@@ -189,7 +189,7 @@ pub record Decides (config : Config) (book : List Entry) (known : Known) (entry 
   }
   pub refines : CommitProxyRefines config book known new
 
--- The batch is done, and its transcripts are given, with each one's name and what became of it.
+-- The batch is done, and its transcripts are given, with each one's id and what became of it.
 pub record IsDone (config : Config) (book : List Entry) (known : Known) (entry : Entry) (old : CommitProxyRole)
     (transcripts : List Transcript) (answers : List (TxnId × Outcome)) (new : CommitProxyRole) : Type 0 where
   pub transcripts_are : transcripts ≡ old.in_flight

@@ -9,12 +9,12 @@ ghost use Rattle.fdb_core.specs.check.Values.{value_after_op};
 ghost use Rattle.fdb_core.specs.check.Comparing.{IsAnswered};
 ghost use Rattle.fdb_core.specs.headline.Headline.{AnsweredOn};
 
-use crate::check::parts::part_after;
-use crate::check::values::{copied, value_after_ops};
+use crate::check::in_range::map_after_in;
+use crate::check::values::value_after_ops;
 use bytes::Bytes;
 use fdb_client::{Op, Reply, Transcript};
 use fdb_keys::{Items, Key, KeyRange, Refusal};
-use fdb_mutations::PlainMap;
+use fdb_mutations::{PlainMap, copied};
 use std::alloc::Global;
 
 fn is_value(reply: &Reply, value: Option<&Bytes>) -> bool
@@ -64,7 +64,7 @@ fn is_range_answered(
     ensures { Answers result None (λ answered. IsTrue answered
         ↔ (reply.now ≡ Reply.Pairs (given_of (copy map.now (program earlier.now)) range.now limit reverse))) }
 {
-    let part = part_after(alloc, map, range, earlier)?;
+    let part = map_after_in(alloc, map, range, earlier)?;
     let pairs = part.range(range, limit, reverse)?;
     Ok(is_pairs(reply, &pairs))
 }

@@ -5,7 +5,7 @@ ghost use Rattle.std.specs.List.Sorted.{IsPermutation};
 ghost use Rattle.fdb_keys.specs.Points.{Point};
 ghost use Rattle.fdb_txn.specs.book.Transactions.{NamesWrites};
 ghost use Rattle.fdb_txn.specs.book.History.{AreEntries, IsBook, IsSealed};
-ghost use Rattle.fdb_storage.specs.Limits.{shard_limit};
+ghost use Rattle.fdb_txn.specs.Limits.{shard_limit};
 ghost use Rattle.fdb_proxy.specs.Configs.{config_fault};
 ghost use Rattle.fdb_core.specs.check.Checking.{Stops, FindsSerialized, Finds};
 ghost use Rattle.fdb_core.specs.check.Running.{HasComeTo, IsInOrder, visits_from};
@@ -88,7 +88,7 @@ fn check_placed(
 /// Compares transcripts with the run of one transaction at a time: the committed transactions of the book's entries
 /// run from the empty map, by version and by place in the batch. Answers the number of transcripts exactly where each
 /// is serialized at its spot. At a spot in an entry the transaction stands at that place, under the spot's version,
-/// with the transcript's name, read version, sets and mutations; it commits there, and each ordinary operation was
+/// with the transcript's id, read version, sets and mutations; it commits there, and each ordinary operation was
 /// answered as on the map right before the place. At a read-only spot, whose version is the transcript's read version,
 /// the transcript has no mutation and an empty write set, and was answered as on the map after all entries up to that
 /// version; after the last one, where the book hasn't come to it.
@@ -97,7 +97,7 @@ fn check_placed(
 /// the entries of version at most its own. Else it fails only as `NoMemory`.
 ///
 /// The configuration is a legal one. The entries are a book: versions rise from 0, and each previous version is that of
-/// the entry before; each transaction reads below its entry's version; moves go to resolvers that exist; no name is that
+/// the entry before; each transaction reads below its entry's version; moves go to resolvers that exist; no id is that
 /// of two places. It takes the logarithm of how many transcripts and entries there are for each transcript, and what it
 /// takes to judge and to run the book.
 pub fn serial_check(

@@ -1,6 +1,6 @@
 // The shards beside the map of the run.
 ghost use Rattle.std.specs.Prelude.{◌≡◌, ◌<◌, ◌≤◌, ◌+◌, ◌↔◌, ◌⊎◌, suc, List, length, IsTrue, IfOk, MatchResult};
-ghost use Rattle.fdb_storage.specs.Limits.{shard_limit};
+ghost use Rattle.fdb_txn.specs.Limits.{shard_limit};
 ghost use Rattle.fdb_core.specs.check.Holding.{is_below, HoldsTheRun, HasTheMap, HasTheMapThere, StopsByShard, ChecksShards};
 ghost use Rattle.fdb_keys.specs.Points.{Point};
 ghost use Rattle.fdb_txn.specs.book.History.{AreEntries};

@@ -138,7 +138,7 @@ impl CommitProxyRole {
     }
 
     /// A resolver's verdicts came. Refused as `Stale` where the batch doesn't wait for them, and then nothing changes.
-    pub(crate) fn take_verdicts(&mut self, verdicts: Verdicts) -> Result<(), Refusal>
+    pub(crate) fn verdict(&mut self, verdicts: Verdicts) -> Result<(), Refusal>
         ensures answers { (config : Config) (book : List Entry) (known : Known) (entry : Entry)
             → CommitProxyRefines config book known self.old
             → IsSaid config.resolver_splits book verdicts entry →
@@ -183,7 +183,7 @@ impl CommitProxyRole {
     }
 
     /// A log's acknowledgement came. Refused as `Stale` where the batch doesn't wait for it, and then nothing changes.
-    pub(crate) fn take_acknowledgement(&mut self, ack: LogAck) -> Result<(), Refusal>
+    pub(crate) fn logged(&mut self, ack: LogAck) -> Result<(), Refusal>
         ensures answers { (config : Config) (book : List Entry) (known : Known)
             → CommitProxyRefines config book known self.old → ack.log < config.logs →
             let sender = FromLog ack.log in
@@ -219,7 +219,7 @@ impl CommitProxyRole {
         self.is_reported = true;
     }
 
-    /// The batch, whose version is reported, is done. Answers its transcripts, and each one's name with what became of
+    /// The batch, whose version is reported, is done. Answers its transcripts, and each one's id with what became of
     /// it, by place.
     pub(crate) fn finish(
         &mut self,

@@ -1,7 +1,7 @@
 // The logs.
 ghost use Rattle.std.specs.Prelude.{◌<◌, ◌≤◌, None};
 ghost use Rattle.fdb_keys.specs.Answers.{Answers};
-ghost use Rattle.fdb_log.specs.Limits.{log_limit, tag_limit};
+ghost use Rattle.fdb_txn.specs.Limits.{log_limit, tag_limit};
 ghost use Rattle.fdb_core.specs.refinement.Starts.{AreNewLogs};
 
 use fdb_keys::Refusal;

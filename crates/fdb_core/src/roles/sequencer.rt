@@ -1,8 +1,7 @@
 // The sequencer takes what the world gives it, which it never refuses.
 ghost use Rattle.std.specs.Prelude.{◌≡◌, ◌<◌, ◌≤◌, None};
 ghost use Rattle.fdb_keys.specs.Answers.{Answers};
-ghost use Rattle.fdb_txn.specs.Limits.{resolver_limit};
-ghost use Rattle.fdb_sequencer.specs.Limits.{proxy_limit};
+ghost use Rattle.fdb_txn.specs.Limits.{resolver_limit, proxy_limit};
 ghost use Rattle.fdb_sequencer.specs.Sequencer.{accept_fault, accepting, fresh, reporting};
 
 use fdb_keys::Refusal;

@@ -106,7 +106,7 @@ impl Cluster {
         Ok(at)
     }
 
-    pub(crate) fn receive_verdicts(
+    pub(crate) fn verdict(
         &mut self,
         entry: u32,
         resolver: u32,
@@ -121,11 +121,11 @@ impl Cluster {
         let at = self.receiver(entry, Sender::Resolver(resolver))?;
         let verdicts = self.resolvers[resolver as usize].sent_on(self.alloc, entry as usize)?;
         let commit_proxy = &mut self.commit_proxies[at];
-        commit_proxy.take_verdicts(verdicts)?;
+        commit_proxy.verdict(verdicts)?;
         Ok(Answered::Done)
     }
 
-    pub(crate) fn receive_acknowledgement(
+    pub(crate) fn logged(
         &mut self,
         entry: u32,
         log: u32,
@@ -139,7 +139,7 @@ impl Cluster {
     {
         let at = self.receiver(entry, Sender::Log(log))?;
         let commit_proxy = &mut self.commit_proxies[at];
-        commit_proxy.take_acknowledgement(LogAck { log, index: entry })?;
+        commit_proxy.logged(LogAck { log, index: entry })?;
         Ok(Answered::Done)
     }
 

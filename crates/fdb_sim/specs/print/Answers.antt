@@ -3,8 +3,8 @@ use Rattle.std.specs.Prelude.{ℕ, List, [], ◌++◌, length, codes, Option, So
 use Rattle.std.specs.List.{flat_map, enumerate_from}
 use Rattle.std.specs.Fmt.{decimal}
 use Rattle.fdb_keys.specs.declared.refusal.Refusal.{Refusal}
-use Rattle.fdb_keys.specs.declared.refusal.Refusal.TheVariants.{TransactionTooOld, FutureVersion, NotCommitted, CommitUnknownResult, KeyOutsideLegalRange, InvertedRange, TransactionTooLarge, KeyTooLarge, ValueTooLarge, NoMemory, NotYet, Stale, Failed, Exhausted, BookFull, Repeated, BadOperand, BadConfig, Chain, Taken, MovesFull, Closed, WrongState, NoTransaction, Unknown}
-use Rattle.fdb_keys.specs.Refusals.{code_of}
+use Rattle.fdb_keys.specs.declared.refusal.Refusal.TheVariants.{TransactionTooOld, NotCommitted, NotYet}
+use Rattle.fdb_keys.specs.Refusals.{code_of, name_of}
 use Rattle.fdb_resolver.specs.declared.verdict.Verdict.{Verdict}
 use Rattle.fdb_resolver.specs.declared.verdict.Verdict.TheVariants as verdict
 use Rattle.fdb_proxy.specs.declared.outcome.Outcome.{Outcome}
@@ -15,34 +15,6 @@ use Rattle.fdb_sim.specs.declared.script.step_line.Kind.{Kind}
 use Rattle.fdb_sim.specs.declared.script.step_line.Kind.TheVariants.{Pull, Forget, Pop}
 use Rattle.fdb_sim.specs.print.Texts.{text_of}
 
--- the refusal's name
-abbrev pub refusal_name : Refusal → List ℕ
-refusal_name TransactionTooOld = codes "TransactionTooOld"
-refusal_name FutureVersion = codes "FutureVersion"
-refusal_name NotCommitted = codes "NotCommitted"
-refusal_name CommitUnknownResult = codes "CommitUnknownResult"
-refusal_name KeyOutsideLegalRange = codes "KeyOutsideLegalRange"
-refusal_name InvertedRange = codes "InvertedRange"
-refusal_name TransactionTooLarge = codes "TransactionTooLarge"
-refusal_name KeyTooLarge = codes "KeyTooLarge"
-refusal_name ValueTooLarge = codes "ValueTooLarge"
-refusal_name NoMemory = codes "NoMemory"
-refusal_name (NotYet number) = codes "NotYet"
-refusal_name Stale = codes "Stale"
-refusal_name Failed = codes "Failed"
-refusal_name Exhausted = codes "Exhausted"
-refusal_name BookFull = codes "BookFull"
-refusal_name (Repeated place) = codes "Repeated"
-refusal_name BadOperand = codes "BadOperand"
-refusal_name BadConfig = codes "BadConfig"
-refusal_name Chain = codes "Chain"
-refusal_name Taken = codes "Taken"
-refusal_name MovesFull = codes "MovesFull"
-refusal_name Closed = codes "Closed"
-refusal_name WrongState = codes "WrongState"
-refusal_name NoTransaction = codes "NoTransaction"
-refusal_name Unknown = codes "Unknown"
-
 -- what stands after the name: of `NotYet` the number of what has not come
 abbrev pub awaited_text : Refusal → List ℕ
 awaited_text (NotYet number) = codes " " ++ decimal number
@@ -50,7 +22,7 @@ awaited_text refusal = []
 
 -- a refusal: its number, its name and what stands after that
 abbrev pub refusal_text : Refusal → List ℕ
-refusal_text refusal = codes "refused " ++ decimal (code_of refusal) ++ codes " " ++ refusal_name refusal
+refusal_text refusal = codes "refused " ++ decimal (code_of refusal) ++ codes " " ++ name_of refusal
     ++ awaited_text refusal
 
 -- a number and what belongs to it, as an item of a list

@@ -4,7 +4,7 @@ use super::cut_snapshot::CutSnapshot;
 use super::marks::{Marks, only};
 use super::steps::{Ask, Change, Span, Step};
 use super::{add_read, add_write, begun, write};
-use crate::making::{add, apply, ask, clear, clear_range, compare_and_clear, set};
+use crate::making::{apply, ask};
 use crate::random::Random;
 use bytes::Bytes;
 use fdb_client::Txn;
@@ -28,11 +28,15 @@ struct Plain {
 
 fn mutation_of(alloc: Global, change: Change) -> Result<Mutation, Refusal> {
     match change {
-        Change::Set(key, value) => set(alloc, &[key], &[value]),
-        Change::Clear(key) => clear(alloc, &[key]),
-        Change::ClearRange(span) => clear_range(alloc, &[span.begin], &[span.end]),
-        Change::Add(key, operand) => add(alloc, &[key], &[operand]),
-        Change::CompareAndClear(key, operand) => compare_and_clear(alloc, &[key], &[operand]),
+        Change::Set(key, value) => Mutation::set(alloc, &[key], &[value]),
+        Change::Clear(key) => Mutation::clear(alloc, &[key]),
+        Change::ClearRange(span) => Mutation::clear_range(alloc, &[span.begin], &[span.end]),
+        Change::Add(key, operand) => Mutation::add(alloc, &[key], &[operand]),
+        Change::CompareAndClear(key, operand) => Mutation::compare_and_clear(
+            alloc,
+            &[key],
+            &[operand],
+        ),
     }
 }
 
@@ -162,8 +166,8 @@ impl Plain {
 
 // Gives the key the value in both maps.
 fn set_both(map: &mut PlainMap, copy: &mut PlainMap, alloc: Global, key: u8, value: u8) -> bool {
-    apply(map, set(alloc, &[key], &[value])).is_ok()
-        && apply(copy, set(alloc, &[key], &[value])).is_ok()
+    apply(map, Mutation::set(alloc, &[key], &[value])).is_ok()
+        && apply(copy, Mutation::set(alloc, &[key], &[value])).is_ok()
 }
 
 // Gives about half of the keys a value, the same in both maps.

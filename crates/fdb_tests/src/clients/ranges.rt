@@ -1,10 +1,10 @@
 // What reads of a range give, and what they read.
 use super::{FutureSnapshot, add_read, begun, has, has_no_conflicts, op_count, reads, write};
-use crate::making::{ask, clear, code_of, compare_and_clear, filled, same, set};
+use crate::making::{ask, code_of, filled, same};
 use bytes::Bytes;
 use fdb_client::{PlainSnapshot, Txn};
 use fdb_keys::{Items, Key, KeyRange, Refusal};
-use fdb_mutations::PlainMap;
+use fdb_mutations::{Mutation, PlainMap};
 use std::alloc::Global;
 
 // Which keys from a on are read.
@@ -70,8 +70,8 @@ fn gives(
 // Clears a, and sets bb to x.
 fn clear_and_set(txn: &mut Txn, alloc: Global) -> [u32; 2] {
     [
-        write(txn, clear(alloc, b"a")),
-        write(txn, set(alloc, b"bb", b"x")),
+        write(txn, Mutation::clear(alloc, b"a")),
+        write(txn, Mutation::set(alloc, b"bb", b"x")),
     ]
 }
 
@@ -120,8 +120,8 @@ fn compared_keys_of_a_range_are_read(rt: HostRuntime) {
     let found = ask(filled(alloc), |map| {
         begun(alloc, |txn| {
             (
-                write(txn, compare_and_clear(alloc, b"a", &[1])),
-                write(txn, compare_and_clear(alloc, b"b", &[9])),
+                write(txn, Mutation::compare_and_clear(alloc, b"a", &[1])),
+                write(txn, Mutation::compare_and_clear(alloc, b"b", &[9])),
                 gives(txn, map, alloc, up_to_z(0), &[(b"b", 2), (b"c", 3)]),
                 reads(txn, alloc, &[(b"a", b"z")]),
             )
@@ -155,7 +155,7 @@ fn own_sets_behind_the_last_pair_are_given(rt: HostRuntime) {
         begun(alloc, |txn| {
             let pairs = [(b"a".as_slice(), 1), (b"b", 2), (b"c", 3), (b"d", 4)];
             (
-                write(txn, set(alloc, b"d", &[4])),
+                write(txn, Mutation::set(alloc, b"d", &[4])),
                 gives(txn, map, alloc, up_to_z(4), &pairs),
                 reads(txn, alloc, &[(b"a", b"d")]),
             )

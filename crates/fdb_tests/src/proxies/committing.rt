@@ -223,7 +223,7 @@ fn an_idle_proxy_seals_an_empty_batch(rt: HostRuntime) {
 }
 
 #[test]
-fn a_name_waits_once(rt: HostRuntime) {
+fn an_id_waits_once(rt: HostRuntime) {
     let alloc = rt.alloc();
     let found = ask_mut(new_core(alloc), |core| {
         (
@@ -265,12 +265,12 @@ fn batch_that_was_given_up_is_sealed_again(rt: HostRuntime) {
 }
 
 #[test]
-fn all_that_wait_are_refused_by_name(rt: HostRuntime) {
+fn all_that_wait_are_refused_by_id(rt: HostRuntime) {
     let alloc = rt.alloc();
     let found = ask_mut(new_core(alloc), |core| {
         let codes = [4, 2].map(|session| code_of(submit(core, alloc, session)));
-        let names = [4, 2].map(|session| TxnId { session, number: 0 });
-        (codes, core.refuse_all().as_slice() == names.as_slice())
+        let ids = [4, 2].map(|session| TxnId { session, number: 0 });
+        (codes, core.refuse_all().as_slice() == ids.as_slice())
     });
     same(&rt, found, Ok(([0, 0], true)));
 }

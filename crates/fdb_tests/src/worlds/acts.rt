@@ -1,5 +1,5 @@
 // Steps as plain data: their keys and values have one byte each.
-use crate::making::{add, clear_range, code_of, set};
+use crate::making::code_of;
 use fdb_core::{Answered, Step, World};
 use fdb_keys::{Key, KeyRange, Refusal};
 use fdb_mutations::Mutation;
@@ -130,9 +130,13 @@ fn take_call(
         Call::Get(key) => get(world, alloc, session, key, false),
         Call::SnapshotGet(key) => get(world, alloc, session, key, true),
         Call::Range(begin, end, limit) => range(world, alloc, session, [begin, end], limit),
-        Call::Set(key, value) => write(world, session, set(alloc, &[key], &[value])),
-        Call::Add(key, operand) => write(world, session, add(alloc, &[key], &[operand])),
-        Call::ClearRange(begin, end) => write(world, session, clear_range(alloc, &[begin], &[end])),
+        Call::Set(key, value) => write(world, session, Mutation::set(alloc, &[key], &[value])),
+        Call::Add(key, operand) => write(world, session, Mutation::add(alloc, &[key], &[operand])),
+        Call::ClearRange(begin, end) => write(
+            world,
+            session,
+            Mutation::clear_range(alloc, &[begin], &[end]),
+        ),
         Call::AddRead(begin, end) => add_read(world, alloc, session, begin, end),
         Call::AddWrite(begin, end) => add_write(world, alloc, session, begin, end),
     }

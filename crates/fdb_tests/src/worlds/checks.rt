@@ -1,10 +1,10 @@
 // Transcripts that a world acknowledged, as they are and changed by hand, beside its book and beside that of another one.
-use crate::making::set;
 use crate::worlds::acts::{Act, Call, take};
 use crate::worlds::new_world;
 use fdb_client::{Op, Reply, Transcript};
 use fdb_core::{CheckFault, Placed, World, serial_check};
 use fdb_keys::Refusal;
+use fdb_mutations::Mutation;
 use fdb_txn::{Spot, TxnId};
 use std::alloc::Global;
 use std::test::Fail;
@@ -71,7 +71,7 @@ enum Change {
 }
 
 fn push_write(alloc: Global, transcript: &mut Transcript) -> Result<(), Refusal> {
-    let mutation = set(alloc, b"b", b"z")?;
+    let mutation = Mutation::set(alloc, b"b", b"z")?;
     transcript.ops.push((Op::Write(mutation), Reply::Done))?;
     Ok(())
 }
@@ -195,7 +195,7 @@ fn transcript_at_another_spot(rt: HostRuntime) {
 }
 
 #[test]
-fn transcript_under_another_name(rt: HostRuntime) {
+fn transcript_under_another_id(rt: HostRuntime) {
     let own = TxnId {
         session: 0,
         number: 0,

@@ -228,18 +228,18 @@ module _ (resolvers : ℕ) where
     sealed-of entry.version book entries.4,
   )
 
--- a book of sealed transactions is a list of entries that has no name twice
+-- a book of sealed transactions is a list of entries that has no id twice
 pub books_are_entries : BooksAreEntries
 books_are_entries resolvers book = (
   λ given.
       let is : IsBook resolvers book = given.0 in
-      (entries-from resolvers 0 book is.linked is.reads is.moves given.1, is.names),
+      (entries-from resolvers 0 book is.linked is.reads is.moves given.1, is.ids),
   λ given. (
     record {
       linked = linked-of resolvers 0 book given.0;
       reads = reads-of resolvers 0 book given.0;
       moves = moves-of resolvers 0 book given.0;
-      names = given.1;
+      ids = given.1;
     },
     sealed-of resolvers 0 book given.0,
   ),

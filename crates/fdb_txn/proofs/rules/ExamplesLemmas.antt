@@ -4,8 +4,8 @@ use Rattle.std.specs.Prelude.{codes}
 use Rattle.std.proofs.lemmas.Bool.{cases_Bool, and_parts, eqb-true}
 use Rattle.fdb_keys.specs.Points.{point_lt}
 use Rattle.fdb_txn.specs.declared.txn_id.TxnId.{TxnId}
-use Rattle.fdb_txn.specs.book.Once.{same_name, times_in_book}
-use Rattle.fdb_txn.specs.laws.Examples.{OneBatch, WriteSkew, FalseConflict, FormerOwner, ThereAndBack, EqualIsNotNewer, Window, OldReading, TwoMoves, Spans, AtBounds, ShardMessages, Entries, of_three_names, Books}
+use Rattle.fdb_txn.specs.book.Once.{same_id, times_in_book}
+use Rattle.fdb_txn.specs.laws.Examples.{OneBatch, WriteSkew, FalseConflict, FormerOwner, ThereAndBack, EqualIsNotNewer, Window, OldReading, TwoMoves, Spans, AtBounds, ShardMessages, Entries, of_three_ids, Books}
 
 pub one_batch_computes : OneBatch
 unfolding point_lt
@@ -72,25 +72,25 @@ at_most_one : (is_it : Bool) → counted is_it ≤ 1
 at_most_one true = omega arith
 at_most_one false = omega arith
 
--- one name is at most one of two that differ
+-- one id is at most one of two that differ
 one_of_two : (id a b : TxnId) → (a.session ≡ b.session → a.number ≡ b.number → ⊥)
-    → counted (same_name id a) + counted (same_name id b) ≤ 1
+    → counted (same_id id a) + counted (same_id id b) ≤ 1
 one_of_two id a b differ = ⊎_elim
     (λ first. ⊎_elim
     (λ second.
     let of_a = and_parts (a.session == id.session) _ first in
     let of_b = and_parts (b.session == id.session) _ second in
     absurd (differ (eqb-true _ _ of_a.0 ∙ sym (eqb-true _ _ of_b.0)) (eqb-true _ _ of_a.1 ∙ sym (eqb-true _ _ of_b.1))))
-    (λ other. let none : counted (same_name id b) ≡ 0 = ap counted other in omega
-    (arith, none, at_most_one (same_name id a)))
-    (cases_Bool (same_name id b)))
-    (λ other. let none : counted (same_name id a) ≡ 0 = ap counted other in omega
-    (arith, none, at_most_one (same_name id b)))
-    (cases_Bool (same_name id a))
+    (λ other. let none : counted (same_id id b) ≡ 0 = ap counted other in omega
+    (arith, none, at_most_one (same_id id a)))
+    (cases_Bool (same_id id b)))
+    (λ other. let none : counted (same_id id a) ≡ 0 = ap counted other in omega
+    (arith, none, at_most_one (same_id id b)))
+    (cases_Bool (same_id id a))
 
--- so one name is at most one of the three
-three_names : (id : TxnId) → times_in_book id of_three_names ≤ 1
-three_names id =
+-- so one id is at most one of the three
+three_ids : (id : TxnId) → times_in_book id of_three_ids ≤ 1
+three_ids id =
     let a : TxnId = record { session = 0; number = 0 } in
     let b : TxnId = record { session = 1; number = 0 } in
     let c : TxnId = record { session = 0; number = 1 } in
@@ -107,8 +107,8 @@ books_are_judged = (
     linked = (omega arith, refl, (omega arith, refl, tt));
     reads = ((omega arith, (omega arith, tt)), ((omega arith, tt), tt));
     moves = (tt, (tt, tt));
-    names = three_names;
+    ids = three_ids;
   },
-  λ book. let wrong : 2 ≤ 1 = book.names (record { session = 0; number = 0 }) in absurd (omega arith),
-  λ book. let wrong : 2 ≤ 1 = book.names (record { session = 0; number = 0 }) in absurd (omega arith),
+  λ book. let wrong : 2 ≤ 1 = book.ids (record { session = 0; number = 0 }) in absurd (omega arith),
+  λ book. let wrong : 2 ≤ 1 = book.ids (record { session = 0; number = 0 }) in absurd (omega arith),
 )

@@ -12,14 +12,14 @@ use Rattle.fdb_keys.specs.Ranges.{Range, in_range}
 use Rattle.fdb_keys.proofs.RangesLemmas.{HaveCommonPoint, common_from_meet, meet_from_common}
 use Rattle.fdb_mutations.specs.declared.mutation.Mutation.{Mutation}
 use Rattle.fdb_mutations.specs.Maps.{Map}
-use Rattle.fdb_mutations.specs.Mutations.{names, named_range, new_value, effect, effects}
+use Rattle.fdb_mutations.specs.Mutations.{names, named_range, new_value, effect, effects, value_after}
 use Rattle.fdb_mutations.proofs.Effects.{at_every_point, in_named_range}
 use Rattle.fdb_txn.specs.declared.entry.Entry.{Entry}
 use Rattle.fdb_txn.specs.book.Transactions.{Transaction}
 use Rattle.fdb_txn.specs.book.Book.{Stamped, Place, Seen, nothing, add_moves, placed, add_places, add_entry, seen_of, last_version}
 use Rattle.fdb_txn.specs.rules.Admission.{committed}
 use Rattle.fdb_txn.specs.book.History.{AreEntries}
-use Rattle.fdb_txn.specs.rules.Messages.{meets_range, Body, mutations_in, at_place, committed_from, committed_in, message_for, messages_after, value_after, value_with, MeetsAtSomePoint, IsForRange, MessagesAreForTheRange, ShardsHoldTheRun, MessagesGoOn, ShardsGoOn}
+use Rattle.fdb_txn.specs.rules.Messages.{meets_range, Body, mutations_in, at_place, committed_from, committed_in, message_for, messages_after, value_with, MeetsAtSomePoint, IsForRange, MessagesAreForTheRange, ShardsHoldTheRun, MessagesGoOn, ShardsGoOn}
 use Rattle.fdb_txn.specs.rules.SerialMap.{serial_map, up_to, serial_map_at}
 use Rattle.fdb_txn.specs.laws.SerialMapLaws.{version_after}
 use Rattle.fdb_txn.specs.declared.tag_msg.TagMsg.{TagMsg}

@@ -25,12 +25,12 @@ abbrev pub IsSealed : Entry → Type 0
 IsSealed entry = AllByRecursion NamesWrites entry.batch
 
 -- A book. Versions rise from 0, and each previous one is that of the entry before, 0 for the first; each transaction
--- read below its entry's version; each move goes to a resolver that exists; and no name is that of two places.
+-- read below its entry's version; each move goes to a resolver that exists; and no id is that of two places.
 pub record IsBook (resolvers : ℕ) (book : List Entry) : Type 0 where
   pub linked : AreLinked 0 book
   pub reads : AllByRecursion ReadsBelow book
   pub moves : AllByRecursion (MovesExist resolvers) book
-  pub names : NoIdTwice book
+  pub ids : NoIdTwice book
 
 -- Both are places of one book. The later one has the moves of the earlier one, and before them those of
 -- greater versions.
@@ -54,7 +54,7 @@ IsHistory resolvers (place ∷ earlier) = IsPlace resolvers place × AllByRecurs
     × IsHistory resolvers earlier
 
 -- Entries after a version, as they are in a book of sealed transactions. A law says that from 0 on they are such a
--- book, but for the names.
+-- book, but for the ids.
 abbrev pub AreEntries : ℕ → ℕ → List Entry → Type 0
 AreEntries resolvers last [] = ⊤
 AreEntries resolvers last (entry ∷ entries) =

@@ -8,7 +8,7 @@ use Rattle.fdb_mutations.specs.declared.mutation.Mutation.{Mutation}
 use Rattle.fdb_mutations.specs.Mutations.{names, named_range}
 use Rattle.fdb_txn.specs.declared.txn_id.TxnId.{TxnId}
 
--- a read version, a read set, a write set and a list of mutations, under a name
+-- a read version, a read set, a write set and a list of mutations, under an id
 pub record Transaction : Type 0 where
   pub id : TxnId
   pub read : ℕ

@@ -337,17 +337,17 @@ Entries =
     × (AreEntries 2 0 (entry_of 1 0 [] (record (reads_and_sets 0 0 [] (codes "a" ∷ [])) { writes = [] } ∷ []) ∷ []) → ⊥)
 
 -- At 1 the transactions with number 0 of the sessions 0 and 1, at 2 the one with number 1 of session 0.
-abbrev pub of_three_names : List Entry
-of_three_names =
+abbrev pub of_three_ids : List Entry
+of_three_ids =
     entry_of 1 0 [] (reads_and_sets 0 0 [] [] ∷ reads_and_sets 1 0 [] [] ∷ [])
     ∷ entry_of 2 1 [] (record (reads_and_sets 0 1 [] []) { id = record { session = 0; number = 1 } } ∷ [])
     ∷ []
 
--- Which lists are books of two resolvers, by the names of their transactions: with three names for three transactions
--- there is one, and with one name twice in an entry, or in two entries, there is none.
+-- Which lists are books of two resolvers, by the ids of their transactions: with three ids for three transactions
+-- there is one, and with one id twice in an entry, or in two entries, there is none.
 abbrev pub Books : Type 0
 Books =
-    IsBook 2 of_three_names
+    IsBook 2 of_three_ids
     × (IsBook 2 (entry_of 1 0 [] (reads_and_sets 0 0 [] [] ∷ reads_and_sets 0 0 [] [] ∷ []) ∷ []) → ⊥)
     × (IsBook 2
     (entry_of 1 0 [] (reads_and_sets 0 0 [] [] ∷ []) ∷ entry_of 2 1 [] (reads_and_sets 0 1 [] [] ∷ []) ∷ []) → ⊥)

@@ -12,7 +12,7 @@ use Rattle.fdb_txn.specs.book.Once.{NoIdTwice}
 use Rattle.fdb_txn.specs.book.History.{IsBook, IsSealed, IsHistory, AreEntries}
 use Rattle.fdb_txn.specs.rules.SerialMap.{serial_map, serial_map_at}
 
--- a book of sealed transactions is a list of entries after version 0 that has no name twice
+-- a book of sealed transactions is a list of entries after version 0 that has no id twice
 abbrev pub BooksAreEntries : Type 0
 BooksAreEntries =
     (resolvers : ℕ) (book : List Entry)

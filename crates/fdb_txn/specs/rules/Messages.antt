@@ -5,7 +5,7 @@ use Rattle.std.specs.FinMap.{get}
 use Rattle.fdb_keys.specs.Points.{Point}
 use Rattle.fdb_keys.specs.Ranges.{Range, in_range, ranges_meet}
 use Rattle.fdb_mutations.specs.declared.mutation.Mutation.{Mutation}
-use Rattle.fdb_mutations.specs.Mutations.{names, named_range, new_value}
+use Rattle.fdb_mutations.specs.Mutations.{names, named_range, value_after}
 use Rattle.fdb_txn.specs.declared.entry.Entry.{Entry}
 use Rattle.fdb_txn.specs.declared.tag_msg.TagMsg.{TagMsg}
 use Rattle.fdb_txn.specs.book.Transactions.{Transaction}
@@ -62,10 +62,6 @@ messages_after splits range before (entry ∷ book) =
 -- the messages of a book
 abbrev pub messages_for : List Point → Range → List Entry → List TagMsg
 messages_for splits range book = messages_after splits range nothing book
-
--- what stands at a point after a mutation, by what stood there
-abbrev pub value_after : Point → Option (List ℕ) → Mutation → Option (List ℕ)
-value_after x value mutation = if names mutation x then new_value mutation value else value
 
 -- what stands at a point after a message, if it is of version at most v
 abbrev pub value_with : ℕ → Point → Option (List ℕ) → TagMsg → Option (List ℕ)

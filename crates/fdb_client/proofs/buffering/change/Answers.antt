@@ -1,8 +1,8 @@
 use Rattle.std.proofs.Common.{◌≡◌, ◌∙◌, sym, ap, rules, true, false, []}
 use Rattle.fdb_keys.specs.Ranges.{in_set}
 use Rattle.fdb_client.specs.declared.left.Left.TheVariants.{Changes}
-use Rattle.fdb_client.specs.Kept.{kept}
-use Rattle.fdb_client.proofs.KeptLemmas.{key-held, put-back}
+use Rattle.fdb_client.specs.LeftAt.{left_at}
+use Rattle.fdb_client.proofs.LeftAtLemmas.{key-held, put-back}
 use Rattle.fdb_client.proofs.buffering.change.Goals as goal
 
 pub returns-then-contains-clause-writes : goal.returns-then-contains-clause-writes
@@ -16,5 +16,5 @@ returns-in-Err-clause-kept_err c =
     let key = c.args.key.now in
     let outside : in_set c.args.writes.now key ≡ false = search rules in
     let empty : c.new.result ≡ [] = search rules in
-    λ x. put-back (kept own) key x (kept c.change.new.self x) (kept c.set.new.self x) _ (Changes c.new.result)
+    λ x. put-back (left_at own) key x (left_at c.change.new.self x) (left_at c.set.new.self x) _ (Changes c.new.result)
     (c.in_ok-change.ensures.answers x) (c.set.ensures.kept x) (ap Changes empty ∙ sym (c.requires.written outside))

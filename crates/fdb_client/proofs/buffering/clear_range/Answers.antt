@@ -4,8 +4,8 @@ use Rattle.fdb_keys.specs.Points.{Point, point_eq}
 use Rattle.fdb_keys.specs.Ranges.{Range, in_set}
 use Rattle.fdb_keys.proofs.ApartLemmas.{in_with_range}
 use Rattle.fdb_client.specs.OwnWrites.{keys_between}
-use Rattle.fdb_client.proofs.ClearedLemmas.{kept-cleared}
-use Rattle.fdb_client.proofs.KeptLemmas.{found}
+use Rattle.fdb_client.proofs.ClearedLemmas.{left_at-cleared}
+use Rattle.fdb_client.proofs.LeftAtLemmas.{found}
 use Rattle.fdb_client.proofs.buffering.clear_range.Goals as goal
 
 pub returns-clause-kept : goal.returns-clause-kept
@@ -14,7 +14,7 @@ returns-clause-kept c =
     let after = c.remove_all.new.self in
     let listed : c.as_slice.result.now ≡ keys_between c.args.range.now own.keys.entries =
     c.as_slice.ensures.value ∙ c.in_ok-keys.ensures in
-    kept-cleared c.args.range.now own.keys.entries after.keys.entries own.decided after.decided
+    left_at-cleared c.args.range.now own.keys.entries after.keys.entries own.decided after.decided
     (λ x. c.remove_all.ensures.entries x
     ∙ ap (λ (keys : List Point). cond (list_any (point_eq x) keys) None (found own.keys.entries x)) listed)
     (λ x. ap (λ (set : List Range). in_set set x) (c.remove_all.ensures.decided ∙ c.in_ok-add_to_both.ensures.answers)

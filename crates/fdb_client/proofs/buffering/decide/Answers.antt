@@ -1,6 +1,6 @@
 use Rattle.std.proofs.Common.{◌≡◌, ◌∙◌, sym, rules, true}
 use Rattle.fdb_keys.specs.Ranges.{in_set}
-use Rattle.fdb_client.proofs.KeptLemmas.{key-held, on_ok}
+use Rattle.fdb_client.proofs.LeftAtLemmas.{key-held, on_ok}
 use Rattle.fdb_client.proofs.buffering.decide.Goals as goal
 
 pub returns-then-contains-2-clause-decided : goal.returns-then-contains-2-clause-decided

@@ -1,7 +1,7 @@
 // What a session's open transaction reads.
 ghost use Rattle.std.specs.Prelude.{◌≡◌, OnErr};
 ghost use Rattle.fdb_keys.specs.Answers.{Answers};
-ghost use Rattle.fdb_client.specs.Parts.{with_op};
+ghost use Rattle.fdb_client.specs.TxnState.{with_op};
 ghost use Rattle.fdb_client.specs.Programs.{program, copy, reply_on};
 ghost use Rattle.fdb_core.specs.machine.ClientSteps.{answered_by, read_fault};
 ghost use Rattle.fdb_core.specs.refinement.Reads.{operation_of};

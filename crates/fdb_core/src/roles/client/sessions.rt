@@ -33,7 +33,7 @@ impl Sessions {
     ghost use Rattle.std.specs.Option.{option_copied};
     ghost use Rattle.fdb_keys.specs.Answers.{Answers};
     ghost use Rattle.fdb_mutations.specs.Mutations.{mutation_fault};
-    ghost use Rattle.fdb_client.specs.Parts.{with_op};
+    ghost use Rattle.fdb_client.specs.TxnState.{with_op};
     ghost use Rattle.fdb_client.specs.Programs.{program, copy, reply_on};
     ghost use Rattle.fdb_client.specs.declared.program.Op.TheVariants as operation;
     ghost use Rattle.fdb_client.specs.declared.program.Reply.TheVariants as answer;

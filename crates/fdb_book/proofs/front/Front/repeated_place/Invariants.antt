@@ -1,5 +1,5 @@
 use Rattle.std.proofs.Common.{◌≡◌, take, drop}
-use Rattle.fdb_book.specs.Names.{repeated_place, repeated_after}
+use Rattle.fdb_book.specs.Ids.{repeated_place, repeated_after}
 use Rattle.fdb_book.proofs.front.Front.repeated_place.Given as goal
 
 abbrev pub invariant-loop-place : goal.invariant-loop-place

@@ -5,7 +5,7 @@ use Rattle.std.specs.declared.sync.Arc.{Arc}
 use Rattle.fdb_txn.specs.declared.entry.Entry.{Entry}
 use Rattle.fdb_book.specs.Fronts.{IsLinkedBook}
 use Rattle.fdb_book.specs.Appending.{append_fault}
-use Rattle.fdb_book.specs.Names.{Latest, Covers}
+use Rattle.fdb_book.specs.Ids.{Latest, Covers}
 use Rattle.fdb_book.proofs.FactLemmas.{counted-view}
 use Rattle.fdb_book.proofs.FoundLemmas.{found-handed, found-refused, front-next, room-left, match-none, match-some, given-fits, given-has}
 use Rattle.fdb_book.proofs.front.Front.set_next.Goals as goal
@@ -23,7 +23,7 @@ invariant_of-result g c =
     (counted-view _ _ _ c.self.invariant.counted c.self.view_is)
     (match-none _ _ _ c.in_default-other.is c.fill_next-facts.ensures.entry
     ∙ ap (λ (it : Entry). c.args.self.now ++ it ∷ []) c.in-Ok.ensures.1)
-    (subst IsLinkedBook c.self.view_is c.self.invariant.book) c.requires.fits c.requires.names
+    (subst IsLinkedBook c.self.view_is c.self.invariant.book) c.requires.fits c.requires.ids
 
 pub invariant_of-result-in-Ok-prepare : goal.invariant_of-result-in-Ok-prepare
 invariant_of-result-in-Ok-prepare g c =

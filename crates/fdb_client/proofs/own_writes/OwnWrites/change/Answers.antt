@@ -4,9 +4,9 @@ use Rattle.std.specs.Cmp.Lexicographic.{slice_cmp}
 use Rattle.std.specs.BTreeMap.{is_at}
 use Rattle.fdb_keys.specs.Points.{Point, point_eq}
 use Rattle.fdb_client.specs.declared.left.Left.{Left}
-use Rattle.fdb_client.specs.Kept.{kept}
+use Rattle.fdb_client.specs.LeftAt.{left_at}
 use Rattle.fdb_client.specs.OwnWrites.{left_after, kept_at}
-use Rattle.fdb_client.proofs.KeptLemmas.{found, kept-changed, changed-at, first-change, legal-put, either_way, on_err, answers_also}
+use Rattle.fdb_client.proofs.LeftAtLemmas.{found, left_at-changed, changed-at, first-change, legal-put, either_way, on_err, answers_also}
 use Rattle.fdb_client.proofs.own_writes.OwnWrites.change.Goals as goal
 
 pub returns-in_err-change-clause-err : goal.returns-in_err-change-clause-err
@@ -17,10 +17,10 @@ returns-in_err-change-clause-err c =
     let there : (x : Point) → found after.entries x
     ≡ cond (is_at (slice_cmp nat_cmp key) x) (Some c.change.new.self) (found own.keys.entries x)
     = λ x. let follows = c.get_mut.follows.holds c.change.new.self in search rules in
-    let same : c.change.new.self ≡ kept own key = search rules in
+    let same : c.change.new.self ≡ left_at own key = search rules in
     on_err c.from_residual.result _ (λ x.
-    kept-changed own.keys.entries after.entries own.decided key c.change.new.self (λ (left : Left). left) there same x
-    ∙ either_way (point_eq x key) (kept own x))
+    left_at-changed own.keys.entries after.entries own.decided key c.change.new.self (λ (left : Left). left) there same x
+    ∙ either_way (point_eq x key) (left_at own x))
 
 pub returns-in-Some-clause-answers : goal.returns-in-Some-clause-answers
 returns-in-Some-clause-answers c =
@@ -31,8 +31,8 @@ returns-in-Some-clause-answers c =
     let there : (x : Point) → found after.entries x
     ≡ cond (is_at (slice_cmp nat_cmp key) x) (Some c.change.new.self) (found own.keys.entries x)
     = λ x. let follows = c.get_mut.follows.holds c.change.new.self in search rules in
-    let made : c.change.new.self ≡ left_after (kept own key) mutation = search rules in
-    λ x. kept-changed own.keys.entries after.entries own.decided key c.change.new.self
+    let made : c.change.new.self ≡ left_after (left_at own key) mutation = search rules in
+    λ x. left_at-changed own.keys.entries after.entries own.decided key c.change.new.self
     (λ (left : Left). left_after left mutation) there made x
 
 pub returns-in_err-change-clause-legal_keys : goal.returns-in_err-change-clause-legal_keys
@@ -56,7 +56,7 @@ returns-clause-answers c =
     let left = c.in_ok-left.left in
     let same : c.get_mut.follows.lender-at-none.entries ≡ own.keys.entries = search rules in
     answers_also c.put.result _ _ (λ put x.
-    changed-at (kept own) key x (kept c.put.new.self x) left
+    changed-at (left_at own) key x (left_at c.put.new.self x) left
     (λ (before : Left). left_after before mutation)
     (put x ∙ ap (λ (entries : List (List ℕ × Left)).
     if point_eq x key then left else kept_at entries own.decided x) same)

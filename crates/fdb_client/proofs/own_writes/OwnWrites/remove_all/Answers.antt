@@ -3,7 +3,7 @@ use Rattle.std.specs.List.{list_any}
 use Rattle.std.proofs.lemmas.List.{take_more}
 use Rattle.fdb_keys.specs.Points.{Point, point_eq}
 use Rattle.fdb_client.proofs.ClearedLemmas.{found-removed}
-use Rattle.fdb_client.proofs.KeptLemmas.{found}
+use Rattle.fdb_client.proofs.LeftAtLemmas.{found}
 use Rattle.fdb_client.proofs.own_writes.OwnWrites.remove_all.Goals as goal
 
 pub loop-key-preserved : goal.loop-key-preserved

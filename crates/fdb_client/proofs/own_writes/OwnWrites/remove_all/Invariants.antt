@@ -1,7 +1,7 @@
 use Rattle.std.proofs.Common.{◌≡◌, None, cond, take}
 use Rattle.std.specs.List.{list_any}
 use Rattle.fdb_keys.specs.Points.{Point, point_eq}
-use Rattle.fdb_client.specs.Kept.{entry_of}
+use Rattle.fdb_client.specs.LeftAt.{entry_of}
 use Rattle.fdb_client.proofs.own_writes.OwnWrites.remove_all.Given as goal
 
 abbrev pub invariant-loop-key : goal.invariant-loop-key

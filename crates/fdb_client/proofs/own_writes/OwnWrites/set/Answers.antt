@@ -1,10 +1,10 @@
 use Rattle.std.proofs.Common.{rules}
-use Rattle.fdb_client.proofs.KeptLemmas.{kept-put, legal-put}
+use Rattle.fdb_client.proofs.LeftAtLemmas.{left_at-put, legal-put}
 use Rattle.fdb_client.proofs.own_writes.OwnWrites.set.Goals as goal
 
 pub returns-in-Some-clause-kept : goal.returns-in-Some-clause-kept
 returns-in-Some-clause-kept c =
-    kept-put c.args.self.now.keys.entries (c.get_mut.follows.lender c.args.left).entries
+    left_at-put c.args.self.now.keys.entries (c.get_mut.follows.lender c.args.left).entries
     c.args.self.now.decided c.args.key.now c.args.left
     (λ x. let follows = c.get_mut.follows.holds c.args.left in search rules)
 

@@ -3,7 +3,7 @@ use Rattle.std.specs.List.{slice_get}
 use Rattle.std.proofs.lemmas.Option.{slice_get_read}
 use Rattle.fdb_keys.specs.Points.{Point}
 use Rattle.fdb_mutations.specs.PairLaws.{pair_of}
-use Rattle.fdb_client.specs.Kept.{kept}
+use Rattle.fdb_client.specs.LeftAt.{left_at}
 use Rattle.fdb_client.specs.OwnWrites.{value_over}
 use Rattle.fdb_client.proofs.FaultLemmas.{same_fault}
 use Rattle.fdb_client.proofs.MergingLemmas.{within-take}
@@ -61,10 +61,10 @@ loop-key-preserved c =
     ap (λ (l : List (Point × List ℕ)). slice_get l i) (sym c.as_slice-key-items.ensures)
     ∙ slice_get_read items (length items) i c.loop-key-item.result refl (omega arith) c.loop-key-item.is in
     let given = c.in_ok-take.ensures.given
-    ∙ ap (λ (value : List ℕ). c.take_own.new.progress.given ++ pair_of key (value_over (kept own key) (Some value)))
+    ∙ ap (λ (value : List ℕ). c.take_own.new.progress.given ++ pair_of key (value_over (left_at own key) (Some value)))
     c.in_ok-clone.ensures.cases in
     let within = within-take c.args.self.now.limit c.take_own.new.progress.given key
-    (value_over (kept own key) (Some c.loop-key-item.result.1)) (search rules) c.in_ok-take_own.ensures.within in
+    (value_over (left_at own key) (Some c.loop-key-item.result.1)) (search rules) c.in_ok-take_own.ensures.within in
     rw (given, c.in_ok-take.ensures.left) (
       within,
       λ map copy is_copy first.

@@ -1,5 +1,5 @@
 use Rattle.std.proofs.Common.{◌≡◌, true, None, Err, rules}
-use Rattle.fdb_client.specs.Kept.{kept}
+use Rattle.fdb_client.specs.LeftAt.{left_at}
 use Rattle.fdb_client.specs.Merging.{ReadsOn}
 use Rattle.fdb_client.proofs.FaultLemmas.{given, lacked_memory}
 use Rattle.fdb_client.proofs.PagesLemmas.{left_over-smaller, read-is, read-start}
@@ -18,7 +18,7 @@ loop-more-init g c =
     let map = g.S.Snapshot.map c.args.snapshot.now in
     let read = c.args.self.now in
     let range = c.args.progress.now.left in
-    let own = kept read.own.now in
+    let own = left_at read.own.now in
     let merged = rw c.requires.start at c.in_ok-more.ensures in
     read-is own map range read.reverse read.limit range c.merge_page.new.progress.given c.merge_page.new.progress.left
     c.in_ok-more.more
@@ -34,7 +34,7 @@ returns-in_err-more-2 g c =
     let left = c.loop-more.progress.left in
     let fault = g.S.Snapshot.range_fault c.args.snapshot.now in
     let is_more : c.loop-more.more ≡ true = c.loop-more-test.true in
-    let on : ReadsOn (kept read.own.now) map range read.reverse read.limit c.loop-more.progress.given left =
+    let on : ReadsOn (left_at read.own.now) map range read.reverse read.limit c.loop-more.progress.given left =
     rw is_more at c.loop-more.invariant in
     let served : fault left ≡ None = g.met.S.Snapshot.serves_parts c.args.snapshot.now left range on.part c.requires.served in
     let why = c.in_err-more-2.field-0.0 in
@@ -46,7 +46,7 @@ loop-more-smaller g c =
     let map = g.S.Snapshot.map c.args.snapshot.now in
     let read = c.args.self.now in
     let range = c.args.progress.now.left in
-    let own = kept read.own.now in
+    let own = left_at read.own.now in
     let left = c.loop-more.progress.left in
     let is_more : c.loop-more.more ≡ true = c.loop-more-test.true in
     let on : ReadsOn own map range read.reverse read.limit c.loop-more.progress.given left =
@@ -61,7 +61,7 @@ loop-more-preserved g c =
     let map = g.S.Snapshot.map c.args.snapshot.now in
     let read = c.args.self.now in
     let range = c.args.progress.now.left in
-    let own = kept read.own.now in
+    let own = left_at read.own.now in
     let left = c.loop-more.progress.left in
     let is_more : c.loop-more.more ≡ true = c.loop-more-test.true in
     let on : ReadsOn own map range read.reverse read.limit c.loop-more.progress.given left =

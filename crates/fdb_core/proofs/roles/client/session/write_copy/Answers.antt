@@ -2,7 +2,7 @@ use Rattle.std.proofs.Common.{◌≡◌, subst, rules}
 use Rattle.fdb_keys.specs.Answers.{Answers}
 use Rattle.fdb_mutations.specs.declared.mutation.Mutation.{Mutation}
 use Rattle.fdb_mutations.specs.Mutations.{mutation_fault}
-use Rattle.fdb_client.specs.Parts.{with_op}
+use Rattle.fdb_client.specs.TxnState.{with_op}
 use Rattle.fdb_client.specs.declared.program.Op.TheVariants as operation
 use Rattle.fdb_client.specs.declared.program.Reply.TheVariants as answer
 use Rattle.fdb_core.proofs.roles.client.session.write_copy.Goals as goal

@@ -1,0 +1,89 @@
+-- One operation more of what a transaction keeps.
+use Rattle.std.proofs.Common.{◌≡◌, ◌∙◌, sym, ap, ap₂, List, [], ◌∷◌, ◌++◌, None, false}
+use Rattle.std.specs.List.{AllByRecursion}
+use Rattle.std.specs.FinMap.{get}
+use Rattle.fdb_keys.specs.Points.{Point}
+use Rattle.fdb_keys.specs.Ranges.{Range, in_set}
+use Rattle.fdb_mutations.specs.declared.mutation.Mutation.{Mutation}
+use Rattle.fdb_mutations.specs.Maps.{Map}
+use Rattle.fdb_mutations.specs.Mutations.{mutation_fault}
+use Rattle.fdb_client.specs.declared.left.Left.{Left}
+use Rattle.fdb_client.specs.declared.left.Left.TheVariants.{Changes}
+use Rattle.fdb_client.specs.declared.own_writes.OwnWrites.{OwnWrites}
+use Rattle.fdb_client.specs.declared.program.Op.{Op}
+use Rattle.fdb_client.specs.declared.program.Reply.{Reply}
+use Rattle.fdb_client.specs.LeftAt.{left_at, HasLegalKeys}
+use Rattle.fdb_client.specs.OwnWrites.{left_by, left_by_ops, is_value, value_over}
+use Rattle.fdb_client.specs.TxnState.{AreOf, WritesNothing}
+use Rattle.fdb_client.specs.Programs.{program, copy, decided, add_decided, add_reads, add_writes, add_mutation, decided_ranges, read_ranges, write_ranges, mutations_of}
+use Rattle.fdb_client.proofs.DecidedLemmas.{in_decided_ranges}
+use Rattle.fdb_client.proofs.OwnWritesLemmas.{decided-left, copy-left, unwritten-left}
+use Rattle.fdb_client.proofs.ProgramLemmas.{program-push, replies-push}
+use Rattle.fdb_client.proofs.WriteSetLemmas.{in_write_ranges}
+
+module _ (ops : List (Op × Reply)) (done : Op × Reply) where
+  -- what is kept with one operation more: each part has what the operation adds to it
+  pub are-push : (own after : OwnWrites) (reads writes new_reads new_writes : List Range)
+      (mutations new_mutations : List Mutation) → AreOf ops own reads writes mutations
+      → ((x : Point) → left_at after x ≡ left_by x (left_at own x) done.0)
+      → HasLegalKeys after
+      → after.decided ≡ add_decided done.0 own.decided
+      → new_reads ≡ add_reads (program ops) done.0 done.1 reads
+      → new_writes ≡ add_writes done.0 writes
+      → new_mutations ≡ add_mutation done.0 mutations
+      → AllByRecursion (λ (mutation : Mutation). mutation_fault mutation ≡ None) new_mutations
+      → AreOf (ops ++ done ∷ []) after new_reads new_writes new_mutations
+  are-push own after reads writes new_reads new_writes mutations new_mutations are there keys decides read written
+      added legal =
+      let pushed = sym (program-push ops done) in
+      record {
+        left_there = λ x. there x ∙ ap (λ (before : Left). left_by x before done.0) (are.left_there x)
+            ∙ ap (λ (program : List Op). left_by_ops program x) pushed;
+        legal_keys = keys;
+        are_decided = decides ∙ ap (add_decided done.0) are.are_decided ∙ ap decided_ranges pushed;
+        are_read = read ∙ ap (add_reads (program ops) done.0 done.1) are.are_read
+            ∙ ap₂ read_ranges pushed (sym (replies-push ops done));
+        are_written = written ∙ ap (add_writes done.0) are.are_written ∙ ap write_ranges pushed;
+        are_mutations = added ∙ ap (add_mutation done.0) are.are_mutations ∙ ap mutations_of pushed;
+        legal = legal;
+      }
+
+  -- and with one that writes nothing, where the read set has what it reads
+  pub are-noted : (own : OwnWrites) (reads writes new_reads : List Range) (mutations : List Mutation)
+      → AreOf ops own reads writes mutations → WritesNothing done.0
+      → new_reads ≡ add_reads (program ops) done.0 done.1 reads
+      → AreOf (ops ++ done ∷ []) own new_reads writes mutations
+  are-noted own reads writes new_reads mutations are nothing read =
+      are-push own own reads writes new_reads writes mutations mutations are
+      (λ x. sym (nothing.0 x (left_at own x))) are.legal_keys (sym (nothing.1 own.decided)) read
+      (sym (nothing.2 writes)) (sym (nothing.3 mutations)) are.legal
+
+module _ (ops : List (Op × Reply)) (own : OwnWrites) (reads writes : List Range) (mutations : List Mutation)
+    (are : AreOf ops own reads writes mutations) (key : Point) where
+  -- the writes that are kept decide a key exactly where the operations do
+  pub left_at-decides : is_value (left_at own key) ≡ decided (program ops) key
+  left_at-decides = ap is_value (are.left_there key) ∙ decided-left (program ops) key
+
+  -- and where the set of what they decide has it
+  pub left_at-decided : in_set own.decided key ≡ is_value (left_at own key)
+  left_at-decided =
+      ap (λ (set : List Range). in_set set key) are.are_decided ∙ in_decided_ranges (program ops) key ∙ sym left_at-decides
+
+  -- and make of what a map has there what the operations make of it
+  pub left_at-value : (map : Map) → value_over (left_at own key) (get map key) ≡ get (copy map (program ops)) key
+  left_at-value map =
+      ap (λ (there : Left). value_over there (get map key)) (are.left_there key) ∙ sym (copy-left map (program ops) key)
+
+  -- where nothing is written nothing is left
+  pub left_at-unwritten : in_set writes key ≡ false → left_at own key ≡ Changes []
+  left_at-unwritten none =
+      are.left_there key
+      ∙ unwritten-left (program ops) key
+      (sym (ap (λ (set : List Range). in_set set key) are.are_written ∙ in_write_ranges (program ops) key) ∙ none)
+
+-- one more legal mutation
+pub legal-push : (mutations : List Mutation) (mutation : Mutation)
+    → AllByRecursion (λ (one : Mutation). mutation_fault one ≡ None) mutations → mutation_fault mutation ≡ None
+    → AllByRecursion (λ (one : Mutation). mutation_fault one ≡ None) (mutations ++ mutation ∷ [])
+legal-push [] mutation legal faultless = (faultless, tt)
+legal-push (first ∷ mutations) mutation legal faultless = (legal.0, legal-push mutations mutation legal.1 faultless)

@@ -1,0 +1,11 @@
+use Rattle.fdb_client.proofs.TxnStateLemmas.{left_at-decides, left_at-value}
+use Rattle.fdb_client.proofs.txn_state.TxnState.read.Goals as goal
+
+pub returns : goal.returns
+returns g c =
+    let now = c.args.self.now in
+    let decides = left_at-decides now.transcript.ops now.own now.reads now.writes now.mutations c.requires
+    c.args.key.now in
+    let value = left_at-value now.transcript.ops now.own now.reads now.writes now.mutations c.requires
+    c.args.key.now (g.S.Snapshot.map c.args.snapshot.now) in
+    rw decides at (rw value at c.value_of.ensures)

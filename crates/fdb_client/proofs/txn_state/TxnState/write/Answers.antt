@@ -1,0 +1,55 @@
+use Rattle.std.proofs.Common.{◌≡◌, ◌∙◌, sym, ap, refl, subst, List, [], ◌∷◌, ◌++◌}
+use Rattle.fdb_keys.specs.Insertion.{with_range}
+use Rattle.fdb_keys.specs.Points.{Point}
+use Rattle.fdb_keys.specs.Ranges.{Range, in_set}
+use Rattle.fdb_mutations.specs.Mutations.{named_range}
+use Rattle.fdb_client.specs.declared.own_writes.OwnWrites.{OwnWrites}
+use Rattle.fdb_client.specs.declared.txn_state.TxnState.{TxnState}
+use Rattle.fdb_client.specs.declared.program.Op.TheVariants as operation
+use Rattle.fdb_client.specs.declared.program.Reply.TheVariants as answer
+use Rattle.fdb_client.specs.LeftAt.{left_at, HasLegalKeys}
+use Rattle.fdb_client.specs.OwnWrites.{left_with, is_value}
+use Rattle.fdb_client.specs.Programs.{add_decided}
+use Rattle.fdb_client.proofs.TxnStateLemmas.{are-push, left_at-decided, left_at-unwritten, legal-push}
+use Rattle.fdb_client.proofs.txn_state.TxnState.write.Goals as goal
+
+pub buffer-requires-clause-legal_keys : goal.buffer-requires-clause-legal_keys
+buffer-requires-clause-legal_keys c =
+    let own = ap (λ (state : TxnState). state.own) c.in_ok-list_write.ensures.answers in
+    subst HasLegalKeys (sym own) c.requires.kept.legal_keys
+
+pub buffer-requires-clause-decided : goal.buffer-requires-clause-decided
+buffer-requires-clause-decided c =
+    let old = c.args.self.now in
+    let own = ap (λ (state : TxnState). state.own) c.in_ok-list_write.ensures.answers in
+    subst (λ (there : OwnWrites). (x : Point) → in_set there.decided x ≡ is_value (left_at there x)) (sym own)
+    (λ x. left_at-decided old.transcript.ops old.own old.reads old.writes old.mutations c.requires.kept x)
+
+pub buffer-requires-clause-written : goal.buffer-requires-clause-written
+buffer-requires-clause-written c = λ x none.
+    let old = c.args.self.now in
+    let listed = c.in_ok-list_write.ensures.answers in
+    let own = ap (λ (state : TxnState). state.own) listed in
+    let writes = ap (λ (state : TxnState). state.writes) listed in
+    ap (λ (there : OwnWrites). left_at there x) own
+    ∙ left_at-unwritten old.transcript.ops old.own old.reads old.writes old.mutations c.requires.kept x
+    (sym (ap (λ (set : List Range). in_set set x) writes) ∙ none)
+
+pub returns-clause-kept : goal.returns-clause-kept
+returns-clause-kept c =
+    let old = c.args.self.now in
+    let mutation = c.args.mutation.now in
+    let listed = c.in_ok-list_write.ensures.answers in
+    let own = ap (λ (state : TxnState). state.own) listed in
+    let writes = ap (λ (state : TxnState). state.writes) listed in
+    let pushed = are-push old.transcript.ops (operation.Write mutation, answer.Done) old.own c.buffer.new.own
+    old.reads old.writes old.reads c.buffer.new.writes old.mutations (old.mutations ++ mutation ∷ []) c.requires.kept
+    (λ x. c.in_default.ensures.kept x ∙ ap (λ (there : OwnWrites). left_with x (left_at there x) mutation) own)
+    c.in_default.ensures.legal_keys
+    (c.in_default.ensures.decided
+    ∙ ap (λ (there : OwnWrites). add_decided (operation.Write mutation) there.decided) own)
+    refl
+    (c.in_default.ensures.writes ∙ ap (with_range (named_range mutation)) writes)
+    refl
+    (legal-push old.mutations mutation c.requires.kept.legal c.requires.legal) in
+    rw listed pushed

@@ -1,0 +1,43 @@
+-- How what a transaction keeps is tied to its operations.
+use Rattle.std.specs.Prelude.{◌≡◌, List, [], ◌∷◌, ◌++◌, None}
+use Rattle.std.specs.List.{AllByRecursion}
+use Rattle.fdb_keys.specs.Points.{Point}
+use Rattle.fdb_keys.specs.Ranges.{Range}
+use Rattle.fdb_mutations.specs.declared.mutation.Mutation.{Mutation}
+use Rattle.fdb_mutations.specs.Mutations.{mutation_fault}
+use Rattle.fdb_client.specs.declared.left.Left.{Left}
+use Rattle.fdb_client.specs.declared.own_writes.OwnWrites.{OwnWrites}
+use Rattle.fdb_client.specs.declared.txn_state.TxnState.{TxnState}
+use Rattle.fdb_client.specs.declared.program.Op.{Op}
+use Rattle.fdb_client.specs.declared.program.Reply.{Reply}
+use Rattle.fdb_client.specs.declared.program.Transcript.{Transcript}
+use Rattle.fdb_client.specs.LeftAt.{left_at, HasLegalKeys}
+use Rattle.fdb_client.specs.OwnWrites.{left_by_ops, left_by}
+use Rattle.fdb_client.specs.Programs.{program, replies_of, add_decided, add_writes, add_mutation, decided_ranges, read_ranges, write_ranges, mutations_of}
+
+-- the transcript with one operation more, and the reply to it
+abbrev pub with_op : Transcript → Op → Reply → Transcript
+with_op transcript op reply = record transcript { ops = transcript.ops ++ (op, reply) ∷ [] }
+
+-- the operation writes nothing
+abbrev pub WritesNothing : Op → Type 0
+WritesNothing op =
+    ((x : Point) (left : Left) → left_by x left op ≡ left)
+    × ((ranges : List Range) → add_decided op ranges ≡ ranges)
+    × ((ranges : List Range) → add_writes op ranges ≡ ranges)
+    × ((mutations : List Mutation) → add_mutation op mutations ≡ mutations)
+
+-- what is kept of the operations: what the writes leave at each point, under legal keys alone, what they decide, the
+-- read set and the write set, and the mutations, each of which is a legal one
+pub record AreOf (ops : List (Op × Reply)) (own : OwnWrites) (reads writes : List Range)
+    (mutations : List Mutation) : Type 0 where
+  pub left_there : (x : Point) → left_at own x ≡ left_by_ops (program ops) x
+  pub legal_keys : HasLegalKeys own
+  pub are_decided : own.decided ≡ decided_ranges (program ops)
+  pub are_read : reads ≡ read_ranges (program ops) (replies_of ops)
+  pub are_written : writes ≡ write_ranges (program ops)
+  pub are_mutations : mutations ≡ mutations_of (program ops)
+  pub legal : AllByRecursion (λ (mutation : Mutation). mutation_fault mutation ≡ None) mutations
+
+abbrev pub AreKept : TxnState → Type 0
+AreKept state = AreOf state.transcript.ops state.own state.reads state.writes state.mutations

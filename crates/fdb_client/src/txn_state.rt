@@ -1,0 +1,426 @@
+// What a transaction keeps, and how each operation changes it.
+ghost use Rattle.std.specs.Prelude.{◌≡◌, true, not, ◌&&◌, [], ◌∷◌, ◌++◌, None, IfOk, IfErr, IsOk, OnOk, OnErr, if◌then◌else◌};
+ghost use Rattle.std.specs.FinMap.{get};
+ghost use Rattle.std.specs.Option.{option_copied};
+ghost use Rattle.fdb_keys.specs.Answers.{Answers, AnswersOrHandsBack, AnswersExactlyOrHandsBack};
+ghost use Rattle.fdb_keys.specs.Insertion.{with_range, with_ranges};
+ghost use Rattle.fdb_mutations.specs.Maps.{Map};
+ghost use Rattle.fdb_mutations.specs.Mutations.{mutation_fault};
+ghost use Rattle.fdb_mutations.specs.PairLaws.{given_of};
+ghost use Rattle.fdb_client.specs.Programs.{program, copy, decided, add_reads, is_read_only, commit_request_of};
+ghost use Rattle.fdb_txn.specs.book.Size.{size_fault};
+ghost use Rattle.fdb_client.specs.Finishing.{finish_fault, IsFinished};
+ghost use Rattle.fdb_client.specs.declared.finished.Finished.TheVariants.{ToCommit};
+ghost use Rattle.fdb_client.specs.declared.program.Op.TheVariants as operation;
+ghost use Rattle.fdb_client.specs.declared.program.Reply.TheVariants as answer;
+
+use crate::buffering::buffer;
+use crate::finished::Finished;
+use crate::own_writes::OwnWrites;
+use crate::program::{Op, Reply, Transcript};
+use crate::range_read::pairs_of;
+use crate::reading::{pairs_copy, undecided_part, value_of};
+use crate::snapshot::Snapshot;
+use bytes::Bytes;
+use fdb_keys::{Items, Key, KeyRange, RangeSet, Refusal, Refused, TreeRangeSet};
+use fdb_mutations::{Mutation, copied};
+use fdb_txn::{Sealed, TxnId};
+use std::alloc::{AllocError, Global};
+
+#[derive(Drop)]
+pub(crate) struct TxnState {
+    pub(crate) alloc: Global,
+    pub(crate) transcript: Transcript,
+    // What its writes leave at each key.
+    pub(crate) own: OwnWrites,
+    // What it reads and what it writes.
+    pub(crate) reads: TreeRangeSet,
+    pub(crate) writes: TreeRangeSet,
+    // The mutations among its operations.
+    pub(crate) mutations: Items<Mutation>,
+}
+
+impl TxnState {
+    ghost use Rattle.fdb_client.specs.TxnState.{AreKept, WritesNothing, with_op};
+
+    // A transaction without operations.
+    pub(crate) fn new(alloc: Global, id: TxnId, read_version: u64) -> Self
+        ensures transcript { result.transcript ≡ record { id = id; read_version = read_version; ops = [] } }
+        ensures kept { AreKept result }
+    {
+        TxnState {
+            alloc,
+            transcript: Transcript {
+                id,
+                read_version,
+                ops: Items::new(alloc),
+            },
+            own: OwnWrites::new(alloc),
+            reads: TreeRangeSet::new(alloc),
+            writes: TreeRangeSet::new(alloc),
+            mutations: Items::new(alloc),
+        }
+    }
+
+    // Notes an operation with its reply, which neither reads nor writes anything new. Where memory runs out, nothing
+    // changes.
+    fn note(&mut self, done: (Op, Reply)) -> Result<(), Refusal>
+        requires kept { AreKept self.old }
+        requires unwritten { WritesNothing done.0 }
+        requires unread { add_reads (program self.old.transcript.ops) done.0 done.1 self.old.reads ≡ self.old.reads }
+        ensures answers { Answers result None (λ _. self.new.transcript
+            ≡ with_op self.old.transcript done.0 done.1) }
+        ensures err { OnErr result (self.new ≡ self.old) }
+        ensures kept { OnOk result (AreKept self.new) }
+    {
+        self.transcript.ops.push(done)?;
+        Ok(())
+    }
+
+    // Notes an operation with its reply, which reads a range. Where memory runs out, nothing changes.
+    fn note_read(&mut self, done: (Op, Reply), range: &KeyRange) -> Result<(), Refusal>
+        requires kept { AreKept self.old }
+        requires unwritten { WritesNothing done.0 }
+        requires read { add_reads (program self.old.transcript.ops) done.0 done.1 self.old.reads
+            ≡ with_range range.now self.old.reads }
+        ensures answers { Answers result None (λ _. self.new.transcript
+            ≡ with_op self.old.transcript done.0 done.1) }
+        ensures err { OnErr result (self.new ≡ self.old) }
+        ensures kept { OnOk result (AreKept self.new) }
+    {
+        let count = self.transcript.ops.len();
+        self.transcript.ops.push(done)?;
+        if let Err(why) = self.reads.add(range) {
+            self.transcript.ops.truncate(count);
+            return Err(why);
+        }
+        Ok(())
+    }
+
+    // Notes an operation with its reply, which reads several ranges. Where memory runs out, nothing changes.
+    fn note_reads(&mut self, done: (Op, Reply), ranges: &RangeSet) -> Result<(), Refusal>
+        requires kept { AreKept self.old }
+        requires unwritten { WritesNothing done.0 }
+        requires read { add_reads (program self.old.transcript.ops) done.0 done.1 self.old.reads
+            ≡ with_ranges ranges.now self.old.reads }
+        ensures answers { Answers result None (λ _. self.new.transcript
+            ≡ with_op self.old.transcript done.0 done.1) }
+        ensures err { OnErr result (self.new ≡ self.old) }
+        ensures kept { OnOk result (AreKept self.new) }
+    {
+        let count = self.transcript.ops.len();
+        self.transcript.ops.push(done)?;
+        if let Err(why) = self.reads.add_all(ranges) {
+            self.transcript.ops.truncate(count);
+            return Err(why);
+        }
+        Ok(())
+    }
+
+    // Whether a read of the key adds it to the read set.
+    fn is_read(&self, key: &Key, is_snapshot: bool) -> bool
+        requires { AreKept self.now }
+        ensures { result ≡ (not is_snapshot && not (decided (program self.now.transcript.ops) key.now)) }
+    {
+        !is_snapshot && !self.own.decides(key)
+    }
+
+    // Notes what the key was read as. Where memory runs out, nothing changes.
+    fn note_get(
+        &mut self,
+        key: &Key,
+        is_snapshot: bool,
+        value: Option<&Bytes>,
+    ) -> Result<(), Refusal>
+        requires { AreKept self.old }
+        ensures answers { Answers result None (λ _. self.new.transcript ≡ with_op self.old.transcript
+            (operation.Get key.now is_snapshot) (answer.Value (option_copied value.entry))) }
+        ensures err { OnErr result (self.new ≡ self.old) }
+        ensures kept { OnOk result (AreKept self.new) }
+    {
+        if !self.is_read(key, is_snapshot) {
+            return self.note(answered_get(key, is_snapshot, value)?);
+        }
+        let range = KeyRange::single(self.alloc, key)?;
+        self.note_read(answered_get(key, is_snapshot, value)?, &range)
+    }
+
+    // What stands at the key after its own writes.
+    fn read<S: Snapshot>(&self, snapshot: &S, key: &Key) -> Result<Option<Bytes>, Refusal>
+        requires { AreKept self.now }
+        ensures { Answers result
+            (if decided (program self.now.transcript.ops) key.now then None else S.key_fault snapshot.now key.now)
+            (λ value. value ≡ get (copy (S.map snapshot.now) (program self.now.transcript.ops)) key.now) }
+    {
+        value_of(self.alloc, &self.own, snapshot, key)
+    }
+
+    // Reads the key after its own writes, and notes that. Where it is refused, nothing changes.
+    pub(crate) fn get<S: Snapshot>(
+        &mut self,
+        snapshot: &S,
+        key: &Key,
+        is_snapshot: bool,
+    ) -> Result<Option<Bytes>, Refusal>
+        requires { AreKept self.old }
+        ensures answers { Answers result
+            (if decided (program self.old.transcript.ops) key.now then None else S.key_fault snapshot.now key.now)
+            (λ value. value ≡ get (copy (S.map snapshot.now) (program self.old.transcript.ops)) key.now) }
+        ensures ok { IfOk result (λ value. self.new.transcript
+            ≡ with_op self.old.transcript (operation.Get key.now is_snapshot) (answer.Value value)) }
+        ensures err { OnErr result (self.new ≡ self.old) }
+        ensures kept { OnOk result (AreKept self.new) }
+    {
+        let value = self.read(snapshot, key)?;
+        self.note_get(key, is_snapshot, value.as_ref())?;
+        Ok(value)
+    }
+
+    // Notes what the range was read as. Where memory runs out, nothing changes.
+    fn note_range(
+        &mut self,
+        range: &KeyRange,
+        limit: u32,
+        reverse: bool,
+        is_snapshot: bool,
+        pairs: &Items<(Key, Bytes)>,
+    ) -> Result<(), Refusal>
+        requires kept { AreKept self.old }
+        requires given { (map : Map) × (pairs.now ≡ given_of map range.now limit reverse) }
+        ensures answers { Answers result None (λ _. self.new.transcript ≡ with_op self.old.transcript
+            (operation.Range range.now limit reverse is_snapshot) (answer.Pairs pairs.now)) }
+        ensures err { OnErr result (self.new ≡ self.old) }
+        ensures kept { OnOk result (AreKept self.new) }
+    {
+        if is_snapshot {
+            return self.note(answered_range(range, limit, reverse, true, pairs)?);
+        }
+        let given = pairs.as_slice();
+        let undecided = undecided_part(
+            self.alloc,
+            &self.own.decided,
+            range,
+            limit,
+            reverse,
+            given,
+        )?;
+        self.note_reads(
+            answered_range(range, limit, reverse, false, pairs)?,
+            &undecided,
+        )
+    }
+
+    // Reads the range after its own writes, and notes that. Where it is refused, nothing changes.
+    pub(crate) fn get_range<S: Snapshot>(
+        &mut self,
+        snapshot: &S,
+        range: &KeyRange,
+        limit: u32,
+        reverse: bool,
+        is_snapshot: bool,
+    ) -> Result<Items<(Key, Bytes)>, Refusal>
+        requires { AreKept self.old }
+        ensures answers { Answers result (S.range_fault snapshot.now range.now) (λ pairs. pairs
+            ≡ given_of (copy (S.map snapshot.now) (program self.old.transcript.ops)) range.now limit reverse) }
+        ensures ok { IfOk result (λ pairs. self.new.transcript ≡ with_op self.old.transcript
+            (operation.Range range.now limit reverse is_snapshot) (answer.Pairs pairs)) }
+        ensures err { OnErr result (self.new ≡ self.old) }
+        ensures kept { OnOk result (AreKept self.new) }
+    {
+        let pairs = pairs_of(self.alloc, &self.own, snapshot, range, limit, reverse)?;
+        self.note_range(range, limit, reverse, is_snapshot, &pairs)?;
+        Ok(pairs)
+    }
+
+    // Adds a range to the read set. Where memory runs out, nothing changes.
+    pub(crate) fn add_read(&mut self, range: &KeyRange) -> Result<(), Refusal>
+        requires { AreKept self.old }
+        ensures answers { Answers result None
+            (λ _. self.new.transcript ≡ with_op self.old.transcript (operation.AddRead range.now) answer.Done) }
+        ensures err { OnErr result (self.new ≡ self.old) }
+        ensures kept { OnOk result (AreKept self.new) }
+    {
+        let noted = range.clone()?;
+        self.note_read((Op::AddRead(noted), Reply::Done), range)
+    }
+
+    // Adds a range to the write set. Where memory runs out, nothing changes.
+    pub(crate) fn add_write(&mut self, range: &KeyRange) -> Result<(), Refusal>
+        requires { AreKept self.old }
+        ensures answers { Answers result None
+            (λ _. self.new.transcript ≡ with_op self.old.transcript (operation.AddWrite range.now) answer.Done) }
+        ensures err { OnErr result (self.new ≡ self.old) }
+        ensures kept { OnOk result (AreKept self.new) }
+    {
+        let noted = range.clone()?;
+        let count = self.transcript.ops.len();
+        self.transcript
+            .ops
+            .push((Op::AddWrite(noted), Reply::Done))?;
+        if let Err(why) = self.writes.add(range) {
+            self.transcript.ops.truncate(count);
+            return Err(why);
+        }
+        Ok(())
+    }
+
+    // Lists a write among the operations and among the mutations. Where memory runs out, nothing changes.
+    fn list_write(&mut self, mutation: &Mutation) -> Result<(), Refusal>
+        ensures answers { Answers result None (λ _. self.new ≡ record self.old {
+          transcript = with_op self.old.transcript (operation.Write mutation.now) answer.Done;
+          mutations = self.old.mutations ++ mutation.now ∷ [];
+        }) }
+        ensures err { OnErr result (self.new ≡ self.old) }
+    {
+        let count = self.mutations.len();
+        self.mutations.push(copy_of(mutation)?)?;
+        if let Err(why) = push_write(&mut self.transcript.ops, mutation) {
+            self.mutations.truncate(count);
+            return Err(why);
+        }
+        Ok(())
+    }
+
+    // Buffers a mutation. Where memory runs out, nothing changes.
+    pub(crate) fn write(&mut self, mutation: &Mutation) -> Result<(), Refusal>
+        requires kept { AreKept self.old }
+        requires legal { mutation_fault mutation.now ≡ None }
+        ensures answers { Answers result None
+            (λ _. self.new.transcript ≡ with_op self.old.transcript (operation.Write mutation.now) answer.Done) }
+        ensures err { OnErr result (self.new.transcript ≡ self.old.transcript) }
+        ensures kept { AreKept self.new }
+    {
+        let (noted, listed) = (self.transcript.ops.len(), self.mutations.len());
+        self.list_write(mutation)?;
+        if let Err(why) = buffer(self.alloc, &mut self.own, &mut self.writes, mutation) {
+            self.transcript.ops.truncate(noted);
+            self.mutations.truncate(listed);
+            return Err(why);
+        }
+        Ok(())
+    }
+
+    // Whether it writes nothing.
+    fn is_read_only(&self) -> bool
+        requires { AreKept self.now }
+        ensures { result ≡ is_read_only self.now.transcript }
+    {
+        self.mutations.is_empty() && self.writes.is_empty()
+    }
+
+    // Its read set and its write set, as they are submitted.
+    fn sets(&self) -> Result<(RangeSet, RangeSet), Refusal>
+        ensures { Answers result None (λ sets. (sets.0 ≡ self.now.reads) × (sets.1 ≡ self.now.writes)) }
+    {
+        let reads = self.reads.to_set(self.alloc)?;
+        let writes = self.writes.to_set(self.alloc)?;
+        Ok((reads, writes))
+    }
+
+    // What is left to do of it: nothing, which takes no memory, or to commit it. A refusal hands it back.
+    pub(crate) fn finish(self) -> Result<Finished, Refused<TxnState>>
+        requires { AreKept self }
+        ensures answers { AnswersOrHandsBack result self (finish_fault result self.transcript)
+            (IsFinished self.transcript) }
+        ensures back { IfErr result (λ refused. refused.back ≡ self) }
+        ensures read_only { is_read_only self.transcript ≡ true → IsOk result }
+    {
+        if self.is_read_only() {
+            return Ok(Finished::ReadOnly(self.transcript));
+        }
+        match self.sets() {
+            Ok((reads, writes)) => self.seal(reads, writes),
+            Err(why) => Err(Refused { why, back: self }),
+        }
+    }
+
+    // Seals it with its read set and its write set.
+    fn seal(self, reads: RangeSet, writes: RangeSet) -> Result<Finished, Refused<TxnState>>
+        requires kept { AreKept self }
+        requires reads { reads ≡ self.reads }
+        requires writes { writes ≡ self.writes }
+        ensures { AnswersExactlyOrHandsBack result self (size_fault (commit_request_of self.transcript))
+            (λ finished. finished ≡ ToCommit (commit_request_of self.transcript) self.transcript) }
+    {
+        let TxnState {
+            alloc,
+            transcript,
+            own,
+            reads: kept_reads,
+            writes: kept_writes,
+            mutations,
+        } = self;
+        match Sealed::from_joined(
+            transcript.id,
+            transcript.read_version,
+            reads,
+            writes,
+            mutations,
+        ) {
+            Ok(sealed) => Ok(Finished::ToCommit(sealed, transcript)),
+            Err(refused) => Err(Refused {
+                why: refused.why,
+                back: TxnState {
+                    alloc,
+                    transcript,
+                    own,
+                    reads: kept_reads,
+                    writes: kept_writes,
+                    mutations: refused.back.mutations,
+                },
+            }),
+        }
+    }
+}
+
+// Lists a write among the operations. Where memory runs out, nothing changes.
+fn push_write(ops: &mut Items<(Op, Reply)>, mutation: &Mutation) -> Result<(), Refusal>
+    ensures answers { Answers result None
+        (λ _. ops.new ≡ ops.old ++ (operation.Write mutation.now, answer.Done) ∷ []) }
+    ensures err { OnErr result (ops.new ≡ ops.old) }
+{
+    let noted = copy_of(mutation)?;
+    ops.push((Op::Write(noted), Reply::Done))?;
+    Ok(())
+}
+
+// A copy of the mutation.
+fn copy_of(mutation: &Mutation) -> Result<Mutation, AllocError>
+    ensures { IfOk result (λ copy. copy ≡ mutation.now) }
+{
+    let copy = mutation.clone()?;
+    Ok(copy)
+}
+
+// The read of the key, with the value that it was answered. It is made in the call that notes it: where an operation
+// falls out of scope, the prover goes over every kind of operation.
+fn answered_get(key: &Key, snapshot: bool, value: Option<&Bytes>) -> Result<(Op, Reply), AllocError>
+    ensures { IfOk result
+        (λ done. done ≡ (operation.Get key.now snapshot, answer.Value (option_copied value.entry))) }
+{
+    let key = key.clone()?;
+    let value = copied(value)?;
+    Ok((Op::Get { key, snapshot }, Reply::Value(value)))
+}
+
+// The read of the range, with the pairs that it was answered.
+fn answered_range(
+    range: &KeyRange,
+    limit: u32,
+    reverse: bool,
+    snapshot: bool,
+    pairs: &Items<(Key, Bytes)>,
+) -> Result<(Op, Reply), AllocError>
+    ensures { IfOk result
+        (λ done. done ≡ (operation.Range range.now limit reverse snapshot, answer.Pairs pairs.now)) }
+{
+    let range = range.clone()?;
+    let pairs = pairs_copy(pairs)?;
+    let op = Op::Range {
+        range,
+        limit,
+        reverse,
+        snapshot,
+    };
+    Ok((op, Reply::Pairs(pairs)))
+}
