@@ -2,6 +2,7 @@ pub mod AcceptedTransitions
 pub mod FinishLemmas
 pub mod LogLemmas
 pub mod OpenLemmas
+pub mod RoleChanges
 pub mod Sealing
 pub mod SessionLemmas
 pub mod SessionMaps

@@ -2,7 +2,12 @@ pub mod Agreement
 pub mod AnswerReadings
 pub mod AnswerReplies
 pub mod AnswersByTrace
+pub mod DueSteps
 pub mod GrantLemmas
+pub mod RoleAgreement
+pub mod RoleAnswers
+pub mod RoleReadings
+pub mod RoleReplies
 pub mod SessionLists
 pub mod StepReadings
 pub mod TraceReadings

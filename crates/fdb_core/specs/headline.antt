@@ -1,6 +1,7 @@
 pub mod Answers
 pub mod Books
 pub mod Committed
+pub mod Due
 pub mod Examples
 pub mod Headline
 pub mod MoveExamples

@@ -5,7 +5,8 @@ ghost use Rattle.fdb_core.specs.headline.Replays.{ReplaysTellTheRun};
 ghost use Rattle.fdb_core.specs.headline.RealTime.{RealTime};
 ghost use Rattle.fdb_core.specs.headline.RoleLaws.{ResolverGoesOn, OwnersGoOn, SequencerGoesOn, LogGoesOn, ShardGoesOn};
 ghost use Rattle.fdb_core.specs.headline.Examples.{OnlyTheFirstIsSerialized, ReadOnlyAtItsVersion, AfterAVersion, AnEmptyShardDoesNotServe, OnlyOrdinaryReadsCount, BegunByServing, ForgetfulRolesDoNotKeep, ReadOffTheTrace, Traced, ShardsGoOnAndForget, EachServedVersionCounts};
-ghost use Rattle.fdb_core.specs.headline.ReadingExamples.{EachOperationIsNoted, ReadAtTwoProxies};
+ghost use Rattle.fdb_core.specs.headline.Due.{WhatIsDueIsAccepted, DecisionsWait};
+ghost use Rattle.fdb_core.specs.headline.ReadingExamples.{EachOperationIsNoted, ReadAtTwoProxies, ReadOffTheRoles};
 ghost use Rattle.fdb_core.specs.headline.Headline.{AcknowledgedAreSerialized};
 ghost use Rattle.fdb_core.specs.headline.MoveExamples.{TheSpanBeginsAtTheWindow, TheLaterMoveCounts, MovesTakeEffectWithTheNextEntry};
 ghost use Rattle.fdb_core.specs.headline.Traces.{TracesDetermineTheMachine, WorldsShowWhatIsTold};
@@ -84,6 +85,16 @@ pub fn who_begins_after_an_acknowledgement_is_ordered_after_it()
     ensures { RealTime }
 {}
 
+/// Over every trace that didn't run out of memory the steps that deliver and take messages are accepted where they are
+/// due, and no others, as what accepted steps are answered says: a resolver takes the next entry of the book, and a log
+/// the next decided one; what one of them says of an entry that it took reaches the proxy that waits for it, once; and a
+/// proxy decides where the verdicts came of each resolver that is asked. Else it is told to wait for the least resolver
+/// of which they are missing.
+pub fn steps_of_roles_are_accepted_where_they_are_due()
+    ensures due { WhatIsDueIsAccepted }
+    ensures waits { DecisionsWait }
+{}
+
 /// What the headline says of small worlds: which transactions are serialized at which spots and which aren't, who is
 /// ordered after a version, what an empty shard would have to answer, which reads count, who has begun, what a role
 /// that forgets would have to keep, what is read off steps of every kind and of a trace with a conflict, which answers a
@@ -103,6 +114,7 @@ pub fn worked_examples()
     ensures served { EachServedVersionCounts }
     ensures operations { EachOperationIsNoted }
     ensures proxies { ReadAtTwoProxies }
+    ensures progress { ReadOffTheRoles }
     ensures moves { MovesTakeEffectWithTheNextEntry }
     ensures span { TheSpanBeginsAtTheWindow }
     ensures overlap { TheLaterMoveCounts }

@@ -64,7 +64,7 @@ impl World {
     ghost use Rattle.fdb_txn.specs.book.History.{AreEntries, IsBook, IsSealed};
     ghost use Rattle.fdb_core.specs.check.Checking.{FindsSerialized};
     ghost use Rattle.fdb_core.specs.machine.InFlight.{in_flight};
-    ghost use Rattle.fdb_core.specs.machine.Lent.{config_in, book_in, acknowledged_in};
+    ghost use Rattle.fdb_core.specs.machine.Lent.{has_failed, config_in, book_in, acknowledged_in};
     ghost use Rattle.fdb_core.specs.machine.Opened.{open_in};
     ghost use Rattle.fdb_core.specs.headline.Headline.{IsStrictlySerializable};
     ghost use Rattle.fdb_core.specs.headline.Serving.{RolesKeep};
@@ -119,6 +119,13 @@ impl World {
         let answer = self.cluster.step(step);
         self.failed = ran_out(&answer);
         answer
+    }
+
+    /// Whether memory ran out in a step. From then on every step is refused as `Failed`, and the world lends nothing.
+    pub fn has_failed(&self) -> bool
+        ensures { result ≡ has_failed self.now.machine }
+    {
+        self.failed
     }
 
     /// The batch that the commit proxy of this number has in flight, with the number of resolvers and of logs.

@@ -25,7 +25,7 @@ use Rattle.fdb_client.specs.declared.program.Reply.TheVariants as reply
 use Rattle.fdb_keys.specs.Ranges.{Range}
 use Rattle.fdb_core.specs.headline.Examples.{reads_and_sets, OnlyTheFirstIsSerialized, ReadOnlyAtItsVersion, AfterAVersion, AnEmptyShardDoesNotServe, OnlyOrdinaryReadsCount, BegunByServing, ForgetfulRolesDoNotKeep, empty_part, ReadOffTheTrace, plain, one_asks, Traced, ShardsGoOnAndForget, EachServedVersionCounts, set_and_cleared, read_alone}
 use Rattle.fdb_core.specs.headline.MoveExamples.{from_to}
-use Rattle.fdb_core.specs.headline.ReadingExamples.{EachOperationIsNoted, ReadAtTwoProxies}
+use Rattle.fdb_core.specs.headline.ReadingExamples.{EachOperationIsNoted, ReadAtTwoProxies, ReadOffTheRoles}
 use Rattle.fdb_core.specs.headline.Readings.{nothing_read}
 use Rattle.fdb_core.specs.headline.RealTime.{spot_version, IsAfterVersion, AreAfterEarlier}
 use Rattle.fdb_core.specs.headline.Serving.{ShardServes}
@@ -241,3 +241,37 @@ traced = (
 pub shards_go_on_and_forget : ShardsGoOnAndForget
 unfolding pulls forgets pops
 shards_go_on_and_forget = (refl, refl, refl, refl, refl, refl, refl, refl)
+
+pub read_off_the_roles : ReadOffTheRoles
+read_off_the_roles = (
+  refl,
+  refl,
+  refl,
+  refl,
+  refl,
+  refl,
+  refl,
+  refl,
+  refl,
+  refl,
+  refl,
+  refl,
+  refl,
+  refl,
+  refl,
+  refl,
+  refl,
+  refl,
+  refl,
+  refl,
+  refl,
+  refl,
+  refl,
+  refl,
+  refl,
+  refl,
+  refl,
+  refl,
+  refl,
+  refl,
+)

@@ -82,7 +82,7 @@ told-more logs commit_proxy stage received came told logging = ⊎_elim
 
 logged_steps : KeptBySteps AreLogged
 logged_steps = record {
-  roles = λ m taken answer resolvers logs shards quiet grew logged. record {
+  roles = λ m taken answer resolvers logs shards quiet grew went logged. record {
     commit_proxies = all-weaken (ProxyTold m.logs) (ProxyTold logs)
         (λ commit_proxy told. (
           (λ logging. flags-grew commit_proxy.entry commit_proxy.acknowledgements_received m.logs logs grew
@@ -110,7 +110,7 @@ logged_steps = record {
     acknowledged = logged.acknowledged;
   };
   went_on = λ m taken answer proxy commit_proxy stage decided verdicts acknowledgements quiet came at busy goes_on
-      unreported logged. record {
+      unreported went logged. record {
         commit_proxies = all-set (ProxyTold m.logs) m.commit_proxies proxy _ logged.commit_proxies (
           told-more m.logs commit_proxy stage acknowledgements came (proxy-at m logged proxy commit_proxy at),
           (λ reported. absurd (both_ways (is_reported stage) unreported reported)),

@@ -182,7 +182,7 @@ module _ (id : TxnId) where
   -- every step keeps it
   pub once_steps : KeptBySteps (IsOnce id)
   once_steps = record {
-    roles = λ m taken answer resolvers logs shards quiet grew once. once;
+    roles = λ m taken answer resolvers logs shards quiet grew went once. once;
     asked = λ m session proxy there at free once. (
       session_steps.asked m session proxy there at free once.0,
       changed-once m session Asking m.book m.commit_proxies once.1 (λ same. omega (arith, once.1.stands))
@@ -217,9 +217,9 @@ module _ (id : TxnId) where
       sealed-once m proxy advance commit_proxy once.1 at,
     );
     went_on = λ m taken answer proxy commit_proxy stage decided verdicts acknowledgements quiet came at busy goes_on
-        unreported once. (
+        unreported went once. (
           session_steps.went_on m taken answer proxy commit_proxy stage decided verdicts acknowledgements quiet came at busy
-              goes_on unreported once.0,
+              goes_on unreported went once.0,
           with-commit_proxy m proxy commit_proxy _ once.1 at refl,
         );
     reported_version = λ m proxy commit_proxy entry at logging there whole once. (

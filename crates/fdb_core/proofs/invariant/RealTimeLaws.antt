@@ -193,7 +193,7 @@ module _ (P : Sessions → TxnId → ℕ → Type 0) (low : ℕ) where
 
     kept_steps : KeptBySteps Kept
     kept_steps = record {
-      roles = λ m taken answer resolvers logs shards quiet grew kept. kept;
+      roles = λ m taken answer resolvers logs shards quiet grew went kept. kept;
       asked = λ m session proxy there at free kept.
           (kept.0, put-kept m.sessions session Asking m.commit_proxies m.acknowledged kept.1 tt);
       granted = λ m proxy there at left kept.
@@ -219,7 +219,7 @@ module _ (P : Sessions → TxnId → ℕ → Type 0) (low : ℕ) where
           ) in
           (kept.0, (kept.1.0, proxies, kept.1.2));
       went_on = λ m taken answer proxy commit_proxy stage decided verdicts acknowledgements quiet came at busy goes_on
-          unreported kept.
+          unreported went kept.
           (kept.0, (kept.1.0, set-proxy m kept proxy _ (proxy-has m kept proxy commit_proxy at), kept.1.2));
       reported_version = λ m proxy commit_proxy entry at logging there whole kept. (
         omega (arith, kept.0),

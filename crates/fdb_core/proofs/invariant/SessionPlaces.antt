@@ -246,7 +246,7 @@ with-none_idle m proxy new none all = all-set HasNoneIdle m.commit_proxies proxy
 -- every step keeps it
 pub session_steps : KeptBySteps AllStand
 session_steps = record {
-  roles = λ m taken answer resolvers logs shards quiet grew all. all;
+  roles = λ m taken answer resolvers logs shards quiet grew went all. all;
   asked = λ m asker proxy there at free all.
       (λ session. asked-stands session m asker proxy there at free (all.0 session), all.1);
   granted = λ m proxy there at left all. (λ session. granted-stands session m proxy there at (all.0 session), all.1);
@@ -269,7 +269,7 @@ session_steps = record {
     with-none_idle m proxy (sealed_proxy m commit_proxy) (λ idle. cc) all,
   );
   went_on = λ m taken answer proxy commit_proxy stage decided verdicts acknowledgements quiet came at busy goes_on
-      unreported all. (
+      unreported went all. (
         λ session. with-commit_proxy session m proxy commit_proxy _ at refl (all.0 session),
         with-none_idle m proxy _ (λ idle. cc) all,
       );

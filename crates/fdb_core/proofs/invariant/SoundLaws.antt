@@ -189,9 +189,9 @@ sound-reported m proxy commit_proxy entry sound at busy there once = record {
 -- every step keeps a machine sound
 pub sound_steps : KeptBySteps Invariant
 sound_steps = record {
-  roles = λ m taken answer resolvers logs shards quiet grew sound.
+  roles = λ m taken answer resolvers logs shards quiet grew went sound.
       same_book m sound sound.opened sound.commit_proxies sound.acknowledged sound.reported
-      (λ id. (once_steps id).roles m taken answer resolvers logs shards quiet grew (sound.once id));
+      (λ id. (once_steps id).roles m taken answer resolvers logs shards quiet grew went (sound.once id));
   asked = λ m session proxy there at free sound.
       same_book m sound (open-put (IsReplied m) m.sessions session Asking sound.opened tt) sound.commit_proxies
       sound.acknowledged sound.reported
@@ -225,14 +225,14 @@ sound_steps = record {
   sealed = λ m proxy advance commit_proxy at idle few room sound. sound-sealed m proxy advance commit_proxy sound at
       (λ id. (once_steps id).sealed m proxy advance commit_proxy at idle few room (sound.once id));
   went_on = λ m taken answer proxy commit_proxy stage decided verdicts acknowledgements quiet came at busy goes_on
-      unreported sound.
+      unreported went sound.
       let was = commit_proxy-at m sound proxy commit_proxy at in
       let flies = was.2 busy in
       same_book m sound sound.opened
       (with-commit_proxy m sound proxy _ (was.0, was.1, λ _. (flies.0, flies.1, flies.2, λ reported. cc)))
       sound.acknowledged sound.reported
       (λ id. (once_steps id).went_on m taken answer proxy commit_proxy stage decided verdicts acknowledgements quiet
-      came at busy goes_on unreported (sound.once id));
+      came at busy goes_on unreported went (sound.once id));
   reported_version = λ m proxy commit_proxy entry at logging there whole sound. sound-reported m proxy commit_proxy entry
       sound at (ap is_idle logging) there
       (λ id. (once_steps id).reported_version m proxy commit_proxy entry at logging there whole (sound.once id));

@@ -60,7 +60,7 @@ found-front (y ∷ xs) ys zero x there = there
 found-front (y ∷ xs) ys (suc i) x there = found-front xs ys i x there
 
 -- no entry has a version above that of the last one
-last-above : (resolvers last : ℕ) (book : List Entry) → AreEntries resolvers last book → last ≤ version_after last book
+pub last-above : (resolvers last : ℕ) (book : List Entry) → AreEntries resolvers last book → last ≤ version_after last book
 last-above resolvers last [] entries = le_refl last
 last-above resolvers last (entry ∷ book) entries =
     let rest = last-above resolvers entry.version book entries.4 in

@@ -1,6 +1,7 @@
 -- What holds of a step's transition wherever the step is accepted, by what the step looks at.
-use Rattle.std.proofs.Common.{◌≡◌, refl, subst, ℕ, Bool, true, false, Option, Some, None, Result, Ok, Err, if◌then◌else◌}
+use Rattle.std.proofs.Common.{◌≡◌, ◌≤◌, refl, subst, arith, ℕ, Bool, true, false, Option, Some, None, Result, Ok, Err, if◌then◌else◌}
 use Rattle.std.specs.Prelude.{nat_lt, ⊤}
+use Rattle.std.proofs.lemmas.Bool.{ltb-false}
 use Rattle.fdb_keys.specs.declared.refusal.Refusal.{Refusal}
 use Rattle.fdb_keys.specs.declared.refusal.Refusal.TheVariants.{Stale, NotYet}
 use Rattle.fdb_txn.specs.declared.entry.Entry.{Entry}
@@ -46,10 +47,13 @@ module _ (Q : Transition → Type 0) where
   past-wait (Some i) next holds = tt
 
   -- after an entry's turn
-  pub past-turn : (taken i : ℕ) (entry : Entry) (next : Result Transition Refusal) → IfAccepted Q next
+  pub past-turn : (taken i : ℕ) (entry : Entry) (next : Result Transition Refusal)
+      → (taken ≡ i → IfAccepted Q next)
       → IfAccepted Q (in_turn taken i entry next)
   past-turn taken i entry next holds = past-test (nat_lt i taken) Stale _
-      (λ _. past-test (nat_lt taken i) (NotYet entry.prev) next (λ _. holds))
+      (λ late. past-test (nat_lt taken i) (NotYet entry.prev) next
+      (λ early. let above : taken ≤ i = ltb-false i taken late in
+      let below : i ≤ taken = ltb-false taken i early in holds (omega arith)))
 
   -- after a choice, if it does in both
   pub past-choice : (test : Bool) (one other : Result Transition Refusal) → (test ≡ true → IfAccepted Q one)

@@ -1,5 +1,5 @@
 -- The walk over the steps of all kinds: what accepted steps change, and what they keep.
-use Rattle.std.proofs.Common.{◌≡◌, ◌<◌, ◌≤◌, refl, ap, ℕ, suc, ◌+◌, min, max, Bool, true, false, not, List, [], ◌∷◌, ◌++◌, take, map, length, fold, Option, Some, None, Result, Ok, Err, inl, inr, arith}
+use Rattle.std.proofs.Common.{◌≡◌, ◌∙◌, ◌<◌, ◌≤◌, refl, ap, ℕ, suc, ◌+◌, min, max, Bool, true, false, not, List, [], ◌∷◌, ◌++◌, take, map, length, fold, Option, Some, None, Result, Ok, Err, inl, inr, arith}
 use Rattle.std.specs.Prelude.{nat_lt, nat_le, ◌||◌}
 use Rattle.std.specs.List.{slice_get, slice_set, list_any}
 use Rattle.std.proofs.lemmas.Bool.{and_parts, or_parts, eqb-true, not-false, ltb-false, leb-false}
@@ -36,6 +36,7 @@ use Rattle.fdb_client.specs.Programs.{program, copy, reply_on, commit_request_of
 use Rattle.fdb_core.proofs.headline.TraceLaws.{kept-after_steps}
 use Rattle.fdb_core.proofs.machine.LogLemmas.{Grew, AcknowledgementCame, grew-same, grew-set}
 use Rattle.fdb_core.proofs.machine.AcceptedTransitions.{IfAccepted, past-found, past-test, past-fault, past-wait, past-turn, past-choice, past-open}
+use Rattle.fdb_core.proofs.machine.RoleChanges.{RoleWent, ProxyWent}
 use Rattle.fdb_core.proofs.machine.Sealing.{sealed_machine}
 
 -- the operation of a client's step, with its session
@@ -65,7 +66,8 @@ is_quiet taken = false
 pub record HoldsOfSteps (R : Machine → Step → Answered → Machine → Type 0) : Type 0 where
   -- resolvers, logs and shards went on (Resolve, Push, Pull, Forget, Pop)
   pub roles : (m : Machine) (taken : Step) (answer : Answered) (resolvers logs : List ℕ) (shards : List ShardProgress)
-      → is_quiet taken ≡ true → Grew m.logs logs → R m taken answer (record m { resolvers = resolvers; logs = logs; shards = shards })
+      → is_quiet taken ≡ true → Grew m.logs logs → RoleWent m taken answer resolvers logs shards
+      → R m taken answer (record m { resolvers = resolvers; logs = logs; shards = shards })
   -- a session that neither asks nor waits asks (Ask)
   pub asked : (m : Machine) (session proxy : ℕ) (there : List ℕ) → slice_get m.grv_proxies proxy ≡ Some there
       → is_busy (session_of m.sessions session).state ≡ false
@@ -120,6 +122,7 @@ pub record HoldsOfSteps (R : Machine → Step → Answered → Machine → Type 
       → AcknowledgementCame m.logs commit_proxy stage acknowledgements_received
       → slice_get m.commit_proxies proxy ≡ Some commit_proxy → is_idle commit_proxy.stage ≡ false
       → is_idle stage ≡ false → is_reported stage ≡ false
+      → ProxyWent m taken answer proxy commit_proxy stage decided verdicts_received acknowledgements_received
       → R m taken answer (record m {
         decided = decided;
         commit_proxies = slice_set m.commit_proxies proxy (record commit_proxy {
@@ -153,8 +156,12 @@ pub record HoldsOfSteps (R : Machine → Step → Answered → Machine → Type 
             (record commit_proxy { in_flight = []; stage = Idle; acknowledgements_received = [] });
       })
 
+-- the number after an entry's
+next-number : (taken i : ℕ) → taken ≡ i → taken + 1 ≡ suc i
+next-number taken i its = omega (arith, its)
+
 -- a stage by its tests
-stage-is : (stage : Stage)
+pub stage-is : (stage : Stage)
     → (is_idle stage ≡ true → stage ≡ Idle) × (is_resolving stage ≡ true → stage ≡ Resolving)
     × (is_logging stage ≡ true → stage ≡ Logging) × (is_reported stage ≡ true → stage ≡ Reported)
 stage-is Idle = (λ is. refl, λ is. cc, λ is. cc, λ is. cc)
@@ -172,20 +179,24 @@ module _ (R : Machine → Step → Answered → Machine → Type 0) (holds : Hol
       → is_quiet taken ≡ true → slice_get m.commit_proxies proxy ≡ Some commit_proxy
       → awaits commit_proxy i sender ≡ true
       → (has : ℕ) → taken_by_sender m sender ≡ Some has → nat_le has i ≡ false
+      → ProxyWent m taken answered.Done proxy commit_proxy commit_proxy.stage m.decided
+      (with_received commit_proxy sender).verdicts_received
+      (with_received commit_proxy sender).acknowledgements_received
       → R m taken answered.Done
       (record m { commit_proxies = slice_set m.commit_proxies proxy (with_received commit_proxy sender) })
-  received m taken proxy commit_proxy i (FromResolver resolver) quiet at awaited has there later =
+  received m taken proxy commit_proxy i (FromResolver resolver) quiet at awaited has there later went =
       let stage = (stage-is commit_proxy.stage).1 (and_parts _ _ (and_parts _ _ awaited).0).0 in
       holds.went_on m taken answered.Done proxy commit_proxy commit_proxy.stage m.decided _ _ quiet
       (inl (ap is_logging stage)) at
-      (ap is_idle stage) (ap is_idle stage) (ap is_reported stage)
-  received m taken proxy commit_proxy i (FromLog log) quiet at awaited has there later =
+      (ap is_idle stage) (ap is_idle stage) (ap is_reported stage) went
+  received m taken proxy commit_proxy i (FromLog log) quiet at awaited has there later went =
       let parts = and_parts _ _ (and_parts _ _ awaited).0 in
       let stage = (stage-is commit_proxy.stage).2 parts.0 in
       let its : commit_proxy.entry ≡ i = eqb-true commit_proxy.entry i parts.1 in
       let after : commit_proxy.entry < has = let above = leb-false has i later in omega (arith, its, above) in
       holds.went_on m taken answered.Done proxy commit_proxy commit_proxy.stage m.decided _ _ quiet
-      (inr (inr (ap is_logging stage, log, has, there, after, refl))) at (ap is_idle stage) (ap is_idle stage) (ap is_reported stage)
+      (inr (inr (ap is_logging stage, log, has, there, after, refl))) at (ap is_idle stage) (ap is_idle stage)
+      (ap is_reported stage) went
 
   -- an operation that reads goes to the session's open transaction
   reads-operated : (m : Machine) (taken : Step) (session : ℕ) (operation : Op)
@@ -237,39 +248,90 @@ module _ (R : Machine → Step → Answered → Machine → Type 0) (holds : Hol
       holds.sealed m proxy advance commit_proxy at ((stage-is commit_proxy.stage).0 (not-false _ idle))
       (ltb-false _ _ few) (leb-false _ _ room)))))
   holds-next m (step.Resolve i resolver) =
-      past-found _ (slice_get m.book i) _ (λ entry _. past-found _ (slice_get m.resolvers resolver) _ (λ taken _.
-      past-turn _ taken i entry _
-      (holds.roles m (step.Resolve i resolver) _ (slice_set m.resolvers resolver (taken + 1)) m.logs m.shards refl
-      (grew-same m.logs))))
+      past-found _ (slice_get m.book i) _ (λ entry there. past-found _ (slice_get m.resolvers resolver) _ (λ taken at.
+      past-turn _ taken i entry _ (λ its.
+      holds.roles m (step.Resolve i resolver) _ (slice_set m.resolvers resolver (taken + 1)) m.logs m.shards refl
+      (grew-same m.logs) (record {
+        entry = entry;
+        entry_is = there;
+        its_turn = at ∙ ap Some its;
+        answer_is = refl;
+        resolvers_are = ap (slice_set m.resolvers resolver) (next-number taken i its);
+        logs_are = refl;
+        shards_are = refl;
+      }))))
   holds-next m (step.Verdict i resolver) =
       past-found _ (taken_by_sender m (FromResolver resolver)) _ (λ has there. past-test _ (nat_le has i) _ _ (λ later.
       past-found _ (slice_get m.entry_proxies i) _
-      (λ proxy _. past-found _ (slice_get m.commit_proxies proxy) _ (λ commit_proxy at.
+      (λ proxy its. past-found _ (slice_get m.commit_proxies proxy) _ (λ commit_proxy at.
       past-test _ (not (awaits commit_proxy i (FromResolver resolver))) _ _
       (λ awaited. received m (step.Verdict i resolver) proxy commit_proxy i (FromResolver resolver) refl at
-      (not-false _ awaited) has there later)))))
+      (not-false _ awaited) has there later (record {
+        awaited = not-false _ awaited;
+        proxy_is = its;
+        taken = has;
+        taken_is = there;
+        took = leb-false has i later;
+        answer_is = refl;
+        stage_is = refl;
+        decided_is = refl;
+        verdicts_are = refl;
+        acknowledgements_are = refl;
+      }))))))
   holds-next m (step.Decide proxy) =
       past-found _ (slice_get m.commit_proxies proxy) _ (λ commit_proxy at.
       past-test _ (not (is_resolving commit_proxy.stage)) _ _ (λ resolving.
-      past-found _ (slice_get m.book commit_proxy.entry) _ (λ entry _.
+      past-found _ (slice_get m.book commit_proxy.entry) _ (λ entry there.
       let before = seen_before m.book commit_proxy.entry in
       past-wait _ (first_missing (λ resolver. is_needed m.config.resolver_splits resolver before entry) 0
-      commit_proxy.verdicts_received) _ (λ _.
+      commit_proxy.verdicts_received) _ (λ whole.
+      let was = (stage-is commit_proxy.stage).1 (not-false _ resolving) in
       holds.went_on m (step.Decide proxy) _ proxy commit_proxy Logging _ _ _ refl (inr (inl refl)) at
-      (ap is_idle ((stage-is commit_proxy.stage).1 (not-false _ resolving))) refl refl))))
+      (ap is_idle was) refl refl (record {
+        own_is = refl;
+        was_resolving = was;
+        entry = entry;
+        entry_is = there;
+        whole = whole;
+        answer_is = refl;
+        stage_is = refl;
+        decided_is = refl;
+        verdicts_are = refl;
+        acknowledgements_are = refl;
+      })))))
   holds-next m (step.Push i log) =
-      past-found _ (slice_get m.book i) _ (λ entry _. past-found _ (slice_get m.logs log) _ (λ taken at.
+      past-found _ (slice_get m.book i) _ (λ entry there. past-found _ (slice_get m.logs log) _ (λ taken at.
       past-test _ (not (is_set m.decided i)) _ _
-      (λ _. past-turn _ taken i entry _
-      (holds.roles m (step.Push i log) _ m.resolvers (slice_set m.logs log (taken + 1)) m.shards refl
-      (grew-set m.logs log taken at)))))
+      (λ decided. past-turn _ taken i entry _ (λ its.
+      holds.roles m (step.Push i log) _ m.resolvers (slice_set m.logs log (taken + 1)) m.shards refl
+      (grew-set m.logs log taken at) (record {
+        entry = entry;
+        entry_is = there;
+        decided_is = not-false _ decided;
+        its_turn = at ∙ ap Some its;
+        answer_is = refl;
+        resolvers_are = refl;
+        logs_are = ap (slice_set m.logs log) (next-number taken i its);
+        shards_are = refl;
+      })))))
   holds-next m (step.Logged i log) =
       past-found _ (taken_by_sender m (FromLog log)) _ (λ has there. past-test _ (nat_le has i) _ _ (λ later.
       past-found _ (slice_get m.entry_proxies i) _
-      (λ proxy _. past-found _ (slice_get m.commit_proxies proxy) _ (λ commit_proxy at.
+      (λ proxy its. past-found _ (slice_get m.commit_proxies proxy) _ (λ commit_proxy at.
       past-test _ (not (awaits commit_proxy i (FromLog log))) _ _
       (λ awaited. received m (step.Logged i log) proxy commit_proxy i (FromLog log) refl at (not-false _ awaited) has
-      there later)))))
+      there later (record {
+        awaited = not-false _ awaited;
+        proxy_is = its;
+        taken = has;
+        taken_is = there;
+        took = leb-false has i later;
+        answer_is = refl;
+        stage_is = refl;
+        decided_is = refl;
+        verdicts_are = refl;
+        acknowledgements_are = refl;
+      }))))))
   holds-next m (step.Report proxy) =
       past-found _ (slice_get m.commit_proxies proxy) _ (λ commit_proxy at.
       past-test _ (not (is_logging commit_proxy.stage)) _ _ (λ logging.
@@ -285,20 +347,46 @@ module _ (R : Machine → Step → Answered → Machine → Type 0) (holds : Hol
       holds.told m proxy commit_proxy entry at ((stage-is commit_proxy.stage).3 (not-false _ is_reported)) there))))
   holds-next m (step.Pull shard limit) =
       past-found _ (slice_get m.shards shard) _
-      (λ progress _. past-found _ (slice_get m.logs (log_of (length m.logs) shard)) _ (λ has _.
+      (λ progress at. past-found _ (slice_get m.logs (log_of (length m.logs) shard)) _ (λ has there.
       holds.roles m (step.Pull shard limit) _ m.resolvers m.logs
       (slice_set m.shards shard
-      (record progress { applied = max progress.applied (min has (progress.applied + limit)) })) refl (grew-same m.logs)))
+      (record progress { applied = max progress.applied (min has (progress.applied + limit)) })) refl (grew-same m.logs)
+      (record {
+        progress = progress;
+        progress_is = at;
+        has = has;
+        has_is = there;
+        answer_is = refl;
+        resolvers_are = refl;
+        logs_are = refl;
+        shards_are = refl;
+      })))
   holds-next m (step.Forget shard version) =
-      past-found _ (slice_get m.shards shard) _ (λ progress _.
-      past-test _ (nat_lt (version_of_shard m.book progress) version) _ _ (λ _.
+      past-found _ (slice_get m.shards shard) _ (λ progress at.
+      past-test _ (nat_lt (version_of_shard m.book progress) version) _ _ (λ served.
       holds.roles m (step.Forget shard version) _ m.resolvers m.logs
-      (slice_set m.shards shard (record progress { floor = max progress.floor version })) refl (grew-same m.logs)))
+      (slice_set m.shards shard (record progress { floor = max progress.floor version })) refl (grew-same m.logs)
+      (record {
+        progress = progress;
+        progress_is = at;
+        served = ltb-false _ _ served;
+        answer_is = refl;
+        resolvers_are = refl;
+        logs_are = refl;
+        shards_are = refl;
+      })))
   holds-next m (step.Pop shard) =
-      past-found _ (slice_get m.shards shard) _ (λ progress _.
+      past-found _ (slice_get m.shards shard) _ (λ progress at.
       holds.roles m (step.Pop shard) _ m.resolvers m.logs
       (slice_set m.shards shard (record progress { popped = version_of_shard m.book progress })) refl
-      (grew-same m.logs))
+      (grew-same m.logs) (record {
+        progress = progress;
+        progress_is = at;
+        answer_is = refl;
+        resolvers_are = refl;
+        logs_are = refl;
+        shards_are = refl;
+      }))
   holds-next m (step.Move range to) =
       let resolvers = suc (length m.config.resolver_splits) in
       past-test _ (nat_le resolvers to || is_empty_range range) _ _ (λ legal.

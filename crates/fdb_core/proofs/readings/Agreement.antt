@@ -15,9 +15,10 @@ use Rattle.fdb_client.specs.declared.program.Op.{Op}
 use Rattle.fdb_client.specs.declared.program.Op.TheVariants as op
 use Rattle.fdb_client.specs.declared.program.Transcript.{Transcript}
 use Rattle.fdb_core.specs.declared.step.Answered.{Answered}
+use Rattle.fdb_core.specs.declared.step.Answered.TheVariants as answered
 use Rattle.fdb_core.specs.declared.step.Step.{Step}
 use Rattle.fdb_core.specs.declared.step.Step.TheVariants as step
-use Rattle.fdb_core.specs.headline.Readings.{Readings, SealedBatch, with_at, has_done, read}
+use Rattle.fdb_core.specs.headline.Readings.{Readings, Progress, SealedBatch, with_at, has_done, goes_on, read}
 use Rattle.fdb_core.specs.invariant.Invariant.{Invariant}
 use Rattle.fdb_core.specs.machine.ClientSteps.{answered_by}
 use Rattle.fdb_core.specs.machine.CommitProxySteps.{is_idle}
@@ -74,28 +75,60 @@ abbrev pub TellsOn : Machine → Step → Answered → Machine → Type 0
 TellsOn m taken answer after =
     (r : Readings) → Invariant m → TellsMachine r m → TellsMachine (read r taken answer) after
 
--- a quiet step tells nothing
-pub quiet-tells : (r : Readings) (taken : Step) (answer : Answered) → is_quiet taken ≡ true → r ≡ read r taken answer
-quiet-tells r (step.Ask session proxy) answer quiet = cc
-quiet-tells r (step.Grant proxy) answer quiet = cc
-quiet-tells r (step.Get session key snapshot) answer quiet = cc
-quiet-tells r (step.GetRange session range limit is_reverse snapshot) answer quiet = cc
-quiet-tells r (step.Write session mutation) answer quiet = cc
-quiet-tells r (step.AddRead session range) answer quiet = cc
-quiet-tells r (step.AddWrite session range) answer quiet = cc
-quiet-tells r (step.Submit session proxy) answer quiet = cc
-quiet-tells r (step.Seal proxy advance) answer quiet = cc
-quiet-tells r (step.Resolve i resolver) answer quiet = refl
-quiet-tells r (step.Verdict i resolver) answer quiet = refl
-quiet-tells r (step.Decide proxy) answer quiet = refl
-quiet-tells r (step.Push i log) answer quiet = refl
-quiet-tells r (step.Logged i log) answer quiet = refl
-quiet-tells r (step.Report proxy) answer quiet = cc
-quiet-tells r (step.Answer proxy) answer quiet = cc
-quiet-tells r (step.Pull shard limit) answer quiet = refl
-quiet-tells r (step.Forget shard version) answer quiet = refl
-quiet-tells r (step.Pop shard) answer quiet = refl
-quiet-tells r (step.Move range to) answer quiet = cc
+-- how far the roles are is told of no other field
+pub progress-tells : (r : Readings) (p : Progress) (m : Machine) → TellsMachine r m → TellsMachine (goes_on r p) m
+progress-tells r p m tells = record {
+  book_told = tells.book_told;
+  opened_told = tells.opened_told;
+  acknowledged_told = tells.acknowledged_told;
+  reported_told = tells.reported_told;
+  moves_told = tells.moves_told;
+  begun_told = tells.begun_told;
+  proxies_told = tells.proxies_told;
+  once_told = tells.once_told;
+}
+
+-- so a quiet step tells nothing of them
+pub quiet-tells : (r : Readings) (m : Machine) (taken : Step) (answer : Answered) → is_quiet taken ≡ true
+    → TellsMachine r m → TellsMachine (read r taken answer) m
+quiet-tells r m (step.Ask session proxy) answer quiet tells = cc
+quiet-tells r m (step.Grant proxy) answer quiet tells = cc
+quiet-tells r m (step.Get session key snapshot) answer quiet tells = cc
+quiet-tells r m (step.GetRange session range limit is_reverse snapshot) answer quiet tells = cc
+quiet-tells r m (step.Write session mutation) answer quiet tells = cc
+quiet-tells r m (step.AddRead session range) answer quiet tells = cc
+quiet-tells r m (step.AddWrite session range) answer quiet tells = cc
+quiet-tells r m (step.Submit session proxy) answer quiet tells = cc
+quiet-tells r m (step.Seal proxy advance) answer quiet tells = cc
+quiet-tells r m (step.Report proxy) answer quiet tells = cc
+quiet-tells r m (step.Answer proxy) answer quiet tells = cc
+quiet-tells r m (step.Move range to) answer quiet tells = cc
+quiet-tells r m (step.Resolve i resolver) answer quiet tells = progress-tells r _ m tells
+quiet-tells r m (step.Verdict i resolver) answer quiet tells = progress-tells r _ m tells
+quiet-tells r m (step.Decide proxy) answer quiet tells = progress-tells r _ m tells
+quiet-tells r m (step.Push i log) answer quiet tells = progress-tells r _ m tells
+quiet-tells r m (step.Logged i log) answer quiet tells = progress-tells r _ m tells
+quiet-tells r m (step.Pull shard limit) (answered.Version version) quiet tells = progress-tells r _ m tells
+quiet-tells r m (step.Pull shard limit) answered.Done quiet tells = tells
+quiet-tells r m (step.Pull shard limit) (answered.Granted served) quiet tells = tells
+quiet-tells r m (step.Pull shard limit) (answered.Value value) quiet tells = tells
+quiet-tells r m (step.Pull shard limit) (answered.Pairs pairs) quiet tells = tells
+quiet-tells r m (step.Pull shard limit) (answered.ReadOnly version) quiet tells = tells
+quiet-tells r m (step.Pull shard limit) (answered.Issued index version prev places) quiet tells = tells
+quiet-tells r m (step.Pull shard limit) (answered.Verdicts given) quiet tells = tells
+quiet-tells r m (step.Pull shard limit) (answered.Decided outcomes) quiet tells = tells
+quiet-tells r m (step.Pull shard limit) (answered.Answers told) quiet tells = tells
+quiet-tells r m (step.Forget shard least) (answered.Version version) quiet tells = progress-tells r _ m tells
+quiet-tells r m (step.Forget shard least) answered.Done quiet tells = tells
+quiet-tells r m (step.Forget shard least) (answered.Granted served) quiet tells = tells
+quiet-tells r m (step.Forget shard least) (answered.Value value) quiet tells = tells
+quiet-tells r m (step.Forget shard least) (answered.Pairs pairs) quiet tells = tells
+quiet-tells r m (step.Forget shard least) (answered.ReadOnly version) quiet tells = tells
+quiet-tells r m (step.Forget shard least) (answered.Issued index version prev places) quiet tells = tells
+quiet-tells r m (step.Forget shard least) (answered.Verdicts given) quiet tells = tells
+quiet-tells r m (step.Forget shard least) (answered.Decided outcomes) quiet tells = tells
+quiet-tells r m (step.Forget shard least) (answered.Answers told) quiet tells = tells
+quiet-tells r m (step.Pop shard) answer quiet tells = tells
 
 -- an operation tells itself, with its reply
 pub operation-tells : (r : Readings) (taken : Step) (session : ℕ) (operation : Op) (there : Map)

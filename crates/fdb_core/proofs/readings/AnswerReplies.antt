@@ -21,7 +21,6 @@ use Rattle.fdb_core.specs.declared.roles.client.Placed.{Placed}
 use Rattle.fdb_core.specs.headline.Answers.{IsByRule, IsReply, AreReplies}
 use Rattle.fdb_core.specs.headline.Headline.{IsSerialized, IsSerializedAt}
 use Rattle.fdb_core.specs.headline.Readings.{SealedBatch}
-use Rattle.fdb_core.specs.headline.Sessions.{is_of}
 use Rattle.fdb_core.specs.machine.CommitProxySteps.{placed_from, replies_from}
 use Rattle.fdb_core.proofs.checking.BodyLemmas.{length-outcomes_on}
 use Rattle.fdb_core.proofs.checking.StandingLemmas.{place-found}
@@ -29,7 +28,7 @@ use Rattle.fdb_core.proofs.common.AllLemmas.{all-at, contains-item, item-contain
 use Rattle.fdb_core.proofs.readings.AnswerReadings.{OneEach}
 
 -- the outcome at a place is the rule's
-outcome-by-rule : (splits : List Point) (earlier : List Place) (place : Place) (p : ℕ)
+pub outcome-by-rule : (splits : List Point) (earlier : List Place) (place : Place) (p : ℕ)
     → IsByRule splits (place, earlier) p (outcome_at splits earlier place p)
 outcome-by-rule splits earlier place p =
     let by = by_cases (is_fresh place) (no_conflict splits (length splits) earlier place)

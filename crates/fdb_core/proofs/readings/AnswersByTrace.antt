@@ -1,5 +1,5 @@
 -- Each accepted step is answered by what the trace told before.
-use Rattle.std.proofs.Common.{◌≡◌, ◌∙◌, refl, sym, ap, subst, ⊎_elim, ℕ, max, true, List, [], ◌∷◌, map, length, take, Option, Some, None, Result, Ok, Err}
+use Rattle.std.proofs.Common.{◌≡◌, ◌∙◌, refl, sym, ap, subst, ⊎_elim, ℕ, max, List, [], ◌∷◌, map, length, take, Option, Some, None, Result, Ok, Err}
 use Rattle.std.specs.List.{AllByRecursion, slice_get}
 use Rattle.std.specs.FinMap.{get}
 use Rattle.std.proofs.lemmas.Option.{same_Some}
@@ -38,41 +38,19 @@ use Rattle.fdb_core.proofs.invariant.SessionPlaces.{in_flight_once}
 use Rattle.fdb_core.proofs.invariant.SoundLaws.{sound_steps, sound-trace}
 use Rattle.fdb_core.proofs.invariant.SoundLemmas.{sessions-stand}
 use Rattle.fdb_core.proofs.machine.AcceptedTransitions.{IfAccepted}
-use Rattle.fdb_core.proofs.machine.Steps.{HoldsOfSteps, holds-next, is_quiet, operation_of}
+use Rattle.fdb_core.proofs.machine.Steps.{HoldsOfSteps, holds-next, kept-by_trace, operation_of}
 use Rattle.fdb_core.proofs.readings.Agreement.{TellsMachine}
 use Rattle.fdb_core.proofs.readings.SessionLists.{found-told}
 use Rattle.fdb_core.proofs.readings.AnswerReplies.{replies-of}
+use Rattle.fdb_core.proofs.readings.RoleAgreement.{TellsRoles}
+use Rattle.fdb_core.proofs.readings.RoleAnswers.{HasRoles, role-answered, proxy-answered, roles_stay, roles-start}
 use Rattle.fdb_core.proofs.readings.StepReadings.{batch-at, tells_steps}
-use Rattle.fdb_core.proofs.readings.TraceReadings.{config-kept, trace-tells}
+use Rattle.fdb_core.proofs.readings.TraceReadings.{config-kept, trace-tells, trace-tells-roles}
 
 -- an accepted step is answered by what is told of the machine
 abbrev AnswersTold : Machine → Step → Answered → Machine → Type 0
 AnswersTold m taken answer after =
-    (r : Readings) → Invariant m → TellsMachine r m → IsAnswered m.config.resolver_splits r taken answer
-
--- nothing is said of the answer to a quiet step
-quiet-answered : (splits : List Point) (r : Readings) (taken : Step) (answer : Answered) → is_quiet taken ≡ true
-    → IsAnswered splits r taken answer
-quiet-answered splits r (step.Ask session proxy) answer quiet = cc
-quiet-answered splits r (step.Grant proxy) answer quiet = cc
-quiet-answered splits r (step.Get session key snapshot) answer quiet = cc
-quiet-answered splits r (step.GetRange session range limit is_reverse snapshot) answer quiet = cc
-quiet-answered splits r (step.Write session mutation) answer quiet = cc
-quiet-answered splits r (step.AddRead session range) answer quiet = cc
-quiet-answered splits r (step.AddWrite session range) answer quiet = cc
-quiet-answered splits r (step.Submit session proxy) answer quiet = cc
-quiet-answered splits r (step.Seal proxy advance) answer quiet = cc
-quiet-answered splits r (step.Resolve i resolver) answer quiet = tt
-quiet-answered splits r (step.Verdict i resolver) answer quiet = tt
-quiet-answered splits r (step.Decide proxy) answer quiet = tt
-quiet-answered splits r (step.Push i log) answer quiet = tt
-quiet-answered splits r (step.Logged i log) answer quiet = tt
-quiet-answered splits r (step.Report proxy) answer quiet = cc
-quiet-answered splits r (step.Answer proxy) answer quiet = cc
-quiet-answered splits r (step.Pull shard limit) answer quiet = tt
-quiet-answered splits r (step.Forget shard version) answer quiet = tt
-quiet-answered splits r (step.Pop shard) answer quiet = tt
-quiet-answered splits r (step.Move range to) answer quiet = cc
+    (r : Readings) → HasRoles m → Invariant m → TellsMachine r m → TellsRoles r m → IsAnswered m.config r taken answer
 
 -- all who ask are told the same version
 all-granted : (version reported : ℕ) (sessions : List ℕ) → version ≡ reported
@@ -81,62 +59,62 @@ all-granted version reported [] same = tt
 all-granted version reported (session ∷ sessions) same = (same, all-granted version reported sessions same)
 
 -- an operation is replied from the map at the read version
-operation-answered : (splits : List Point) (r : Readings) (book : List Entry) (taken : Step) (session : ℕ)
+operation-answered : (config : Config) (r : Readings) (book : List Entry) (taken : Step) (session : ℕ)
     (operation : Op) (transcript : Transcript)
     → r.book ≡ book → HasOpened r session transcript → operation_of taken ≡ Some (session, operation)
-    → IsAnswered splits r taken (answered_by (reply_on
-    (copy (serial_map_at splits transcript.read_version (seen_of book).places) (program transcript.ops)) operation))
-operation-answered splits r book (step.Get own key snapshot) session operation transcript same opened is =
+    → IsAnswered config r taken (answered_by (reply_on
+    (copy (serial_map_at config.resolver_splits transcript.read_version (seen_of book).places) (program transcript.ops)) operation))
+operation-answered config r book (step.Get own key snapshot) session operation transcript same opened is =
     let done = same_Some (own, op.Get key snapshot) (session, operation) is in
-    subst (λ (pair : ℕ × Op). IsAnswered splits r (step.Get own key snapshot) (answered_by (reply_on
-    (copy (serial_map_at splits transcript.read_version (seen_of book).places) (program transcript.ops)) pair.1)))
+    subst (λ (pair : ℕ × Op). IsAnswered config r (step.Get own key snapshot) (answered_by (reply_on
+    (copy (serial_map_at config.resolver_splits transcript.read_version (seen_of book).places) (program transcript.ops)) pair.1)))
     done (
       transcript,
       subst (λ (s : ℕ). HasOpened r s transcript) (sym (ap (λ (pair : ℕ × Op). pair.0) done)) opened,
       ap (λ (b : List Entry). get
-          (copy (serial_map_at splits transcript.read_version (seen_of b).places) (program transcript.ops)) key)
+          (copy (serial_map_at config.resolver_splits transcript.read_version (seen_of b).places) (program transcript.ops)) key)
           (sym same),
     )
-operation-answered splits r book (step.GetRange own range limit is_reverse snapshot) session operation transcript same
+operation-answered config r book (step.GetRange own range limit is_reverse snapshot) session operation transcript same
     opened is =
     let done = same_Some (own, op.Range range limit is_reverse snapshot) (session, operation) is in
-    subst (λ (pair : ℕ × Op). IsAnswered splits r (step.GetRange own range limit is_reverse snapshot)
+    subst (λ (pair : ℕ × Op). IsAnswered config r (step.GetRange own range limit is_reverse snapshot)
     (answered_by (reply_on
-    (copy (serial_map_at splits transcript.read_version (seen_of book).places) (program transcript.ops)) pair.1)))
+    (copy (serial_map_at config.resolver_splits transcript.read_version (seen_of book).places) (program transcript.ops)) pair.1)))
     done (
       transcript,
       subst (λ (s : ℕ). HasOpened r s transcript) (sym (ap (λ (pair : ℕ × Op). pair.0) done)) opened,
       ap (λ (b : List Entry). given_of
-          (copy (serial_map_at splits transcript.read_version (seen_of b).places) (program transcript.ops)) range limit
+          (copy (serial_map_at config.resolver_splits transcript.read_version (seen_of b).places) (program transcript.ops)) range limit
           is_reverse) (sym same),
     )
-operation-answered splits r book (step.Write own mutation) session operation transcript same opened is =
-    subst (λ (pair : ℕ × Op). IsAnswered splits r (step.Write own mutation) (answered_by (reply_on
-    (copy (serial_map_at splits transcript.read_version (seen_of book).places) (program transcript.ops)) pair.1)))
+operation-answered config r book (step.Write own mutation) session operation transcript same opened is =
+    subst (λ (pair : ℕ × Op). IsAnswered config r (step.Write own mutation) (answered_by (reply_on
+    (copy (serial_map_at config.resolver_splits transcript.read_version (seen_of book).places) (program transcript.ops)) pair.1)))
     (same_Some (own, op.Write mutation) (session, operation) is) refl
-operation-answered splits r book (step.AddRead own range) session operation transcript same opened is =
-    subst (λ (pair : ℕ × Op). IsAnswered splits r (step.AddRead own range) (answered_by (reply_on
-    (copy (serial_map_at splits transcript.read_version (seen_of book).places) (program transcript.ops)) pair.1)))
+operation-answered config r book (step.AddRead own range) session operation transcript same opened is =
+    subst (λ (pair : ℕ × Op). IsAnswered config r (step.AddRead own range) (answered_by (reply_on
+    (copy (serial_map_at config.resolver_splits transcript.read_version (seen_of book).places) (program transcript.ops)) pair.1)))
     (same_Some (own, op.AddRead range) (session, operation) is) refl
-operation-answered splits r book (step.AddWrite own range) session operation transcript same opened is =
-    subst (λ (pair : ℕ × Op). IsAnswered splits r (step.AddWrite own range) (answered_by (reply_on
-    (copy (serial_map_at splits transcript.read_version (seen_of book).places) (program transcript.ops)) pair.1)))
+operation-answered config r book (step.AddWrite own range) session operation transcript same opened is =
+    subst (λ (pair : ℕ × Op). IsAnswered config r (step.AddWrite own range) (answered_by (reply_on
+    (copy (serial_map_at config.resolver_splits transcript.read_version (seen_of book).places) (program transcript.ops)) pair.1)))
     (same_Some (own, op.AddWrite range) (session, operation) is) refl
-operation-answered splits r book (step.Ask own proxy) session operation transcript same opened is = cc
-operation-answered splits r book (step.Grant proxy) session operation transcript same opened is = cc
-operation-answered splits r book (step.Submit own proxy) session operation transcript same opened is = cc
-operation-answered splits r book (step.Seal proxy advance) session operation transcript same opened is = cc
-operation-answered splits r book (step.Resolve i resolver) session operation transcript same opened is = cc
-operation-answered splits r book (step.Verdict i resolver) session operation transcript same opened is = cc
-operation-answered splits r book (step.Decide proxy) session operation transcript same opened is = cc
-operation-answered splits r book (step.Push i log) session operation transcript same opened is = cc
-operation-answered splits r book (step.Logged i log) session operation transcript same opened is = cc
-operation-answered splits r book (step.Report proxy) session operation transcript same opened is = cc
-operation-answered splits r book (step.Answer proxy) session operation transcript same opened is = cc
-operation-answered splits r book (step.Pull shard limit) session operation transcript same opened is = cc
-operation-answered splits r book (step.Forget shard version) session operation transcript same opened is = cc
-operation-answered splits r book (step.Pop shard) session operation transcript same opened is = cc
-operation-answered splits r book (step.Move range to) session operation transcript same opened is = cc
+operation-answered config r book (step.Ask own proxy) session operation transcript same opened is = cc
+operation-answered config r book (step.Grant proxy) session operation transcript same opened is = cc
+operation-answered config r book (step.Submit own proxy) session operation transcript same opened is = cc
+operation-answered config r book (step.Seal proxy advance) session operation transcript same opened is = cc
+operation-answered config r book (step.Resolve i resolver) session operation transcript same opened is = cc
+operation-answered config r book (step.Verdict i resolver) session operation transcript same opened is = cc
+operation-answered config r book (step.Decide proxy) session operation transcript same opened is = cc
+operation-answered config r book (step.Push i log) session operation transcript same opened is = cc
+operation-answered config r book (step.Logged i log) session operation transcript same opened is = cc
+operation-answered config r book (step.Report proxy) session operation transcript same opened is = cc
+operation-answered config r book (step.Answer proxy) session operation transcript same opened is = cc
+operation-answered config r book (step.Pull shard limit) session operation transcript same opened is = cc
+operation-answered config r book (step.Forget shard version) session operation transcript same opened is = cc
+operation-answered config r book (step.Pop shard) session operation transcript same opened is = cc
+operation-answered config r book (step.Move range to) session operation transcript same opened is = cc
 
 -- the clients of a batch are told what became of their transactions
 all-told : (m : Machine) (proxy : ℕ) (commit_proxy : CommitProxy) (entry : Entry)
@@ -144,7 +122,7 @@ all-told : (m : Machine) (proxy : ℕ) (commit_proxy : CommitProxy) (entry : Ent
     → slice_get m.book commit_proxy.entry ≡ Some entry
     → AnswersTold m (step.Answer proxy) (answered.Answers (replies_from commit_proxy.in_flight
     (outcomes_on m.config.resolver_splits (seen_before m.book commit_proxy.entry) entry))) m
-all-told m proxy commit_proxy entry at reported there r sound tells =
+all-told m proxy commit_proxy entry at reported there r has sound tells roles =
     subst (λ (book : List Entry). AreReplies splits book (r.sealed proxy) told later.acknowledged) (sym tells.book_told)
     (subst (λ (b : SealedBatch). AreReplies splits m.book b told later.acknowledged)
     (sym (batch-at r m proxy commit_proxy entry tells at (ap is_idle reported) there))
@@ -176,20 +154,21 @@ all-told m proxy commit_proxy entry at reported there r sound tells =
 
 answered_steps : HoldsOfSteps AnswersTold
 answered_steps = record {
-  roles = λ m taken answer resolvers logs shards quiet grew r sound tells. quiet-answered _ r taken answer quiet;
-  asked = λ m session proxy there at free r sound tells. refl;
-  granted = λ m proxy there at left r sound tells. all-granted m.committed r.reported there (sym tells.reported_told);
-  operated = λ m taken session transcript operation does opened r sound tells.
-      operation-answered m.config.resolver_splits r m.book taken session operation transcript tells.book_told
+  roles = λ m taken answer resolvers logs shards quiet grew went r has sound tells told.
+      role-answered m r has sound tells told taken answer resolvers logs shards went;
+  asked = λ m session proxy there at free r has sound tells told. refl;
+  granted = λ m proxy there at left r has sound tells told. all-granted m.committed r.reported there (sym tells.reported_told);
+  operated = λ m taken session transcript operation does opened r has sound tells told.
+      operation-answered m.config r m.book taken session operation transcript tells.book_told
       (found-told r.opened m.sessions tells.opened_told session transcript opened) does;
-  read_only = λ m session proxy transcript opened empty r sound tells. (
+  read_only = λ m session proxy transcript opened empty r has sound tells told. (
     transcript,
     found-told r.opened m.sessions tells.opened_told session transcript opened,
     refl,
     wrote_nothing transcript empty,
   );
-  submitted = λ m session proxy commit_proxy transcript at opened writes r sound tells. refl;
-  sealed = λ m proxy advance commit_proxy at idle few room r sound tells.
+  submitted = λ m session proxy commit_proxy transcript at opened writes r has sound tells told. refl;
+  sealed = λ m proxy advance commit_proxy at idle few room r has sound tells told.
       let was = tells.proxies_told proxy commit_proxy at in (
         ap (λ (b : List Entry). length b) (sym tells.book_told),
         ap last_version (sym tells.book_told),
@@ -197,13 +176,15 @@ answered_steps = record {
         sym (ap (λ (waits : List Transcript). length (take place_limit waits)) was.waiting_told),
       );
   went_on = λ m taken answer proxy commit_proxy stage decided verdicts acknowledgements quiet came at busy goes_on
-      unreported r sound tells. quiet-answered _ r taken answer quiet;
-  reported_version = λ m proxy commit_proxy entry at logging there whole r sound tells.
+      unreported went r has sound tells told.
+      proxy-answered m r has sound tells told taken answer proxy commit_proxy stage decided verdicts acknowledgements
+      at went;
+  reported_version = λ m proxy commit_proxy entry at logging there whole r has sound tells told.
       let batch = batch-at r m proxy commit_proxy entry tells at (ap is_idle logging) there in
       λ k. answered.Version (max (sym tells.reported_told k) (sym batch k).version);
-  moved = λ m range to exists r sound tells. refl;
-  told = λ m proxy commit_proxy entry at reported there r sound tells.
-      all-told m proxy commit_proxy entry at reported there r sound tells;
+  moved = λ m range to exists r has sound tells told. refl;
+  told = λ m proxy commit_proxy entry at reported there r has sound tells told.
+      all-told m proxy commit_proxy entry at reported there r has sound tells told;
 }
 
 pub answered_by_trace : AnsweredByTheTrace
@@ -212,25 +193,29 @@ answered_by_trace config steps given taken answer world stands =
     from_mid last.0 last.1 last.2
   where
     from_result : (m : Machine) (r : Readings) (result : Result Transition Refusal)
-        → IfAccepted (λ transition. (r : Readings) → Invariant m → TellsMachine r m
-        → IsAnswered m.config.resolver_splits r taken transition.answer) result
-        → Invariant m → TellsMachine r m → Ok answer ≡ answer_of result → IsAnswered m.config.resolver_splits r taken answer
-    from_result m r (Ok transition) holds sound tells is =
+        → IfAccepted (λ transition. AnswersTold m taken transition.answer transition.next) result
+        → HasRoles m → Invariant m → TellsMachine r m → TellsRoles r m → Ok answer ≡ answer_of result
+        → IsAnswered m.config r taken answer
+    from_result m r (Ok transition) holds has sound tells told is =
         let same : transition.answer ≡ answer = cc in
-        subst (IsAnswered m.config.resolver_splits r taken) same (holds r sound tells)
-    from_result m r (Err refusal) holds sound tells is = cc
+        subst (IsAnswered m.config r taken) same (holds r has sound tells told)
+    from_result m r (Err refusal) holds has sound tells told is = cc
 
     from_mid : (mid : Option Machine) → IsRun (Some (start config)) steps given mid → IsStep mid taken (Ok answer) world
-        → IsAnswered config.resolver_splits (readings_of steps given) taken answer
+        → IsAnswered config (readings_of steps given) taken answer
     from_mid None ran stepped = let wrong = stepped.0 in cc
     from_mid (Some m) ran stepped =
         let is = traces_tell config steps given m ran in
         let tells = subst (TellsMachine (readings_of steps given)) (sym is)
         (trace-tells config steps given (Some m) ran) in
-        subst (λ (c : Config). IsAnswered c.resolver_splits (readings_of steps given) taken answer)
+        let told = subst (TellsRoles (readings_of steps given)) (sym is)
+        (trace-tells-roles config steps given (Some m) ran) in
+        let has = subst HasRoles (sym is)
+        (kept-by_trace HasRoles roles_stay (start config) steps given (roles-start config)) in
+        subst (λ (c : Config). IsAnswered c (readings_of steps given) taken answer)
         (ap (λ (n : Machine). n.config) is ∙ config-kept config steps given)
         (⊎_elim
         (λ went. from_result m (readings_of steps given) (next m taken) (holds-next AnswersTold answered_steps m taken)
-        (subst Invariant (sym is) (sound-trace config steps given)) tells went.0)
+        has (subst Invariant (sym is) (sound-trace config steps given)) tells told went.0)
         (λ failed. let wrong = failed.0 in cc)
         stepped)

@@ -27,7 +27,7 @@ use Rattle.fdb_core.proofs.common.SumLemmas.{none_or_some}
 use Rattle.fdb_core.proofs.machine.Sealing.{last-at, sealed_entry, sealed_proxy, sealed_machine}
 use Rattle.fdb_core.proofs.machine.SessionLemmas.{able, told-none, told-some, times_of}
 use Rattle.fdb_core.proofs.machine.Steps.{HoldsOfSteps}
-use Rattle.fdb_core.proofs.readings.Agreement.{AtProxy, TellsMachine, TellsOn, quiet-tells, operation-tells, changed-there, changed-elsewhere, one-changes, book-grows, AnsweredOnce, flies, once-goes_on, once-answered, once-sealed}
+use Rattle.fdb_core.proofs.readings.Agreement.{AtProxy, TellsMachine, TellsOn, progress-tells, quiet-tells, operation-tells, changed-there, changed-elsewhere, one-changes, book-grows, AnsweredOnce, flies, once-goes_on, once-answered, once-sealed}
 use Rattle.fdb_core.proofs.readings.AnswerReadings.{acknowledged-placed}
 use Rattle.fdb_core.proofs.readings.GrantLemmas.{NumbersBegun, AreReady, ready-others, numbers-begins, opened-begins, numbers-put, numbers-told}
 use Rattle.fdb_core.proofs.readings.SessionLists.{OpenTold, found-told, others-told, more-told}
@@ -220,8 +220,8 @@ batch-at r m proxy commit_proxy entry tells at busy there =
 
 pub tells_steps : HoldsOfSteps TellsOn
 tells_steps = record {
-  roles = λ m taken answer resolvers logs shards quiet grew r sound tells.
-      subst (λ (told : Readings). TellsMachine told m) (quiet-tells r taken answer quiet) tells;
+  roles = λ m taken answer resolvers logs shards quiet grew went r sound tells.
+      quiet-tells r m taken answer quiet tells;
   asked = λ m session proxy there at free r sound tells.
       with-clients r m (others_than session r.opened) (with_state m.sessions session Asking) _ _ _ _ tells
       (others-told r.opened m.sessions tells.opened_told session Asking refl)
@@ -257,29 +257,34 @@ tells_steps = record {
       submitted-told r m session proxy commit_proxy transcript tells at opened;
   sealed = λ m proxy advance commit_proxy at idle few room r sound tells.
       sealed-told r m proxy advance commit_proxy tells at idle;
-  went_on = λ m taken answer proxy commit_proxy stage decided verdicts acknowledgements quiet came at busy goes_on unreported
+  went_on = λ m taken answer proxy commit_proxy stage decided verdicts acknowledgements quiet came at busy goes_on unreported went
       r sound tells.
       let was = tells.proxies_told proxy commit_proxy at in
-      subst (λ (told : Readings). TellsMachine told (record m {
+      quiet-tells r (record m {
         commit_proxies = slice_set m.commit_proxies proxy (record commit_proxy {
           stage = stage;
           verdicts_received = verdicts;
           acknowledgements_received = acknowledgements;
         });
-      })) (quiet-tells r taken answer quiet)
+      }) taken answer quiet
       (proxy-goes_on r m proxy commit_proxy _ at tells
       (record { waiting_told = was.waiting_told; batch_told = λ _. was.batch_told busy })
       (λ entry. rw (goes_on, busy) (le_refl _)));
   reported_version = λ m proxy commit_proxy entry at logging there whole r sound tells.
       let was = tells.proxies_told proxy commit_proxy at in
       let batch = batch-at r m proxy commit_proxy entry tells at (ap is_idle logging) there in
-      with-clients r
+      progress-tells (record r { reported = max r.reported (r.sealed proxy).version }) _
+      (record m {
+        committed = max m.committed entry.version;
+        commit_proxies = slice_set m.commit_proxies proxy (record commit_proxy { stage = Reported });
+      })
+      (with-clients r
       (record m { commit_proxies = slice_set m.commit_proxies proxy (record commit_proxy { stage = Reported }) })
       _ _ _ _ _ _
       (proxy-goes_on r m proxy commit_proxy _ at tells
       (record { waiting_told = was.waiting_told; batch_told = λ _. was.batch_told (ap is_idle logging) })
       (λ one. rw (ap is_idle logging) (le_refl _)))
-      tells.opened_told tells.begun_told tells.acknowledged_told (λ k. max (tells.reported_told k) (batch k).version);
+      tells.opened_told tells.begun_told tells.acknowledged_told (λ k. max (tells.reported_told k) (batch k).version));
   moved = λ m range to exists r sound tells. record {
     book_told = tells.book_told;
     opened_told = tells.opened_told;

@@ -1,5 +1,5 @@
 -- After every trace the machine is what the trace tells, and so what holds of the machine holds of what is read off.
-use Rattle.std.proofs.Common.{◌≡◌, ◌∙◌, ◌<◌, ◌≤◌, le_trans, refl, sym, ap, subst, arith, ⊎_elim, ℕ, zero, suc, min, Bool, true, false, cond, List, [], ◌∷◌, length, take, Option, Some, None, Result, Ok, Err}
+use Rattle.std.proofs.Common.{◌≡◌, ◌∙◌, ◌<◌, ◌≤◌, le_refl, le_trans, refl, sym, ap, subst, arith, ⊎_elim, ℕ, zero, suc, min, Bool, true, false, cond, List, [], ◌∷◌, length, take, Option, Some, None, Result, Ok, Err}
 use Rattle.std.specs.Prelude.{nat_lt}
 use Rattle.std.specs.List.{AllByRecursion, slice_get}
 use Rattle.std.proofs.lemmas.List.Folds.{sum_by-replicate}
@@ -17,13 +17,13 @@ use Rattle.fdb_core.specs.declared.step.Step.{Step}
 use Rattle.fdb_core.specs.headline.Headline.{AcknowledgedAreSerialized, IsSerialized}
 use Rattle.fdb_core.specs.headline.Books.{TracesTellBooks, EntriesAreAnsweredOnce}
 use Rattle.fdb_core.specs.headline.Promises.{CommittedIsGreatestReported}
-use Rattle.fdb_core.specs.headline.Readings.{Readings, nothing_read, read_step, read_steps, readings_of, times_begun}
+use Rattle.fdb_core.specs.headline.Readings.{Readings, nothing_read, no_progress, read_step, read_steps, readings_of, times_begun}
 use Rattle.fdb_core.specs.headline.RealTime.{RealTime, HasBegun, spot_version}
 use Rattle.fdb_core.specs.headline.Traces.{after_step, after_steps, machine_of_trace, alone, IsTraceOf, WorldsShowWhatIsTold}
 use Rattle.fdb_core.specs.invariant.Invariant.{Invariant, IsSerializedIn, IsReported}
 use Rattle.fdb_core.specs.machine.Sessions.{Session, open_of, next_number, greatest_number}
 use Rattle.fdb_core.specs.machine.Machine.{Machine, Transition}
-use Rattle.fdb_core.specs.machine.Roles.{CommitProxy}
+use Rattle.fdb_core.specs.machine.Roles.{CommitProxy, ShardProgress}
 use Rattle.fdb_core.specs.machine.Steps.{next, answer_of, after}
 use Rattle.fdb_core.specs.machine.Worlds.{start, idle_proxy, IsRun}
 use Rattle.fdb_core.proofs.common.AllLemmas.{all-at, all-both, all-replicate}
@@ -36,6 +36,8 @@ use Rattle.fdb_core.proofs.machine.SessionMaps.{session-new}
 use Rattle.fdb_core.proofs.machine.Steps.{KeptBySteps, holds-next, kept-next, kept-by_trace}
 use Rattle.fdb_core.proofs.readings.Agreement.{AtProxy, flies, TellsMachine, TellsOn}
 use Rattle.fdb_core.proofs.readings.GrantLemmas.{last_of, next-begun}
+use Rattle.fdb_core.proofs.readings.RoleAgreement.{ProxyTold, ShardTold, TellsRoles, replicate-default}
+use Rattle.fdb_core.proofs.readings.RoleReadings.{RolesTellOn, roles_tell_steps}
 use Rattle.fdb_core.proofs.readings.StepReadings.{tells_steps}
 
 -- a step that is answered as the machine answers it tells what the machine goes on to
@@ -63,28 +65,46 @@ nothing-more m r (taken ∷ steps) (answer ∷ given) world ran =
       ap (λ (a : Result Answered Refusal). after_steps (after_step m taken a) steps given) ran.1.0 ∙ rest.1,
     )
 
--- so the steps of a run tell what the machine goes on to
-run-tells : (m : Machine) (r : Readings) (steps : List Step) (given : List (Result Answered Refusal))
-    (world : Option Machine) → Invariant m → TellsMachine r m → IsRun (Some m) steps given world
-    → TellsMachine (read_steps r steps given) (after_steps m steps given)
-run-tells m r [] [] world sound tells ran = tells
-run-tells m r [] (answer ∷ given) world sound tells ran = absurd ran
-run-tells m r (taken ∷ steps) [] world sound tells ran = absurd ran
-run-tells m r (taken ∷ steps) (answer ∷ given) world sound tells ran = ⊎_elim
-    (λ went. let goes_on = subst (λ (mid : Option Machine). IsRun mid steps given world) went.1 ran.2 in
-    let rest = run-tells (after m (next m taken)) (read_step r taken (answer_of (next m taken))) steps given world
-    (kept-next Invariant sound_steps m taken sound) (step-tells m r taken sound tells) goes_on in
-    subst (λ (a : Result Answered Refusal). TellsMachine (read_steps (read_step r taken a) steps given)
-    (after_steps (after_step m taken a) steps given)) (sym went.0)
-    (subst (λ (mid : Machine). TellsMachine (read_steps (read_step r taken (answer_of (next m taken))) steps given)
-    (after_steps mid steps given)) (sym (after_step-answered m taken (next m taken) refl)) rest))
-    (λ failed. let rest = nothing-more m r steps given world
-    (subst (λ (mid : Option Machine). IsRun mid steps given world) failed.1 ran.2) in
-    subst (λ (a : Result Answered Refusal). TellsMachine (read_steps (read_step r taken a) steps given)
-    (after_steps (after_step m taken a) steps given)) (sym failed.0)
-    (subst (λ (told : Readings). TellsMachine told (after_steps m steps given)) (sym rest.0)
-    (subst (TellsMachine r) (sym rest.1) tells)))
-    ran.1
+-- what is told of the machine, and stays so with each step, is told after the steps of a run
+module _ (T : Readings → Machine → Type 0)
+    (goes : (m : Machine) (r : Readings) (taken : Step) → Invariant m → T r m
+    → T (read_step r taken (answer_of (next m taken))) (after m (next m taken))) where
+  run-tells : (m : Machine) (r : Readings) (steps : List Step) (given : List (Result Answered Refusal))
+      (world : Option Machine) → Invariant m → T r m → IsRun (Some m) steps given world
+      → T (read_steps r steps given) (after_steps m steps given)
+  run-tells m r [] [] world sound tells ran = tells
+  run-tells m r [] (answer ∷ given) world sound tells ran = absurd ran
+  run-tells m r (taken ∷ steps) [] world sound tells ran = absurd ran
+  run-tells m r (taken ∷ steps) (answer ∷ given) world sound tells ran = ⊎_elim
+      (λ went. let goes_on = subst (λ (mid : Option Machine). IsRun mid steps given world) went.1 ran.2 in
+      let rest = run-tells (after m (next m taken)) (read_step r taken (answer_of (next m taken))) steps given world
+      (kept-next Invariant sound_steps m taken sound) (goes m r taken sound tells) goes_on in
+      subst (λ (a : Result Answered Refusal). T (read_steps (read_step r taken a) steps given)
+      (after_steps (after_step m taken a) steps given)) (sym went.0)
+      (subst (λ (mid : Machine). T (read_steps (read_step r taken (answer_of (next m taken))) steps given)
+      (after_steps mid steps given)) (sym (after_step-answered m taken (next m taken) refl)) rest))
+      (λ failed. let rest = nothing-more m r steps given world
+      (subst (λ (mid : Option Machine). IsRun mid steps given world) failed.1 ran.2) in
+      subst (λ (a : Result Answered Refusal). T (read_steps (read_step r taken a) steps given)
+      (after_steps (after_step m taken a) steps given)) (sym failed.0)
+      (subst (λ (told : Readings). T told (after_steps m steps given)) (sym rest.0)
+      (subst (T r) (sym rest.1) tells)))
+      ran.1
+
+-- the machine is told with how far its roles are
+abbrev TellsAll : Readings → Machine → Type 0
+TellsAll r m = TellsMachine r m × TellsRoles r m
+
+all-tells : (m : Machine) (r : Readings) (taken : Step) → Invariant m → TellsAll r m
+    → TellsAll (read_step r taken (answer_of (next m taken))) (after m (next m taken))
+all-tells m r taken sound told =
+    (step-tells m r taken sound told.0, by_result (next m taken) (holds-next RolesTellOn roles_tell_steps m taken))
+  where
+    by_result : (result : Result Transition Refusal)
+        → IfAccepted (λ transition. RolesTellOn m taken transition.answer transition.next) result
+        → TellsRoles (read_step r taken (answer_of result)) (after m result)
+    by_result (Ok transition) leads = leads r sound told.0 told.1
+    by_result (Err refusal) leads = told.1
 
 -- before the first step nothing is told
 start-tells : (config : Config) → TellsMachine nothing_read (start config)
@@ -103,19 +123,57 @@ start-tells config = record {
     Idle : CommitProxy → Type 0
     Idle commit_proxy = AtProxy [] [] (record { entry = 0; version = 0; transcripts = [] }) commit_proxy
 
+-- and every role is where it begins
+start-roles : (config : Config) → TellsRoles nothing_read (start config)
+start-roles config = record {
+  each_has_proxy = refl;
+  each_has_flag = refl;
+  resolved_told = λ resolver. sym (replicate-default 0 (suc (length config.resolver_splits)) resolver);
+  logged_told = λ log. sym (replicate-default 0 config.logs log);
+  logged_within = λ log taken there.
+      all-at (λ (n : ℕ). n ≤ 0) (start config).logs log taken (all-replicate (λ (n : ℕ). n ≤ 0) 0 config.logs (le_refl 0))
+      there;
+  decided_told = λ entry. refl;
+  proxies_told = λ proxy commit_proxy there.
+      subst (λ (it : CommitProxy). ProxyTold no_progress [] (length (start config).resolvers)
+      (length (start config).logs) proxy it)
+      (all-at (λ (it : CommitProxy). idle_proxy ≡ it) (start config).commit_proxies proxy commit_proxy
+      (all-replicate (λ (it : CommitProxy). idle_proxy ≡ it) idle_proxy config.proxies refl) there)
+      ((refl, refl), λ busy. cc);
+  others_wait = λ proxy none. (refl, refl);
+  nothing_later = λ entry n behind. (refl, refl);
+  shards_told = λ shard progress there.
+      subst (λ (it : ShardProgress). ShardTold no_progress [] (start config).logs shard it)
+      (all-at (λ (it : ShardProgress). at_start ≡ it) (start config).shards shard progress
+      (all-replicate (λ (it : ShardProgress). at_start ≡ it) at_start (suc (length config.shard_splits)) refl) there)
+      (refl, refl, le_refl 0, λ has at. omega arith);
+}
+  where
+    at_start : ShardProgress
+    at_start = record { applied = 0; floor = 0; popped = 0 }
+
 -- a trace tells its machine
 pub trace-tells : (config : Config) (steps : List Step) (given : List (Result Answered Refusal))
     (world : Option Machine)
     → IsTraceOf config steps given world
     → TellsMachine (readings_of steps given) (machine_of_trace config steps given)
 trace-tells config steps given world stands =
-    run-tells (start config) nothing_read steps given world
+    run-tells TellsMachine step-tells (start config) nothing_read steps given world
     (sound-start config) (start-tells config) stands
+
+-- and how far its roles are
+pub trace-tells-roles : (config : Config) (steps : List Step) (given : List (Result Answered Refusal))
+    (world : Option Machine)
+    → IsTraceOf config steps given world
+    → TellsRoles (readings_of steps given) (machine_of_trace config steps given)
+trace-tells-roles config steps given world stands =
+    (run-tells TellsAll all-tells (start config) nothing_read steps given world
+    (sound-start config) (start-tells config, start-roles config) stands).1
 
 -- the configuration stays
 config_steps : (config : Config) → KeptBySteps (λ m. m.config ≡ config)
 config_steps config = record {
-  roles = λ m taken answer resolvers logs shards quiet grew same. same;
+  roles = λ m taken answer resolvers logs shards quiet grew went same. same;
   asked = λ m session proxy there at free same. same;
   granted = λ m proxy there at left same. same;
   operated = λ m taken session transcript operation does opened same. same;
@@ -123,7 +181,7 @@ config_steps config = record {
   submitted = λ m session proxy commit_proxy transcript at opened writes same. same;
   sealed = λ m proxy advance commit_proxy at idle few room same. same;
   went_on = λ m taken answer proxy commit_proxy stage decided verdicts acknowledgements quiet came at busy goes_on
-      unreported same. same;
+      unreported went same. same;
   reported_version = λ m proxy commit_proxy entry at logging there whole same. same;
   moved = λ m range to exists same. same;
   told = λ m proxy commit_proxy entry at reported there same. same;

@@ -1,5 +1,5 @@
 -- What an accepted step answers, by what the trace told before it.
-use Rattle.std.specs.Prelude.{◌≡◌, ◌↔◌, ◌≤◌, ℕ, Bool, true, false, max, ⊤, List, [], ◌∷◌, ◌++◌, length, map, take, Option, Some, Result, Ok, slice_get}
+use Rattle.std.specs.Prelude.{◌≡◌, ◌↔◌, ◌<◌, ◌≤◌, ℕ, suc, ◌+◌, Bool, true, false, min, max, nat_le, List, [], ◌∷◌, ◌++◌, length, map, take, Option, Some, Result, Ok, slice_get}
 use Rattle.std.specs.List.{AllByRecursion, Contains, count_by}
 use Rattle.std.specs.FinMap.{get}
 use Rattle.fdb_keys.specs.declared.refusal.Refusal.{Refusal}
@@ -11,9 +11,13 @@ use Rattle.fdb_txn.specs.declared.entry.Entry.{Entry}
 use Rattle.fdb_txn.specs.declared.spot.Spot.TheVariants as spot
 use Rattle.fdb_txn.specs.book.Book.{Place, seen_of, last_version}
 use Rattle.fdb_txn.specs.book.Places.{place_at}
-use Rattle.fdb_txn.specs.rules.Admission.{is_fresh, committed}
+use Rattle.fdb_txn.specs.rules.Admission.{is_fresh, admits, committed}
+use Rattle.fdb_txn.specs.rules.Owners.{is_asked}
 use Rattle.fdb_txn.specs.rules.SerialMap.{serial_map_at}
+use Rattle.fdb_log.specs.Messages.{log_of}
 use Rattle.fdb_sequencer.specs.Sequencer.{next_version}
+use Rattle.fdb_resolver.specs.declared.verdict.Verdict.{Verdict}
+use Rattle.fdb_resolver.specs.declared.verdict.Verdict.TheVariants as verdict
 use Rattle.fdb_proxy.specs.declared.config.Config.{Config}
 use Rattle.fdb_client.specs.declared.program.Transcript.{Transcript}
 use Rattle.fdb_core.specs.declared.roles.client.Placed.{Placed}
@@ -67,7 +71,83 @@ pub record AreReplies (splits : List Point) (book : List Entry) (batch : SealedB
 abbrev pub HasOpened : Readings → ℕ → Transcript → Type 0
 HasOpened r session transcript = of_session session r.opened ≡ transcript ∷ []
 
-module _ (splits : List Point) (r : Readings) where
+-- What a resolver says of a place after the places before it by the rule: that it is old exactly where it isn't fresh,
+-- yes exactly where the resolver admits it, and else that it conflicts.
+pub record IsVerdictByRule (splits : List Point) (resolver : ℕ) (there : Place × List Place) (said : Verdict) : Type 0
+  where
+    pub is_old : (said ≡ verdict.Old) ↔ (is_fresh there.0 ≡ false)
+    pub admits_it : (said ≡ verdict.Yes)
+        ↔ ((is_fresh there.0 ≡ true) × (admits splits resolver there.1 there.0 ≡ true))
+    pub conflicts : (said ≡ verdict.Conflict)
+        ↔ ((is_fresh there.0 ≡ true) × (admits splits resolver there.1 there.0 ≡ false))
+
+module _ (config : Config) (r : Readings) where
+  abbrev splits : List Point
+  splits = config.resolver_splits
+
+  -- the resolver is asked about a place of the entry
+  abbrev pub IsAskedAt : ℕ → ℕ → ℕ → Place × List Place → Type 0
+  IsAskedAt entry resolver p there =
+      (place_at r.book entry p ≡ Some there) × (is_asked splits resolver there.0 ≡ true)
+
+  -- A resolver takes the entry that comes after those that it took. By place it says of each that it is asked about what
+  -- the rule says, and nothing of another one.
+  pub record IsResolved (entry resolver : ℕ) (given : List (ℕ × Verdict)) : Type 0 where
+    pub is_there : entry < length r.book
+    pub exists : resolver < suc (length splits)
+    pub its_turn : r.progress.resolved resolver ≡ entry
+    pub by_place : (i j : ℕ) (one other : ℕ × Verdict) → i < j → slice_get given i ≡ Some one
+        → slice_get given j ≡ Some other → one.0 < other.0
+    pub by_rule : (p : ℕ) (said : Verdict) → Contains given (p, said)
+        → (there : Place × List Place) × IsAskedAt entry resolver p there × IsVerdictByRule splits resolver there said
+    pub of_each : (p : ℕ) (there : Place × List Place) → IsAskedAt entry resolver p there
+        → (said : Verdict) × Contains given (p, said)
+
+  -- The verdicts of a resolver that took the entry reach the proxy that waits for verdicts on it, which hadn't them.
+  pub record IsVerdictDue (entry resolver : ℕ) : Type 0 where
+    pub took : entry < r.progress.resolved resolver
+    pub proxy : ℕ
+    pub waits : r.progress.resolving proxy ≡ Some entry
+    pub once : r.progress.verdicts_came entry resolver ≡ false
+
+  -- A proxy decides the entry on which it waits for verdicts, once those came of each resolver that is asked about a
+  -- place. Of each place it says what became of it by the rule.
+  pub record IsDecided (proxy : ℕ) (outcomes : List Outcome) : Type 0 where
+    pub number : ℕ
+    pub waits : r.progress.resolving proxy ≡ Some number
+    pub entry : Entry
+    pub entry_is : slice_get r.book number ≡ Some entry
+    pub came : (resolver p : ℕ) (there : Place × List Place) → resolver < suc (length splits)
+        → IsAskedAt number resolver p there → r.progress.verdicts_came number resolver ≡ true
+    pub all_places : length outcomes ≡ length entry.batch
+    pub by_rule : (p : ℕ) (there : Place × List Place) → place_at r.book number p ≡ Some there
+        → (became : Outcome) × (slice_get outcomes p ≡ Some became) × IsByRule splits there p became
+
+  -- a log takes the entry that comes after those that it took, once that is decided
+  pub record IsPushed (entry log : ℕ) : Type 0 where
+    pub is_there : entry < length r.book
+    pub exists : log < config.logs
+    pub its_turn : r.progress.logged log ≡ entry
+    pub decided : r.progress.decided entry ≡ true
+
+  -- The acknowledgement of a log that took the entry reaches the proxy that waits for acknowledgements of it, which
+  -- hadn't it.
+  pub record IsAcknowledgementDue (entry log : ℕ) : Type 0 where
+    pub took : entry < r.progress.logged log
+    pub proxy : ℕ
+    pub waits : r.progress.logging proxy ≡ Some entry
+    pub once : r.progress.acknowledgements_came entry log ≡ false
+
+  -- how many entries the shard has: those up to the version that it reached
+  abbrev pub entries_of_shard : ℕ → ℕ
+  entries_of_shard shard = count_by (λ (entry : Entry). nat_le entry.version (r.progress.reached shard)) r.book
+
+  -- a shard has the next entries that its log took, as many as the limit at most, and answers the version of the last
+  abbrev pub IsPulled : ℕ → ℕ → ℕ → Type 0
+  IsPulled shard limit version =
+      let has = r.progress.logged (log_of config.logs shard) in
+      version ≡ last_version (take (min has (entries_of_shard shard + limit)) r.book)
+
   -- A read answers what stands at the key after the transaction's own operations, executed on the serial map at its
   -- read version.
   abbrev pub IsRead : ℕ → List ℕ → Option (List ℕ) → Type 0
@@ -115,19 +195,25 @@ module _ (splits : List Point) (r : Readings) where
   IsAnswered (step.Seal proxy advance) (answered.Issued index version prev places) =
       IsIssued proxy advance index version prev places
   IsAnswered (step.Seal proxy advance) answer = ⊥
-  IsAnswered (step.Resolve entry resolver) answer = ⊤
-  IsAnswered (step.Verdict entry resolver) answer = ⊤
-  IsAnswered (step.Decide proxy) answer = ⊤
-  IsAnswered (step.Push entry log) answer = ⊤
-  IsAnswered (step.Logged entry log) answer = ⊤
+  IsAnswered (step.Resolve entry resolver) (answered.Verdicts given) = IsResolved entry resolver given
+  IsAnswered (step.Resolve entry resolver) answer = ⊥
+  IsAnswered (step.Verdict entry resolver) answer = (answer ≡ answered.Done) × IsVerdictDue entry resolver
+  IsAnswered (step.Decide proxy) (answered.Decided outcomes) = IsDecided proxy outcomes
+  IsAnswered (step.Decide proxy) answer = ⊥
+  IsAnswered (step.Push entry log) answer = (answer ≡ answered.Done) × IsPushed entry log
+  IsAnswered (step.Logged entry log) answer = (answer ≡ answered.Done) × IsAcknowledgementDue entry log
   -- a report answers the greatest version that was reported, with its own
   IsAnswered (step.Report proxy) answer = answer ≡ answered.Version (max r.reported (r.sealed proxy).version)
   IsAnswered (step.Answer proxy) (answered.Answers told) =
       AreReplies splits r.book (r.sealed proxy) told (read r (step.Answer proxy) (answered.Answers told)).acknowledged
   IsAnswered (step.Answer proxy) answer = ⊥
-  IsAnswered (step.Pull shard limit) answer = ⊤
-  IsAnswered (step.Forget shard version) answer = ⊤
-  IsAnswered (step.Pop shard) answer = ⊤
+  IsAnswered (step.Pull shard limit) (answered.Version version) = IsPulled shard limit version
+  IsAnswered (step.Pull shard limit) answer = ⊥
+  -- a floor is raised to a version that the shard serves, and never sinks
+  IsAnswered (step.Forget shard version) answer =
+      (answer ≡ answered.Version (max (r.progress.floor shard) version)) × (version ≤ r.progress.reached shard)
+  -- the log drops what the shard has
+  IsAnswered (step.Pop shard) answer = answer ≡ answered.Version (r.progress.reached shard)
   IsAnswered (step.Move range to) answer = answer ≡ answered.Done
 
 -- over every trace each accepted step is answered so
@@ -136,4 +222,4 @@ AnsweredByTheTrace =
     (config : Config) (steps : List Step) (answers : List (Result Answered Refusal)) (taken : Step) (answer : Answered)
     (world : Option Machine)
     → IsTraceOf config (steps ++ taken ∷ []) (answers ++ Ok answer ∷ []) world
-    → IsAnswered config.resolver_splits (readings_of steps answers) taken answer
+    → IsAnswered config (readings_of steps answers) taken answer

@@ -9,13 +9,14 @@ use Rattle.fdb_client.specs.declared.program.Op.TheVariants as op
 use Rattle.fdb_client.specs.declared.program.Reply.TheVariants as reply
 use Rattle.fdb_client.specs.declared.program.Transcript.{Transcript}
 use Rattle.fdb_client.specs.Programs.{commit_request_of}
+use Rattle.fdb_resolver.specs.declared.verdict.Verdict.TheVariants as verdict
 use Rattle.fdb_proxy.specs.declared.outcome.Outcome.TheVariants as outcome
 use Rattle.fdb_core.specs.declared.step.Answered.{Answered}
 use Rattle.fdb_core.specs.declared.step.Answered.TheVariants as answered
 use Rattle.fdb_core.specs.declared.step.Step.{Step}
 use Rattle.fdb_core.specs.declared.step.Step.TheVariants as step
 use Rattle.fdb_core.specs.headline.MoveExamples.{from_to}
-use Rattle.fdb_core.specs.headline.Readings.{Readings, readings_of}
+use Rattle.fdb_core.specs.headline.Readings.{Readings, Progress, readings_of}
 
 abbrev pub a_to_c : Range
 a_to_c = from_to (codes "a") (codes "c")
@@ -25,7 +26,7 @@ abbrev pub all_operations : List Step
 all_operations =
     step.Ask 3 0 ∷ step.Grant 0
     ∷ step.Get 3 (codes "a") false ∷ step.Get 3 (codes "b") true
-    ∷ step.GetRange 3 a_to_c 9 false false ∷ step.GetRange 3 a_to_c 1 true true
+    ∷ step.GetRange 3 a_to_c 9 true false ∷ step.GetRange 3 a_to_c 1 false true
     ∷ step.Write 3 (Set (codes "a") (codes "1")) ∷ step.AddRead 3 a_to_c
     ∷ step.AddWrite 3 (from_to (codes "c") (codes "d")) ∷ []
 
@@ -36,15 +37,16 @@ their_answers =
     ∷ Ok (answered.Pairs []) ∷ Ok (answered.Pairs ((codes "b", codes "2") ∷ []))
     ∷ Ok answered.Done ∷ Ok answered.Done ∷ Ok answered.Done ∷ []
 
--- Each operation is noted as what it is, with its reply: the second read of a key and that of a range as snapshots.
+-- Each operation is noted as what it is, with its reply: the second read of a key and that of a range as snapshots, and
+-- the first read of a range as one from its end.
 abbrev pub EachOperationIsNoted : Type 0
 EachOperationIsNoted = (readings_of all_operations their_answers).opened ≡ record {
   id = record { session = 3; number = 0 };
   read_version = 0;
   ops = (op.Get (codes "a") false, reply.Value None)
       ∷ (op.Get (codes "b") true, reply.Value (Some (codes "2")))
-      ∷ (op.Range a_to_c 9 false false, reply.Pairs [])
-      ∷ (op.Range a_to_c 1 true true, reply.Pairs ((codes "b", codes "2") ∷ []))
+      ∷ (op.Range a_to_c 9 true false, reply.Pairs [])
+      ∷ (op.Range a_to_c 1 false true, reply.Pairs ((codes "b", codes "2") ∷ []))
       ∷ (op.Write (Set (codes "a") (codes "1")), reply.Done)
       ∷ (op.AddRead a_to_c, reply.Done)
       ∷ (op.AddWrite (from_to (codes "c") (codes "d")), reply.Done) ∷ [];
@@ -98,3 +100,43 @@ ReadAtTwoProxies =
       transcript = record { id = record { session = 2; number = 0 }; read_version = 0; ops = [] };
     } ∷ [])
     × ((after_first 12).answered ≡ 0 ∷ []) × ((after_first 12).reported ≡ 9000000)
+
+-- An entry goes through the roles: proxy 0 seals it, resolver 1 takes it and its verdicts come, it is decided, log 2
+-- takes it and its acknowledgement comes, and it is reported. Shard 3 has it then, serves from version 40 on, and its log
+-- drops it.
+abbrev pub through_the_roles : List Step
+through_the_roles =
+    step.Ask 1 0 ∷ step.Grant 0 ∷ step.Write 1 (Set (codes "a") (codes "1")) ∷ step.Submit 1 0 ∷ step.Seal 0 100
+    ∷ step.Resolve 0 1 ∷ step.Verdict 0 1 ∷ step.Decide 0 ∷ step.Push 0 2 ∷ step.Logged 0 2 ∷ step.Report 0
+    ∷ step.Pull 3 5 ∷ step.Forget 3 40 ∷ step.Pop 3 ∷ []
+
+abbrev pub each_is_accepted : List (Result Answered Refusal)
+each_is_accepted =
+    Ok answered.Done ∷ Ok (answered.Granted ((1, 0) ∷ [])) ∷ Ok answered.Done ∷ Ok answered.Done
+    ∷ Ok (answered.Issued 0 100 0 1) ∷ Ok (answered.Verdicts ((0, verdict.Yes) ∷ [])) ∷ Ok answered.Done
+    ∷ Ok (answered.Decided (outcome.Commit 100 0 ∷ [])) ∷ Ok answered.Done ∷ Ok answered.Done
+    ∷ Ok (answered.Version 100) ∷ Ok (answered.Version 100) ∷ Ok (answered.Version 40) ∷ Ok (answered.Version 100) ∷ []
+
+-- how far the roles are after the first steps
+abbrev pub progress_after : ℕ → Progress
+progress_after n = (readings_of (take n through_the_roles) (take n each_is_accepted)).progress
+
+-- Each step is noted of the role that took it, and of no other one: the proxy waits for verdicts from its seal on until it
+-- decides, and then for acknowledgements until it reports.
+abbrev pub ReadOffTheRoles : Type 0
+ReadOffTheRoles =
+    ((progress_after 4).resolving 0 ≡ None) × ((progress_after 5).resolving 0 ≡ Some 0)
+    × ((progress_after 5).resolving 1 ≡ None) × ((progress_after 5).logging 0 ≡ None)
+    × ((progress_after 5).resolved 1 ≡ 0) × ((progress_after 6).resolved 1 ≡ 1) × ((progress_after 6).resolved 0 ≡ 0)
+    × ((progress_after 6).verdicts_came 0 1 ≡ false) × ((progress_after 7).verdicts_came 0 1 ≡ true)
+    × ((progress_after 7).verdicts_came 0 0 ≡ false) × ((progress_after 7).verdicts_came 1 1 ≡ false)
+    × ((progress_after 7).acknowledgements_came 0 1 ≡ false)
+    × ((progress_after 7).decided 0 ≡ false) × ((progress_after 8).decided 0 ≡ true)
+    × ((progress_after 8).decided 1 ≡ false)
+    × ((progress_after 8).resolving 0 ≡ None) × ((progress_after 8).logging 0 ≡ Some 0)
+    × ((progress_after 8).logged 2 ≡ 0) × ((progress_after 9).logged 2 ≡ 1) × ((progress_after 9).logged 0 ≡ 0)
+    × ((progress_after 9).acknowledgements_came 0 2 ≡ false) × ((progress_after 10).acknowledgements_came 0 2 ≡ true)
+    × ((progress_after 10).verdicts_came 0 2 ≡ false) × ((progress_after 10).logging 0 ≡ Some 0)
+    × ((progress_after 11).logging 0 ≡ None) × ((progress_after 11).reached 3 ≡ 0)
+    × ((progress_after 14).reached 3 ≡ 100) × ((progress_after 14).floor 3 ≡ 40)
+    × ((progress_after 14).reached 0 ≡ 0) × ((progress_after 14).floor 0 ≡ 0)

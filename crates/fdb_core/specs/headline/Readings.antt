@@ -1,6 +1,6 @@
 -- What a trace tells: it is read off the steps and their answers, one after another, and off nothing else. No role is
 -- looked at, no machine, and not what a read should have been answered.
-use Rattle.std.specs.Prelude.{ℕ, max, Bool, ◌==◌, List, [], ◌∷◌, ◌++◌, fold, map, take, drop, Result, Ok, Err, if◌then◌else◌}
+use Rattle.std.specs.Prelude.{ℕ, suc, max, Bool, true, false, ◌==◌, List, [], ◌∷◌, ◌++◌, fold, map, take, drop, Option, Some, None, Result, Ok, Err, if◌then◌else◌}
 use Rattle.std.specs.List.{count_by}
 use Rattle.fdb_keys.specs.declared.refusal.Refusal.{Refusal}
 use Rattle.fdb_txn.specs.Limits.{place_limit}
@@ -28,6 +28,25 @@ pub record SealedBatch : Type 0 where
   pub version : ℕ
   pub transcripts : List Transcript
 
+-- How far the roles are.
+pub record Progress : Type 0 where
+  -- for the number of a resolver, and for that of a log, how many entries it took
+  pub resolved : ℕ → ℕ
+  pub logged : ℕ → ℕ
+  -- for the number of a commit proxy the entry on which it waits for verdicts, and the one on which it waits for
+  -- acknowledgements
+  pub resolving : ℕ → Option ℕ
+  pub logging : ℕ → Option ℕ
+  -- for the number of an entry, and that of a resolver or of a log, whether its verdicts on the entry, or its
+  -- acknowledgement of it, reached the entry's proxy
+  pub verdicts_came : ℕ → ℕ → Bool
+  pub acknowledgements_came : ℕ → ℕ → Bool
+  -- for the number of an entry whether it is decided
+  pub decided : ℕ → Bool
+  -- for the number of a shard the greatest version that it serves, and the least one
+  pub reached : ℕ → ℕ
+  pub floor : ℕ → ℕ
+
 pub record Readings : Type 0 where
   -- the session of each transaction that began, the first one first
   pub begun : List ℕ
@@ -46,6 +65,23 @@ pub record Readings : Type 0 where
   pub answered : List ℕ
   -- the greatest version that was reported, 0 where there is none
   pub reported : ℕ
+  -- how far the roles are
+  pub progress : Progress
+
+-- where the roles begin
+abbrev pub no_progress : Progress
+no_progress =
+    record {
+      resolved = λ resolver. 0;
+      logged = λ log. 0;
+      resolving = λ proxy. None;
+      logging = λ proxy. None;
+      verdicts_came = λ entry resolver. false;
+      acknowledgements_came = λ entry log. false;
+      decided = λ entry. false;
+      reached = λ shard. 0;
+      floor = λ shard. 0;
+    }
 
 -- before the first step
 abbrev pub nothing_read : Readings
@@ -60,6 +96,7 @@ nothing_read =
       acknowledged = [];
       answered = [];
       reported = 0;
+      progress = no_progress;
     }
 
 -- by number, with another value at one of them
@@ -136,7 +173,25 @@ seals_entry r proxy index version prev =
       pending = [];
       waiting = with_at proxy (drop place_limit (r.waiting proxy)) r.waiting;
       sealed = with_at proxy (record { entry = index; version = version; transcripts = batch }) r.sealed;
+      progress = record r.progress { resolving = with_at proxy (Some index) r.progress.resolving };
     }
+
+-- a proxy that waits for verdicts on an entry decides it, and waits for acknowledgements from then on
+abbrev pub decides_entry : Progress → ℕ → Option ℕ → Progress
+decides_entry p proxy None = p
+decides_entry p proxy (Some entry) = record p {
+  resolving = with_at proxy None p.resolving;
+  logging = with_at proxy (Some entry) p.logging;
+  decided = with_at entry true p.decided;
+}
+
+-- of two numbers, also there where it was so before
+abbrev pub with_came : ℕ → ℕ → (ℕ → ℕ → Bool) → ℕ → ℕ → Bool
+with_came entry number came = with_at entry (with_at number true (came entry)) came
+
+-- the roles went on
+abbrev pub goes_on : Readings → Progress → Readings
+goes_on r progress = record r { progress = progress }
 
 -- a session that is told of a commit has the transaction acknowledged that it had in the batch, at the entry of that,
 -- at the place and the version that it is told
@@ -170,18 +225,29 @@ read r (step.Submit session proxy) (answered.ReadOnly version) = is_done_at r se
 read r (step.Submit session proxy) answer = r
 read r (step.Seal proxy advance) (answered.Issued index version prev places) = seals_entry r proxy index version prev
 read r (step.Seal proxy advance) answer = r
-read r (step.Resolve entry resolver) answer = r
-read r (step.Verdict entry resolver) answer = r
-read r (step.Decide proxy) answer = r
-read r (step.Push entry log) answer = r
-read r (step.Logged entry log) answer = r
-read r (step.Report proxy) answer = record r { reported = max r.reported (r.sealed proxy).version }
+read r (step.Resolve entry resolver) answer =
+    goes_on r (record r.progress { resolved = with_at resolver (suc entry) r.progress.resolved })
+read r (step.Verdict entry resolver) answer =
+    goes_on r (record r.progress { verdicts_came = with_came entry resolver r.progress.verdicts_came })
+read r (step.Decide proxy) answer = goes_on r (decides_entry r.progress proxy (r.progress.resolving proxy))
+read r (step.Push entry log) answer =
+    goes_on r (record r.progress { logged = with_at log (suc entry) r.progress.logged })
+read r (step.Logged entry log) answer =
+    goes_on r (record r.progress { acknowledgements_came = with_came entry log r.progress.acknowledgements_came })
+read r (step.Report proxy) answer = record r {
+  reported = max r.reported (r.sealed proxy).version;
+  progress = record r.progress { logging = with_at proxy None r.progress.logging };
+}
 read r (step.Answer proxy) (answered.Answers told) = record r {
   acknowledged = r.acknowledged ++ all_acknowledged_by (r.sealed proxy) told;
   answered = r.answered ++ (r.sealed proxy).entry ∷ [];
 }
 read r (step.Answer proxy) answer = r
+read r (step.Pull shard limit) (answered.Version version) =
+    goes_on r (record r.progress { reached = with_at shard version r.progress.reached })
 read r (step.Pull shard limit) answer = r
+read r (step.Forget shard version) (answered.Version least) =
+    goes_on r (record r.progress { floor = with_at shard least r.progress.floor })
 read r (step.Forget shard version) answer = r
 read r (step.Pop shard) answer = r
 read r (step.Move range to) answer = record r { pending = r.pending ++ record { range = range; to = to } ∷ [] }

@@ -1,12 +1,17 @@
 -- What a world lends, so that its transactions can be compared anew: its configuration, its entries and those that it
--- acknowledged.
-use Rattle.std.specs.Prelude.{List, [], Option, None, Some}
+-- acknowledged. It lends nothing once memory ran out in a step.
+use Rattle.std.specs.Prelude.{Bool, true, false, List, [], Option, None, Some}
 use Rattle.fdb_txn.specs.declared.entry.Entry.{Entry}
 use Rattle.fdb_proxy.specs.declared.config.Config.{Config}
 use Rattle.fdb_core.specs.declared.roles.client.Placed.{Placed}
 use Rattle.fdb_core.specs.machine.Machine.{Machine}
 
--- the configuration; a world has no machine once memory ran out in a step
+-- memory ran out in a step, and the world has no machine any more
+abbrev pub has_failed : Option Machine → Bool
+has_failed None = true
+has_failed (Some m) = false
+
+-- the configuration
 abbrev pub config_in : Option Machine → Option Config
 config_in None = None
 config_in (Some m) = Some m.config

@@ -106,11 +106,7 @@ impl Cluster {
         Ok(at)
     }
 
-    pub(crate) fn verdict(
-        &mut self,
-        entry: u32,
-        resolver: u32,
-    ) -> Result<Answered, Refusal>
+    pub(crate) fn verdict(&mut self, entry: u32, resolver: u32) -> Result<Answered, Refusal>
         requires { Refines self.old }
         ensures answer { Unless (ran_out result)
             (result ≡ answer_of (receives (machine_of self.old) entry (FromResolver resolver))) }
@@ -125,11 +121,7 @@ impl Cluster {
         Ok(Answered::Done)
     }
 
-    pub(crate) fn logged(
-        &mut self,
-        entry: u32,
-        log: u32,
-    ) -> Result<Answered, Refusal>
+    pub(crate) fn logged(&mut self, entry: u32, log: u32) -> Result<Answered, Refusal>
         requires { Refines self.old }
         ensures answer { Unless (ran_out result)
             (result ≡ answer_of (receives (machine_of self.old) entry (FromLog log))) }

@@ -1,15 +1,10 @@
 -- The open transactions whose sets a script shows.
-use Rattle.std.specs.Prelude.{ℕ, Bool, true, false, Option, Some, None, Result, Ok, Err}
+use Rattle.std.specs.Prelude.{ℕ, Option, Some, None, Result, Ok, Err}
 use Rattle.fdb_keys.specs.declared.refusal.Refusal.{Refusal}
 use Rattle.fdb_keys.specs.declared.refusal.Refusal.TheVariants.{Failed, NoTransaction}
 use Rattle.fdb_client.specs.declared.program.Transcript.{Transcript}
 use Rattle.fdb_core.specs.machine.Machine.{Machine}
 use Rattle.fdb_core.specs.machine.Sessions.{open_at}
-
--- memory ran out in a step, and the world has no machine any more
-abbrev pub has_failed : Option Machine → Bool
-has_failed None = true
-has_failed (Some m) = false
 
 -- an open transaction, if there is one
 abbrev pub opened : Option Transcript → Result Transcript Refusal

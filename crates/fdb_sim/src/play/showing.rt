@@ -1,7 +1,7 @@
 // The sets of an open transaction. Showing them is no step: the world stays as it is.
 ghost use Rattle.std.specs.Prelude.{◌≡◌, ◌++◌, Ok, Err, MatchResult, OnOk, string_bytes};
 ghost use Rattle.fdb_sim.specs.play.Scripts.{printed_line};
-ghost use Rattle.fdb_sim.specs.play.Showing.{has_failed, lent};
+ghost use Rattle.fdb_sim.specs.play.Showing.{lent};
 ghost use Rattle.fdb_sim.specs.print.Sets.{shown_text};
 
 use crate::print::answers::push_refusal;
@@ -33,14 +33,7 @@ fn open_transaction(world: &World, session: u32) -> Result<&Txn, Refusal>
 {
     match world.txn(session) {
         Some(txn) => Ok(txn),
-        None if has_failed(world) => Err(Refusal::Failed),
+        None if world.has_failed() => Err(Refusal::Failed),
         None => Err(Refusal::NoTransaction),
     }
-}
-
-// Whether memory ran out in a step. A world says so by what it answers of a batch in flight.
-fn has_failed(world: &World) -> bool
-    ensures { result ≡ has_failed world.now.machine }
-{
-    world.in_flight(0) == Err(Refusal::Failed)
 }

@@ -1,4 +1,4 @@
-use Rattle.fdb_core.proofs.headline.ExamplesLemmas.{only_the_first_is_serialized, read_only_at_its_version, after_a_version, an_empty_shard_does_not_serve, only_ordinary_reads_count, begun_by_serving, forgetful_roles_do_not_keep, read_off_the_trace, traced, shards_go_on_and_forget, each_served_version_counts, each_operation_is_noted, read_at_two_proxies}
+use Rattle.fdb_core.proofs.headline.ExamplesLemmas.{only_the_first_is_serialized, read_only_at_its_version, after_a_version, an_empty_shard_does_not_serve, only_ordinary_reads_count, begun_by_serving, forgetful_roles_do_not_keep, read_off_the_trace, traced, shards_go_on_and_forget, each_served_version_counts, each_operation_is_noted, read_at_two_proxies, read_off_the_roles}
 use Rattle.fdb_core.proofs.headline.MoveExamplesLemmas.{moves_take_effect_with_the_next_entry, the_span_begins_at_the_window, the_later_move_counts}
 use Rattle.fdb_core.proofs.laws.worked_examples.Goals as goal
 
@@ -17,6 +17,7 @@ returns c = record {
   served = each_served_version_counts;
   operations = each_operation_is_noted;
   proxies = read_at_two_proxies;
+  progress = read_off_the_roles;
   moves = moves_take_effect_with_the_next_entry;
   span = the_span_begins_at_the_window;
   overlap = the_later_move_counts;
