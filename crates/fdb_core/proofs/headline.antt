@@ -1,3 +1,4 @@
+pub mod AnswerExamplesLemmas
 pub mod CommittedLaws
 pub mod ExamplesLemmas
 pub mod HeadlineLaws
@@ -6,5 +7,7 @@ pub mod PromiseLaws
 pub mod ReplayLaws
 pub mod RoleLaws
 pub mod RunsLemmas
+pub mod ScriptExamplesLemmas
+pub mod ScriptLemmas
 pub mod ServingLaws
 pub mod TraceLaws

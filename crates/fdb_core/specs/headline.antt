@@ -1,3 +1,4 @@
+pub mod AnswerExamples
 pub mod Answers
 pub mod Books
 pub mod Committed
@@ -11,6 +12,7 @@ pub mod Readings
 pub mod RealTime
 pub mod Replays
 pub mod RoleLaws
+pub mod ScriptExamples
 pub mod Serving
 pub mod Sessions
 pub mod Traces

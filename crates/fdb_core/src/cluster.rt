@@ -107,7 +107,8 @@ fn new_logs_and_shards(
     requires served { config_fault config.now ≡ None }
     requires shard_map { shard_map.now ≡ config.now.shard_splits }
     ensures { let splits = config.now.shard_splits in let count = suc (length splits) in Answers result None
-        (λ made. AreNewLogs config.now.logs config.now.logs count made.0.items × AreNewShards count splits made.1.items) }
+        (λ made. AreNewLogs config.now.logs config.now.logs count made.0.items
+        × AreNewShards count splits made.1.items) }
 {
     let count = config.shard_splits.len() as u32 + 1;
     let logs = new_logs(alloc, config.logs, count)?;

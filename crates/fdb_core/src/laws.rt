@@ -1,14 +1,24 @@
 //! What the machine promises, at every step and over every run.
-ghost use Rattle.fdb_core.specs.headline.Promises.{RefusalsChangeNothing, GrantsCommitted, CommittedIsGreatestReported, GetsFromTheRun, GetsRefused, RangeReadsFromTheRun, RangeReadsRefused, AcknowledgedAreLogged};
+ghost use Rattle.fdb_core.specs.headline.Promises.{RefusalsChangeNothing, GrantsCommitted, CommittedIsGreatestReported};
+ghost use Rattle.fdb_core.specs.headline.Promises.{GetsFromTheRun, GetsRefused, RangeReadsFromTheRun};
+ghost use Rattle.fdb_core.specs.headline.Promises.{RangeReadsRefused, AcknowledgedAreLogged};
+ghost use Rattle.fdb_core.specs.headline.AnswerExamples.{OtherVersionsAreNoAnswers, OtherVerdictsAreNoAnswers};
+ghost use Rattle.fdb_core.specs.headline.AnswerExamples.{EarlyDecisionsAreNoAnswers, EarlyMessagesAreNoAnswers};
+ghost use Rattle.fdb_core.specs.headline.AnswerExamples.{OtherOutcomesAreNoAnswers, MessagesAreDue};
 ghost use Rattle.fdb_core.specs.headline.Answers.{AnsweredByTheTrace};
 ghost use Rattle.fdb_core.specs.headline.Replays.{ReplaysTellTheRun};
 ghost use Rattle.fdb_core.specs.headline.RealTime.{RealTime};
 ghost use Rattle.fdb_core.specs.headline.RoleLaws.{ResolverGoesOn, OwnersGoOn, SequencerGoesOn, LogGoesOn, ShardGoesOn};
-ghost use Rattle.fdb_core.specs.headline.Examples.{OnlyTheFirstIsSerialized, ReadOnlyAtItsVersion, AfterAVersion, AnEmptyShardDoesNotServe, OnlyOrdinaryReadsCount, BegunByServing, ForgetfulRolesDoNotKeep, ReadOffTheTrace, Traced, ShardsGoOnAndForget, EachServedVersionCounts};
+ghost use Rattle.fdb_core.specs.headline.Examples.{OnlyTheFirstIsSerialized, ReadOnlyAtItsVersion, AfterAVersion};
+ghost use Rattle.fdb_core.specs.headline.Examples.{AnEmptyShardDoesNotServe, OnlyOrdinaryReadsCount, BegunByServing};
+ghost use Rattle.fdb_core.specs.headline.Examples.{ForgetfulRolesDoNotKeep, ReadOffTheTrace, Traced};
+ghost use Rattle.fdb_core.specs.headline.Examples.{ShardsGoOnAndForget, EachServedVersionCounts};
 ghost use Rattle.fdb_core.specs.headline.Due.{WhatIsDueIsAccepted, DecisionsWait};
 ghost use Rattle.fdb_core.specs.headline.ReadingExamples.{EachOperationIsNoted, ReadAtTwoProxies, ReadOffTheRoles};
+ghost use Rattle.fdb_core.specs.headline.ScriptExamples.{WorkedScriptsAreTraces};
 ghost use Rattle.fdb_core.specs.headline.Headline.{AcknowledgedAreSerialized};
-ghost use Rattle.fdb_core.specs.headline.MoveExamples.{TheSpanBeginsAtTheWindow, TheLaterMoveCounts, MovesTakeEffectWithTheNextEntry};
+ghost use Rattle.fdb_core.specs.headline.MoveExamples.{TheSpanBeginsAtTheWindow, TheLaterMoveCounts};
+ghost use Rattle.fdb_core.specs.headline.MoveExamples.{MovesTakeEffectWithTheNextEntry};
 ghost use Rattle.fdb_core.specs.headline.Traces.{TracesDetermineTheMachine, WorldsShowWhatIsTold};
 ghost use Rattle.fdb_core.specs.headline.Sessions.{SessionsAreWhereTheirStatesSay, AsksAreRefused};
 ghost use Rattle.fdb_core.specs.headline.Books.{TracesTellBooks, EntriesAreAnsweredOnce};
@@ -27,7 +37,7 @@ pub fn grants_are_the_greatest_reported_version()
 {}
 
 /// An accepted read answers what stands at the key after the transaction's own operations, executed on
-/// the map of the run of one transaction at a time at the transaction's read version; and a read of a range its first
+/// the serial map at the transaction's read version; and a read of a range its first
 /// pairs there, or its last ones, up to the limit.
 pub fn gets_answer_as_the_program_run_on_the_map_at_its_read_version()
     ensures keys { GetsFromTheRun }
@@ -36,11 +46,11 @@ pub fn gets_answer_as_the_program_run_on_the_map_at_its_read_version()
 
 /// Over every trace, each accepted step is answered by what the trace told before: a grant gives the greatest version
 /// that was reported; a read what stands at the key, or in the range, after the transaction's own operations, executed
-/// on the serial map at its read version; a transaction that is done when it is submitted wrote nothing; a seal gives the number of the
-/// entry, its version, the previous one and how many places it has; a report the greatest version that was reported;
-/// and an answer tells each client of the batch once, by place, what became of its transaction by the rule: its commit
-/// version and place exactly where it is committed, that it was too old exactly where it is, and else of a conflict. The
-/// transaction is acknowledged exactly where it is committed.
+/// on the serial map at its read version; a transaction that is done when it is submitted wrote nothing; a seal gives
+/// the number of the entry, its version, the previous one and how many places it has; a report the greatest version
+/// that was reported; and an answer tells each client of the batch once, by place, what became of its transaction by
+/// the rule: its commit version and place exactly where it is committed, that it was too old exactly where it is, and
+/// else of a conflict. The transaction is acknowledged exactly where it is committed.
 pub fn accepted_steps_are_answered_by_what_the_trace_told_before()
     ensures { AnsweredByTheTrace }
 {}
@@ -87,9 +97,9 @@ pub fn who_begins_after_an_acknowledgement_is_ordered_after_it()
 
 /// Over every trace that didn't run out of memory the steps that deliver and take messages are accepted where they are
 /// due, and no others, as what accepted steps are answered says: a resolver takes the next entry of the book, and a log
-/// the next decided one; what one of them says of an entry that it took reaches the proxy that waits for it, once; and a
-/// proxy decides where the verdicts came of each resolver that is asked. Else it is told to wait for the least resolver
-/// of which they are missing.
+/// the next decided one; what one of them says of an entry that it took reaches the proxy that waits for it, once; and
+/// a proxy decides where the verdicts came of each resolver that is asked. Else it is told to wait for the least
+/// resolver of which they are missing.
 pub fn steps_of_roles_are_accepted_where_they_are_due()
     ensures due { WhatIsDueIsAccepted }
     ensures waits { DecisionsWait }
@@ -97,9 +107,9 @@ pub fn steps_of_roles_are_accepted_where_they_are_due()
 
 /// What the headline says of small worlds: which transactions are serialized at which spots and which aren't, who is
 /// ordered after a version, what an empty shard would have to answer, which reads count, who has begun, what a role
-/// that forgets would have to keep, what is read off steps of every kind and of a trace with a conflict, which answers a
-/// trace has, what a shard of two pulls, forgets and pops and at which versions it answers from the run, and who is asked
-/// where keys go over from one resolver to another.
+/// that forgets would have to keep, what is read off steps of every kind and of a trace with a conflict, which answers
+/// a trace has, what a shard of two pulls, forgets and pops and at which versions it answers from the run, and who is
+/// asked where keys go over from one resolver to another.
 pub fn worked_examples()
     ensures spots { OnlyTheFirstIsSerialized }
     ensures read_only { ReadOnlyAtItsVersion }
@@ -118,6 +128,13 @@ pub fn worked_examples()
     ensures moves { MovesTakeEffectWithTheNextEntry }
     ensures span { TheSpanBeginsAtTheWindow }
     ensures overlap { TheLaterMoveCounts }
+    ensures scripts { WorkedScriptsAreTraces }
+    ensures versions { OtherVersionsAreNoAnswers }
+    ensures verdicts { OtherVerdictsAreNoAnswers }
+    ensures decisions { EarlyDecisionsAreNoAnswers }
+    ensures messages { EarlyMessagesAreNoAnswers }
+    ensures outcomes { OtherOutcomesAreNoAnswers }
+    ensures due { MessagesAreDue }
 {}
 
 /// Over every trace the entries are a book: their versions rise, and each previous version is that of the entry before;
@@ -151,14 +168,14 @@ pub fn replays_of_unpopped_peeks_tell_the_run()
 {}
 
 /// Of any book of sealed transactions: a transcript whose transaction is committed at a place, and each of whose
-/// ordinary operations was answered as on the map of the run at its read version, was answered as on the map right
+/// ordinary operations was answered as on the serial map at its read version, was answered as on the map right
 /// before the place.
 pub fn reads_of_committed_transactions_are_those_right_before_their_places()
     ensures { ReadsOfTheCommittedStand }
 {}
 
-/// Of any book of sealed transactions: a place is committed exactly where each resolver that is asked about it says yes,
-/// by the rule, after the places before it.
+/// Of any book of sealed transactions: a place is committed exactly where each resolver that is asked about it says
+/// yes, by the rule, after the places before it.
 pub fn places_are_committed_where_the_asked_say_yes()
     ensures { CommittedWhereTheAskedSayYes }
 {}

@@ -12,7 +12,7 @@ use std::alloc::Global;
 /// Takes the steps one after another from the configuration's first world, and gives the last world with
 /// the answer to each step. Refused as `BadConfig` as `World::new` is. The world stands for these steps with
 /// these answers: for every list of steps, each acknowledged transaction is serialized at its spot, every shard answers
-/// from the run's map, and each role keeps what the book says, as `World::step` says.
+/// from the serial map, and each role keeps what the book says, as `World::step` says.
 pub fn run(
     alloc: Global,
     config: Config,

@@ -19,7 +19,7 @@ use std::marker::Model;
 pub enum CheckFault {
     /// The transaction was not answered as in the run of one transaction at a time.
     Txn(TxnId),
-    /// The shard does not hold the run's map at its version.
+    /// The shard does not hold the serial map at its version.
     Shard(u32),
     /// Memory ran out.
     NoMemory,
@@ -53,7 +53,8 @@ impl Model for World {
 }
 
 impl World {
-    ghost use Rattle.std.specs.Prelude.{◌≡◌, suc, List, [], ◌∷◌, ◌++◌, length, None, Some, IfSome, Result, IfOk, MatchResult};
+    ghost use Rattle.std.specs.Prelude.{◌≡◌, suc, List, [], ◌∷◌, ◌++◌, length, None, Some, IfSome, Result, IfOk};
+    ghost use Rattle.std.specs.Prelude.{MatchResult};
     ghost use Rattle.std.specs.List.{AllByRecursion};
     ghost use Rattle.fdb_keys.specs.Answers.{Answers};
     ghost use Rattle.fdb_keys.specs.declared.refusal.Refusal.{Refusal};
@@ -96,7 +97,7 @@ impl World {
     /// transaction that the trace acknowledged is serialized at its spot: it is committed there, and each of its
     /// ordinary reads was answered as when the committed transactions run one at a time from the empty map, by
     /// commit version and place in the batch. It is ordered after all that were acknowledged before it began. And
-    /// every shard answers, at each version that it serves, from that run's map.
+    /// every shard answers, at each version that it serves, from the serial map.
     pub fn step(&mut self, step: Step) -> Result<Answered, Refusal>
         ensures step { IsStep self.old.machine step result self.new.machine }
         ensures roles { RolesKeep self.new }
@@ -176,7 +177,8 @@ impl World {
         self.cluster.book.as_slice()
     }
 
-    /// The acknowledged transactions, in the order in which their clients were told; none once memory ran out in a step.
+    /// The acknowledged transactions, in the order in which their clients were told; none once memory ran out in a
+    /// step.
     pub fn acknowledged(&self) -> &[Placed]
         ensures { result.now ≡ acknowledged_in self.now.machine }
     {
@@ -189,8 +191,9 @@ impl World {
     /// Compares the ordinary replies of every acknowledged transaction, and the shard at its version, with
     /// the run of one transaction at a time. Answers the number of acknowledged transactions, or a fault
     /// that names what differs. As long as memory didn't run out in a step nothing differs, and the check
-    /// fails only where it lacks memory itself. After that, transactions alone are compared, with the entries that there
-    /// are; where these are a book's, the fault is the first transaction in the order of spots that is answered otherwise.
+    /// fails only where it lacks memory itself. After that, transactions alone are compared, with the entries that
+    /// there are; where these are a book's, the fault is the first transaction in the order of spots that is answered
+    /// otherwise.
     pub fn check(&self) -> Result<u64, CheckFault>
         ensures sound { IfSome self.now.machine
             (λ machine. MatchResult result (λ count. count ≡ length machine.acknowledged)

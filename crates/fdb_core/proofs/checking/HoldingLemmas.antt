@@ -1,5 +1,6 @@
--- Where a shard has the run's map.
-use Rattle.std.proofs.Common.{◌≡◌, ◌∙◌, sym, subst, ◌↔◌, ℕ, suc, ◌+◌, ◌≤◌, arith, true, false, nat_lt, List, [], ◌∷◌, take, length, Option, Some, None, Result, Ok, Err, MatchResult, inl, inr, ⊎_elim, refl}
+-- Where a shard has the serial map.
+use Rattle.std.proofs.Common.{◌≡◌, ◌∙◌, sym, subst, ◌↔◌, ℕ, suc, ◌+◌, ◌≤◌, arith, true, false, nat_lt, List, [], ◌∷◌}
+use Rattle.std.proofs.Common.{take, length, Option, Some, None, Result, Ok, Err, MatchResult, inl, inr, ⊎_elim, refl}
 use Rattle.std.specs.List.{AllByRecursion, slice_get}
 use Rattle.std.specs.Prelude.{OnOk, IfErr}
 use Rattle.std.specs.Ordering.{nat_cmp}
@@ -37,7 +38,7 @@ has-map shard held map copied = (
     given x inside = copied.inside x inside inside (get-empty (slice_cmp nat_cmp) x)
 
 module _ (splits : List Point) (book : List Entry) (entries : AreEntries (suc (length splits)) 0 book) (n : ℕ) where
-  -- a shard between two entries holds the run just where it has the run's map after the first of them
+  -- a shard between two entries holds the run just where it has the serial map after the first of them
   here : (until : Option ℕ) → IsUntil book n until → (role : ShardRole)
       → is_between (last_version (take n book)) until role ≡ true
       → serial_map_at splits role.core.version (seen_of book).places ≡ serial_map splits (seen_before book n).places
@@ -80,8 +81,8 @@ module _ (splits : List Point) (book : List Entry) (entries : AreEntries (suc (l
       all-both (λ (role : ShardRole). nat_lt role.core.version (last_version (take n book)) ≡ true
       → HoldsTheRun splits book role)
       (HasTheMapThere from (Some entry.version) map)
-      (λ (role : ShardRole). nat_lt role.core.version (last_version (take (n + 1) book)) ≡ true → HoldsTheRun splits book role)
-      (λ role earlier has before. ⊎_elim earlier
+      (λ (role : ShardRole). nat_lt role.core.version (last_version (take (n + 1) book)) ≡ true
+      → HoldsTheRun splits book role) (λ role earlier has before. ⊎_elim earlier
       (λ (later : nat_lt role.core.version (last_version (take n book)) ≡ false).
       let below = ltb-true role.core.version (last_version (take (n + 1) book)) before in
       let above = ltb-false role.core.version (last_version (take n book)) later in

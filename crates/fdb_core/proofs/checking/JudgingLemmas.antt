@@ -1,5 +1,6 @@
 -- A judge that took the entries before another one says of that what the rule says, and has then taken it, too.
-use Rattle.std.proofs.Common.{◌≡◌, ◌∙◌, sym, subst, ℕ, suc, ◌<◌, List, [], ◌∷◌, ◌++◌, length, slice_get, Option, Some, None, Result, Ok, Err, arith}
+use Rattle.std.proofs.Common.{◌≡◌, ◌∙◌, sym, subst, ℕ, suc, ◌<◌, List, [], ◌∷◌, ◌++◌, length, slice_get, Option, Some}
+use Rattle.std.proofs.Common.{None, Result, Ok, Err, arith}
 use Rattle.std.proofs.lemmas.Option.{same_Some, slice_get_within}
 use Rattle.fdb_keys.specs.Answers.{Answers}
 use Rattle.fdb_keys.specs.Points.{Point}
@@ -35,9 +36,11 @@ module _ (splits : List Point) (before : List Entry) (entry : Entry)
   -- all of them take their parts
   module _ (index : ℕ) (old : List Resolver) (parts : List Part) (count : length old ≡ suc (length splits))
       (at : Each (IsResolverAt splits before) old)
-      (are : AreParts splits (moves_through (seen_of before) entry) (position splits before entry entries index) entry.batch parts) where
+      (are : AreParts splits (moves_through (seen_of before) entry) (position splits before entry entries index)
+      entry.batch parts) where
     pub may-take-all : MayTake old parts
-    may-take-all i resolver part here its = may-take splits before entry entries index i resolver part (at i resolver here) (are.each i part its)
+    may-take-all i resolver part here its = may-take splits before entry entries index i resolver part
+        (at i resolver here) (are.each i part its)
 
     module _ (new : List Resolver) (said : List (Option Said)) (have : HaveSaid (length parts) old parts new said) where
       -- what came of resolver i
@@ -50,8 +53,8 @@ module _ (splits : List Point) (before : List Entry) (entry : Entry)
           let resolver = within-item old i (omega (arith, count, within)) in
           let part = within-item parts i (omega (arith, as_many, within)) in
           let given = have.each i resolver.0 part.0 (omega (arith, as_many, within)) resolver.1 part.1 in
-          let took = takes splits before entry entries index i resolver.0 part.0 (at i resolver.0 resolver.1) (are.each i part.0 part.1) given.0
-          given.1 given.4 in
+          let took = takes splits before entry entries index i resolver.0 part.0 (at i resolver.0 resolver.1)
+          (are.each i part.0 part.1) given.0 given.1 given.4 in
           (given.0, given.1, given.2, given.3, took.0, took.1)
 
       within-said : (i : ℕ) (one : Option Said) → slice_get said i ≡ Some one → i < suc (length splits)
@@ -77,7 +80,8 @@ module _ (splits : List Point) (before : List Entry) (entry : Entry)
           some-none one is = cc
 
       pub decided : outcomes_by entry.version said (length entry.batch) ≡ outcomes_on splits (seen_of before) entry
-      decided = entries_are_decided_by_the_rule splits (seen_of before) entry said (history splits before entry entries) by-the-rule
+      decided = entries_are_decided_by_the_rule splits (seen_of before) entry said
+          (history splits before entry entries) by-the-rule
 
       pub all-at-next : Each (IsResolverAt splits (before ++ entry ∷ [])) new
       all-at-next i resolver there =
@@ -92,7 +96,8 @@ pub learns : {T : Type 0} (result : Result T Refusal) (old new : Ownership) (ver
     → Answers result (learn_fault old version) (λ _. HasLearnt old version moves new)
     → Answers result None (λ _. (older : List Stamped) → AgreesWith old older
     → AgreesWith new (add_moves version moves older))
-learns (Ok done) old new version moves above answers = λ older agrees. learning_goes_on old new older version moves agrees
+learns (Ok done) old new version moves above answers = λ older agrees. learning_goes_on old new older version moves
+    agrees
     (subst (λ (fault : Option Refusal). Answers (Ok done) fault (λ _. HasLearnt old version moves new))
     (may-learn old version above) answers)
 learns {T} (Err why) old new version moves above answers =

@@ -1,5 +1,6 @@
 -- A batch that is run anew by its outcomes, beside the run of the book.
-use Rattle.std.proofs.Common.{◌≡◌, ◌∙◌, sym, ap, ap₂, refl, ℕ, zero, suc, ◌+◌, ◌<◌, add-one, arith, Bool, true, false, List, [], ◌∷◌, ◌++◌, take, length, get_or, if◌then◌else◌, append_assoc, append-nil, Some}
+use Rattle.std.proofs.Common.{◌≡◌, ◌∙◌, sym, ap, ap₂, refl, ℕ, zero, suc, ◌+◌, ◌<◌, add-one, arith, Bool, true, false}
+use Rattle.std.proofs.Common.{List, [], ◌∷◌, ◌++◌, take, length, get_or, if◌then◌else◌, append_assoc, append-nil, Some}
 use Rattle.std.specs.List.{slice_get}
 use Rattle.std.proofs.lemmas.List.{map-append}
 use Rattle.std.proofs.lemmas.List.Sums.{fold-append}
@@ -103,27 +104,33 @@ serial_map-place splits earlier place p =
     (sym (commit-at splits earlier place p))
   where
     by_cases : (commits : Bool)
-        → (if commits then effects (serial_map splits earlier) place.transaction.mutations else serial_map splits earlier)
+        → (if commits then effects (serial_map splits earlier) place.transaction.mutations else serial_map splits
+        earlier)
         ≡ effects (serial_map splits earlier) (if commits then place.transaction.mutations else [])
     by_cases true = refl
     by_cases false = refl
 
--- the run's map right before a place of a batch
-pub place-map : (splits : List Point) (version : ℕ) (moves : List Stamped) (batch : List Transaction) (earlier : List Place) (n p : ℕ)
+-- the serial map right before a place of a batch
+pub place-map : (splits : List Point) (version : ℕ) (moves : List Stamped) (batch : List Transaction)
+    (earlier : List Place) (n p : ℕ)
     (there : Place × List Place)
     → place_in version moves batch earlier p ≡ Some there
-    → serial_map splits there.1 ≡ map_after (serial_map splits earlier) batch (outcomes_from splits version moves batch earlier n) p
+    → serial_map splits there.1 ≡ map_after (serial_map splits earlier) batch
+    (outcomes_from splits version moves batch earlier n) p
 unfolding writes_by
 place-map splits version moves [] earlier n p there at = cc
-place-map splits version moves (t ∷ ts) earlier n zero there at = let same : there ≡ (placed version moves t, earlier) = cc in
+place-map splits version moves (t ∷ ts) earlier n zero there at = let same : there
+    ≡ (placed version moves t, earlier) = cc in
     ap (λ (one : Place × List Place). serial_map splits one.1) same
 place-map splits version moves (t ∷ ts) earlier n (suc p) there at =
     place-map splits version moves ts (place ∷ earlier) (suc n) p there at
-    ∙ after-writes (serial_map splits (place ∷ earlier)) ts (outcomes_from splits version moves ts (place ∷ earlier) (suc n)) p
+    ∙ after-writes (serial_map splits (place ∷ earlier)) ts
+    (outcomes_from splits version moves ts (place ∷ earlier) (suc n)) p
     ∙ ap (λ (map : Map). effects map others) (serial_map-place splits earlier place n)
     ∙ sym (effects-append (serial_map splits earlier)
     (if is_commit (outcome_at splits earlier place n) then t.mutations else []) others)
-    ∙ sym (after-writes (serial_map splits earlier) (t ∷ ts) (outcomes_from splits version moves (t ∷ ts) earlier n) (suc p))
+    ∙ sym (after-writes (serial_map splits earlier) (t ∷ ts) (outcomes_from splits version moves (t ∷ ts) earlier n)
+    (suc p))
   where
     place : Place
     place = placed version moves t

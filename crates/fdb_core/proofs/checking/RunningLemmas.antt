@@ -1,5 +1,7 @@
 -- The run of the book, entry by entry and place by place.
-use Rattle.std.proofs.Common.{◌≡◌, ◌∙◌, sym, ap, ap₂, subst, refl, ℕ, zero, suc, ◌+◌, ◌<◌, ◌≤◌, le_refl, add-one, arith, true, ◌&&◌, nat_lt, nat_le, get_or, List, [], ◌∷◌, ◌++◌, take, length, Option, Some, None, ⊎_elim}
+use Rattle.std.proofs.Common.{◌≡◌, ◌∙◌, sym, ap, ap₂, subst, refl, ℕ, zero, suc, ◌+◌, ◌<◌, ◌≤◌, le_refl, add-one, arith}
+use Rattle.std.proofs.Common.{true, ◌&&◌, nat_lt, nat_le, get_or, List, [], ◌∷◌, ◌++◌, take, length, Option, Some, None}
+use Rattle.std.proofs.Common.{⊎_elim}
 use Rattle.std.specs.List.{slice_get}
 use Rattle.std.proofs.lemmas.Bool.{and_parts, ltb-true, leb-true}
 use Rattle.std.proofs.lemmas.List.{take_all}
@@ -79,7 +81,7 @@ comes-in splits book n m p run at same first judge outcomes map none = (
 )
 
 module _ (splits : List Point) (book : List Entry) (entries : AreEntries (suc (length splits)) 0 book) (n : ℕ) where
-  -- the run's map after the first n entries
+  -- the serial map after the first n entries
   abbrev after : Map
   after = serial_map splits (seen_before book n).places
 
@@ -130,7 +132,7 @@ module _ (splits : List Point) (book : List Entry) (entries : AreEntries (suc (l
         ∙ sym (serial_map-add_places splits entry.version (moves_through before entry) 0 entry.batch before.places)
         ∙ ap (λ (seen : Seen). serial_map splits seen.places) (sym (seen_before-next book n entry there))
 
-    -- a run that goes through what is left of the entry has the run's map after it
+    -- a run that goes through what is left of the entry has the serial map after it
     pub entry-run : (place : ℕ) (old new : Map) (outcomes : List Outcome)
         → outcomes ≡ outcomes_of splits before (slice_get book n)
         → old ≡ map_after after (batch_of (slice_get book n)) outcomes place
@@ -165,8 +167,8 @@ moves-on splits book mid n place map at same within is = (
 
 -- nor at a later entry
 pub not-later : (run : Run) (n place : ℕ) → IsNotPast run n place → run.entry ≤ n
-not-later run n place not_past = ⊎_elim (λ before. omega (arith, before)) (λ here. let same = here.0 in omega (arith, same))
-    not_past
+not-later run n place not_past = ⊎_elim (λ before. omega (arith, before))
+    (λ here. let same = here.0 in omega (arith, same)) not_past
 
 -- the place in an entry from which a run that isn't past another one goes on there
 pub goes-from : (old mid : Run) (n place : ℕ) → IsNotPast old n place

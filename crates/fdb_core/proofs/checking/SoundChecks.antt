@@ -1,5 +1,7 @@
 -- A check of a sound world finds no difference.
-use Rattle.std.proofs.Common.{◌≡◌, ◌∙◌, sym, ap, subst, refl, length, take, ℕ, suc, ◌≤◌, le_refl, arith, Bool, true, false, not, if◌then◌else◌, List, [], Option, Some, None, ⊎_elim, inl, Result, Ok, Err, MatchResult, slice_get}
+use Rattle.std.proofs.Common.{◌≡◌, ◌∙◌, sym, ap, subst, refl, length, take, ℕ, suc, ◌≤◌, le_refl, arith, Bool, true}
+use Rattle.std.proofs.Common.{false, not, if◌then◌else◌, List, [], Option, Some, None, ⊎_elim, inl, Result, Ok, Err}
+use Rattle.std.proofs.Common.{MatchResult, slice_get}
 use Rattle.std.specs.Prelude.{IfSome}
 use Rattle.std.specs.FinMap.{get}
 use Rattle.fdb_keys.specs.Points.{Point}
@@ -30,7 +32,7 @@ module _ (k : Cluster) (refines : Refines k) where
   abbrev splits : List Point
   splits = k.config.resolver_splits
 
-  -- each of its shards has the run's map
+  -- each of its shards has the serial map
   shard-holds : (i : ℕ) (role : ShardRole) → slice_get k.shards.items i ≡ Some role
       → HoldsTheRun splits k.book.items role
   shard-holds i role there x inside =
@@ -40,26 +42,28 @@ module _ (k : Cluster) (refines : Refines k) where
       its.serves role.core.version x its.serving (le_refl role.core.version)
       (subst (λ (range : Range). in_range range x ≡ true) its.range inside)
       ∙ sym (ap (λ (map : Map). get map x)
-      (serial-front splits k.book.items (entries-rising (suc (length splits)) k.book.items refines.book.entries) role.applied
-      role.core.version reached))
+      (serial-front splits k.book.items (entries-rising (suc (length splits)) k.book.items refines.book.entries)
+      role.applied role.core.version reached))
 
   -- there are few
   few-shards : length k.shards.items ≤ shard_limit
   few-shards = omega (arith, refines.logs.shard_count, refines.legal.few_shards)
 
-  -- so whatever is found is the number of acknowledged transactions, or want of memory
+  -- so whatever is found is the number of acknowledged transactions, or out of memory
   sound-finds : Invariant (machine_of k) → (result : Result ℕ CheckFault)
       → Finds result splits k.book.items k.acknowledged.items k.shards.items
       → MatchResult result (λ count. count ≡ length k.acknowledged.items) (λ fault. fault ≡ NoMemory)
   sound-finds sound (Ok count) finds = finds.0
   sound-finds sound (Err fault) finds = ⊎_elim
-      (⊎_elim (λ lacks. lacks) (λ (other : IsFirstOther k.book.items (IsSerialized splits k.book.items) k.acknowledged.items fault).
-      absurd (other.4 (all-at (IsSerializedIn (machine_of k)) k.acknowledged.items other.0 other.1 sound.acknowledged other.2))))
+      (⊎_elim (λ lacks. lacks) (λ (other : IsFirstOther k.book.items (IsSerialized splits k.book.items)
+      k.acknowledged.items fault).
+      absurd (other.4 (all-at (IsSerializedIn (machine_of k)) k.acknowledged.items other.0 other.1 sound.acknowledged
+      other.2))))
       (⊎_elim (λ lacks. lacks) (λ (differs : ShardDiffers (HoldsTheRun splits k.book.items) k.shards.items fault).
       absurd (differs.4 (shard-holds differs.0 differs.1 differs.2))))
       finds
 
--- what holds of a world's parts unless memory ran out
+-- what holds of a world's cluster unless memory ran out
 abbrev pub IsSound : Cluster → Type 0
 IsSound k = Refines k × Invariant (machine_of k) × (config_fault k.config ≡ None)
 
@@ -74,7 +78,8 @@ pub world-finds : (k : Cluster) (failed : Bool) (world : Option Machine) (result
     → (if failed then None else Some (machine_of k)) ≡ world
     → (failed ≡ false → IsSound k)
     → (AreEntries (suc (length k.config.resolver_splits)) 0 k.book.items
-    → Finds result k.config.resolver_splits k.book.items k.acknowledged.items (if not failed then k.shards.items else []))
+    → Finds result k.config.resolver_splits k.book.items k.acknowledged.items
+    (if not failed then k.shards.items else []))
     → IfSome world
     (λ machine. MatchResult result (λ count. count ≡ length machine.acknowledged) (λ fault. fault ≡ NoMemory))
 world-finds k true world result is holds finds =
@@ -98,7 +103,8 @@ finds-alone (Err fault) splits book placed finds = ⊎_elim (λ stops. stops)
 pub failed-finds : (k : Cluster) (failed : Bool) (system : System) (result : Result ℕ CheckFault)
     → system_of failed k ≡ system
     → (AreEntries (suc (length k.config.resolver_splits)) 0 k.book.items
-    → Finds result k.config.resolver_splits k.book.items k.acknowledged.items (if not failed then k.shards.items else []))
+    → Finds result k.config.resolver_splits k.book.items k.acknowledged.items
+    (if not failed then k.shards.items else []))
     → system.machine ≡ None → AreEntries (suc (length system.history.config.resolver_splits)) 0 system.history.book
     → FindsSerialized result system.history.config.resolver_splits system.history.book system.history.acknowledged
 failed-finds k true system result is finds none = subst (λ (now : System).

@@ -1,5 +1,6 @@
 -- How many entries of a book have a version that is at most another.
-use Rattle.std.proofs.Common.{◌≡◌, sym, ap, subst, refl, ℕ, zero, suc, ◌+◌, ◌<◌, ◌≤◌, le_refl, arith, Bool, true, false, cond, nat_le, List, [], ◌∷◌, take, fold, length, Some, slice_get, get_or, ⊎_elim}
+use Rattle.std.proofs.Common.{◌≡◌, sym, ap, subst, refl, ℕ, zero, suc, ◌+◌, ◌<◌, ◌≤◌, le_refl, arith, Bool, true, false}
+use Rattle.std.proofs.Common.{cond, nat_le, List, [], ◌∷◌, take, fold, length, Some, slice_get, get_or, ⊎_elim}
 use Rattle.std.specs.List.{count_by}
 use Rattle.std.specs.List.Sorted.{IsNonDecreasingBy}
 use Rattle.std.proofs.lemmas.Bool.{cases_Bool, leb-true, leb-false}

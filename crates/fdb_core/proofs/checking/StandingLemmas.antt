@@ -1,5 +1,6 @@
 -- When one of the acknowledged is serialized at its spot, by the run that has come there.
-use Rattle.std.proofs.Common.{◌≡◌, ◌∙◌, sym, ap, subst, refl, ◌↔◌, ℕ, zero, suc, ◌+◌, ◌-◌, arith, Bool, true, false, List, [], ◌∷◌, length, Some, None, slice_get}
+use Rattle.std.proofs.Common.{◌≡◌, ◌∙◌, sym, ap, subst, refl, ◌↔◌, ℕ, zero, suc, ◌+◌, ◌-◌, arith, Bool, true, false}
+use Rattle.std.proofs.Common.{List, [], ◌∷◌, length, Some, None, slice_get}
 use Rattle.std.specs.Prelude.{Result, Ok, Err, IfOk, IfErr}
 use Rattle.std.proofs.lemmas.Bool.{both_ways}
 use Rattle.std.proofs.lemmas.Option.{same_Some}
@@ -30,7 +31,8 @@ use Rattle.fdb_core.specs.declared.world.CheckFault.{CheckFault}
 use Rattle.fdb_core.specs.declared.world.CheckFault.TheVariants as fault
 use Rattle.fdb_core.specs.check.Running.{map_after, IsNotPast, HasComeTo, moment}
 use Rattle.fdb_core.specs.check.Spots.{entries_through, moment_of}
-use Rattle.fdb_core.specs.headline.Headline.{AnsweredOn, WroteNothing, IsSerializedAt, IsReadOnlyAt, IsSerializedAtSpot, IsSerialized}
+use Rattle.fdb_core.specs.headline.Headline.{AnsweredOn, WroteNothing, IsSerializedAt, IsReadOnlyAt, IsSerializedAtSpot}
+use Rattle.fdb_core.specs.headline.Headline.{IsSerialized}
 use Rattle.fdb_core.proofs.checking.RunningLemmas.{map-first}
 use Rattle.fdb_core.proofs.checking.SpotLemmas.{IsThrough, through}
 use Rattle.fdb_core.proofs.refinement.RunLaws.{entries-rising, map-between}
@@ -38,7 +40,8 @@ use Rattle.fdb_core.proofs.checking.BodyLemmas.{commit-at}
 use Rattle.fdb_core.proofs.checking.ReplayLemmas.{place-map}
 
 -- the place of a transaction of a batch, with its outcome
-pub place-found : (splits : List Point) (version : ℕ) (moves : List Stamped) (batch : List Transaction) (earlier : List Place)
+pub place-found : (splits : List Point) (version : ℕ) (moves : List Stamped) (batch : List Transaction)
+    (earlier : List Place)
     (n p : ℕ) (t : Transaction) → slice_get batch p ≡ Some t
     → (before : List Place) × (place_in version moves batch earlier p ≡ Some (placed version moves t, before))
     × (slice_get (outcomes_from splits version moves batch earlier n) p
@@ -155,10 +158,12 @@ module _ (splits : List Point) (book : List Entry) (n p version : ℕ) (transcri
         where
           run_is : serial_map splits here.1
               ≡ map_after (serial_map splits before.places) entry.batch (outcomes_on splits before entry) p
-          run_is = place-map splits entry.version (moves_through before entry) entry.batch before.places 0 p here found.1
+          run_is = place-map splits entry.version (moves_through before entry) entry.batch before.places 0 p here
+              found.1
 
 -- and of one that wrote nothing, by the run that has come to its version
-pub reads-there : (splits : List Point) (book : List Entry) (v n : ℕ) (transcript : Transcript) (run : Run) (same : Bool)
+pub reads-there : (splits : List Point) (book : List Entry) (v n : ℕ) (transcript : Transcript) (run : Run)
+    (same : Bool)
     → AreEntries (suc (length splits)) 0 book → n ≡ entries_through book v → HasComeTo splits book n 0 run
     → v ≡ transcript.read_version
     → (same ≡ true) ↔ (WroteNothing transcript × AnsweredOn run.map transcript)

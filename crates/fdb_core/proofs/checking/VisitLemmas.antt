@@ -1,5 +1,7 @@
 -- The acknowledged, visited in the order of the run.
-use Rattle.std.proofs.Common.{◌≡◌, ◌∙◌, sym, ap, subst, refl, ℕ, zero, suc, ◌+◌, ◌-◌, ◌<◌, ◌≤◌, arith, true, false, ◌&&◌, ◌||◌, ◌==◌, nat_lt, List, [], ◌∷◌, ◌++◌, take, length, Some, slice_get, get_or, inl, inr, ⊎_elim}
+use Rattle.std.proofs.Common.{◌≡◌, ◌∙◌, sym, ap, subst, refl, ℕ, zero, suc, ◌+◌, ◌-◌, ◌<◌, ◌≤◌, arith, true, false}
+use Rattle.std.proofs.Common.{◌&&◌, ◌||◌, ◌==◌, nat_lt, List, [], ◌∷◌, ◌++◌, take, length, Some, slice_get, get_or, inl}
+use Rattle.std.proofs.Common.{inr, ⊎_elim}
 use Rattle.std.specs.List.{All, AllByRecursion}
 use Rattle.std.specs.List.Sorted.{IsPermutation, IsSortedBy}
 use Rattle.std.proofs.Common.{Ordering}
@@ -8,7 +10,8 @@ use Rattle.std.specs.declared.cmp.Ordering.TheVariants.{Less, Equal}
 use Rattle.std.specs.Cmp.{IsTotalOrder, nat_cmp_is}
 use Rattle.std.proofs.lemmas.Cmp.{then_total, on_total, nat_cmp_total}
 use Rattle.std.proofs.lemmas.List.MinMax.{ranks_by}
-use Rattle.std.proofs.lemmas.Bool.{cases_Bool, both_ways, or_left, or_right, and_from, or_cases, and_parts, ltb-false, ltb-true, eqb-true, eq-eqb}
+use Rattle.std.proofs.lemmas.Bool.{cases_Bool, both_ways, or_left, or_right, and_from, or_cases, and_parts, ltb-false}
+use Rattle.std.proofs.lemmas.Bool.{ltb-true, eqb-true, eq-eqb}
 use Rattle.std.proofs.lemmas.List.Sorted.{IsPermutation-sym, Contains-permutation, sorted_far}
 use Rattle.std.proofs.lemmas.Option.{slice_get_within, get_or_from_slice_get}
 use Rattle.fdb_keys.specs.Points.{Point}
@@ -30,11 +33,11 @@ all-from P (x ∷ xs) each = (each 0 x refl, all-from P xs (λ k y there. each (
 -- what one that comes no earlier has
 order-known : (a b c d : ℕ) → (nat_lt a c || (a == c && nat_lt b d)) ≡ false → (c ≤ a) × (a ≡ c → d ≤ b)
 order-known a b c d later = (
-  ⊎_elim (λ yes. absurd (both_ways _ later (or_left (nat_lt a c) (a == c && nat_lt b d) yes))) (λ not. ltb-false a c not)
-      (cases_Bool (nat_lt a c)),
+  ⊎_elim (λ yes. absurd (both_ways _ later (or_left (nat_lt a c) (a == c && nat_lt b d) yes)))
+      (λ not. ltb-false a c not) (cases_Bool (nat_lt a c)),
   λ same. ⊎_elim
-      (λ yes. absurd (both_ways _ later (or_right (nat_lt a c) (a == c && nat_lt b d) (and_from _ _ (eq-eqb a c same) yes))))
-      (λ not. ltb-false b d not) (cases_Bool (nat_lt b d)),
+      (λ yes. absurd (both_ways _ later (or_right (nat_lt a c) (a == c && nat_lt b d)
+      (and_from _ _ (eq-eqb a c same) yes)))) (λ not. ltb-false b d not) (cases_Bool (nat_lt b d)),
 )
 
 -- a run at a moment isn't past a later one
@@ -105,7 +108,8 @@ module _ (book : List Entry) (placed : List Placed) (visits : List Visit) (order
   pub moment-is : (i : ℕ) (v : Visit) (one : Placed) → slice_get visits i ≡ Some v
       → slice_get placed v.index ≡ Some one → moment v ≡ moment_of book one.spot
   moment-is i v one there at =
-      let found = item-contained (visits_from book 0 placed) v (Contains-permutation visits (visits_from book 0 placed) v
+      let found = item-contained (visits_from book 0 placed) v
+      (Contains-permutation visits (visits_from book 0 placed) v
       (IsPermutation-sym (visits_from book 0 placed) visits same) (contains-item visits i v there)) in
       let its = there-visit book 0 found.0 placed v found.1 in
       let none : 0 + found.0 ≡ found.0 = omega arith in
@@ -213,11 +217,12 @@ before-less a b before = ⊎_elim
     (or_cases (nat_lt a.entries b.entries) (a.entries == b.entries && nat_lt a.places b.places) before)
 
 -- sorted visits are in the order of the run
-pub sorted-ordered : (visits : List Visit) → IsSortedBy (λ (x y : Visit). is_lt (visit_cmp x y)) visits → IsInOrder visits
+pub sorted-ordered : (visits : List Visit) → IsSortedBy (λ (x y : Visit). is_lt (visit_cmp x y)) visits
+    → IsInOrder visits
 sorted-ordered visits up i j one other ordered there its =
     let within = slice_get_within visits j other its in
-    let far = sorted_far (λ (x y : Visit). is_lt (visit_cmp x y)) (ranks_by visits_total (λ (v : Visit). v)) visits up i j
-    one ordered within in
+    let far = sorted_far (λ (x y : Visit). is_lt (visit_cmp x y)) (ranks_by visits_total (λ (v : Visit). v)) visits up
+    i j one ordered within in
     let known : is_lt (visit_cmp other one) ≡ false =
     ap (λ (v : Visit). is_lt (visit_cmp v one)) (sym (get_or_from_slice_get visits j other one its))
     ∙ ap (λ (v : Visit). is_lt (visit_cmp (get_or visits j one) v)) (sym (get_or_from_slice_get visits i one one there))

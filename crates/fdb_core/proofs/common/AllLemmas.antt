@@ -1,5 +1,6 @@
 -- What holds of each item of a list, when the list changes.
-use Rattle.std.proofs.Common.{◌≡◌, ◌<◌, refl, sym, arith, ℕ, zero, suc, List, [], ◌∷◌, ◌++◌, take, drop, map, replicate, length, Some, subst}
+use Rattle.std.proofs.Common.{◌≡◌, ◌<◌, refl, sym, arith, ℕ, zero, suc, List, [], ◌∷◌, ◌++◌, take, drop, map, replicate}
+use Rattle.std.proofs.Common.{length, Some, subst}
 use Rattle.std.specs.List.{AllByRecursion, Contains, slice_get, slice_set}
 use Rattle.std.proofs.lemmas.Option.{slice_get_read, slice_get_within, get_or_from_slice_get}
 

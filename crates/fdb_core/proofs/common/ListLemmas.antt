@@ -1,5 +1,6 @@
 -- Items of lists, found by their numbers.
-use Rattle.std.proofs.Common.{◌≡◌, ◌∙◌, sym, ap, ap₂, refl, subst, ℕ, zero, suc, ◌+◌, ◌<◌, List, [], ◌∷◌, ◌++◌, length, map, get_or, Some, arith}
+use Rattle.std.proofs.Common.{◌≡◌, ◌∙◌, sym, ap, ap₂, refl, subst, ℕ, zero, suc, ◌+◌, ◌<◌, List, [], ◌∷◌, ◌++◌, length}
+use Rattle.std.proofs.Common.{map, get_or, Some, arith}
 use Rattle.std.specs.List.{AllZip, slice_get, slice_set}
 use Rattle.std.proofs.lemmas.List.{length-append, length-set}
 use Rattle.std.proofs.lemmas.Option.{same_Some, slice_get_read}
@@ -11,7 +12,8 @@ set-here [] i x within = absurd (omega (arith, within))
 set-here (y ∷ ys) zero x within = refl
 set-here (y ∷ ys) (suc i) x within = set-here ys i x (omega (arith, within))
 
-pub set-other : {A : Type 0} (xs : List A) (i j : ℕ) (x : A) → (j ≡ i → ⊥) → slice_get (slice_set xs i x) j ≡ slice_get xs j
+pub set-other : {A : Type 0} (xs : List A) (i j : ℕ) (x : A) → (j ≡ i → ⊥) → slice_get (slice_set xs i x) j
+    ≡ slice_get xs j
 set-other [] zero j x other = refl
 set-other [] (suc i) j x other = refl
 set-other (y ∷ ys) zero zero x other = absurd (other refl)

@@ -1,5 +1,6 @@
 -- What holds of a committed place of a book.
-use Rattle.std.proofs.Common.{◌≡◌, ◌∙◌, sym, ap, subst, refl, ◌↔◌, ℕ, suc, ◌<◌, ◌≤◌, Bool, true, false, ◌&&◌, if◌then◌else◌, List, [], ◌∷◌, ◌++◌, take, length, Option, Some, None, slice_get}
+use Rattle.std.proofs.Common.{◌≡◌, ◌∙◌, sym, ap, subst, refl, ◌↔◌, ℕ, suc, ◌<◌, ◌≤◌, Bool, true, false, ◌&&◌}
+use Rattle.std.proofs.Common.{if◌then◌else◌, List, [], ◌∷◌, ◌++◌, take, length, Option, Some, None, slice_get}
 use Rattle.std.specs.List.{AllByRecursion}
 use Rattle.fdb_keys.specs.Points.{Point}
 use Rattle.fdb_keys.specs.Ranges.{Range, in_set}
@@ -30,7 +31,8 @@ use Rattle.fdb_core.specs.headline.Headline.{AnsweredOn}
 use Rattle.fdb_core.proofs.invariant.SerializedLemmas.{map-extends, history-earlier}
 
 -- a snapshot read adds nothing to the read set, whatever it was answered
-snapshot-adds : (earlier : List Op) (range : Range) (limit : ℕ) (is_reverse : Bool) (reply : Reply) (ranges : List Range)
+snapshot-adds : (earlier : List Op) (range : Range) (limit : ℕ) (is_reverse : Bool) (reply : Reply)
+    (ranges : List Range)
     → add_reads earlier (operation.Range range limit is_reverse true) reply ranges ≡ ranges
 snapshot-adds earlier range limit is_reverse (Value value) ranges = refl
 snapshot-adds earlier range limit is_reverse (Pairs pairs) ranges = refl
@@ -111,7 +113,8 @@ newer-later resolvers (first ∷ newer) place earlier history = (
   newer-later resolvers newer place earlier history.2,
 )
 
-entry-of : (before : Seen) (p : ℕ) (next : Option Entry) (there : Place × List Place) → place_of before p next ≡ Some there
+entry-of : (before : Seen) (p : ℕ) (next : Option Entry) (there : Place × List Place) → place_of before p next
+    ≡ Some there
     → (entry : Entry) × (next ≡ Some entry)
 entry-of before p None there is = cc
 entry-of before p (Some entry) there is = (entry, refl)

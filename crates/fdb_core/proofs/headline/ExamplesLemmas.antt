@@ -1,5 +1,6 @@
 -- The examples compute.
-use Rattle.std.proofs.Common.{◌≡◌, ◌∙◌, ◌≤◌, sym, ap, refl, subst, arith, ⊎_elim, inl, ℕ, zero, suc, true, false, List, [], ◌∷◌, Some, None, Result, Ok, length}
+use Rattle.std.proofs.Common.{◌≡◌, ◌∙◌, ◌≤◌, sym, ap, refl, subst, arith, ⊎_elim, inl, ℕ, zero, suc, true, false, List}
+use Rattle.std.proofs.Common.{[], ◌∷◌, Some, None, Result, Ok, length}
 use Rattle.std.specs.Prelude.{codes}
 use Rattle.std.specs.FinMap.{get, empty, get-empty}
 use Rattle.std.specs.Ordering.{nat_cmp}
@@ -23,7 +24,11 @@ use Rattle.fdb_txn.proofs.rules.MessagesLemmas.{get-effects}
 use Rattle.fdb_txn.specs.rules.Admission.{committed}
 use Rattle.fdb_client.specs.declared.program.Reply.TheVariants as reply
 use Rattle.fdb_keys.specs.Ranges.{Range}
-use Rattle.fdb_core.specs.headline.Examples.{reads_and_sets, OnlyTheFirstIsSerialized, ReadOnlyAtItsVersion, AfterAVersion, AnEmptyShardDoesNotServe, OnlyOrdinaryReadsCount, BegunByServing, ForgetfulRolesDoNotKeep, empty_part, ReadOffTheTrace, plain, one_asks, Traced, ShardsGoOnAndForget, EachServedVersionCounts, set_and_cleared, read_alone}
+use Rattle.fdb_core.specs.headline.Examples.{reads_and_sets, OnlyTheFirstIsSerialized, ReadOnlyAtItsVersion}
+use Rattle.fdb_core.specs.headline.Examples.{AfterAVersion, AnEmptyShardDoesNotServe, OnlyOrdinaryReadsCount}
+use Rattle.fdb_core.specs.headline.Examples.{BegunByServing, ForgetfulRolesDoNotKeep, empty_part, ReadOffTheTrace}
+use Rattle.fdb_core.specs.headline.Examples.{plain, one_asks, Traced, ShardsGoOnAndForget, EachServedVersionCounts}
+use Rattle.fdb_core.specs.headline.Examples.{set_and_cleared, read_alone}
 use Rattle.fdb_core.specs.headline.MoveExamples.{from_to}
 use Rattle.fdb_core.specs.headline.ReadingExamples.{EachOperationIsNoted, ReadAtTwoProxies, ReadOffTheRoles}
 use Rattle.fdb_core.specs.headline.Readings.{nothing_read}

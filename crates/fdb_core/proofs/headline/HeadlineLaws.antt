@@ -17,7 +17,8 @@ use Rattle.fdb_core.specs.machine.Worlds.{start, IsStep}
 use Rattle.fdb_core.proofs.headline.RunsLemmas.{run-push}
 use Rattle.fdb_core.proofs.headline.TraceLaws.{traces_tell}
 use Rattle.fdb_core.proofs.invariant.SoundLaws.{sound_steps}
-use Rattle.fdb_core.proofs.readings.TraceReadings.{acknowledged_serialized, config-kept, traces_tell_books, real_time, trace-tells}
+use Rattle.fdb_core.proofs.readings.TraceReadings.{acknowledged_serialized, config-kept, traces_tell_books, real_time}
+use Rattle.fdb_core.proofs.readings.TraceReadings.{trace-tells}
 use Rattle.fdb_core.proofs.machine.Steps.{kept-next}
 
 -- every step leaves a sound machine sound

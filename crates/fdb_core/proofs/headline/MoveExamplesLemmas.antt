@@ -1,7 +1,8 @@
 -- What the machine does where keys go over, computed.
 use Rattle.std.proofs.Common.{refl}
 use Rattle.fdb_keys.specs.Points.{point_lt}
-use Rattle.fdb_core.specs.headline.MoveExamples.{TheSpanBeginsAtTheWindow, TheLaterMoveCounts, MovesTakeEffectWithTheNextEntry}
+use Rattle.fdb_core.specs.headline.MoveExamples.{TheSpanBeginsAtTheWindow, TheLaterMoveCounts}
+use Rattle.fdb_core.specs.headline.MoveExamples.{MovesTakeEffectWithTheNextEntry}
 use Rattle.fdb_core.specs.machine.CommitProxySteps.{seals}
 use Rattle.fdb_core.specs.machine.RoleSteps.{resolves}
 use Rattle.fdb_core.specs.machine.SequencerSteps.{moves}

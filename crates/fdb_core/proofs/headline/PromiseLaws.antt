@@ -1,5 +1,6 @@
 -- What follows from the answer of one step.
-use Rattle.std.proofs.Common.{◌≡◌, ◌<◌, ◌∙◌, ⊎_elim, sym, ap, refl, arith, ℕ, suc, Bool, true, false, List, [], length, Option, Some, None, Ok, Err, map, if◌then◌else◌}
+use Rattle.std.proofs.Common.{◌≡◌, ◌<◌, ◌∙◌, ⊎_elim, sym, ap, refl, arith, ℕ, suc, Bool, true, false, List, [], length}
+use Rattle.std.proofs.Common.{Option, Some, None, Ok, Err, map, if◌then◌else◌}
 use Rattle.std.specs.Prelude.{◌↔◌, nat_lt}
 use Rattle.std.specs.List.{slice_get, list_any}
 use Rattle.std.proofs.lemmas.Bool.{both_ways}
@@ -22,7 +23,9 @@ use Rattle.fdb_core.specs.machine.RoleSteps.{shard_fault, version_of_shard}
 use Rattle.fdb_core.specs.machine.Machine.{Machine, Transition}
 use Rattle.fdb_core.specs.machine.Sessions.{open_at}
 use Rattle.fdb_client.specs.Programs.{program, decided}
-use Rattle.fdb_core.specs.headline.Promises.{RefusalsChangeNothing, GrantsCommitted, GetsFromTheRun, GetsRefused, RangeReadsFromTheRun, RangeReadsRefused, Lags, Forgot, Serves, AtSomePoint, AtEachPoint}
+use Rattle.fdb_core.specs.headline.Promises.{RefusalsChangeNothing, GrantsCommitted, GetsFromTheRun, GetsRefused}
+use Rattle.fdb_core.specs.headline.Promises.{RangeReadsFromTheRun, RangeReadsRefused, Lags, Forgot, Serves, AtSomePoint}
+use Rattle.fdb_core.specs.headline.Promises.{AtEachPoint}
 use Rattle.fdb_core.specs.machine.Steps.{after}
 use Rattle.fdb_core.specs.refinement.RangeFaults.{of-range, too-old-range, served-range}
 use Rattle.fdb_core.proofs.machine.Transitions.{reads-transition, reads-refused}

@@ -1,5 +1,6 @@
 -- What the peeks of a tag tell of the run.
-use Rattle.std.proofs.Common.{◌≡◌, ◌∙◌, refl, sym, ap, subst, ⊎_elim, ℕ, suc, ◌+◌, ◌-◌, ◌≤◌, min, max, le_of_lt, List, [], ◌∷◌, ◌++◌, length, take, drop, append-nil, append_assoc, arith}
+use Rattle.std.proofs.Common.{◌≡◌, ◌∙◌, refl, sym, ap, subst, ⊎_elim, ℕ, suc, ◌+◌, ◌-◌, ◌≤◌, min, max, le_of_lt, List}
+use Rattle.std.proofs.Common.{[], ◌∷◌, ◌++◌, length, take, drop, append-nil, append_assoc, arith}
 use Rattle.std.specs.Prelude.{nat_le}
 use Rattle.std.specs.List.{AllByRecursion}
 use Rattle.std.specs.FinMap.{get}
@@ -33,8 +34,8 @@ module _ (splits : List Point) (range : Range) (book : List Entry) (entries : Ar
     rising : IsRising book
     rising = entries-rising (suc (length splits)) book entries
 
-    -- of the messages of some first entries, those above the version of the last of the first n are those of the entries
-    -- between
+    -- of the messages of some first entries, those above the version of the last of the first n are those of the
+    -- entries between
     above-first : (n taken : ℕ)
         → above (last_version (take n book)) (messages_for splits range (take taken book))
         ≡ messages_after splits range (seen_before book n) (take (taken - n) (drop n book))
@@ -93,12 +94,14 @@ module _ (splits : List Point) (range : Range) (book : List Entry) (entries : Ar
     -- and so have peeks that go on one after another
     peeks-are : (n : ℕ) (peeks : List Peek) → AllByRecursion (IsUnpopped splits range book) peeks
         → GoOnFrom (last_version (take n book)) peeks
-        → (m : ℕ) × (messages_for splits range (take n book) ++ messages_of peeks ≡ messages_for splits range (take m book))
+        → (m : ℕ) × (messages_for splits range (take n book) ++ messages_of peeks
+        ≡ messages_for splits range (take m book))
         × (covered_from (last_version (take n book)) peeks ≡ last_version (take m book))
     peeks-are n [] all go_on = (n, append-nil (messages_for splits range (take n book)), refl)
     peeks-are n (peek ∷ peeks) all go_on =
         let here = peek-is n peek all.0 go_on.0 in
-        let others = peeks-are (n + here.0) peeks all.1 (subst (λ (version : ℕ). GoOnFrom version peeks) here.2 go_on.1) in
+        let others = peeks-are (n + here.0) peeks all.1
+        (subst (λ (version : ℕ). GoOnFrom version peeks) here.2 go_on.1) in
         let ordered = versions-ordered book rising n (n + here.0) (omega arith) in
         let greater : max (last_version (take n book)) peek.through ≡ last_version (take (n + here.0) book) =
         omega (arith, here.2, ordered) in (

@@ -1,5 +1,6 @@
 -- Each role's state at a book with one more entry.
-use Rattle.std.proofs.Common.{◌≡◌, ◌∙◌, refl, sym, ap, ap₂, subst, ℕ, suc, ◌+◌, ◌<◌, ◌≤◌, le_refl, le_of_lt, true, not, List, [], ◌∷◌, ◌++◌, length, take, fold, unwrap_or, Option, Some, None, arith, ⊎_elim}
+use Rattle.std.proofs.Common.{◌≡◌, ◌∙◌, refl, sym, ap, ap₂, subst, ℕ, suc, ◌+◌, ◌<◌, ◌≤◌, le_refl, le_of_lt, true, not}
+use Rattle.std.proofs.Common.{List, [], ◌∷◌, ◌++◌, length, take, fold, unwrap_or, Option, Some, None, arith, ⊎_elim}
 use Rattle.std.specs.Prelude.{◌==◌}
 use Rattle.std.specs.FinMap.{get}
 use Rattle.std.proofs.lemmas.Bool.{cases_Bool, cases_lt, both_ways, cond-false, eq-eqb, eqb-true, le-ltb}
@@ -34,7 +35,8 @@ use Rattle.fdb_storage.specs.Shards.{Shard, apply_fault, HasApplied}
 use Rattle.fdb_proxy.specs.declared.config.Config.{Config}
 use Rattle.fdb_proxy.specs.Parting.{IsPartOf}
 use Rattle.fdb_proxy.specs.Verdicts.{moves_through}
-use Rattle.fdb_core.specs.headline.RoleLaws.{ResolverGoesOn, OwnersGoOn, AreLastOf, IsSequencerAt, SequencerGoesOn, IsLogAt, LogGoesOn, IsShardAt, ShardGoesOn}
+use Rattle.fdb_core.specs.headline.RoleLaws.{ResolverGoesOn, OwnersGoOn, AreLastOf, IsSequencerAt, SequencerGoesOn}
+use Rattle.fdb_core.specs.headline.RoleLaws.{IsLogAt, LogGoesOn, IsShardAt, ShardGoesOn}
 use Rattle.fdb_core.specs.machine.SequencerSteps.{dated_moves}
 use Rattle.fdb_core.specs.refinement.CommitProxies.{entry_of}
 use Rattle.fdb_core.specs.refinement.Logs.{LogRefines}

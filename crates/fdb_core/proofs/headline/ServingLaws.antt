@@ -1,5 +1,6 @@
 -- What the roles keep is what the book says of them.
-use Rattle.std.proofs.Common.{◌≡◌, ◌∙◌, sym, ap, refl, subst, arith, ℕ, zero, suc, ◌<◌, ◌≤◌, ◌++◌, false, List, [], ◌∷◌, map, length, slice_get, Some}
+use Rattle.std.proofs.Common.{◌≡◌, ◌∙◌, sym, ap, refl, subst, arith, ℕ, zero, suc, ◌<◌, ◌≤◌, ◌++◌, false, List, [], ◌∷◌}
+use Rattle.std.proofs.Common.{map, length, slice_get, Some}
 use Rattle.std.specs.FinMap.{get}
 use Rattle.std.proofs.lemmas.List.{length-map}
 use Rattle.std.proofs.lemmas.Option.{same_Some}
@@ -17,7 +18,8 @@ use Rattle.fdb_core.specs.machine.Roles.{ShardProgress}
 use Rattle.fdb_core.specs.refinement.Cluster.{machine_of, system_of, Refines}
 use Rattle.fdb_core.specs.machine.Machine.{Machine}
 use Rattle.fdb_core.specs.machine.SequencerSteps.{dated_moves}
-use Rattle.fdb_core.specs.headline.Serving.{EachKeeps, SequencerKeeps, ResolverKeeps, PartsKeep, MessagesKeep, LogKeeps, ShardReaches, ShardServes, RolesKeep}
+use Rattle.fdb_core.specs.headline.Serving.{EachKeeps, SequencerKeeps, ResolverKeeps, PartsKeep, MessagesKeep, LogKeeps}
+use Rattle.fdb_core.specs.headline.Serving.{ShardReaches, ShardServes, RolesKeep}
 use Rattle.fdb_core.proofs.common.AllLemmas.{within-item}
 use Rattle.fdb_core.proofs.refinement.LogTies.{kept-tag}
 use Rattle.fdb_core.proofs.refinement.RunLaws.{entries-rising, serial-front}
@@ -63,7 +65,8 @@ roles_keep k refines = (sequencer, resolvers, parts, messages, logs, reaches, (c
         unlearnt : (proxy : ℕ) → proxy < k.config.proxies
             → (learnt : List Dated) × (learnt ++ unlearnt_by k.sequencer proxy ≡ dated_moves k.book.items)
         unlearnt proxy within =
-            let found = within-item k.commit_proxies.items proxy (omega (arith, within, refines.commit_proxies.count)) in
+            let found = within-item k.commit_proxies.items proxy (omega (arith, within, refines.commit_proxies.count))
+            in
             let its = refines.commit_proxies.each proxy found.0 found.1 in
             (its.learnt, its.all_moves)
 
@@ -86,7 +89,8 @@ roles_keep k refines = (sequencer, resolvers, parts, messages, logs, reaches, (c
 
     logs : EachKeeps (LogKeeps m) m.logs (map (λ (role : LogRole). role.core) k.logs.items)
     logs = (
-      length-map k.logs.items (λ (role : LogRole). role.core) ∙ sym (length-map k.logs.items (λ (role : LogRole). role.taken)),
+      length-map k.logs.items (λ (role : LogRole). role.core)
+          ∙ sym (length-map k.logs.items (λ (role : LogRole). role.taken)),
       each-seen (λ (role : LogRole). role.taken) (λ (role : LogRole). role.core) (LogKeeps m) k.logs.items keeps-log,
     )
       where

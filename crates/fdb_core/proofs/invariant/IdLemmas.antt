@@ -1,5 +1,6 @@
 -- The id of an open transaction is none of those that a commit proxy has.
-use Rattle.std.proofs.Common.{◌≡◌, ◌∙◌, sym, ap, refl, subst, arith, ⊎_elim, ℕ, ◌+◌, List, [], ◌∷◌, ◌++◌, map, Some, None}
+use Rattle.std.proofs.Common.{◌≡◌, ◌∙◌, sym, ap, refl, subst, arith, ⊎_elim, ℕ, ◌+◌, List, [], ◌∷◌, ◌++◌, map, Some}
+use Rattle.std.proofs.Common.{None}
 use Rattle.std.specs.List.{slice_get, position_from}
 use Rattle.std.proofs.lemmas.Bool.{cases_Bool, cond-false, eq-eqb}
 use Rattle.std.proofs.lemmas.Iterator.Adapters.{position_from-zero}

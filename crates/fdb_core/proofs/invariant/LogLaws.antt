@@ -18,7 +18,8 @@ use Rattle.fdb_core.specs.machine.Sessions.{Sessions}
 use Rattle.fdb_core.specs.machine.Worlds.{start, idle_proxy}
 use Rattle.fdb_core.proofs.common.AllLemmas.{all-at, all-push, all-replicate, all-set}
 use Rattle.fdb_core.proofs.headline.TraceLaws.{traces_tell}
-use Rattle.fdb_core.proofs.machine.LogLemmas.{AcknowledgementCame, Grew, FlagsTell, Took, flags-all, flags-grew, flags-none, flags-set, took-grew}
+use Rattle.fdb_core.proofs.machine.LogLemmas.{AcknowledgementCame, Grew, FlagsTell, Took, flags-all, flags-grew}
+use Rattle.fdb_core.proofs.machine.LogLemmas.{flags-none, flags-set, took-grew}
 use Rattle.fdb_core.proofs.machine.Sealing.{sealed_proxy}
 use Rattle.fdb_core.proofs.machine.Steps.{KeptBySteps, kept-by_trace}
 
@@ -48,7 +49,8 @@ taken-placed logs entry (transcript ∷ transcripts) (outcome.Conflict ∷ outco
 taken-placed logs entry (transcript ∷ transcripts) (outcome.Old ∷ outcomes) took =
     taken-placed logs entry transcripts outcomes took
 
-spot-grew : (olds news : List ℕ) → Grew olds news → (placed : Placed) → PlacedTaken olds placed → PlacedTaken news placed
+spot-grew : (olds news : List ℕ) → Grew olds news → (placed : Placed) → PlacedTaken olds placed
+    → PlacedTaken news placed
 spot-grew olds news grew placed = by_spot placed.spot
   where
     by_spot : (at : Spot) → IsTakenByAll olds at → IsTakenByAll news at
@@ -139,7 +141,8 @@ logged_steps = record {
 
 logged-start : (config : Config) → AreLogged (start config)
 logged-start config = record {
-  commit_proxies = all-replicate (ProxyTold (start config).logs) idle_proxy config.proxies ((λ logging. cc), (λ reported. cc));
+  commit_proxies = all-replicate (ProxyTold (start config).logs) idle_proxy config.proxies
+      ((λ logging. cc), (λ reported. cc));
   acknowledged = tt;
 }
 

@@ -1,5 +1,6 @@
 -- Each transaction is in the book at most once: how often there is one of an id, kept by every step.
-use Rattle.std.proofs.Common.{◌≡◌, ◌≢◌, ◌∙◌, ◌<◌, ◌≤◌, refl, sym, ap, subst, arith, ⊎_elim, ℕ, ◌+◌, min, false, cond, List, [], ◌∷◌, ◌++◌, take, fold, replicate, Option, Some, None, Result, sum_by}
+use Rattle.std.proofs.Common.{◌≡◌, ◌≢◌, ◌∙◌, ◌<◌, ◌≤◌, refl, sym, ap, subst, arith, ⊎_elim, ℕ, ◌+◌, min, false, cond}
+use Rattle.std.proofs.Common.{List, [], ◌∷◌, ◌++◌, take, fold, replicate, Option, Some, None, Result, sum_by}
 use Rattle.std.specs.Prelude.{◌==◌, nat_le, unwrap_or}
 use Rattle.std.specs.List.{slice_get, slice_set, list_any}
 use Rattle.std.proofs.lemmas.List.Sums.{sum_by_push, sum_by-take-drop}
@@ -17,16 +18,19 @@ use Rattle.fdb_core.specs.declared.step.Answered.{Answered}
 use Rattle.fdb_core.specs.declared.step.Step.{Step}
 use Rattle.fdb_txn.specs.book.Once.{NoIdTwice, times_with_id, times_in_book}
 use Rattle.fdb_core.specs.headline.Traces.{machine_of_trace}
-use Rattle.fdb_core.specs.invariant.Once.{up_to, once_for, waiting_in, times_waiting, times_opened, Once, OnceAmong, IsOnce}
+use Rattle.fdb_core.specs.invariant.Once.{up_to, once_for, waiting_in, times_waiting, times_opened, Once, OnceAmong}
+use Rattle.fdb_core.specs.invariant.Once.{IsOnce}
 use Rattle.fdb_client.specs.TxnState.{with_op}
 use Rattle.fdb_core.specs.machine.GrvProxySteps.{has_no_number}
 use Rattle.fdb_core.specs.machine.Machine.{Machine}
-use Rattle.fdb_core.specs.machine.Sessions.{SessionState, Idle, Asking, Open, Waiting, session_of, with_state, open_of, open_at, next_number, greatest_number, has_used_up, serve, tell_all}
+use Rattle.fdb_core.specs.machine.Sessions.{SessionState, Idle, Asking, Open, Waiting, session_of, with_state, open_of}
+use Rattle.fdb_core.specs.machine.Sessions.{open_at, next_number, greatest_number, has_used_up, serve, tell_all}
 use Rattle.fdb_core.specs.machine.Worlds.{start, idle_proxy}
 use Rattle.fdb_client.specs.Programs.{commit_request_of}
 use Rattle.fdb_core.proofs.common.SumLemmas.{sum-set, sum-made, none_or_some}
 use Rattle.fdb_core.proofs.invariant.SessionPlaces.{session_steps, session-start, open-own, asks_once}
-use Rattle.fdb_core.proofs.machine.SessionLemmas.{put-cases, served-none, served-once, told-none, told-some, times_among, times_of, able, next-within}
+use Rattle.fdb_core.proofs.machine.SessionLemmas.{put-cases, served-none, served-once, told-none, told-some}
+use Rattle.fdb_core.proofs.machine.SessionLemmas.{times_among, times_of, able, next-within}
 use Rattle.fdb_core.proofs.machine.SessionMaps.{session-new}
 use Rattle.fdb_core.proofs.machine.Steps.{KeptBySteps, kept-by_trace}
 use Rattle.fdb_core.proofs.machine.Sealing.{sealed_entry, sealed_proxy, sealed_machine}
@@ -161,7 +165,8 @@ module _ (id : TxnId) where
       → slice_get m.commit_proxies proxy ≡ Some commit_proxy → open_at m.sessions client ≡ Some transcript
       → IsOnce id m
       → OnceAmong id m.book (slice_set m.commit_proxies proxy
-      (record commit_proxy { waiting = commit_proxy.waiting ++ transcript ∷ [] })) (with_state m.sessions client Waiting)
+      (record commit_proxy { waiting = commit_proxy.waiting ++ transcript ∷ [] }))
+      (with_state m.sessions client Waiting)
   submitted-once m client proxy commit_proxy transcript at opened once =
       let own = open-own m client transcript (once.0.0 client) opened in
       let set = sum-set (waiting_in id) m.commit_proxies proxy commit_proxy
@@ -218,8 +223,8 @@ module _ (id : TxnId) where
     );
     went_on = λ m taken answer proxy commit_proxy stage decided verdicts acknowledgements quiet came at busy goes_on
         unreported went once. (
-          session_steps.went_on m taken answer proxy commit_proxy stage decided verdicts acknowledgements quiet came at busy
-              goes_on unreported went once.0,
+          session_steps.went_on m taken answer proxy commit_proxy stage decided verdicts acknowledgements quiet came
+              at busy goes_on unreported went once.0,
           with-commit_proxy m proxy commit_proxy _ once.1 at refl,
         );
     reported_version = λ m proxy commit_proxy entry at logging there whole once. (

@@ -1,5 +1,6 @@
 -- Real time: who begins after another transaction was acknowledged reads at that one's version or a greater one.
-use Rattle.std.proofs.Common.{◌≡◌, ◌∙◌, ◌≤◌, le_refl, le_trans, sym, subst, arith, ⊎_elim, inl, inr, ◌⊎◌, ℕ, ◌+◌, min, List, [], ◌∷◌, take, drop, fold, Some, Result}
+use Rattle.std.proofs.Common.{◌≡◌, ◌∙◌, ◌≤◌, le_refl, le_trans, sym, subst, arith, ⊎_elim, inl, inr, ◌⊎◌, ℕ, ◌+◌, min}
+use Rattle.std.proofs.Common.{List, [], ◌∷◌, take, drop, fold, Some, Result}
 use Rattle.std.specs.Prelude.{IfSome}
 use Rattle.std.specs.FinMap.{empty}
 use Rattle.std.specs.List.{AllByRecursion, slice_get, slice_set}
@@ -20,14 +21,17 @@ use Rattle.fdb_core.specs.declared.step.Step.{Step}
 use Rattle.fdb_core.specs.headline.RealTime.{IsAfterVersion, spot_version}
 use Rattle.fdb_core.specs.headline.Traces.{after_steps, machine_of_trace}
 use Rattle.fdb_client.specs.TxnState.{with_op}
-use Rattle.fdb_core.specs.machine.Sessions.{Session, SessionState, Sessions, EachOpen, Idle, Asking, Open, Waiting, session_of, with_state, open_of, open_at, begins_next, next_number, greatest_number, serve, tell_all}
+use Rattle.fdb_core.specs.machine.Sessions.{Session, SessionState, Sessions, EachOpen, Idle, Asking, Open, Waiting}
+use Rattle.fdb_core.specs.machine.Sessions.{session_of, with_state, open_of, open_at, begins_next, next_number}
+use Rattle.fdb_core.specs.machine.Sessions.{greatest_number, serve, tell_all}
 use Rattle.fdb_core.specs.machine.CommitProxySteps.{placed_from}
 use Rattle.fdb_core.specs.machine.Machine.{Machine}
 use Rattle.fdb_core.specs.machine.Worlds.{start, idle_proxy}
 use Rattle.fdb_core.specs.invariant.Invariant.{Invariant, IsReported}
 use Rattle.fdb_core.proofs.common.AllLemmas.{all-push, all-set, all-at, all-drop, all-take, all-replicate}
 use Rattle.fdb_core.proofs.headline.TraceLaws.{after_steps-parts}
-use Rattle.fdb_core.proofs.machine.SessionLemmas.{put-cases, each-put, last-put, last-told, open-has, open-put, open-told, open-new, open-weaken, next-within}
+use Rattle.fdb_core.proofs.machine.SessionLemmas.{put-cases, each-put, last-put, last-told, open-has, open-put}
+use Rattle.fdb_core.proofs.machine.SessionLemmas.{open-told, open-new, open-weaken, next-within}
 use Rattle.fdb_core.proofs.machine.SessionMaps.{session-there}
 use Rattle.fdb_core.proofs.invariant.SoundLaws.{sound_steps, sound-trace}
 use Rattle.fdb_core.proofs.machine.Steps.{KeptBySteps, kept-by_trace}

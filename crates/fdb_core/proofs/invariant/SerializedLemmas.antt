@@ -1,5 +1,7 @@
 -- Acknowledged transactions stand where they are placed, and go on standing there when the book grows.
-use Rattle.std.proofs.Common.{◌≡◌, ◌∙◌, sym, ap, refl, ℕ, zero, suc, ◌+◌, ◌<◌, ◌≤◌, le_refl, le_trans, le_of_lt, Bool, true, false, if◌then◌else◌, List, [], ◌∷◌, ◌++◌, append_assoc, fold, map, length, take, Some, subst, zero-add, add-zero, arith, ◌==◌}
+use Rattle.std.proofs.Common.{◌≡◌, ◌∙◌, sym, ap, refl, ℕ, zero, suc, ◌+◌, ◌<◌, ◌≤◌, le_refl, le_trans, le_of_lt, Bool}
+use Rattle.std.proofs.Common.{true, false, if◌then◌else◌, List, [], ◌∷◌, ◌++◌, append_assoc, fold, map, length, take}
+use Rattle.std.proofs.Common.{Some, subst, zero-add, add-zero, arith, ◌==◌}
 use Rattle.std.specs.List.{AllByRecursion, slice_get}
 use Rattle.std.proofs.lemmas.Bool.{and_parts, cond-false, eqb-true, lt-leb}
 use Rattle.std.proofs.Math.Nat.{suc-add, add-suc}
@@ -9,12 +11,14 @@ use Rattle.fdb_txn.specs.declared.entry.Entry.{Entry}
 use Rattle.fdb_txn.specs.declared.spot.Spot.{Spot}
 use Rattle.fdb_txn.specs.declared.spot.Spot.TheVariants as spot
 use Rattle.fdb_txn.specs.book.Transactions.{Transaction}
-use Rattle.fdb_txn.specs.book.Book.{Stamped, Place, Seen, nothing, placed, add_places, add_entry, seen_of, last_version, seen_before}
+use Rattle.fdb_txn.specs.book.Book.{Stamped, Place, Seen, nothing, placed, add_places, add_entry, seen_of, last_version}
+use Rattle.fdb_txn.specs.book.Book.{seen_before}
 use Rattle.fdb_txn.specs.book.Places.{place_in, place_of, place_at}
 use Rattle.fdb_txn.specs.rules.Admission.{is_fresh, committed}
 use Rattle.fdb_txn.specs.book.History.{IsHistory, AreEntries}
 use Rattle.fdb_txn.specs.rules.SerialMap.{serial_map, up_to, serial_map_at}
-use Rattle.fdb_txn.proofs.book.HistoryLemmas.{all-append, all-weaken, add_places-newer, places_are_history, earlier_maps_stay}
+use Rattle.fdb_txn.proofs.book.HistoryLemmas.{all-append, all-weaken, add_places-newer, places_are_history}
+use Rattle.fdb_txn.proofs.book.HistoryLemmas.{earlier_maps_stay}
 use Rattle.fdb_txn.proofs.rules.SerialMapLemmas.{reads_stand}
 use Rattle.fdb_core.specs.machine.Roles.{CommitProxy}
 use Rattle.fdb_core.specs.declared.roles.client.Placed.{Placed}
@@ -27,7 +31,8 @@ use Rattle.fdb_core.specs.headline.Headline.{AnsweredOn, IsSerializedAtSpot, Wro
 use Rattle.fdb_core.specs.headline.RealTime.{spot_version}
 use Rattle.fdb_core.specs.machine.Machine.{Machine}
 use Rattle.fdb_client.specs.ProgramLaws.{AgreeWhereOrdinary}
-use Rattle.fdb_client.specs.Programs.{program, exec, mutations_of, write_ranges, commit_request_of, is_read_only, replies_of}
+use Rattle.fdb_client.specs.Programs.{program, exec, mutations_of, write_ranges, commit_request_of, is_read_only}
+use Rattle.fdb_client.specs.Programs.{replies_of}
 use Rattle.fdb_core.specs.machine.CommitProxySteps.{placed_from}
 use Rattle.fdb_core.specs.invariant.Invariant.{IsReplied, IsSerializedIn, IsReported}
 use Rattle.fdb_proxy.specs.Verdicts.{moves_through, outcomes_from, outcomes_on}

@@ -5,7 +5,9 @@ use Rattle.std.specs.List.{list_any, count_by}
 use Rattle.std.proofs.lemmas.Bool.{or_left, or_right, or_cases}
 use Rattle.fdb_keys.specs.declared.refusal.Refusal.TheVariants.{WrongState}
 use Rattle.fdb_client.specs.declared.program.Transcript.{Transcript}
-use Rattle.fdb_core.specs.headline.Sessions.{is_of, asks_at, waits_at, is_somewhere, times_asking_at, times_asking, times_waiting_at, times_waiting, IsWhereItsStateSays, SessionsAreWhereTheirStatesSay, AsksAreRefused}
+use Rattle.fdb_core.specs.headline.Sessions.{is_of, asks_at, waits_at, is_somewhere, times_asking_at, times_asking}
+use Rattle.fdb_core.specs.headline.Sessions.{times_waiting_at, times_waiting, IsWhereItsStateSays}
+use Rattle.fdb_core.specs.headline.Sessions.{SessionsAreWhereTheirStatesSay, AsksAreRefused}
 use Rattle.fdb_core.specs.invariant.Places.{asks_as, waits_as, Stands}
 use Rattle.fdb_core.specs.machine.GrvProxySteps.{asks}
 use Rattle.fdb_core.specs.machine.Machine.{Machine, Transition, refused_where}

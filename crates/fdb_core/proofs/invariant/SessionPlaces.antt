@@ -1,5 +1,6 @@
 -- Each session stands as its state says, through every step.
-use Rattle.std.proofs.Common.{◌≡◌, ◌≢◌, ◌∙◌, ◌<◌, ◌≤◌, refl, sym, ap, subst, arith, ⊎_elim, ℕ, ◌+◌, false, cond, List, [], ◌∷◌, ◌++◌, fold, Option, Some, None, Result}
+use Rattle.std.proofs.Common.{◌≡◌, ◌≢◌, ◌∙◌, ◌<◌, ◌≤◌, refl, sym, ap, subst, arith, ⊎_elim, ℕ, ◌+◌, false, cond, List}
+use Rattle.std.proofs.Common.{[], ◌∷◌, ◌++◌, fold, Option, Some, None, Result}
 use Rattle.std.specs.Prelude.{◌==◌, IfSome}
 use Rattle.std.specs.List.{AllByRecursion, slice_get, slice_set, count_by}
 use Rattle.std.proofs.lemmas.List.Sums.{sum_by_push, sum_by-take-drop}
@@ -18,7 +19,8 @@ use Rattle.fdb_client.specs.TxnState.{with_op}
 use Rattle.fdb_core.specs.machine.CommitProxySteps.{is_idle}
 use Rattle.fdb_core.specs.machine.Machine.{Machine}
 use Rattle.fdb_core.specs.machine.Roles.{CommitProxy}
-use Rattle.fdb_core.specs.machine.Sessions.{Session, SessionState, Idle, Asking, Open, Waiting, session_of, with_state, is_busy, open_of, open_at, serve, tell_all}
+use Rattle.fdb_core.specs.machine.Sessions.{Session, SessionState, Idle, Asking, Open, Waiting, session_of, with_state}
+use Rattle.fdb_core.specs.machine.Sessions.{is_busy, open_of, open_at, serve, tell_all}
 use Rattle.fdb_core.specs.machine.Worlds.{start, idle_proxy}
 use Rattle.fdb_core.proofs.common.AllLemmas.{all-at, all-set, all-replicate}
 use Rattle.fdb_core.proofs.common.SumLemmas.{sum-set, sum-at, none_or_some}

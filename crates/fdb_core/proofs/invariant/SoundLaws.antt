@@ -1,5 +1,6 @@
 -- Every step leaves a sound machine sound.
-use Rattle.std.proofs.Common.{◌≡◌, refl, sym, ◌∙◌, ap, subst, arith, ◌<◌, ◌≤◌, le_refl, le_trans, ℕ, suc, max, Bool, true, false, List, [], ◌∷◌, take, map, length, Some, Result}
+use Rattle.std.proofs.Common.{◌≡◌, refl, sym, ◌∙◌, ap, subst, arith, ◌<◌, ◌≤◌, le_refl, le_trans, ℕ, suc, max, Bool}
+use Rattle.std.proofs.Common.{true, false, List, [], ◌∷◌, take, map, length, Some, Result}
 use Rattle.std.specs.List.{AllByRecursion, slice_get, slice_set}
 use Rattle.fdb_keys.specs.declared.refusal.Refusal.{Refusal}
 use Rattle.fdb_txn.specs.Limits.{place_limit}
@@ -26,7 +27,8 @@ use Rattle.fdb_core.specs.invariant.Invariant.{IsReplied, IsSerializedIn, IsRepo
 use Rattle.fdb_core.proofs.common.AllLemmas.{all-at, all-both, all-set, all-push, all-drop, all-take, all-replicate}
 use Rattle.fdb_core.proofs.invariant.OnceLaws.{once_steps, once-start}
 use Rattle.fdb_core.proofs.invariant.SerializedLemmas.{Stands, spot-stays, batch_serialized, read_only_serialized}
-use Rattle.fdb_core.proofs.invariant.SoundLemmas.{told-push, sealed-batch, version-within, found-front, told-entry, commit_proxy-kept}
+use Rattle.fdb_core.proofs.invariant.SoundLemmas.{told-push, sealed-batch, version-within, found-front, told-entry}
+use Rattle.fdb_core.proofs.invariant.SoundLemmas.{commit_proxy-kept}
 use Rattle.fdb_core.proofs.machine.Sealing.{last-at, sealed_entry, sealed_proxy, sealed_machine}
 use Rattle.fdb_core.proofs.machine.SessionLemmas.{open-has, open-put, open-served, open-told, open-new, open-weaken}
 use Rattle.fdb_core.proofs.machine.Steps.{KeptBySteps, kept-by_trace}
@@ -233,8 +235,8 @@ sound_steps = record {
       sound.acknowledged sound.reported
       (λ id. (once_steps id).went_on m taken answer proxy commit_proxy stage decided verdicts acknowledgements quiet
       came at busy goes_on unreported went (sound.once id));
-  reported_version = λ m proxy commit_proxy entry at logging there whole sound. sound-reported m proxy commit_proxy entry
-      sound at (ap is_idle logging) there
+  reported_version = λ m proxy commit_proxy entry at logging there whole sound. sound-reported m proxy commit_proxy
+      entry sound at (ap is_idle logging) there
       (λ id. (once_steps id).reported_version m proxy commit_proxy entry at logging there whole (sound.once id));
   moved = λ m range to exists sound. record {
     entries = sound.entries;

@@ -1,6 +1,7 @@
 -- What it takes to keep the machine sound: tests that accepted steps passed, transcripts, the book, and parts that
 -- change.
-use Rattle.std.proofs.Common.{◌≡◌, ◌∙◌, sym, ap, subst, arith, ◌<◌, ◌≤◌, le_refl, le_trans, ℕ, zero, suc, List, [], ◌∷◌, ◌++◌, map, Some}
+use Rattle.std.proofs.Common.{◌≡◌, ◌∙◌, sym, ap, subst, arith, ◌<◌, ◌≤◌, le_refl, le_trans, ℕ, zero, suc, List, [], ◌∷◌}
+use Rattle.std.proofs.Common.{◌++◌, map, Some}
 use Rattle.std.specs.List.{AllByRecursion, slice_get}
 use Rattle.fdb_mutations.specs.Maps.{Map}
 use Rattle.fdb_txn.specs.declared.entry.Entry.{Entry}
@@ -60,7 +61,8 @@ found-front (y ∷ xs) ys zero x there = there
 found-front (y ∷ xs) ys (suc i) x there = found-front xs ys i x there
 
 -- no entry has a version above that of the last one
-pub last-above : (resolvers last : ℕ) (book : List Entry) → AreEntries resolvers last book → last ≤ version_after last book
+pub last-above : (resolvers last : ℕ) (book : List Entry) → AreEntries resolvers last book → last
+    ≤ version_after last book
 last-above resolvers last [] entries = le_refl last
 last-above resolvers last (entry ∷ book) entries =
     let rest = last-above resolvers entry.version book entries.4 in

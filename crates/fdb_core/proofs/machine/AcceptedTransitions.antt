@@ -1,5 +1,6 @@
 -- What holds of a step's transition wherever the step is accepted, by what the step looks at.
-use Rattle.std.proofs.Common.{◌≡◌, ◌≤◌, refl, subst, arith, ℕ, Bool, true, false, Option, Some, None, Result, Ok, Err, if◌then◌else◌}
+use Rattle.std.proofs.Common.{◌≡◌, ◌≤◌, refl, subst, arith, ℕ, Bool, true, false, Option, Some, None, Result, Ok, Err}
+use Rattle.std.proofs.Common.{if◌then◌else◌}
 use Rattle.std.specs.Prelude.{nat_lt, ⊤}
 use Rattle.std.proofs.lemmas.Bool.{ltb-false}
 use Rattle.fdb_keys.specs.declared.refusal.Refusal.{Refusal}

@@ -1,5 +1,6 @@
 -- Logs that go on, and the flags of those that told a proxy that they took its entry.
-use Rattle.std.proofs.Common.{◌≡◌, refl, ℕ, zero, suc, ◌+◌, ◌<◌, ◌≤◌, le_refl, Bool, true, false, List, [], ◌∷◌, length, replicate, Some, None, ◌⊎◌, arith}
+use Rattle.std.proofs.Common.{◌≡◌, refl, ℕ, zero, suc, ◌+◌, ◌<◌, ◌≤◌, le_refl, Bool, true, false, List, [], ◌∷◌, length}
+use Rattle.std.proofs.Common.{replicate, Some, None, ◌⊎◌, arith}
 use Rattle.std.specs.Prelude.{⊤}
 use Rattle.std.specs.List.{AllByRecursion, slice_get, slice_set}
 use Rattle.fdb_core.specs.machine.CommitProxySteps.{is_logging}

@@ -1,5 +1,6 @@
 -- What the steps of roles that tell clients nothing change, by the kind of the step.
-use Rattle.std.specs.Prelude.{◌≡◌, ◌<◌, ◌≤◌, ℕ, suc, ◌+◌, min, max, Bool, true, false, List, [], take, length, replicate, Some, None, slice_get, slice_set}
+use Rattle.std.specs.Prelude.{◌≡◌, ◌<◌, ◌≤◌, ℕ, suc, ◌+◌, min, max, Bool, true, false, List, [], take, length}
+use Rattle.std.specs.Prelude.{replicate, Some, None, slice_get, slice_set}
 use Rattle.fdb_txn.specs.declared.entry.Entry.{Entry}
 use Rattle.fdb_txn.specs.book.Book.{last_version, seen_before}
 use Rattle.fdb_log.specs.Messages.{log_of}

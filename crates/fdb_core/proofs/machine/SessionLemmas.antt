@@ -1,5 +1,6 @@
 -- What holds of the sessions where one of them is put, where some begin a transaction, and where some are told.
-use Rattle.std.proofs.Common.{◌≡◌, ◌≢◌, ◌∙◌, sym, ap, refl, subst, ⊎_elim, ◌<◌, ◌≤◌, arith, ℕ, true, false, List, [], ◌∷◌, fold, Option, Some, None}
+use Rattle.std.proofs.Common.{◌≡◌, ◌≢◌, ◌∙◌, sym, ap, refl, subst, ⊎_elim, ◌<◌, ◌≤◌, arith, ℕ, true, false, List, []}
+use Rattle.std.proofs.Common.{◌∷◌, fold, Option, Some, None}
 use Rattle.std.specs.Prelude.{◌==◌, IfSome}
 use Rattle.std.specs.List.{count_by, list_any}
 use Rattle.std.specs.FinMap.{insert, empty}
@@ -8,7 +9,9 @@ use Rattle.std.proofs.lemmas.Bool.Decides.{eqb_tells}
 use Rattle.fdb_txn.specs.declared.txn_id.TxnId.{TxnId}
 use Rattle.fdb_client.specs.declared.program.Transcript.{Transcript}
 use Rattle.fdb_core.specs.machine.GrvProxySteps.{has_no_number}
-use Rattle.fdb_core.specs.machine.Sessions.{Session, SessionState, Sessions, EachOpen, Idle, session_of, with_state, open_of, open_at, begins_next, next_number, greatest_number, serve, tell, tell_all}
+use Rattle.fdb_core.specs.machine.Sessions.{Session, SessionState, Sessions, EachOpen, Idle, session_of, with_state}
+use Rattle.fdb_core.specs.machine.Sessions.{open_of, open_at, begins_next, next_number, greatest_number, serve, tell}
+use Rattle.fdb_core.specs.machine.Sessions.{tell_all}
 use Rattle.fdb_core.proofs.common.SumLemmas.{counted, none_or_some}
 use Rattle.fdb_core.proofs.machine.SessionMaps.{session-there, session-elsewhere, session-new}
 

@@ -1,5 +1,6 @@
 -- The walk over the steps of all kinds: what accepted steps change, and what they keep.
-use Rattle.std.proofs.Common.{◌≡◌, ◌∙◌, ◌<◌, ◌≤◌, refl, ap, ℕ, suc, ◌+◌, min, max, Bool, true, false, not, List, [], ◌∷◌, ◌++◌, take, map, length, fold, Option, Some, None, Result, Ok, Err, inl, inr, arith}
+use Rattle.std.proofs.Common.{◌≡◌, ◌∙◌, ◌<◌, ◌≤◌, refl, ap, ℕ, suc, ◌+◌, min, max, Bool, true, false, not, List, []}
+use Rattle.std.proofs.Common.{◌∷◌, ◌++◌, take, map, length, fold, Option, Some, None, Result, Ok, Err, inl, inr, arith}
 use Rattle.std.specs.Prelude.{nat_lt, nat_le, ◌||◌}
 use Rattle.std.specs.List.{slice_get, slice_set, list_any}
 use Rattle.std.proofs.lemmas.Bool.{and_parts, or_parts, eqb-true, not-false, ltb-false, leb-false}
@@ -13,7 +14,8 @@ use Rattle.fdb_txn.specs.book.Book.{seen_of, last_version, seen_before}
 use Rattle.fdb_txn.specs.rules.SerialMap.{serial_map_at}
 use Rattle.fdb_log.specs.Messages.{log_of}
 use Rattle.fdb_sequencer.specs.Sequencer.{next_version}
-use Rattle.fdb_core.specs.machine.Roles.{CommitProxy, Stage, Idle, Resolving, Logging, Reported, ShardProgress, Sender, FromResolver, FromLog}
+use Rattle.fdb_core.specs.machine.Roles.{CommitProxy, Stage, Idle, Resolving, Logging, Reported, ShardProgress, Sender}
+use Rattle.fdb_core.specs.machine.Roles.{FromResolver, FromLog}
 use Rattle.fdb_client.specs.declared.program.Op.{Op}
 use Rattle.fdb_client.specs.declared.program.Op.TheVariants as op
 use Rattle.fdb_client.specs.declared.program.Transcript.{Transcript}
@@ -23,19 +25,24 @@ use Rattle.fdb_txn.specs.book.Size.{size_fault}
 use Rattle.fdb_core.specs.declared.step.Step.{Step}
 use Rattle.fdb_core.specs.declared.step.Step.TheVariants as step
 use Rattle.fdb_core.specs.headline.Traces.{after_steps}
-use Rattle.fdb_core.specs.machine.ClientSteps.{reads, writes, adds_read, adds_write, submits, answered_by, add_operation, fault_after}
+use Rattle.fdb_core.specs.machine.ClientSteps.{reads, writes, adds_read, adds_write, submits, answered_by}
+use Rattle.fdb_core.specs.machine.ClientSteps.{add_operation, fault_after}
 use Rattle.fdb_core.specs.machine.GrvProxySteps.{asks, grants, has_no_number}
-use Rattle.fdb_core.specs.machine.CommitProxySteps.{seals, taken_by_sender, awaits, with_received, receives, decides, reports, answers, is_idle, is_resolving, is_logging, is_reported, placed_from, replies_from}
+use Rattle.fdb_core.specs.machine.CommitProxySteps.{seals, taken_by_sender, awaits, with_received, receives, decides}
+use Rattle.fdb_core.specs.machine.CommitProxySteps.{reports, answers, is_idle, is_resolving, is_logging, is_reported}
+use Rattle.fdb_core.specs.machine.CommitProxySteps.{placed_from, replies_from}
 use Rattle.fdb_core.specs.machine.Machine.{Machine, Transition, is_set, first_missing}
 use Rattle.fdb_core.specs.machine.RoleSteps.{version_of_shard, resolves, pushes, pulls, forgets, pops}
 use Rattle.fdb_core.specs.machine.SequencerSteps.{moves_in, moves}
-use Rattle.fdb_core.specs.machine.Sessions.{Idle as Free, Asking, Waiting, session_of, open_at, with_state, is_busy, serve, tell_all}
+use Rattle.fdb_core.specs.machine.Sessions.{Idle as Free, Asking, Waiting, session_of, open_at, with_state, is_busy}
+use Rattle.fdb_core.specs.machine.Sessions.{serve, tell_all}
 use Rattle.fdb_core.specs.machine.Steps.{next, after}
 use Rattle.fdb_proxy.specs.Verdicts.{is_needed, outcomes_on}
 use Rattle.fdb_client.specs.Programs.{program, copy, reply_on, commit_request_of, is_read_only}
 use Rattle.fdb_core.proofs.headline.TraceLaws.{kept-after_steps}
 use Rattle.fdb_core.proofs.machine.LogLemmas.{Grew, AcknowledgementCame, grew-same, grew-set}
-use Rattle.fdb_core.proofs.machine.AcceptedTransitions.{IfAccepted, past-found, past-test, past-fault, past-wait, past-turn, past-choice, past-open}
+use Rattle.fdb_core.proofs.machine.AcceptedTransitions.{IfAccepted, past-found, past-test, past-fault, past-wait}
+use Rattle.fdb_core.proofs.machine.AcceptedTransitions.{past-turn, past-choice, past-open}
 use Rattle.fdb_core.proofs.machine.RoleChanges.{RoleWent, ProxyWent}
 use Rattle.fdb_core.proofs.machine.Sealing.{sealed_machine}
 

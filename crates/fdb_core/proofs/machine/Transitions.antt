@@ -10,7 +10,8 @@ use Rattle.fdb_txn.specs.book.Size.{size_fault}
 use Rattle.fdb_client.specs.declared.program.Op.{Op}
 use Rattle.fdb_client.specs.declared.program.Transcript.{Transcript}
 use Rattle.fdb_core.specs.declared.step.Answered.TheVariants as answered
-use Rattle.fdb_core.specs.machine.ClientSteps.{reads, submits, submit_fault, add_operation, answered_by, fault_after, reply_after}
+use Rattle.fdb_core.specs.machine.ClientSteps.{reads, submits, submit_fault, add_operation, answered_by, fault_after}
+use Rattle.fdb_core.specs.machine.ClientSteps.{reply_after}
 use Rattle.fdb_core.specs.machine.RoleSteps.{resolves, pushes}
 use Rattle.fdb_core.specs.machine.Machine.{Machine, Transition, refused_by, is_set}
 use Rattle.fdb_core.specs.machine.Roles.{CommitProxy}

@@ -1,5 +1,6 @@
 -- What the machine has in its fields is what the trace tells.
-use Rattle.std.proofs.Common.{◌≡◌, ◌≢◌, ◌≤◌, refl, sym, subst, arith, ⊎_elim, ℕ, suc, ◌+◌, Bool, true, false, cond, List, [], ◌∷◌, ◌++◌, length, Some}
+use Rattle.std.proofs.Common.{◌≡◌, ◌≢◌, ◌≤◌, refl, sym, subst, arith, ⊎_elim, ℕ, suc, ◌+◌, Bool, true, false, cond}
+use Rattle.std.proofs.Common.{List, [], ◌∷◌, ◌++◌, length, Some}
 use Rattle.std.specs.Prelude.{◌==◌, nat_lt, sum_by}
 use Rattle.std.specs.List.{slice_get, slice_set, count_by}
 use Rattle.std.proofs.lemmas.Bool.{eq-eqb, ne_eqb, le-ltb, lt-ltb, ltb-true}

@@ -1,5 +1,6 @@
 -- What the clients of a batch are told is what became of their transactions by the rule.
-use Rattle.std.proofs.Common.{◌≡◌, ◌∙◌, ◌↔◌, refl, sym, ap, subst, arith, ℕ, zero, suc, ◌+◌, Bool, true, false, ◌&&◌, List, [], ◌∷◌, ◌++◌, map, length, Some, if◌then◌else◌}
+use Rattle.std.proofs.Common.{◌≡◌, ◌∙◌, ◌↔◌, refl, sym, ap, subst, arith, ℕ, zero, suc, ◌+◌, Bool, true, false, ◌&&◌}
+use Rattle.std.proofs.Common.{List, [], ◌∷◌, ◌++◌, map, length, Some, if◌then◌else◌}
 use Rattle.std.specs.List.{AllByRecursion, Contains, slice_get}
 use Rattle.std.specs.Option.{option_map}
 use Rattle.std.proofs.lemmas.List.Elements.{Contains-append_right}
@@ -57,7 +58,8 @@ replies-all (transcript ∷ transcripts) (first ∷ outcomes) same =
     let others : length outcomes ≡ length transcripts = cc in ap suc (replies-all transcripts outcomes others)
 
 -- the reply at a place is the outcome there
-reply-at : (transcripts : List Transcript) (outcomes : List Outcome) (p : ℕ) (transcript : Transcript) (became : Outcome)
+reply-at : (transcripts : List Transcript) (outcomes : List Outcome) (p : ℕ) (transcript : Transcript)
+    (became : Outcome)
     → slice_get transcripts p ≡ Some transcript → slice_get outcomes p ≡ Some became
     → slice_get (replies_from transcripts outcomes) p ≡ Some (transcript.id.session, became)
 reply-at [] outcomes p transcript became at there = cc

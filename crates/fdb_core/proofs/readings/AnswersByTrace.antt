@@ -1,5 +1,6 @@
 -- Each accepted step is answered by what the trace told before.
-use Rattle.std.proofs.Common.{◌≡◌, ◌∙◌, refl, sym, ap, subst, ⊎_elim, ℕ, max, List, [], ◌∷◌, map, length, take, Option, Some, None, Result, Ok, Err}
+use Rattle.std.proofs.Common.{◌≡◌, ◌∙◌, refl, sym, ap, subst, ⊎_elim, ℕ, max, List, [], ◌∷◌, map, length, take, Option}
+use Rattle.std.proofs.Common.{Some, None, Result, Ok, Err}
 use Rattle.std.specs.List.{AllByRecursion, slice_get}
 use Rattle.std.specs.FinMap.{get}
 use Rattle.std.proofs.lemmas.Option.{same_Some}
@@ -63,43 +64,44 @@ operation-answered : (config : Config) (r : Readings) (book : List Entry) (taken
     (operation : Op) (transcript : Transcript)
     → r.book ≡ book → HasOpened r session transcript → operation_of taken ≡ Some (session, operation)
     → IsAnswered config r taken (answered_by (reply_on
-    (copy (serial_map_at config.resolver_splits transcript.read_version (seen_of book).places) (program transcript.ops)) operation))
+    (copy (serial_map_at config.resolver_splits transcript.read_version (seen_of book).places)
+    (program transcript.ops)) operation))
 operation-answered config r book (step.Get own key snapshot) session operation transcript same opened is =
     let done = same_Some (own, op.Get key snapshot) (session, operation) is in
     subst (λ (pair : ℕ × Op). IsAnswered config r (step.Get own key snapshot) (answered_by (reply_on
-    (copy (serial_map_at config.resolver_splits transcript.read_version (seen_of book).places) (program transcript.ops)) pair.1)))
-    done (
+    (copy (serial_map_at config.resolver_splits transcript.read_version (seen_of book).places)
+    (program transcript.ops)) pair.1))) done (
       transcript,
       subst (λ (s : ℕ). HasOpened r s transcript) (sym (ap (λ (pair : ℕ × Op). pair.0) done)) opened,
       ap (λ (b : List Entry). get
-          (copy (serial_map_at config.resolver_splits transcript.read_version (seen_of b).places) (program transcript.ops)) key)
-          (sym same),
+          (copy (serial_map_at config.resolver_splits transcript.read_version (seen_of b).places)
+          (program transcript.ops)) key) (sym same),
     )
 operation-answered config r book (step.GetRange own range limit is_reverse snapshot) session operation transcript same
     opened is =
     let done = same_Some (own, op.Range range limit is_reverse snapshot) (session, operation) is in
     subst (λ (pair : ℕ × Op). IsAnswered config r (step.GetRange own range limit is_reverse snapshot)
     (answered_by (reply_on
-    (copy (serial_map_at config.resolver_splits transcript.read_version (seen_of book).places) (program transcript.ops)) pair.1)))
-    done (
+    (copy (serial_map_at config.resolver_splits transcript.read_version (seen_of book).places)
+    (program transcript.ops)) pair.1))) done (
       transcript,
       subst (λ (s : ℕ). HasOpened r s transcript) (sym (ap (λ (pair : ℕ × Op). pair.0) done)) opened,
       ap (λ (b : List Entry). given_of
-          (copy (serial_map_at config.resolver_splits transcript.read_version (seen_of b).places) (program transcript.ops)) range limit
-          is_reverse) (sym same),
+          (copy (serial_map_at config.resolver_splits transcript.read_version (seen_of b).places)
+          (program transcript.ops)) range limit is_reverse) (sym same),
     )
 operation-answered config r book (step.Write own mutation) session operation transcript same opened is =
     subst (λ (pair : ℕ × Op). IsAnswered config r (step.Write own mutation) (answered_by (reply_on
-    (copy (serial_map_at config.resolver_splits transcript.read_version (seen_of book).places) (program transcript.ops)) pair.1)))
-    (same_Some (own, op.Write mutation) (session, operation) is) refl
+    (copy (serial_map_at config.resolver_splits transcript.read_version (seen_of book).places)
+    (program transcript.ops)) pair.1))) (same_Some (own, op.Write mutation) (session, operation) is) refl
 operation-answered config r book (step.AddRead own range) session operation transcript same opened is =
     subst (λ (pair : ℕ × Op). IsAnswered config r (step.AddRead own range) (answered_by (reply_on
-    (copy (serial_map_at config.resolver_splits transcript.read_version (seen_of book).places) (program transcript.ops)) pair.1)))
-    (same_Some (own, op.AddRead range) (session, operation) is) refl
+    (copy (serial_map_at config.resolver_splits transcript.read_version (seen_of book).places)
+    (program transcript.ops)) pair.1))) (same_Some (own, op.AddRead range) (session, operation) is) refl
 operation-answered config r book (step.AddWrite own range) session operation transcript same opened is =
     subst (λ (pair : ℕ × Op). IsAnswered config r (step.AddWrite own range) (answered_by (reply_on
-    (copy (serial_map_at config.resolver_splits transcript.read_version (seen_of book).places) (program transcript.ops)) pair.1)))
-    (same_Some (own, op.AddWrite range) (session, operation) is) refl
+    (copy (serial_map_at config.resolver_splits transcript.read_version (seen_of book).places)
+    (program transcript.ops)) pair.1))) (same_Some (own, op.AddWrite range) (session, operation) is) refl
 operation-answered config r book (step.Ask own proxy) session operation transcript same opened is = cc
 operation-answered config r book (step.Grant proxy) session operation transcript same opened is = cc
 operation-answered config r book (step.Submit own proxy) session operation transcript same opened is = cc
@@ -157,7 +159,8 @@ answered_steps = record {
   roles = λ m taken answer resolvers logs shards quiet grew went r has sound tells told.
       role-answered m r has sound tells told taken answer resolvers logs shards went;
   asked = λ m session proxy there at free r has sound tells told. refl;
-  granted = λ m proxy there at left r has sound tells told. all-granted m.committed r.reported there (sym tells.reported_told);
+  granted = λ m proxy there at left r has sound tells told. all-granted m.committed r.reported there
+      (sym tells.reported_told);
   operated = λ m taken session transcript operation does opened r has sound tells told.
       operation-answered m.config r m.book taken session operation transcript tells.book_told
       (found-told r.opened m.sessions tells.opened_told session transcript opened) does;

@@ -1,5 +1,6 @@
 -- What is due is accepted.
-use Rattle.std.proofs.Common.{◌≡◌, ◌∙◌, ◌<◌, refl, sym, ap, subst, arith, ⊎_elim, ℕ, zero, suc, ◌+◌, Bool, true, false, List, [], ◌∷◌, ◌++◌, length, Option, Some, None, Result, Ok, Err, if◌then◌else◌}
+use Rattle.std.proofs.Common.{◌≡◌, ◌∙◌, ◌<◌, refl, sym, ap, subst, arith, ⊎_elim, ℕ, zero, suc, ◌+◌, Bool, true, false}
+use Rattle.std.proofs.Common.{List, [], ◌∷◌, ◌++◌, length, Option, Some, None, Result, Ok, Err, if◌then◌else◌}
 use Rattle.std.specs.Prelude.{unwrap_or, not, ◌&&◌, ◌||◌}
 use Rattle.std.specs.List.{slice_get}
 use Rattle.std.proofs.lemmas.Bool.{eq-eqb, lt-leb}
@@ -18,7 +19,8 @@ use Rattle.fdb_core.specs.declared.step.Answered.{Answered}
 use Rattle.fdb_core.specs.declared.step.Step.{Step}
 use Rattle.fdb_core.specs.declared.step.Step.TheVariants as step
 use Rattle.fdb_core.specs.headline.Answers.{IsAskedAt, IsVerdictDue, IsPushed, IsAcknowledgementDue}
-use Rattle.fdb_core.specs.headline.Due.{IsResolverDue, CameBelow, IsDue, IsLeastMissing, WhatIsDueIsAccepted, DecisionsWait}
+use Rattle.fdb_core.specs.headline.Due.{IsResolverDue, CameBelow, IsDue, IsLeastMissing, WhatIsDueIsAccepted}
+use Rattle.fdb_core.specs.headline.Due.{DecisionsWait}
 use Rattle.fdb_core.specs.headline.Readings.{Readings, readings_of}
 use Rattle.fdb_core.specs.headline.Traces.{IsTraceOf, machine_of_trace}
 use Rattle.fdb_core.specs.invariant.Invariant.{Invariant}
@@ -194,7 +196,8 @@ module _ (m : Machine) (r : Readings) (has : HasRoles m) (sound : Invariant m) (
   own-entry : (proxy entry : ℕ) (commit_proxy : CommitProxy) → slice_get m.commit_proxies proxy ≡ Some commit_proxy
       → is_idle commit_proxy.stage ≡ false → commit_proxy.entry ≡ entry → slice_get m.entry_proxies entry ≡ Some proxy
   own-entry proxy entry commit_proxy at busy same =
-      subst (λ (i : ℕ). slice_get m.entry_proxies i ≡ Some proxy) same ((told.proxies_told proxy commit_proxy at).1 busy)
+      subst (λ (i : ℕ). slice_get m.entry_proxies i ≡ Some proxy) same
+      ((told.proxies_told proxy commit_proxy at).1 busy)
 
   -- an accepted step answers something
   abbrev Accepts : Result Transition Refusal → Type 0
@@ -402,7 +405,8 @@ module _ (config : Config) (steps : List Step) (given : List (Result Answered Re
 
   accepted-where-due : IsDue config told_before taken → (answer : Answered) × (result ≡ Ok answer)
   accepted-where-due due =
-      let accepts = due-accepts before told_before has-roles (sound-trace config steps given) tells-before tells-roles taken
+      let accepts = due-accepts before told_before has-roles (sound-trace config steps given) tells-before tells-roles
+      taken
       (subst (λ (c : Config). IsDue c told_before taken) (sym config-is) due) in
       (accepts.0.answer, answers-so ∙ ap answer_of accepts.1)
 

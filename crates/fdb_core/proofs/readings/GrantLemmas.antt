@@ -1,6 +1,7 @@
 -- The transactions that a Grant begins: what the machine numbers by each session's last one, a trace numbers by how
 -- often the session began before.
-use Rattle.std.proofs.Common.{◌≡◌, ◌≢◌, ◌∙◌, ◌<◌, ◌≤◌, refl, sym, ap, arith, ⊎_elim, ℕ, zero, suc, ◌+◌, min, true, false, cond, List, [], ◌∷◌, ◌++◌, Option, Some, None}
+use Rattle.std.proofs.Common.{◌≡◌, ◌≢◌, ◌∙◌, ◌<◌, ◌≤◌, refl, sym, ap, arith, ⊎_elim, ℕ, zero, suc, ◌+◌, min, true}
+use Rattle.std.proofs.Common.{false, cond, List, [], ◌∷◌, ◌++◌, Option, Some, None}
 use Rattle.std.specs.Prelude.{◌==◌}
 use Rattle.std.proofs.lemmas.List.{append-nil}
 use Rattle.std.proofs.lemmas.List.Elements.{filter-append}
@@ -11,7 +12,8 @@ use Rattle.fdb_client.specs.declared.program.Transcript.{Transcript}
 use Rattle.fdb_core.specs.headline.Readings.{Readings, begins, is_of_session, times_begun}
 use Rattle.fdb_core.specs.headline.Traces.{alone}
 use Rattle.fdb_core.specs.machine.GrvProxySteps.{has_no_number}
-use Rattle.fdb_core.specs.machine.Sessions.{Session, SessionState, Sessions, session_of, with_state, open_of, open_at, begins_next, next_number, greatest_number, has_used_up, serve, tell_all}
+use Rattle.fdb_core.specs.machine.Sessions.{Session, SessionState, Sessions, session_of, with_state, open_of, open_at}
+use Rattle.fdb_core.specs.machine.Sessions.{begins_next, next_number, greatest_number, has_used_up, serve, tell_all}
 use Rattle.fdb_core.proofs.common.SumLemmas.{counted}
 use Rattle.fdb_core.proofs.machine.SessionLemmas.{put-cases, last-put, last-told, times_among}
 use Rattle.fdb_core.proofs.machine.SessionMaps.{session-elsewhere}

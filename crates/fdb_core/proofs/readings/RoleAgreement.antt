@@ -1,5 +1,6 @@
 -- How far the roles are in the machine is what the trace tells.
-use Rattle.std.proofs.Common.{◌≡◌, ◌≢◌, ◌∙◌, ◌≤◌, refl, sym, ap, subst, ⊎_elim, ℕ, zero, suc, Bool, true, false, List, [], ◌∷◌, ◌++◌, length, take, replicate, Option, Some, None}
+use Rattle.std.proofs.Common.{◌≡◌, ◌≢◌, ◌∙◌, ◌≤◌, refl, sym, ap, subst, ⊎_elim, ℕ, zero, suc, Bool, true, false, List}
+use Rattle.std.proofs.Common.{[], ◌∷◌, ◌++◌, length, take, replicate, Option, Some, None}
 use Rattle.std.specs.Prelude.{unwrap_or, ◌==◌}
 use Rattle.std.specs.List.{slice_get, slice_set}
 use Rattle.std.proofs.lemmas.Bool.Decides.{eqb_tells}
@@ -14,7 +15,8 @@ use Rattle.fdb_core.proofs.readings.Agreement.{changed-there, changed-elsewhere}
 use Rattle.fdb_core.proofs.readings.SessionLists.{item-after-set}
 
 -- a commit proxy waits for what it is told to wait for, and has of that what came
-abbrev pub StageTold : Progress → (resolvers logs proxy : ℕ) → Stage → ℕ → (verdicts acknowledgements : List Bool) → Type 0
+abbrev pub StageTold : Progress → (resolvers logs proxy : ℕ) → Stage → ℕ → (verdicts acknowledgements : List Bool)
+    → Type 0
 StageTold p resolvers logs proxy Idle entry verdicts acknowledgements =
     (p.resolving proxy ≡ None) × (p.logging proxy ≡ None)
 StageTold p resolvers logs proxy Resolving entry verdicts acknowledgements =

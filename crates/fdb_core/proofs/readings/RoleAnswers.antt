@@ -1,5 +1,6 @@
 -- What roles that tell clients nothing answer is by what the trace told before.
-use Rattle.std.proofs.Common.{◌≡◌, ◌∙◌, ◌<◌, ◌≤◌, refl, sym, ap, subst, arith, ℕ, suc, ◌+◌, min, max, Bool, List, length, take, Option, Some}
+use Rattle.std.proofs.Common.{◌≡◌, ◌∙◌, ◌<◌, ◌≤◌, refl, sym, ap, subst, arith, ℕ, suc, ◌+◌, min, max, Bool, List}
+use Rattle.std.proofs.Common.{length, take, Option, Some}
 use Rattle.std.specs.Prelude.{unwrap_or, nat_le}
 use Rattle.std.specs.List.{slice_get, count_by}
 use Rattle.std.proofs.lemmas.List.{length-replicate, length-set}
@@ -26,13 +27,15 @@ use Rattle.fdb_core.specs.machine.Worlds.{start}
 use Rattle.fdb_core.proofs.checking.BodyLemmas.{length-outcomes_on}
 use Rattle.fdb_core.proofs.checking.StandingLemmas.{place-found}
 use Rattle.fdb_core.proofs.common.AllLemmas.{contains-item, item-contained}
-use Rattle.fdb_core.proofs.machine.RoleChanges.{RoleWent, ProxyWent, ShardPulled, applied_after, VerdictsReached, BatchDecided, AcknowledgementReached}
+use Rattle.fdb_core.proofs.machine.RoleChanges.{RoleWent, ProxyWent, ShardPulled, applied_after, VerdictsReached}
+use Rattle.fdb_core.proofs.machine.RoleChanges.{BatchDecided, AcknowledgementReached}
 use Rattle.fdb_core.proofs.machine.Steps.{KeptBySteps}
 use Rattle.fdb_core.proofs.readings.Agreement.{TellsMachine}
 use Rattle.fdb_core.proofs.readings.AnswerReplies.{outcome-by-rule}
 use Rattle.fdb_core.proofs.readings.RoleAgreement.{StageTold, TellsRoles}
 use Rattle.fdb_core.proofs.readings.RoleReadings.{stage-at, awaits-verdicts, awaits-acknowledgement}
-use Rattle.fdb_core.proofs.readings.RoleReplies.{verdict-by-rule, in-batch, said-at, said-of, said-rises, asked-about, none-missing, count-up-to}
+use Rattle.fdb_core.proofs.readings.RoleReplies.{verdict-by-rule, in-batch, said-at, said-of, said-rises, asked-about}
+use Rattle.fdb_core.proofs.readings.RoleReplies.{none-missing, count-up-to}
 
 -- there are as many resolvers and logs as the configuration says
 pub record HasRoles (m : Machine) : Type 0 where
@@ -197,8 +200,8 @@ module _ (m : Machine) (r : Readings) (has : HasRoles m) (sound : Invariant m) (
             ∙ none-missing (λ resolver. is_needed splits resolver before by.entry) 0 commit_proxy.verdicts_received
             resolver by.whole (omega (arith, exists, has.resolvers, was.2))
             (ap (λ (n : ℕ). is_needed splits n before by.entry) (first resolver)
-            ∙ asked-about splits by.entry.version (moves_through before by.entry) resolver by.entry.batch before.places p
-            there (sym (place-told commit_proxy.entry by.entry by.entry_is p) ∙ asked.0) asked.1);
+            ∙ asked-about splits by.entry.version (moves_through before by.entry) resolver by.entry.batch
+            before.places p there (sym (place-told commit_proxy.entry by.entry by.entry_is p) ∙ asked.0) asked.1);
         all_places = length-outcomes_on splits before by.entry;
         by_rule = became-by-rule commit_proxy.entry by.entry by.entry_is;
       })
@@ -356,15 +359,20 @@ module _ (m : Machine) (r : Readings) (has : HasRoles m) (sound : Invariant m) (
       absurd went
   proxy-answered (step.Grant own) answer proxy commit_proxy stage decided verdicts acknowledgements at went =
       absurd went
-  proxy-answered (step.Get session key snapshot) answer proxy commit_proxy stage decided verdicts acknowledgements at went =
+  proxy-answered (step.Get session key snapshot) answer proxy commit_proxy stage decided verdicts acknowledgements at
+      went =
       absurd went
-  proxy-answered (step.GetRange session range limit is_reverse snapshot) answer proxy commit_proxy stage decided verdicts acknowledgements at went =
+  proxy-answered (step.GetRange session range limit is_reverse snapshot) answer proxy commit_proxy stage decided
+      verdicts acknowledgements at went =
       absurd went
-  proxy-answered (step.Write session mutation) answer proxy commit_proxy stage decided verdicts acknowledgements at went =
+  proxy-answered (step.Write session mutation) answer proxy commit_proxy stage decided verdicts acknowledgements at
+      went =
       absurd went
-  proxy-answered (step.AddRead session range) answer proxy commit_proxy stage decided verdicts acknowledgements at went =
+  proxy-answered (step.AddRead session range) answer proxy commit_proxy stage decided verdicts acknowledgements at
+      went =
       absurd went
-  proxy-answered (step.AddWrite session range) answer proxy commit_proxy stage decided verdicts acknowledgements at went =
+  proxy-answered (step.AddWrite session range) answer proxy commit_proxy stage decided verdicts acknowledgements at
+      went =
       absurd went
   proxy-answered (step.Submit session own) answer proxy commit_proxy stage decided verdicts acknowledgements at went =
       absurd went

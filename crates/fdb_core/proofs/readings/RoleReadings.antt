@@ -1,5 +1,6 @@
 -- Every accepted step tells, with its answer, how far it takes the roles.
-use Rattle.std.proofs.Common.{◌≡◌, ◌≢◌, ◌∙◌, ◌<◌, ◌≤◌, le_trans, refl, sym, ap, subst, arith, ⊎_elim, ℕ, suc, max, Bool, true, false, List, [], ◌∷◌, ◌++◌, length, take, map, fold, Some, None}
+use Rattle.std.proofs.Common.{◌≡◌, ◌≢◌, ◌∙◌, ◌<◌, ◌≤◌, le_trans, refl, sym, ap, subst, arith, ⊎_elim, ℕ, suc, max, Bool}
+use Rattle.std.proofs.Common.{true, false, List, [], ◌∷◌, ◌++◌, length, take, map, fold, Some, None}
 use Rattle.std.specs.List.{slice_get, slice_set}
 use Rattle.std.proofs.lemmas.Bool.{and_parts, eqb-true, not-true}
 use Rattle.std.proofs.lemmas.List.{length-append, length-replicate, length-set, take-append-le}
@@ -14,14 +15,19 @@ use Rattle.fdb_core.specs.headline.Readings.{Readings, Progress, read, begins, d
 use Rattle.fdb_core.specs.invariant.Invariant.{Invariant}
 use Rattle.fdb_core.specs.machine.CommitProxySteps.{is_idle, awaits}
 use Rattle.fdb_core.specs.machine.Machine.{Machine, is_set}
-use Rattle.fdb_core.specs.machine.Roles.{CommitProxy, Stage, Idle, Resolving, Logging, Reported, ShardProgress, FromResolver, FromLog}
+use Rattle.fdb_core.specs.machine.Roles.{CommitProxy, Stage, Idle, Resolving, Logging, Reported, ShardProgress}
+use Rattle.fdb_core.specs.machine.Roles.{FromResolver, FromLog}
 use Rattle.fdb_core.proofs.common.AllLemmas.{within-item}
 use Rattle.fdb_core.proofs.invariant.SoundLemmas.{found-front}
-use Rattle.fdb_core.proofs.machine.RoleChanges.{RoleWent, ProxyWent, ResolverTook, LogTook, ShardPulled, ShardForgot, ShardPopped, applied_after, VerdictsReached, BatchDecided, AcknowledgementReached}
+use Rattle.fdb_core.proofs.machine.RoleChanges.{RoleWent, ProxyWent, ResolverTook, LogTook, ShardPulled, ShardForgot}
+use Rattle.fdb_core.proofs.machine.RoleChanges.{ShardPopped, applied_after, VerdictsReached, BatchDecided}
+use Rattle.fdb_core.proofs.machine.RoleChanges.{AcknowledgementReached}
 use Rattle.fdb_core.proofs.machine.Sealing.{last-at, sealed_entry, sealed_proxy, sealed_machine}
 use Rattle.fdb_core.proofs.machine.Steps.{HoldsOfSteps, stage-is}
 use Rattle.fdb_core.proofs.readings.Agreement.{TellsMachine, changed-there, changed-elsewhere, operation-tells}
-use Rattle.fdb_core.proofs.readings.RoleAgreement.{StageTold, ProxyTold, ProxiesTold, ShardTold, ShardsTold, RolesTold, TellsRoles, set-told, push-default, replicate-default, none-before, there-not_none, came-there, came-elsewhere, stage-stays, one-told}
+use Rattle.fdb_core.proofs.readings.RoleAgreement.{StageTold, ProxyTold, ProxiesTold, ShardTold, ShardsTold, RolesTold}
+use Rattle.fdb_core.proofs.readings.RoleAgreement.{TellsRoles, set-told, push-default, replicate-default, none-before}
+use Rattle.fdb_core.proofs.readings.RoleAgreement.{there-not_none, came-there, came-elsewhere, stage-stays, one-told}
 use Rattle.fdb_core.proofs.readings.SessionLists.{item-after-set}
 
 -- what a step tells beside what was told before is how far the machine's roles go
@@ -272,7 +278,8 @@ roles-tell m (step.Move range to) answer resolvers logs shards r went told = abs
 -- ---- commit proxies
 
 -- what it means that a proxy waits for verdicts, and for an acknowledgement
-pub awaits-verdicts : (commit_proxy : CommitProxy) (i resolver : ℕ) → awaits commit_proxy i (FromResolver resolver) ≡ true
+pub awaits-verdicts : (commit_proxy : CommitProxy) (i resolver : ℕ) → awaits commit_proxy i (FromResolver resolver)
+    ≡ true
     → (commit_proxy.stage ≡ Resolving) × (commit_proxy.entry ≡ i)
     × (is_set commit_proxy.verdicts_received resolver ≡ false)
 awaits-verdicts commit_proxy i resolver awaited =
@@ -391,14 +398,14 @@ verdicts-told m i resolver answer proxy commit_proxy stage decided verdicts ackn
     (sym (came-elsewhere i resolver p.verdicts_came on n (λ same. omega (arith, its, behind, same))), refl)) (
       subst (λ (s : Stage). StageTold q (length m.resolvers) (length m.logs) proxy s commit_proxy.entry verdicts
           acknowledgements) (sym (reached.stage_is ∙ resolving))
-          (subst (λ (flags : List Bool). StageTold q (length m.resolvers) (length m.logs) proxy Resolving commit_proxy.entry
-          flags acknowledgements) (sym reached.verdicts_are) (
+          (subst (λ (flags : List Bool). StageTold q (length m.resolvers) (length m.logs) proxy Resolving
+          commit_proxy.entry flags acknowledgements) (sym reached.verdicts_are) (
             was.0,
             was.1,
             length-set commit_proxy.verdicts_received resolver true ∙ was.2,
             (λ n. came-there i resolver p.verdicts_came commit_proxy.entry n its_entry
-                ∙ set-told (p.verdicts_came commit_proxy.entry) false commit_proxy.verdicts_received resolver flag.0 true
-                flag.1 was.3 n),
+                ∙ set-told (p.verdicts_came commit_proxy.entry) false commit_proxy.verdicts_received resolver flag.0
+                true flag.1 was.3 n),
             was.4,
           )),
       λ busy. (told.proxies_told proxy commit_proxy at).1 (ap is_idle resolving),
@@ -452,8 +459,8 @@ acknowledgement-told m i log answer proxy commit_proxy stage decided verdicts ac
     (refl, sym (came-elsewhere i log p.acknowledgements_came on n (λ same. omega (arith, its, behind, same))))) (
       subst (λ (s : Stage). StageTold q (length m.resolvers) (length m.logs) proxy s commit_proxy.entry verdicts
           acknowledgements) (sym (reached.stage_is ∙ logging))
-          (subst (λ (flags : List Bool). StageTold q (length m.resolvers) (length m.logs) proxy Logging commit_proxy.entry
-          verdicts flags) (sym reached.acknowledgements_are) (
+          (subst (λ (flags : List Bool). StageTold q (length m.resolvers) (length m.logs) proxy Logging
+          commit_proxy.entry verdicts flags) (sym reached.acknowledgements_are) (
             was.0,
             was.1,
             length-set commit_proxy.acknowledgements_received log true ∙ was.2,
@@ -514,8 +521,8 @@ decided-told m own answer proxy commit_proxy stage decided verdicts acknowledgem
     (λ on n behind. (refl, refl)) (
       subst (λ (s : Stage). StageTold q (length m.resolvers) (length m.logs) proxy s commit_proxy.entry verdicts
           acknowledgements) (sym by.stage_is)
-          (subst (λ (flags : List Bool). StageTold q (length m.resolvers) (length m.logs) proxy Logging commit_proxy.entry
-          verdicts flags) (sym by.acknowledgements_are) (
+          (subst (λ (flags : List Bool). StageTold q (length m.resolvers) (length m.logs) proxy Logging
+          commit_proxy.entry verdicts flags) (sym by.acknowledgements_are) (
             changed-there proxy None p.resolving,
             changed-there proxy (Some commit_proxy.entry) p.logging,
             length-replicate (length m.logs) false,
@@ -556,7 +563,8 @@ proxies-tell : (m : Machine) (taken : Step) (answer : Answered) (proxy : ℕ) (c
     (slice_set m.commit_proxies proxy (record commit_proxy
     { stage = stage; verdicts_received = verdicts; acknowledgements_received = acknowledgements }))
     m.resolvers m.logs m.shards
-proxies-tell m (step.Verdict i resolver) answer proxy commit_proxy stage decided verdicts acknowledgements r went at told =
+proxies-tell m (step.Verdict i resolver) answer proxy commit_proxy stage decided verdicts acknowledgements r went at
+    told =
     verdicts-told m i resolver answer proxy commit_proxy stage decided verdicts acknowledgements r.progress went at told
 proxies-tell m (step.Decide own) answer proxy commit_proxy stage decided verdicts acknowledgements r went at told =
     decided-told m own answer proxy commit_proxy stage decided verdicts acknowledgements r.progress went at told
@@ -567,21 +575,29 @@ proxies-tell m (step.Ask session own) answer proxy commit_proxy stage decided ve
     absurd went
 proxies-tell m (step.Grant own) answer proxy commit_proxy stage decided verdicts acknowledgements r went at told =
     absurd went
-proxies-tell m (step.Get session key snapshot) answer proxy commit_proxy stage decided verdicts acknowledgements r went at told =
+proxies-tell m (step.Get session key snapshot) answer proxy commit_proxy stage decided verdicts acknowledgements r
+    went at told =
     absurd went
-proxies-tell m (step.GetRange session range limit is_reverse snapshot) answer proxy commit_proxy stage decided verdicts acknowledgements r went at told =
+proxies-tell m (step.GetRange session range limit is_reverse snapshot) answer proxy commit_proxy stage decided
+    verdicts acknowledgements r went at told =
     absurd went
-proxies-tell m (step.Write session mutation) answer proxy commit_proxy stage decided verdicts acknowledgements r went at told =
+proxies-tell m (step.Write session mutation) answer proxy commit_proxy stage decided verdicts acknowledgements r went
+    at told =
     absurd went
-proxies-tell m (step.AddRead session range) answer proxy commit_proxy stage decided verdicts acknowledgements r went at told =
+proxies-tell m (step.AddRead session range) answer proxy commit_proxy stage decided verdicts acknowledgements r went
+    at told =
     absurd went
-proxies-tell m (step.AddWrite session range) answer proxy commit_proxy stage decided verdicts acknowledgements r went at told =
+proxies-tell m (step.AddWrite session range) answer proxy commit_proxy stage decided verdicts acknowledgements r went
+    at told =
     absurd went
-proxies-tell m (step.Submit session own) answer proxy commit_proxy stage decided verdicts acknowledgements r went at told =
+proxies-tell m (step.Submit session own) answer proxy commit_proxy stage decided verdicts acknowledgements r went at
+    told =
     absurd went
-proxies-tell m (step.Seal own advance) answer proxy commit_proxy stage decided verdicts acknowledgements r went at told =
+proxies-tell m (step.Seal own advance) answer proxy commit_proxy stage decided verdicts acknowledgements r went at
+    told =
     absurd went
-proxies-tell m (step.Resolve i resolver) answer proxy commit_proxy stage decided verdicts acknowledgements r went at told =
+proxies-tell m (step.Resolve i resolver) answer proxy commit_proxy stage decided verdicts acknowledgements r went at
+    told =
     absurd went
 proxies-tell m (step.Push i log) answer proxy commit_proxy stage decided verdicts acknowledgements r went at told =
     absurd went
@@ -589,9 +605,11 @@ proxies-tell m (step.Report own) answer proxy commit_proxy stage decided verdict
     absurd went
 proxies-tell m (step.Answer own) answer proxy commit_proxy stage decided verdicts acknowledgements r went at told =
     absurd went
-proxies-tell m (step.Pull shard limit) answer proxy commit_proxy stage decided verdicts acknowledgements r went at told =
+proxies-tell m (step.Pull shard limit) answer proxy commit_proxy stage decided verdicts acknowledgements r went at
+    told =
     absurd went
-proxies-tell m (step.Forget shard version) answer proxy commit_proxy stage decided verdicts acknowledgements r went at told =
+proxies-tell m (step.Forget shard version) answer proxy commit_proxy stage decided verdicts acknowledgements r went at
+    told =
     absurd went
 proxies-tell m (step.Pop shard) answer proxy commit_proxy stage decided verdicts acknowledgements r went at told =
     absurd went
@@ -613,8 +631,8 @@ sealed-tells m proxy advance version commit_proxy p at idle told = record {
   logged_within = λ log taken there.
       let within = told.logged_within log taken there in omega (arith, within, longer);
   decided_told = λ i. told.decided_told i ∙ sym (push-default false m.decided i);
-  proxies_told = one-told p q (m.entry_proxies ++ proxy ∷ []) (length m.resolvers) (length m.logs) m.commit_proxies proxy
-      (sealed_proxy m commit_proxy)
+  proxies_told = one-told p q (m.entry_proxies ++ proxy ∷ []) (length m.resolvers) (length m.logs) m.commit_proxies
+      proxy (sealed_proxy m commit_proxy)
       (λ other it there.
       let had = told.proxies_told other it there in
       (had.0, λ busy. found-front m.entry_proxies (proxy ∷ []) it.entry other (had.1 busy)))
@@ -714,7 +732,8 @@ pub stage-at : (m : Machine) (p : Progress) (proxy : ℕ) (commit_proxy : Commit
     commit_proxy.verdicts_received commit_proxy.acknowledgements_received
 stage-at m p proxy commit_proxy stage told at is =
     subst (λ (s : Stage). StageTold p (length m.resolvers) (length m.logs) proxy s commit_proxy.entry
-    commit_proxy.verdicts_received commit_proxy.acknowledgements_received) is (told.proxies_told proxy commit_proxy at).0
+    commit_proxy.verdicts_received commit_proxy.acknowledgements_received) is
+    (told.proxies_told proxy commit_proxy at).0
 
 pub roles_tell_steps : HoldsOfSteps RolesTellOn
 roles_tell_steps = record {
@@ -722,10 +741,12 @@ roles_tell_steps = record {
       roles-tell m taken answer resolvers logs shards r went told;
   asked = λ m session proxy there at free r sound tells told. told;
   granted = λ m proxy there at left r sound tells told.
-      subst (λ (p : Progress). RolesTold p m.book m.entry_proxies m.decided m.commit_proxies m.resolvers m.logs m.shards)
+      subst (λ (p : Progress). RolesTold p m.book m.entry_proxies m.decided m.commit_proxies m.resolvers m.logs
+      m.shards)
       (sym (begins-progress (map (λ (session : ℕ). (session, m.committed)) there) r)) told;
   operated = λ m taken session transcript operation does opened r sound tells told.
-      subst (λ (p : Progress). RolesTold p m.book m.entry_proxies m.decided m.commit_proxies m.resolvers m.logs m.shards)
+      subst (λ (p : Progress). RolesTold p m.book m.entry_proxies m.decided m.commit_proxies m.resolvers m.logs
+      m.shards)
       (ap (λ (now : Readings). now.progress) (operation-tells r taken session operation _ does)) told;
   read_only = λ m session proxy transcript opened empty r sound tells told. told;
   submitted = λ m session proxy commit_proxy transcript at opened writes r sound tells told.
@@ -738,7 +759,8 @@ roles_tell_steps = record {
       proxies-tell m taken answer proxy commit_proxy stage decided verdicts acknowledgements r went at told;
   reported_version = λ m proxy commit_proxy entry at logging there whole r sound tells told.
       let was = stage-at m r.progress proxy commit_proxy Logging told at logging in
-      same-flags m r.progress (record r.progress { logging = with_at proxy None r.progress.logging }) proxy commit_proxy _
+      same-flags m r.progress (record r.progress { logging = with_at proxy None r.progress.logging }) proxy
+      commit_proxy _
       told at refl (λ other differs. sym (changed-elsewhere proxy None r.progress.logging other differs)) (
         (was.0, changed-there proxy None r.progress.logging),
         λ busy. (told.proxies_told proxy commit_proxy at).1 (ap is_idle logging),

@@ -1,5 +1,6 @@
 -- What resolvers say of the places of an entry, and proxies of their batches, is by the rule.
-use Rattle.std.proofs.Common.{◌≡◌, ◌∙◌, ◌↔◌, ◌<◌, ◌≤◌, le_refl, refl, sym, ap, arith, ℕ, zero, suc, ◌+◌, Bool, true, false, cond, List, [], ◌∷◌, length, take, Some, None, if◌then◌else◌}
+use Rattle.std.proofs.Common.{◌≡◌, ◌∙◌, ◌↔◌, ◌<◌, ◌≤◌, le_refl, refl, sym, ap, arith, ℕ, zero, suc, ◌+◌, Bool, true}
+use Rattle.std.proofs.Common.{false, cond, List, [], ◌∷◌, length, take, Some, None, if◌then◌else◌}
 use Rattle.std.specs.Prelude.{nat_le, not, ◌&&◌, ◌||◌}
 use Rattle.std.specs.List.{slice_get, count_by}
 use Rattle.std.proofs.lemmas.Bool.{lt-leb, le-leb}
@@ -131,7 +132,8 @@ module _ (splits : List Point) (version : ℕ) (moves : List Stamped) (resolver 
 
   -- one after another, by place
   pub said-rises : (batch : List Transaction) (earlier : List Place) (n i j : ℕ) (one other : ℕ × Verdict)
-      → i < j → slice_get (said_from batch earlier n) i ≡ Some one → slice_get (said_from batch earlier n) j ≡ Some other
+      → i < j → slice_get (said_from batch earlier n) i ≡ Some one → slice_get (said_from batch earlier n) j
+      ≡ Some other
       → one.0 < other.0
   said-rises [] earlier n i j one other before at_one at_other = cc
   said-rises (t ∷ batch) earlier n i j one other before at_one at_other =

@@ -1,5 +1,6 @@
 -- A session's transactions in a list of open ones: what the machine has by session, a trace tells in one list.
-use Rattle.std.proofs.Common.{◌≡◌, ◌≢◌, ◌∙◌, refl, sym, ap, subst, arith, ⊎_elim, inl, inr, ◌⊎◌, ℕ, zero, suc, true, false, List, [], ◌∷◌, take, Option, Some, None}
+use Rattle.std.proofs.Common.{◌≡◌, ◌≢◌, ◌∙◌, refl, sym, ap, subst, arith, ⊎_elim, inl, inr, ◌⊎◌, ℕ, zero, suc, true}
+use Rattle.std.proofs.Common.{false, List, [], ◌∷◌, take, Option, Some, None}
 use Rattle.std.specs.List.{filter, slice_get, slice_set}
 use Rattle.std.proofs.lemmas.Bool.{cases_Bool, eqb-true, ne_eqb}
 use Rattle.fdb_client.specs.declared.program.Op.{Op}

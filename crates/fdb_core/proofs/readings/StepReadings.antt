@@ -1,5 +1,6 @@
 -- Every accepted step tells, with its answer, what it does to the machine.
-use Rattle.std.proofs.Common.{◌≡◌, ◌≢◌, ◌∙◌, ◌≤◌, le_refl, refl, sym, ap, ap₂, subst, ⊎_elim, ℕ, max, false, List, [], ◌∷◌, ◌++◌, take, drop, map, length, fold, Some}
+use Rattle.std.proofs.Common.{◌≡◌, ◌≢◌, ◌∙◌, ◌≤◌, le_refl, refl, sym, ap, ap₂, subst, ⊎_elim, ℕ, max, false, List, []}
+use Rattle.std.proofs.Common.{◌∷◌, ◌++◌, take, drop, map, length, fold, Some}
 use Rattle.std.specs.List.{slice_get, slice_set}
 use Rattle.std.proofs.lemmas.Option.{same_Some}
 use Rattle.fdb_txn.specs.Limits.{place_limit}
@@ -9,14 +10,16 @@ use Rattle.fdb_txn.specs.book.Book.{seen_of, seen_before, last_version}
 use Rattle.fdb_txn.specs.rules.SerialMap.{serial_map_at}
 use Rattle.fdb_core.specs.declared.roles.client.Placed.{Placed}
 use Rattle.fdb_client.specs.declared.program.Transcript.{Transcript}
-use Rattle.fdb_core.specs.headline.Readings.{Readings, SealedBatch, begins, waits_at, seals_entry, of_session, others_than, with_one_more, with_at, all_acknowledged_by}
+use Rattle.fdb_core.specs.headline.Readings.{Readings, SealedBatch, begins, waits_at, seals_entry, of_session}
+use Rattle.fdb_core.specs.headline.Readings.{others_than, with_one_more, with_at, all_acknowledged_by}
 use Rattle.fdb_core.specs.invariant.Places.{AllStand}
 use Rattle.fdb_client.specs.TxnState.{with_op}
 use Rattle.fdb_core.specs.machine.ClientSteps.{add_operation}
 use Rattle.fdb_core.specs.machine.CommitProxySteps.{is_idle, replies_from}
 use Rattle.fdb_core.specs.headline.Traces.{alone}
 use Rattle.fdb_core.specs.machine.Machine.{Machine}
-use Rattle.fdb_core.specs.machine.Sessions.{Session, Sessions, Idle as Free, Asking, Open, Waiting, with_state, open_of, open_at, serve, tell_all}
+use Rattle.fdb_core.specs.machine.Sessions.{Session, Sessions, Idle as Free, Asking, Open, Waiting, with_state, open_of}
+use Rattle.fdb_core.specs.machine.Sessions.{open_at, serve, tell_all}
 use Rattle.fdb_core.specs.machine.Roles.{CommitProxy, Reported, Idle}
 use Rattle.fdb_proxy.specs.Verdicts.{outcomes_on}
 use Rattle.fdb_client.specs.Programs.{program, copy, reply_on, commit_request_of}
@@ -27,9 +30,13 @@ use Rattle.fdb_core.proofs.common.SumLemmas.{none_or_some}
 use Rattle.fdb_core.proofs.machine.Sealing.{last-at, sealed_entry, sealed_proxy, sealed_machine}
 use Rattle.fdb_core.proofs.machine.SessionLemmas.{able, told-none, told-some, times_of}
 use Rattle.fdb_core.proofs.machine.Steps.{HoldsOfSteps}
-use Rattle.fdb_core.proofs.readings.Agreement.{AtProxy, TellsMachine, TellsOn, progress-tells, quiet-tells, operation-tells, changed-there, changed-elsewhere, one-changes, book-grows, AnsweredOnce, flies, once-goes_on, once-answered, once-sealed}
+use Rattle.fdb_core.proofs.readings.Agreement.{AtProxy, TellsMachine, TellsOn, progress-tells, quiet-tells}
+use Rattle.fdb_core.proofs.readings.Agreement.{operation-tells, changed-there, changed-elsewhere, one-changes}
+use Rattle.fdb_core.proofs.readings.Agreement.{book-grows, AnsweredOnce, flies, once-goes_on, once-answered}
+use Rattle.fdb_core.proofs.readings.Agreement.{once-sealed}
 use Rattle.fdb_core.proofs.readings.AnswerReadings.{acknowledged-placed}
-use Rattle.fdb_core.proofs.readings.GrantLemmas.{NumbersBegun, AreReady, ready-others, numbers-begins, opened-begins, numbers-put, numbers-told}
+use Rattle.fdb_core.proofs.readings.GrantLemmas.{NumbersBegun, AreReady, ready-others, numbers-begins, opened-begins}
+use Rattle.fdb_core.proofs.readings.GrantLemmas.{numbers-put, numbers-told}
 use Rattle.fdb_core.proofs.readings.SessionLists.{OpenTold, found-told, others-told, more-told}
 
 -- where the proxies stay, and what is told of the sessions and of reports is what changes of the machine
@@ -257,8 +264,9 @@ tells_steps = record {
       submitted-told r m session proxy commit_proxy transcript tells at opened;
   sealed = λ m proxy advance commit_proxy at idle few room r sound tells.
       sealed-told r m proxy advance commit_proxy tells at idle;
-  went_on = λ m taken answer proxy commit_proxy stage decided verdicts acknowledgements quiet came at busy goes_on unreported went
-      r sound tells.
+  went_on =
+      λ m taken answer proxy commit_proxy stage decided verdicts acknowledgements quiet came at busy goes_on
+      unreported went r sound tells.
       let was = tells.proxies_told proxy commit_proxy at in
       quiet-tells r (record m {
         commit_proxies = slice_set m.commit_proxies proxy (record commit_proxy {

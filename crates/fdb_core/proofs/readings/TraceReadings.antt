@@ -1,5 +1,7 @@
 -- After every trace the machine is what the trace tells, and so what holds of the machine holds of what is read off.
-use Rattle.std.proofs.Common.{◌≡◌, ◌∙◌, ◌<◌, ◌≤◌, le_refl, le_trans, refl, sym, ap, subst, arith, ⊎_elim, ℕ, zero, suc, min, Bool, true, false, cond, List, [], ◌∷◌, length, take, Option, Some, None, Result, Ok, Err}
+use Rattle.std.proofs.Common.{◌≡◌, ◌∙◌, ◌<◌, ◌≤◌, le_refl, le_trans, refl, sym, ap, subst, arith, ⊎_elim, ℕ, zero, suc}
+use Rattle.std.proofs.Common.{min, Bool, true, false, cond, List, [], ◌∷◌, length, take, Option, Some, None, Result, Ok}
+use Rattle.std.proofs.Common.{Err}
 use Rattle.std.specs.Prelude.{nat_lt}
 use Rattle.std.specs.List.{AllByRecursion, slice_get}
 use Rattle.std.proofs.lemmas.List.Folds.{sum_by-replicate}
@@ -17,9 +19,11 @@ use Rattle.fdb_core.specs.declared.step.Step.{Step}
 use Rattle.fdb_core.specs.headline.Headline.{AcknowledgedAreSerialized, IsSerialized}
 use Rattle.fdb_core.specs.headline.Books.{TracesTellBooks, EntriesAreAnsweredOnce}
 use Rattle.fdb_core.specs.headline.Promises.{CommittedIsGreatestReported}
-use Rattle.fdb_core.specs.headline.Readings.{Readings, nothing_read, no_progress, read_step, read_steps, readings_of, times_begun}
+use Rattle.fdb_core.specs.headline.Readings.{Readings, nothing_read, no_progress, read_step, read_steps, readings_of}
+use Rattle.fdb_core.specs.headline.Readings.{times_begun}
 use Rattle.fdb_core.specs.headline.RealTime.{RealTime, HasBegun, spot_version}
-use Rattle.fdb_core.specs.headline.Traces.{after_step, after_steps, machine_of_trace, alone, IsTraceOf, WorldsShowWhatIsTold}
+use Rattle.fdb_core.specs.headline.Traces.{after_step, after_steps, machine_of_trace, alone, IsTraceOf}
+use Rattle.fdb_core.specs.headline.Traces.{WorldsShowWhatIsTold}
 use Rattle.fdb_core.specs.invariant.Invariant.{Invariant, IsSerializedIn, IsReported}
 use Rattle.fdb_core.specs.machine.Sessions.{Session, open_of, next_number, greatest_number}
 use Rattle.fdb_core.specs.machine.Machine.{Machine, Transition}
@@ -131,8 +135,8 @@ start-roles config = record {
   resolved_told = λ resolver. sym (replicate-default 0 (suc (length config.resolver_splits)) resolver);
   logged_told = λ log. sym (replicate-default 0 config.logs log);
   logged_within = λ log taken there.
-      all-at (λ (n : ℕ). n ≤ 0) (start config).logs log taken (all-replicate (λ (n : ℕ). n ≤ 0) 0 config.logs (le_refl 0))
-      there;
+      all-at (λ (n : ℕ). n ≤ 0) (start config).logs log taken
+      (all-replicate (λ (n : ℕ). n ≤ 0) 0 config.logs (le_refl 0)) there;
   decided_told = λ entry. refl;
   proxies_told = λ proxy commit_proxy there.
       subst (λ (it : CommitProxy). ProxyTold no_progress [] (length (start config).resolvers)

@@ -1,5 +1,6 @@
 -- The commit proxies, kept tied to the book where one of them changes.
-use Rattle.std.proofs.Common.{◌≡◌, ◌≢◌, ◌∙◌, refl, sym, ap, subst, ⊎_elim, ℕ, suc, ◌≤◌, Bool, true, false, List, [], ◌∷◌, map, Some, None, slice_get, slice_set, if◌then◌else◌}
+use Rattle.std.proofs.Common.{◌≡◌, ◌≢◌, ◌∙◌, refl, sym, ap, subst, ⊎_elim, ℕ, suc, ◌≤◌, Bool, true, false, List, []}
+use Rattle.std.proofs.Common.{◌∷◌, map, Some, None, slice_get, slice_set, if◌then◌else◌}
 use Rattle.std.specs.List.{AllByRecursion}
 use Rattle.std.proofs.lemmas.Bool.{true≢false}
 use Rattle.std.proofs.Math.Nat.{le_trans}
@@ -16,7 +17,8 @@ use Rattle.fdb_core.specs.machine.CommitProxySteps.{is_idle, is_logging, is_repo
 use Rattle.fdb_core.specs.machine.Machine.{first_missing}
 use Rattle.fdb_core.specs.machine.Roles.{Logging, Reported}
 use Rattle.fdb_core.specs.refinement.Cluster.{CommitProxiesRefine}
-use Rattle.fdb_core.specs.refinement.CommitProxies.{CommitProxyRefines, Known, StageRefines, ReadsWithin, acknowledged_at, seen_as}
+use Rattle.fdb_core.specs.refinement.CommitProxies.{CommitProxyRefines, Known, StageRefines, ReadsWithin}
+use Rattle.fdb_core.specs.refinement.CommitProxies.{acknowledged_at, seen_as}
 use Rattle.fdb_core.proofs.readings.SessionLists.{item-after-set}
 
 -- another one stands at a number, and the others go on
@@ -37,7 +39,8 @@ commit_proxies-set config book later known raised roles i next ok tied goes_on =
 }
 
 -- in the place of another, where nothing else changes
-pub commit_proxies-put : (config : Config) (book : List Entry) (known : ℕ → Known) (roles : List CommitProxyRole) (i : ℕ)
+pub commit_proxies-put : (config : Config) (book : List Entry) (known : ℕ → Known) (roles : List CommitProxyRole)
+    (i : ℕ)
     (next : CommitProxyRole) → CommitProxiesRefine config book known roles
     → CommitProxyRefines config book (known i) next → CommitProxiesRefine config book known (slice_set roles i next)
 commit_proxies-put config book known roles i next ok tied =

@@ -1,5 +1,6 @@
 -- A commit proxy whose first requests become a batch.
-use Rattle.std.proofs.Common.{◌≡◌, ◌∙◌, refl, sym, ap, subst, ℕ, zero, suc, ◌<◌, Bool, true, false, List, [], ◌∷◌, ◌++◌, length, map, take, drop, replicate, Option, Some, None, Ok, Err, slice_get, arith}
+use Rattle.std.proofs.Common.{◌≡◌, ◌∙◌, refl, sym, ap, subst, ℕ, zero, suc, ◌<◌, Bool, true, false, List, [], ◌∷◌, ◌++◌}
+use Rattle.std.proofs.Common.{length, map, take, drop, replicate, Option, Some, None, Ok, Err, slice_get, arith}
 use Rattle.std.specs.Prelude.{nat_le}
 use Rattle.std.specs.List.{AllByRecursion, list_any}
 use Rattle.std.specs.Option.{is_some}
@@ -24,7 +25,8 @@ use Rattle.fdb_proxy.specs.declared.config.Config.{Config}
 use Rattle.fdb_proxy.specs.declared.resolving.Resolving.{Resolving as Unheard}
 use Rattle.fdb_proxy.specs.declared.stage.Stage.{Stage as CoreStage}
 use Rattle.fdb_proxy.specs.declared.stage.Stage.TheVariants as core
-use Rattle.fdb_proxy.specs.CommitProxies.{CommitProxy as Core, ProxyWithRoom, seal_fault, learn_fault, parts_fault, IsTicketFor, HasLearntTicket, moves_with, position_of, sealing, parts_in}
+use Rattle.fdb_proxy.specs.CommitProxies.{CommitProxy as Core, ProxyWithRoom, seal_fault, learn_fault, parts_fault}
+use Rattle.fdb_proxy.specs.CommitProxies.{IsTicketFor, HasLearntTicket, moves_with, position_of, sealing, parts_in}
 use Rattle.fdb_proxy.specs.Deciding.{Said}
 use Rattle.fdb_proxy.specs.Parting.{AreParts}
 use Rattle.fdb_proxy.specs.Verdicts.{moves_through}
@@ -32,7 +34,8 @@ use Rattle.fdb_core.specs.declared.roles.commit_proxy.CommitProxyRole.{CommitPro
 use Rattle.fdb_core.specs.machine.CommitProxySteps.{is_idle, with_batch}
 use Rattle.fdb_core.specs.machine.Roles.{Resolving}
 use Rattle.fdb_core.specs.machine.SequencerSteps.{dated_moves}
-use Rattle.fdb_core.specs.refinement.CommitProxies.{CommitProxyRefines, Known, AreUnlearnt, StageRefines, IsNextTicket, Seals, ReadsWithin, entry_of, stage_of, seen_as}
+use Rattle.fdb_core.specs.refinement.CommitProxies.{CommitProxyRefines, Known, AreUnlearnt, StageRefines, IsNextTicket}
+use Rattle.fdb_core.specs.refinement.CommitProxies.{Seals, ReadsWithin, entry_of, stage_of, seen_as}
 use Rattle.fdb_core.proofs.common.AllLemmas.{all-take, all-drop}
 use Rattle.fdb_core.proofs.common.FaultLemmas.{answers-fault}
 use Rattle.fdb_core.proofs.common.ListLemmas.{last-at}
@@ -58,7 +61,8 @@ HasSealed old new batch = (batch ≡ take place_limit old.waiting) × (new ≡ s
 
 -- it may learn a ticket that the core may that sealed it
 pub sealed-ticket : (p sealed : Core) (ticket : Ticket) (batch : List Transaction)
-    → Answers (Ok batch) (seal_fault p) (HasSealed p sealed) → IsTicketFor (sealing p) ticket → IsTicketFor sealed ticket
+    → Answers (Ok batch) (seal_fault p) (HasSealed p sealed) → IsTicketFor (sealing p) ticket
+    → IsTicketFor sealed ticket
 sealed-ticket p sealed ticket batch answers may =
     subst (λ (q : Core). IsTicketFor q ticket)
     (sym (answers-fault (seal_fault p) batch (HasSealed p sealed) answers).1.1) may
@@ -208,7 +212,8 @@ module _ (config : Config) (book : List Entry) (known : Known) (role : CommitPro
       in_flight = take place_limit role.waiting;
       stage = Resolving;
       entry = ticket.index;
-      verdicts_received = (ap (λ (r : Unheard). map (λ (of : Option Said). is_some of) r.verdicts) learnt.without_verdicts.rest
+      verdicts_received = (ap (λ (r : Unheard). map (λ (of : Option Said). is_some of) r.verdicts)
+          learnt.without_verdicts.rest
           ∙ flags-unset (length learnt.resolving.parts)
           ∙ ap (λ (n : ℕ). replicate n false) resolving-parts.count) i;
       acknowledgements_received = [];
@@ -232,7 +237,8 @@ module _ (config : Config) (book : List Entry) (known : Known) (role : CommitPro
             places = ap (λ (p : Core). p.batch) learnt.rest ∙ sym batch_is;
           },
           record {
-            parts = subst (λ (n : ℕ). AreParts config.resolver_splits (moves_through (seen_before grown later.entry) entry)
+            parts = subst (λ (n : ℕ). AreParts config.resolver_splits
+                (moves_through (seen_before grown later.entry) entry)
                 (record { index = n; version = ticket.version; prev = ticket.prev }) batch learnt.resolving.parts)
                 (next.index ∙ sym entry_at)
                 (subst (λ (s : Seen). AreParts config.resolver_splits (moves_through s entry) (position_of ticket) batch
@@ -247,8 +253,8 @@ module _ (config : Config) (book : List Entry) (known : Known) (role : CommitPro
     pub seals : Seals config book known ticket role batch parts later
     seals = record {
       batch_is = batch-requests;
-      parts_are = subst (AreParts config.resolver_splits (moves_through (seen_of book) entry) (position_of ticket) batch)
-          (sym (parts_are ∙ ap parts_in stage-is)) resolving-parts;
+      parts_are = subst (AreParts config.resolver_splits (moves_through (seen_of book) entry) (position_of ticket)
+          batch) (sym (parts_are ∙ ap parts_in stage-is)) resolving-parts;
       machine = machine-is;
       refines = record {
         works = ap (λ (p : Core). p.is_failed) learnt.rest ∙ ok.works;

@@ -1,5 +1,7 @@
 -- A commit proxy whose core goes to another stage, and what comes to it while its batch is in flight.
-use Rattle.std.proofs.Common.{◌≡◌, ◌∙◌, refl, sym, ap, subst, ⊎_elim, ℕ, zero, suc, ◌<◌, ◌≤◌, Bool, true, false, not, ◌&&◌, ◌==◌, nat_lt, List, [], ◌∷◌, length, Option, Some, None, Result, Ok, Err, slice_set, if◌then◌else◌, arith}
+use Rattle.std.proofs.Common.{◌≡◌, ◌∙◌, refl, sym, ap, subst, ⊎_elim, ℕ, zero, suc, ◌<◌, ◌≤◌, Bool, true, false, not}
+use Rattle.std.proofs.Common.{◌&&◌, ◌==◌, nat_lt, List, [], ◌∷◌, length, Option, Some, None, Result, Ok, Err, slice_set}
+use Rattle.std.proofs.Common.{if◌then◌else◌, arith}
 use Rattle.std.proofs.lemmas.Bool.{and_right, cases_eq, eq-eqb, ne_eqb, lt-ltb, true≢false}
 use Rattle.std.proofs.lemmas.List.{length-set}
 use Rattle.fdb_keys.specs.Answers.{AnswersExactly}
@@ -13,7 +15,8 @@ use Rattle.fdb_proxy.specs.declared.logging.Logging.{Logging as Decided}
 use Rattle.fdb_proxy.specs.declared.stage.Stage.{Stage as CoreStage}
 use Rattle.fdb_proxy.specs.declared.stage.Stage.TheVariants as core
 use Rattle.fdb_owners.specs.OwnersLaws.{AgreesWith}
-use Rattle.fdb_proxy.specs.CommitProxies.{CommitProxy as Core, ProxyWithRoom, moves_with, waiting_for, logged_fault, with_logged, all_logged_fault}
+use Rattle.fdb_proxy.specs.CommitProxies.{CommitProxy as Core, ProxyWithRoom, moves_with, waiting_for, logged_fault}
+use Rattle.fdb_proxy.specs.CommitProxies.{with_logged, all_logged_fault}
 use Rattle.fdb_proxy.specs.Flags.{first_unset}
 use Rattle.fdb_proxy.specs.Logging as logging
 use Rattle.fdb_proxy.specs.Logging.{with_acknowledgement}
@@ -21,7 +24,8 @@ use Rattle.fdb_core.specs.declared.roles.commit_proxy.CommitProxyRole.{CommitPro
 use Rattle.fdb_core.specs.machine.CommitProxySteps.{awaits, with_received, is_logging}
 use Rattle.fdb_core.specs.machine.Machine.{is_set, first_missing}
 use Rattle.fdb_core.specs.machine.Roles.{Logging, Reported, FromLog}
-use Rattle.fdb_core.specs.refinement.CommitProxies.{CommitProxyRefines, Known, AreUnlearnt, StageRefines, IsLogging, stage_of, received_at, acknowledged_at, seen_as}
+use Rattle.fdb_core.specs.refinement.CommitProxies.{CommitProxyRefines, Known, AreUnlearnt, StageRefines, IsLogging}
+use Rattle.fdb_core.specs.refinement.CommitProxies.{stage_of, received_at, acknowledged_at, seen_as}
 
 -- what a call gave that was answered has what follows from it where there is no fault
 pub exactly-map : {T : Type 0} (result : Result T Refusal) (fault : Option Refusal) (P Q : T → Type 0)
@@ -199,7 +203,8 @@ module _ (config : Config) (book : List Entry) (known : Known) (role : CommitPro
       → AnswersExactly result (waiting_for
       (first_missing (λ log. true) 0 (acknowledged_at role.core.proxy.stage))) P
   checks-logged {T} result P unreported is_now answers =
-      subst (λ (fault : Option Refusal). AnswersExactly {T = T} result fault P) (fault_is role.core.proxy.stage refl) answers
+      subst (λ (fault : Option Refusal). AnswersExactly {T = T} result fault P) (fault_is role.core.proxy.stage refl)
+      answers
     where
       fault_is : (stage : CoreStage) → role.core.proxy.stage ≡ stage
           → all_logged_fault role.core.proxy ≡ waiting_for

@@ -1,5 +1,7 @@
 -- A commit proxy to which a resolver's verdicts come, and what it decides by those that came.
-use Rattle.std.proofs.Common.{◌≡◌, ◌∙◌, refl, sym, ap, ap₂, subst, ⊎_elim, ℕ, zero, suc, ◌+◌, ◌<◌, Bool, true, false, not, ◌&&◌, ◌==◌, List, [], ◌∷◌, length, map, take, replicate, Option, Some, None, Result, slice_get, slice_set, if◌then◌else◌, arith}
+use Rattle.std.proofs.Common.{◌≡◌, ◌∙◌, refl, sym, ap, ap₂, subst, ⊎_elim, ℕ, zero, suc, ◌+◌, ◌<◌, Bool, true, false}
+use Rattle.std.proofs.Common.{not, ◌&&◌, ◌==◌, List, [], ◌∷◌, length, map, take, replicate, Option, Some, None, Result}
+use Rattle.std.proofs.Common.{slice_get, slice_set, if◌then◌else◌, arith}
 use Rattle.std.proofs.lemmas.Bool.{and_parts, and_from, cases_eq, eq-eqb, ne_eqb, eqb-true, true≢false}
 use Rattle.std.proofs.lemmas.List.{length-set, length-replicate}
 use Rattle.std.proofs.lemmas.Option.{same_Some, slice_get_within}
@@ -24,7 +26,8 @@ use Rattle.fdb_proxy.specs.declared.outcome.Outcome.{Outcome}
 use Rattle.fdb_proxy.specs.declared.resolving.Resolving.{Resolving as Unheard}
 use Rattle.fdb_proxy.specs.declared.stage.Stage.{Stage as CoreStage}
 use Rattle.fdb_proxy.specs.declared.stage.Stage.TheVariants as core
-use Rattle.fdb_proxy.specs.CommitProxies.{ProxyWithRoom, waiting_for, verdict_fault, with_verdict, decide_fault, outcomes_in, deciding, messages_fault, messages_of}
+use Rattle.fdb_proxy.specs.CommitProxies.{ProxyWithRoom, waiting_for, verdict_fault, with_verdict, decide_fault}
+use Rattle.fdb_proxy.specs.CommitProxies.{outcomes_in, deciding, messages_fault, messages_of}
 use Rattle.fdb_proxy.specs.Deciding.{Said}
 use Rattle.fdb_proxy.specs.Logging.{answers_by, messages_by}
 use Rattle.fdb_proxy.specs.Parting.{AreItems}
@@ -39,7 +42,8 @@ use Rattle.fdb_core.specs.declared.roles.commit_proxy.CommitProxyRole.{CommitPro
 use Rattle.fdb_core.specs.machine.CommitProxySteps.{awaits, with_received, is_resolving, is_logging}
 use Rattle.fdb_core.specs.machine.Machine.{is_set, first_missing}
 use Rattle.fdb_core.specs.machine.Roles.{FromResolver, Resolving, Logging}
-use Rattle.fdb_core.specs.refinement.CommitProxies.{CommitProxyRefines, Known, StageRefines, IsBatchOf, IsResolving, IsSaid, Decides, stage_of, received_at, seen_as}
+use Rattle.fdb_core.specs.refinement.CommitProxies.{CommitProxyRefines, Known, StageRefines, IsBatchOf, IsResolving}
+use Rattle.fdb_core.specs.refinement.CommitProxies.{IsSaid, Decides, stage_of, received_at, seen_as}
 use Rattle.fdb_core.proofs.common.AllLemmas.{within-item}
 use Rattle.fdb_core.proofs.common.FaultLemmas.{answers-by}
 use Rattle.fdb_core.proofs.common.ListLemmas.{map-set, set-here, set-other}
@@ -137,7 +141,8 @@ module _ (config : Config) (book : List Entry) (known : Known) (role : CommitPro
             by_flag false flag = rw (ok.works, is, flag) refl
 
     -- once they came
-    after-said : (later : ProxyWithRoom) → VerdictsAreAwaited ≡ true → later.proxy ≡ with_verdict role.core.proxy verdicts
+    after-said : (later : ProxyWithRoom) → VerdictsAreAwaited ≡ true → later.proxy
+        ≡ with_verdict role.core.proxy verdicts
         → (seen_as (record role { core = later }) ≡ with_received (seen_as role) (FromResolver verdicts.resolver))
         × CommitProxyRefines config book known (record role { core = later })
     after-said later waits after = by_stage role.core.proxy.stage refl ok.stage
@@ -165,7 +170,8 @@ module _ (config : Config) (book : List Entry) (known : Known) (role : CommitPro
             && not (is_set (map (λ (of : Option Said). is_some of) batch.verdicts) verdicts.resolver)) ≡ true =
             rw is at waits in
             let same : role.entry ≡ verdicts.index = eqb-true role.entry verdicts.index
-            (and_parts true (role.entry == verdicts.index) (and_parts (true && (role.entry == verdicts.index)) _ waiting).0).1 in
+            (and_parts true (role.entry == verdicts.index)
+            (and_parts (true && (role.entry == verdicts.index)) _ waiting).0).1 in
             let entry_is : entry ≡ refines.0 = same_Some entry refines.0
             (sym said.there ∙ ap (slice_get book) (sym same) ∙ refines.1.there) in
             let exists = said.exists in
@@ -173,7 +179,8 @@ module _ (config : Config) (book : List Entry) (known : Known) (role : CommitPro
               seen-staged config book known role ok later stage next
                   ∙ rw is (ap (λ (received : List Bool). record (seen_as role)
                   { stage = Resolving; verdicts_received = received; acknowledgements_received = [] })
-                  (map-set (λ (of : Option Said). is_some of) batch.verdicts verdicts.resolver (Some verdicts.answers))),
+                  (map-set (λ (of : Option Said). is_some of) batch.verdicts verdicts.resolver
+                  (Some verdicts.answers))),
               staged config book known role ok later stage role.is_reported next (
                 refines.0,
                 refines.1,
@@ -184,11 +191,12 @@ module _ (config : Config) (book : List Entry) (known : Known) (role : CommitPro
                       (λ equal.
                       let here : Some verdicts.answers ≡ Some one = same_Some (Some verdicts.answers) (Some one)
                       (sym (ap (slice_get (slice_set batch.verdicts verdicts.resolver (Some verdicts.answers))) equal
-                      ∙ set-here batch.verdicts verdicts.resolver (Some verdicts.answers) (omega (arith, exists, count)))
+                      ∙ set-here batch.verdicts verdicts.resolver (Some verdicts.answers)
+                      (omega (arith, exists, count)))
                       ∙ there) in
                       sym (same_Some verdicts.answers one here) ∙ said.answers
-                      ∙ (λ i. verdicts_on config.resolver_splits (sym equal i) (seen_before book (sym same i)) (entry_is i)))
-                      (λ differs. old.came r one
+                      ∙ (λ i. verdicts_on config.resolver_splits (sym equal i) (seen_before book (sym same i))
+                      (entry_is i))) (λ differs. old.came r one
                       (sym (set-other batch.verdicts verdicts.resolver r (Some verdicts.answers) differs) ∙ there))
                       (cases_eq r verdicts.resolver);
                 },

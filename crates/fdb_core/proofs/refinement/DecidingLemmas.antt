@@ -1,5 +1,7 @@
 -- A commit proxy of a world decides its batch.
-use Rattle.std.proofs.Common.{◌≡◌, ◌∙◌, refl, sym, ap, subst, ⊎_elim, ℕ, suc, ◌<◌, Bool, true, false, List, [], length, map, replicate, Option, Some, None, unwrap_or, Result, Ok, Err, slice_get, slice_set, if◌then◌else◌, arith}
+use Rattle.std.proofs.Common.{◌≡◌, ◌∙◌, refl, sym, ap, subst, ⊎_elim, ℕ, suc, ◌<◌, Bool, true, false, List, [], length}
+use Rattle.std.proofs.Common.{map, replicate, Option, Some, None, unwrap_or, Result, Ok, Err, slice_get, slice_set}
+use Rattle.std.proofs.Common.{if◌then◌else◌, arith}
 use Rattle.std.specs.Vec.{with_item}
 use Rattle.std.proofs.lemmas.Bool.{cases_eq, cases_Bool}
 use Rattle.std.proofs.lemmas.List.{length-set, length-map}
@@ -39,7 +41,8 @@ made-set : (config : Config) (book : List Entry) (decided : List Bool) (messages
     → ((j : ℕ) (other : Entry) → slice_get book j ≡ Some other → slice_get messages j
     ≡ Some (if is_set decided j then Some (messages_on config j (seen_before book j) other) else None))
     → (j : ℕ) (other : Entry) → slice_get book j ≡ Some other → slice_get (slice_set messages i (Some new)) j
-    ≡ Some (if is_set (slice_set decided i true) j then Some (messages_on config j (seen_before book j) other) else None)
+    ≡ Some (if is_set (slice_set decided i true) j then Some (messages_on config j (seen_before book j) other) else
+    None)
 made-set config book decided messages i entry new there is within flagged before j other at = ⊎_elim
     (λ same.
     let it : entry ≡ other = same_Some entry other (sym there ∙ ap (slice_get book) (sym same) ∙ at) in
@@ -131,9 +134,10 @@ module _ (k : Cluster) (refines : Refines k) (proxy : ℕ) (role : CommitProxyRo
         → Unless (ran_out (Err why)) P
     decides-refused why later answers P follows =
         unless-fault (waiting_for missing) why
-        (λ (outcomes : List Outcome). Decides k.config k.book.items (known_to k.sequencer proxy) entry role outcomes later) P
-        answers
-        (λ faulty. let waits = waits-fault missing why faulty in follows waits.0 waits.2 (decides-waits waits.0 waits.1))
+        (λ (outcomes : List Outcome). Decides k.config k.book.items (known_to k.sequencer proxy) entry role outcomes
+        later) P answers
+        (λ faulty. let waits = waits-fault missing why faulty in
+        follows waits.0 waits.2 (decides-waits waits.0 waits.1))
 
     -- what stands once it decided, and its messages are in the pool
     pub decided : (outcomes : List Outcome) (messages : List LogMsg) (later : CommitProxyRole)
@@ -149,7 +153,8 @@ module _ (k : Cluster) (refines : Refines k) (proxy : ℕ) (role : CommitProxyRo
         × Refines next
     decided outcomes messages later answers sent =
         let given = answers-fault (waiting_for missing) outcomes
-        (λ (of : List Outcome). Decides k.config k.book.items (known_to k.sequencer proxy) entry role of later) answers in
+        (λ (of : List Outcome). Decides k.config k.book.items (known_to k.sequencer proxy) entry role of later)
+        answers in
         let is = given.1 in
         let book = refines.book in
         let inside = slice_get_within k.book.items role.entry entry entry-there in
@@ -188,8 +193,8 @@ module _ (k : Cluster) (refines : Refines k) (proxy : ℕ) (role : CommitProxyRo
             resolvers = refines.resolvers;
             logs = refines.logs;
             shard_map = refines.shard_map;
-            commit_proxies = commit_proxies-put k.config k.book.items (known_to k.sequencer) k.commit_proxies.items proxy
-                later refines.commit_proxies is.refines;
+            commit_proxies = commit_proxies-put k.config k.book.items (known_to k.sequencer) k.commit_proxies.items
+                proxy later refines.commit_proxies is.refines;
             grv_proxies = refines.grv_proxies;
             opened = refines.opened;
           },
@@ -204,7 +209,8 @@ module _ (k : Cluster) (refines : Refines k) (proxy : ℕ) (role : CommitProxyRo
         × (later.entry ≡ role.entry)
     decided-role outcomes later answers =
         let is = (answers-fault (waiting_for missing) outcomes
-        (λ (of : List Outcome). Decides k.config k.book.items (known_to k.sequencer proxy) entry role of later) answers).1 in
+        (λ (of : List Outcome). Decides k.config k.book.items (known_to k.sequencer proxy) entry role of later)
+        answers).1 in
         let same : later.entry ≡ role.entry = ap (λ (p : CommitProxy). p.entry) is.machine in (
           is.refines,
           ap (λ (p : CommitProxy). is_logging p.stage) is.machine,
@@ -236,8 +242,8 @@ module _ (k : Cluster) (refines : Refines k) (proxy : ℕ) (role later : CommitP
 
   at-world : (result : Result (List Outcome) Refusal) → SaysDecided result → (now : waiting)
       → Answers result (waiting_for (missing k refines proxy role there now))
-      (λ outcomes. Decides k.config k.book.items (known_to k.sequencer proxy) (entry k refines proxy role there now) role
-      outcomes later)
+      (λ outcomes. Decides k.config k.book.items (known_to k.sequencer proxy) (entry k refines proxy role there now)
+      role outcomes later)
   at-world result says now =
       says k.config k.book.items (known_to k.sequencer proxy) (entry k refines proxy role there now)
       (its-tie k refines proxy role there) now (entry-there k refines proxy role there now) refines.book.entries
@@ -264,8 +270,8 @@ module _ (k : Cluster) (refines : Refines k) (proxy : ℕ) (role later : CommitP
   waited outcomes wrong = ⊎_elim
       (λ (now : waiting). now)
       (λ (never : is_resolving (seen_as role).stage ≡ false).
-      absurd (given-refused (wrong k.config k.book.items (known_to k.sequencer proxy) (its-tie k refines proxy role there) never)))
-      (cases_Bool (is_resolving (seen_as role).stage))
+      absurd (given-refused (wrong k.config k.book.items (known_to k.sequencer proxy)
+      (its-tie k refines proxy role there) never))) (cases_Bool (is_resolving (seen_as role).stage))
     where
       given-refused : ◌≡◌ {A = Result (List Outcome) Refusal} (Ok outcomes) (Err WrongState) → ⊥
       given-refused is = cc
@@ -281,8 +287,8 @@ module _ (k : Cluster) (refines : Refines k) (proxy : ℕ) (role later : CommitP
         (config : Config) (book : List Entry) (known : Known) (entry : Entry)
         → CommitProxyRefines config book known after → is_logging (seen_as after).stage ≡ true
         → slice_get book after.entry ≡ Some entry
-        → Answers result None (λ messages. messages ≡ log_messages config.resolver_splits config.shard_splits config.logs
-        after.entry (seen_before book after.entry) entry)
+        → Answers result None (λ messages. messages ≡ log_messages config.resolver_splits config.shard_splits
+        config.logs after.entry (seen_before book after.entry) entry)
 
     messages-here : (result : Result (List LogMsg) Refusal) → SaysMessages result
         → Answers result None (λ messages. messages ≡ messages_on k.config role.entry

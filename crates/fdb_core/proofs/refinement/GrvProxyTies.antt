@@ -1,5 +1,6 @@
 -- The read-version proxies, and what the machine does where sessions ask there and are granted.
-use Rattle.std.proofs.Common.{◌≡◌, ◌∙◌, refl, ap, ap₂, ℕ, max, Bool, true, false, List, [], ◌∷◌, ◌++◌, map, fold, Some, Ok, Err, slice_get, slice_set, arith}
+use Rattle.std.proofs.Common.{◌≡◌, ◌∙◌, refl, ap, ap₂, ℕ, max, Bool, true, false, List, [], ◌∷◌, ◌++◌, map, fold, Some}
+use Rattle.std.proofs.Common.{Ok, Err, slice_get, slice_set, arith}
 use Rattle.std.specs.Prelude.{◌||◌}
 use Rattle.std.specs.List.{AllByRecursion, list_any}
 use Rattle.std.proofs.lemmas.List.{length-set}

@@ -1,9 +1,12 @@
 -- The logs and the shards, kept tied through the steps.
-use Rattle.std.proofs.Common.{◌≡◌, ◌∙◌, refl, sym, ap, ap₂, subst, ℕ, zero, suc, ◌+◌, ◌-◌, ◌<◌, ◌≤◌, min, max, le_refl, le_of_lt, le_trans, Bool, true, false, List, [], ◌∷◌, ◌++◌, length, take, drop, map, fold, Option, Some, None, arith, ◌⊎◌, inl, inr, ⊎_elim}
+use Rattle.std.proofs.Common.{◌≡◌, ◌∙◌, refl, sym, ap, ap₂, subst, ℕ, zero, suc, ◌+◌, ◌-◌, ◌<◌, ◌≤◌, min, max, le_refl}
+use Rattle.std.proofs.Common.{le_of_lt, le_trans, Bool, true, false, List, [], ◌∷◌, ◌++◌, length, take, drop, map, fold}
+use Rattle.std.proofs.Common.{Option, Some, None, arith, ◌⊎◌, inl, inr, ⊎_elim}
 use Rattle.std.specs.Prelude.{◌==◌, ◌&&◌, not, nat_lt, Result, Err, if◌then◌else◌}
 use Rattle.std.specs.List.{slice_get, slice_set, range_with_len}
 use Rattle.std.specs.FinMap.{get}
-use Rattle.std.proofs.lemmas.Bool.{cases_Bool, cases_lt, and_parts, both_ways, cond-false, eq-eqb, eqb-true, false_from_ne_true, lt-ltb, ltb-true, ltb-false}
+use Rattle.std.proofs.lemmas.Bool.{cases_Bool, cases_lt, and_parts, both_ways, cond-false, eq-eqb, eqb-true}
+use Rattle.std.proofs.lemmas.Bool.{false_from_ne_true, lt-ltb, ltb-true, ltb-false}
 use Rattle.std.proofs.lemmas.List.{length-take, length-drop, length-set, take_all}
 use Rattle.std.proofs.lemmas.List.Elements.{filter-append}
 use Rattle.std.proofs.lemmas.List.FromFn.{get_or-map-range_with_len, length-map-range_with_len}
@@ -25,7 +28,8 @@ use Rattle.fdb_txn.specs.rules.SerialMap.{serial_map_at}
 use Rattle.fdb_txn.specs.rules.Splits.{piece}
 use Rattle.fdb_txn.proofs.rules.MessagesLemmas.{messages_go_on, shards_go_on}
 use Rattle.fdb_log.specs.declared.message.LogMsg.{LogMsg}
-use Rattle.fdb_log.specs.Logs.{Log, keeps, kept, popped_through, push_fault, given_after, peek_of, IsSameLog, HasTaken, HasPopped}
+use Rattle.fdb_log.specs.Logs.{Log, keeps, kept, popped_through, push_fault, given_after, peek_of, IsSameLog, HasTaken}
+use Rattle.fdb_log.specs.Logs.{HasPopped}
 use Rattle.fdb_log.specs.Messages.{log_of, tag_message, above}
 use Rattle.fdb_log.specs.Peeks.{through_after}
 use Rattle.fdb_log.proofs.AboveLemmas.{above-keeps, above-higher}
@@ -46,7 +50,8 @@ use Rattle.fdb_core.proofs.refinement.RunLaws.{entries-rising, serial-front, ver
 -- a front of a front, whichever is shorter
 pub take-both : {A : Type 0} (n m : ℕ) (xs : List A) → take n (take m xs) ≡ take (min n m) xs
 take-both n m xs = ⊎_elim
-    (λ shorter. take-take xs n m (le_of_lt shorter) ∙ ap (λ (k : ℕ). take k xs) (let is : n ≡ min n m = omega (arith, shorter) in is))
+    (λ shorter. take-take xs n m (le_of_lt shorter) ∙ ap (λ (k : ℕ). take k xs)
+    (let is : n ≡ min n m = omega (arith, shorter) in is))
     (λ longer. take_all n (take m xs) (let count = length-take m xs in omega (arith, count, longer))
     ∙ ap (λ (k : ℕ). take k xs) (let is : m ≡ min n m = omega (arith, longer) in is))
     (cases_lt n m)
@@ -185,7 +190,8 @@ module _ (config : Config) (book : List Entry) where
 
 -- A shard applies what its log has for it.
 module _ (config : Config) (book : List Entry)
-    (entries : AreEntries (suc (length config.resolver_splits)) 0 book) (s l limit : ℕ) (shard : ShardRole) (log : LogRole)
+    (entries : AreEntries (suc (length config.resolver_splits)) 0 book) (s l limit : ℕ) (shard : ShardRole)
+    (log : LogRole)
     (has : LogRefines config book l log) (is : ShardRefines config book s shard)
     (keeps_it : keeps log.core s ≡ true) (behind : shard.applied ≤ log.taken)
     (unpopped : popped_through log.core s ≤ shard.core.version) where
@@ -224,7 +230,8 @@ module _ (config : Config) (book : List Entry)
       ∙ above-higher (popped_through log.core s) shard.core.version (messages_for splits range (take log.taken book))
       unpopped
       ∙ ap₂ (λ (low : ℕ) (all : List Entry). above low (messages_for splits range all)) is.version taken-is
-      ∙ messages_above_a_version resolvers splits range front (take (log.taken - shard.applied) (drop shard.applied book))
+      ∙ messages_above_a_version resolvers splits range front
+      (take (log.taken - shard.applied) (drop shard.applied book))
       (subst (AreEntries resolvers 0) taken-is (entries-take resolvers 0 log.taken book entries))
 
   pub given-is : given_after log.core s shard.core.version limit ≡ messages_after splits range (seen_of front) more
@@ -298,7 +305,8 @@ module _ (config : Config) (book : List Entry)
       later : shard.core.version ≤ new.version
       later = subst (λ (v : ℕ). shard.core.version ≤ v) (sym version)
           (subst (λ (v : ℕ). v ≤ last_version (take (shard.applied + count) book)) (sym is.version)
-          (versions-ordered book (entries-rising resolvers book entries) shard.applied (shard.applied + count) (omega arith)))
+          (versions-ordered book (entries-rising resolvers book entries) shard.applied (shard.applied + count)
+          (omega arith)))
 
       front-of : take shard.applied (front ++ more) ≡ front
       front-of = ap (take shard.applied) whole
@@ -344,7 +352,8 @@ turn_fault taken i entry =
 pub push_fault-turn : (config : Config) (book : List Entry) (l : ℕ) (role : LogRole) (i : ℕ) (entry : Entry)
     (message : LogMsg)
     → AreEntries (suc (length config.resolver_splits)) 0 book → LogRefines config book l role
-    → slice_get book i ≡ Some entry → message.log ≡ l → message.prev ≡ entry.prev → push_fault role.core message ≡ turn_fault role.taken i entry
+    → slice_get book i ≡ Some entry → message.log ≡ l → message.prev ≡ entry.prev → push_fault role.core message
+    ≡ turn_fault role.taken i entry
 push_fault-turn config book l role i entry message entries is there log prev =
     cond-false (not (message.log == role.core.log)) (Some Unknown) _
     (ap not (eq-eqb message.log role.core.log (log ∙ sym is.number)))

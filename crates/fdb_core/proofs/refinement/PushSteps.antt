@@ -1,5 +1,6 @@
 -- A log takes its message of an entry.
-use Rattle.std.proofs.Common.{◌≡◌, ◌∙◌, refl, sym, ap, subst, ℕ, suc, ◌+◌, ◌^◌, get_or, ◌<◌, Bool, true, false, List, length, Option, Some, None, Ok, Err, arith}
+use Rattle.std.proofs.Common.{◌≡◌, ◌∙◌, refl, sym, ap, subst, ℕ, suc, ◌+◌, ◌^◌, get_or, ◌<◌, Bool, true, false, List}
+use Rattle.std.proofs.Common.{length, Option, Some, None, Ok, Err, arith}
 use Rattle.std.specs.Prelude.{if◌then◌else◌}
 use Rattle.std.specs.List.{slice_get, slice_set}
 use Rattle.std.specs.Vec.{with_item}
@@ -24,7 +25,8 @@ use Rattle.fdb_core.specs.refinement.Logs.{LogRefines, LogsRefine, logs_taken}
 use Rattle.fdb_core.proofs.common.AllLemmas.{within-item}
 use Rattle.fdb_core.proofs.machine.Transitions.{pushes-transition}
 use Rattle.fdb_core.proofs.common.ListLemmas.{each-set}
-use Rattle.fdb_core.proofs.refinement.LogTies.{kept-tag, log-next, made-at, push_fault-turn, turn_fault, in_turn-now, push-refused, push-undecided, set-same, tags-taken, prev-is}
+use Rattle.fdb_core.proofs.refinement.LogTies.{kept-tag, log-next, made-at, push_fault-turn, turn_fault, in_turn-now}
+use Rattle.fdb_core.proofs.refinement.LogTies.{push-refused, push-undecided, set-same, tags-taken, prev-is}
 use Rattle.fdb_core.proofs.refinement.RunLaws.{entries-rising, versions-ordered}
 
 module _ (k : Cluster) (before : Refines k) (i l : ℕ) (entry : Entry) (role : LogRole)
@@ -48,7 +50,8 @@ module _ (k : Cluster) (before : Refines k) (i l : ℕ) (entry : Entry) (role : 
       by_test false is = refl
 
   module _ (messages : List LogMsg) (pooled : slice_get k.messages.items i ≡ Some (Some messages)) where
-    made-and-is : (is_set k.decided.items i ≡ true) × (messages ≡ messages_on k.config i (seen_before k.book.items i) entry)
+    made-and-is : (is_set k.decided.items i ≡ true) × (messages
+        ≡ messages_on k.config i (seen_before k.book.items i) entry)
     made-and-is = by_test (is_set k.decided.items i) (sym pooled ∙ before.book.made i entry there)
       where
         by_test : (made : Bool)
@@ -61,8 +64,8 @@ module _ (k : Cluster) (before : Refines k) (i l : ℕ) (entry : Entry) (role : 
     -- there is one for each log
     pub one-each : length messages ≡ length k.logs.items
     one-each = ap length made-and-is.1
-        ∙ length-map-range_with_len (λ (log : ℕ). log_message k.config.resolver_splits k.config.shard_splits k.config.logs
-        log i (seen_before k.book.items i) entry) 0 k.config.logs
+        ∙ length-map-range_with_len (λ (log : ℕ). log_message k.config.resolver_splits k.config.shard_splits
+        k.config.logs log i (seen_before k.book.items i) entry) 0 k.config.logs
         ∙ sym before.logs.log_count
 
     module _ (message : LogMsg) (found : slice_get messages l ≡ Some message) where
@@ -77,8 +80,10 @@ module _ (k : Cluster) (before : Refines k) (i l : ℕ) (entry : Entry) (role : 
       message-rises =
           let prev : message.prev ≡ entry.prev = ap (λ (it : LogMsg). it.prev) message-is in
           let version : message.version ≡ entry.version = ap (λ (it : LogMsg). it.version) message-is in
-          let before-it = prev-is (suc (length k.config.resolver_splits)) k.book.items i entry before.book.entries there in
-          let rises = entries-rising (suc (length k.config.resolver_splits)) k.book.items before.book.entries i entry there in
+          let before-it = prev-is (suc (length k.config.resolver_splits)) k.book.items i entry before.book.entries
+          there in
+          let rises = entries-rising (suc (length k.config.resolver_splits)) k.book.items before.book.entries i entry
+          there in
           omega (arith, prev, version, before-it, rises)
 
       pub fault-is : push_fault role.core message ≡ turn_fault role.taken i entry
@@ -122,10 +127,11 @@ module _ (k : Cluster) (before : Refines k) (i l : ℕ) (entry : Entry) (role : 
               let tie = before.logs.each_tag tag shard.0 shard.1 role
               (ap (slice_get k.logs.items) number ∙ at) in
               let is = before.logs.each_shard tag shard.0 shard.1 in
-              let reached = versions-ordered k.book.items (entries-rising (suc (length k.config.resolver_splits)) k.book.items before.book.entries)
+              let reached = versions-ordered k.book.items
+              (entries-rising (suc (length k.config.resolver_splits)) k.book.items before.book.entries)
               shard.0.applied role.taken tie.0 in
-              let rises = entries-rising (suc (length k.config.resolver_splits)) k.book.items before.book.entries role.taken entry
-              (ap (slice_get k.book.items) due ∙ there) in
+              let rises = entries-rising (suc (length k.config.resolver_splits)) k.book.items before.book.entries
+              role.taken entry (ap (slice_get k.book.items) due ∙ there) in
               let low = is.popped in
               omega (arith, tie.1, low, is.version, reached, rises)
 
@@ -135,7 +141,8 @@ module _ (k : Cluster) (before : Refines k) (i l : ℕ) (entry : Entry) (role : 
               (message-is ∙ ap (λ (n : ℕ). log_message k.config.resolver_splits k.config.shard_splits k.config.logs l n
               (seen_before k.book.items n) entry) (sym due)) taken
 
-          pub counted : logs_taken (slice_set k.logs.items l new) ≡ slice_set (logs_taken k.logs.items) l (role.taken + 1)
+          pub counted : logs_taken (slice_set k.logs.items l new)
+              ≡ slice_set (logs_taken k.logs.items) l (role.taken + 1)
           counted = map-set (λ (it : LogRole). it.taken) k.logs.items l new
 
           pub tied : Refines (record k { logs = with_item k.logs l new })

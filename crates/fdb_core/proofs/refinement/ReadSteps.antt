@@ -50,14 +50,15 @@ are_readable k version before = record {
         serves = λ x above reached inside.
             it.serves version x above reached inside
             ∙ ap (λ (map : Map). get map x) (sym (serial-front k.config.resolver_splits k.book.items
-            (entries-rising (suc (length k.config.resolver_splits)) k.book.items before.book.entries) role.applied version
+            (entries-rising (suc (length k.config.resolver_splits)) k.book.items before.book.entries) role.applied
+            version
             (subst (λ (greatest : ℕ). version ≤ greatest) it.version reached)));
       };
 }
 
 module _ (k : Cluster) (before : Refines k) (session : ℕ) (operation : Op) (transcript : Transcript)
     (is_open : open_at k.sessions session ≡ Some transcript) (sessions : Sessions) where
-  -- the call is refused as the shards refuse the read, and else gives the reply on the map of the run, which the
+  -- the call is refused as the shards refuse the read, and else gives the reply on the serial map, which the
   -- transaction has noted
   abbrev pub AnswersAt : ShardReads → Result Answered Refusal → Type 0
   AnswersAt shown result =

@@ -1,5 +1,6 @@
 -- A commit proxy reports the version of its batch, once every log acknowledged the batch.
-use Rattle.std.proofs.Common.{◌≡◌, ◌∙◌, refl, sym, ap, ⊎_elim, ℕ, max, ◌<◌, ◌≤◌, true, false, map, Option, Some, None, Result, Ok, Err, length, slice_get, slice_set, subst}
+use Rattle.std.proofs.Common.{◌≡◌, ◌∙◌, refl, sym, ap, ⊎_elim, ℕ, max, ◌<◌, ◌≤◌, true, false, map, Option, Some, None}
+use Rattle.std.proofs.Common.{Result, Ok, Err, length, slice_get, slice_set, subst}
 use Rattle.std.proofs.lemmas.Bool.{cases_Bool}
 use Rattle.std.proofs.lemmas.Option.{slice_get_within}
 use Rattle.fdb_keys.specs.Answers.{AnswersExactly}
@@ -16,7 +17,8 @@ use Rattle.fdb_core.specs.machine.Roles.{CommitProxy, Stage, Idle, Resolving, Lo
 use Rattle.fdb_core.specs.refinement.Cluster.{machine_of, CommitProxiesRefine, Refines}
 use Rattle.fdb_core.specs.refinement.CommitProxies.{CommitProxyRefines, known_to, seen_as}
 use Rattle.fdb_core.proofs.common.ListLemmas.{map-at, map-set}
-use Rattle.fdb_core.proofs.refinement.CommitProxyTies.{busy-entry, commit_proxies-set, commit_proxy-raised, commit_proxy-reported, seen-reported}
+use Rattle.fdb_core.proofs.refinement.CommitProxyTies.{busy-entry, commit_proxies-set, commit_proxy-raised}
+use Rattle.fdb_core.proofs.refinement.CommitProxyTies.{commit_proxy-reported, seen-reported}
 
 -- whose batch is being logged isn't idle
 logging-busy : (stage : Stage) → is_logging stage ≡ true → is_idle stage ≡ false
@@ -140,8 +142,8 @@ module _ (k : Cluster) (before : Refines k) (proxy : ℕ) (role : CommitProxyRol
                   commit_proxies-set k.config k.book.items k.book.items (known_to k.sequencer)
                   (λ (n : ℕ). record (known_to k.sequencer n) { committed = raised })
                   k.commit_proxies.items proxy (record role { is_reported = true }) before.commit_proxies
-                  (commit_proxy-reported k.config k.book.items (known_to k.sequencer proxy) role its raised above logging none)
-                  (λ n other differs at ok.
+                  (commit_proxy-reported k.config k.book.items (known_to k.sequencer proxy) role its raised above
+                  logging none) (λ n other differs at ok.
                   commit_proxy-raised k.config k.book.items (known_to k.sequencer n) other ok raised above);
             }
           where

@@ -1,6 +1,7 @@
 -- A resolver that took the entries before another one says of its part of that what the rule says, and has then taken
 -- it, too.
-use Rattle.std.proofs.Common.{◌≡◌, ◌∙◌, sym, ap, subst, ℕ, suc, ◌-◌, ◌<◌, true, not, nat_lt, List, [], ◌∷◌, ◌++◌, length, Option, Some, None, ⊎_elim, arith}
+use Rattle.std.proofs.Common.{◌≡◌, ◌∙◌, sym, ap, subst, ℕ, suc, ◌-◌, ◌<◌, true, not, nat_lt, List, [], ◌∷◌, ◌++◌}
+use Rattle.std.proofs.Common.{length, Option, Some, None, ⊎_elim, arith}
 use Rattle.std.specs.List.{All, AllByRecursion}
 use Rattle.std.proofs.lemmas.Bool.{and_parts, cond-false, eq-eqb, le-ltb}
 use Rattle.std.proofs.lemmas.List.Elements.{All-from_recursion}

@@ -1,11 +1,13 @@
 -- What is made of the entries of a book, and the run of its committed transactions.
-use Rattle.std.proofs.Common.{◌≡◌, ◌∙◌, sym, ap, refl, ℕ, zero, suc, ◌<◌, ◌≤◌, take-append-drop, le_refl, le_of_lt, subst, List, [], ◌∷◌, take, drop, fold, length, slice_get, Some, arith}
+use Rattle.std.proofs.Common.{◌≡◌, ◌∙◌, sym, ap, refl, ℕ, zero, suc, ◌<◌, ◌≤◌, take-append-drop, le_refl, le_of_lt}
+use Rattle.std.proofs.Common.{subst, List, [], ◌∷◌, take, drop, fold, length, slice_get, Some, arith}
 use Rattle.std.specs.List.{AllByRecursion}
 use Rattle.std.proofs.lemmas.List.Sums.{fold-append}
 use Rattle.fdb_keys.specs.Points.{Point}
 use Rattle.fdb_txn.specs.declared.entry.Entry.{Entry}
 use Rattle.fdb_txn.specs.book.Transactions.{Transaction}
-use Rattle.fdb_txn.specs.book.Book.{Stamped, Place, Seen, nothing, placed, add_places, add_entry, seen_of, last_version, seen_before}
+use Rattle.fdb_txn.specs.book.Book.{Stamped, Place, Seen, nothing, placed, add_places, add_entry, seen_of, last_version}
+use Rattle.fdb_txn.specs.book.Book.{seen_before}
 use Rattle.fdb_txn.specs.rules.SerialMap.{serial_map, up_to, serial_map_at}
 use Rattle.fdb_txn.specs.book.History.{AreEntries, ReadsBelow}
 use Rattle.fdb_txn.proofs.book.HistoryLemmas.{all-weaken, AtMost, add_places-newer, up_to-above, up_to-all}

@@ -1,5 +1,6 @@
 -- A commit proxy of a world seals a batch by the sequencer's ticket.
-use Rattle.std.proofs.Common.{◌≡◌, ◌≢◌, ◌∙◌, refl, sym, ap, subst, ℕ, suc, ◌<◌, ◌≤◌, List, [], ◌∷◌, ◌++◌, length, take, Some, slice_get, slice_set, arith}
+use Rattle.std.proofs.Common.{◌≡◌, ◌≢◌, ◌∙◌, refl, sym, ap, subst, ℕ, suc, ◌<◌, ◌≤◌, List, [], ◌∷◌, ◌++◌, length, take}
+use Rattle.std.proofs.Common.{Some, slice_get, slice_set, arith}
 use Rattle.std.specs.List.{AllByRecursion}
 use Rattle.std.proofs.lemmas.List.{length-append, length-map, take-append-le}
 use Rattle.std.proofs.lemmas.Option.{slice_get_within}
@@ -22,7 +23,8 @@ use Rattle.fdb_core.specs.declared.roles.commit_proxy.CommitProxyRole.{CommitPro
 use Rattle.fdb_core.specs.declared.roles.resolver.ResolverRole.{ResolverRole}
 use Rattle.fdb_core.specs.machine.CommitProxySteps.{with_batch}
 use Rattle.fdb_core.specs.refinement.Cluster.{machine_of, CommitProxiesRefine, Refines, SequencerRefines}
-use Rattle.fdb_core.specs.refinement.CommitProxies.{CommitProxyRefines, Known, known_to, IsNextTicket, Seals, ArePartsOf, ReadsWithin, entry_of, seen_as}
+use Rattle.fdb_core.specs.refinement.CommitProxies.{CommitProxyRefines, Known, known_to, IsNextTicket, Seals}
+use Rattle.fdb_core.specs.refinement.CommitProxies.{ArePartsOf, ReadsWithin, entry_of, seen_as}
 use Rattle.fdb_core.specs.refinement.Resolving.{taken_by}
 use Rattle.fdb_core.proofs.common.AllLemmas.{all-map, all-take}
 use Rattle.fdb_core.proofs.refinement.BookLemmas.{last-push}

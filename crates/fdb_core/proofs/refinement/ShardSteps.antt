@@ -1,5 +1,6 @@
 -- A shard applies what its log has, forgets old versions, and has its log drop what it applied.
-use Rattle.std.proofs.Common.{◌≡◌, ◌∙◌, refl, sym, ap, subst, ℕ, suc, ◌+◌, ◌^◌, ◌%◌, ◌<◌, ◌≤◌, min, max, le_refl, Bool, true, false, length, map, take, Some, None, Ok, Err, arith}
+use Rattle.std.proofs.Common.{◌≡◌, ◌∙◌, refl, sym, ap, subst, ℕ, suc, ◌+◌, ◌^◌, ◌%◌, ◌<◌, ◌≤◌, min, max, le_refl, Bool}
+use Rattle.std.proofs.Common.{true, false, length, map, take, Some, None, Ok, Err, arith}
 use Rattle.std.specs.Prelude.{◌==◌, nat_lt, if◌then◌else◌}
 use Rattle.std.specs.List.{slice_get, slice_set}
 use Rattle.std.specs.Vec.{with_item}
@@ -24,7 +25,8 @@ use Rattle.fdb_core.specs.machine.RoleSteps.{pulls, forgets, pops, version_of_sh
 use Rattle.fdb_core.specs.refinement.Cluster.{machine_of, Refines}
 use Rattle.fdb_core.specs.refinement.Logs.{LogRefines, ShardRefines, TagRefines, logs_taken, progress_of}
 use Rattle.fdb_core.proofs.common.ListLemmas.{each-set}
-use Rattle.fdb_core.proofs.refinement.LogTies.{set-same, log-popped, shard-pulled, count, count-is, tags-applied, tags-popped}
+use Rattle.fdb_core.proofs.refinement.LogTies.{set-same, log-popped, shard-pulled, count, count-is, tags-applied}
+use Rattle.fdb_core.proofs.refinement.LogTies.{tags-popped}
 use Rattle.fdb_core.proofs.refinement.RunLaws.{entries-rising, versions-ordered}
 
 -- what the machine does, once the shard and its log are found
@@ -95,7 +97,8 @@ module _ (k : Cluster) (before : Refines k) (s : ℕ) (role : ShardRole)
     }
 
   pub counted : (new : ShardRole)
-      → map progress_of (slice_set k.shards.items s new) ≡ slice_set (map progress_of k.shards.items) s (progress_of new)
+      → map progress_of (slice_set k.shards.items s new)
+      ≡ slice_set (map progress_of k.shards.items) s (progress_of new)
   counted new = map-set progress_of k.shards.items s new
 
   -- the shard refuses to forget a version that it hasn't reached
@@ -108,7 +111,8 @@ module _ (k : Cluster) (before : Refines k) (s : ℕ) (role : ShardRole)
   pub forget-refused : (version : ℕ) (why : Refusal) → forget_fault role.core version ≡ Some why
       → forgets (machine_of k) s version ≡ Err why
   forget-refused version why fault =
-      by_test (nat_lt (version_of_shard k.book.items (progress_of role)) version) refl (sym (forget_fault-is version) ∙ fault)
+      by_test (nat_lt (version_of_shard k.book.items (progress_of role)) version) refl
+      (sym (forget_fault-is version) ∙ fault)
     where
       by_test : (late : Bool) → nat_lt (version_of_shard k.book.items (progress_of role)) version ≡ late
           → (if late then Some FutureVersion else None) ≡ Some why → forgets (machine_of k) s version ≡ Err why
@@ -183,8 +187,8 @@ module _ (k : Cluster) (before : Refines k) (s : ℕ) (role : ShardRole)
     -- the log took what the shard applied
     pub behind : role.core.version ≤ log.core.last
     behind =
-        let reached = versions-ordered k.book.items (entries-rising (suc (length k.config.resolver_splits)) k.book.items before.book.entries) role.applied
-        log.taken (tie log log_at).0 in
+        let reached = versions-ordered k.book.items (entries-rising (suc (length k.config.resolver_splits))
+        k.book.items before.book.entries) role.applied log.taken (tie log log_at).0 in
         omega (arith, its.version, log-is.last, reached)
 
     pub tag_fault-none : tag_fault log.core s role.core.version ≡ None
@@ -204,12 +208,13 @@ module _ (k : Cluster) (before : Refines k) (s : ℕ) (role : ShardRole)
     pub apply_fault-none : (limit : ℕ)
         → apply_fault role.core (peek_of log.core s role.core.version limit) ≡ None
     apply_fault-none limit =
-        rw (eq-eqb s role.core.tag (sym its.tag), its.works, le-ltb role.core.version role.core.version (le_refl _)) refl
+        rw (eq-eqb s role.core.tag (sym its.tag), its.works, le-ltb role.core.version role.core.version (le_refl _))
+        refl
 
     -- how many messages are applied
     abbrev pub given : ℕ → ℕ
-    given limit = count k.config k.book.items before.book.entries s (log_of (length k.logs.items) s) limit role log log-is
-        its keeps-it (tie log log_at).0 unpopped
+    given limit = count k.config k.book.items before.book.entries s (log_of (length k.logs.items) s) limit role log
+        log-is its keeps-it (tie log log_at).0 unpopped
 
     pub applied-is : (limit : ℕ) → max role.applied (min log.taken (role.applied + limit)) ≡ role.applied + given limit
     applied-is limit = let ordered = (tie log log_at).0 in omega (arith, ordered)
@@ -292,7 +297,8 @@ module _ (k : Cluster) (before : Refines k) (s : ℕ) (role : ShardRole)
     pub pop-accepted : pops (machine_of k) s ≡ Ok (record {
       answer = answered.Version role.core.version;
       next = record (machine_of k) {
-        shards = slice_set (map progress_of k.shards.items) s (record (progress_of role) { popped = role.core.version });
+        shards = slice_set (map progress_of k.shards.items) s
+            (record (progress_of role) { popped = role.core.version });
       };
     })
     pop-accepted = pops-transition (machine_of k) s (progress_of role) progress-at
@@ -372,8 +378,10 @@ module _ (k : Cluster) (before : Refines k) (s limit version : ℕ) (role : Shar
 
       pub pull-goes_on : pulls (machine_of k) s limit ≡ Ok (record {
         answer = answered.Version core.version;
-        next = record (machine_of k)
-            { shards = slice_set (map progress_of k.shards.items) s (record (progress_of role) { applied = role.applied + n }) };
+        next = record (machine_of k) {
+          shards = slice_set (map progress_of k.shards.items) s
+              (record (progress_of role) { applied = role.applied + n });
+        };
       })
       pull-goes_on =
           let version : core.version
@@ -389,6 +397,7 @@ module _ (k : Cluster) (before : Refines k) (s limit version : ℕ) (role : Shar
 
       pub pull-tied : Refines (record k { shards = with_item k.shards s put })
       pull-tied = shard-put k before s role at put refined
-          (λ other found. subst (λ (it : LogRole). role.applied + n ≤ it.taken) (same_Some log other (sym log_at ∙ found))
+          (λ other found. subst (λ (it : LogRole). role.applied + n ≤ it.taken)
+          (same_Some log other (sym log_at ∙ found))
           (subst (λ (m : ℕ). role.applied + m ≤ log.taken) (sym n_given)
           (given-within k before s role at log log_at limit))) refl

@@ -1,5 +1,7 @@
 -- The roles that took nothing, what they keep of no entries, and what a legal configuration says.
-use Rattle.std.proofs.Common.{◌≡◌, ◌∙◌, refl, sym, ap, ap₂, subst, ℕ, zero, suc, ◌+◌, ◌<◌, ◌≤◌, List, [], ◌∷◌, ◌++◌, length, map, replicate, Bool, true, false, if◌then◌else◌, Option, Some, None, unwrap_or, slice_get, length-append, arith}
+use Rattle.std.proofs.Common.{◌≡◌, ◌∙◌, refl, sym, ap, ap₂, subst, ℕ, zero, suc, ◌+◌, ◌<◌, ◌≤◌, List, [], ◌∷◌, ◌++◌}
+use Rattle.std.proofs.Common.{length, map, replicate, Bool, true, false, if◌then◌else◌, Option, Some, None, unwrap_or}
+use Rattle.std.proofs.Common.{slice_get, length-append, arith}
 use Rattle.std.specs.Prelude.{◌&&◌, nat_le, nat_lt}
 use Rattle.std.proofs.lemmas.List.{length-replicate}
 use Rattle.std.specs.List.{AllByRecursion}
@@ -25,13 +27,16 @@ use Rattle.fdb_core.specs.declared.roles.shard.ShardRole.{ShardRole}
 use Rattle.fdb_core.specs.declared.roles.commit_proxy.CommitProxyRole.{CommitProxyRole}
 use Rattle.fdb_core.specs.declared.roles.resolver.ResolverRole.{ResolverRole}
 use Rattle.fdb_core.specs.machine.Worlds.{idle_proxy}
-use Rattle.fdb_core.specs.refinement.Cluster.{IsLegal, CommitProxiesRefine, SequencerRefines, GrvProxiesRefine, HasSeenNone, sessions_of}
+use Rattle.fdb_core.specs.refinement.Cluster.{IsLegal, CommitProxiesRefine, SequencerRefines, GrvProxiesRefine}
+use Rattle.fdb_core.specs.refinement.Cluster.{HasSeenNone, sessions_of}
 use Rattle.fdb_owners.proofs.BookLemmas.{new_goes_on}
 use Rattle.fdb_sequencer.specs.Moves.{Dated}
 use Rattle.fdb_sequencer.specs.Sequencer.{fresh}
 use Rattle.fdb_proxy.specs.CommitProxies.{CommitProxy as Core, IsNewProxy}
-use Rattle.fdb_core.specs.refinement.CommitProxies.{CommitProxyRefines, IsNewCommitProxy, StageRefines, known_to, seen_as}
-use Rattle.fdb_core.specs.refinement.Logs.{Each, LogRefines, ShardRefines, TagRefines, LogsRefine, logs_taken, progress_of}
+use Rattle.fdb_core.specs.refinement.CommitProxies.{CommitProxyRefines, IsNewCommitProxy, StageRefines, known_to}
+use Rattle.fdb_core.specs.refinement.CommitProxies.{seen_as}
+use Rattle.fdb_core.specs.refinement.Logs.{Each, LogRefines, ShardRefines, TagRefines, LogsRefine, logs_taken}
+use Rattle.fdb_core.specs.refinement.Logs.{progress_of}
 use Rattle.fdb_core.specs.refinement.Resolving.{ResolversRefine, taken_by}
 use Rattle.fdb_core.specs.refinement.Starts.{AreNewLogs, AreNewShards, IsNewResolver}
 use Rattle.fdb_core.proofs.common.ListLemmas.{each-push}
@@ -218,7 +223,8 @@ grv_proxies-start config asked is = rw is (record {
   each = λ i there at. nobody config.proxies i there at;
 })
   where
-    nobody : (n i : ℕ) (there : List Asker) → slice_get (replicate n []) i ≡ Some there → AllByRecursion HasSeenNone there
+    nobody : (n i : ℕ) (there : List Asker) → slice_get (replicate n []) i ≡ Some there
+        → AllByRecursion HasSeenNone there
     nobody zero i there at = cc
     nobody (suc n) zero there at = let same : [] ≡ there = cc in subst (AllByRecursion HasSeenNone) same tt
     nobody (suc n) (suc i) there at = nobody n i there at

@@ -1,5 +1,6 @@
 -- A session submits its open transaction: one that wrote nothing is acknowledged, any other waits at a proxy.
-use Rattle.std.proofs.Common.{◌≡◌, ◌∙◌, refl, sym, ap, ℕ, ◌≤◌, Bool, true, false, [], ◌∷◌, ◌++◌, map, Some, None, Ok, slice_get, slice_set, if◌then◌else◌}
+use Rattle.std.proofs.Common.{◌≡◌, ◌∙◌, refl, sym, ap, ℕ, ◌≤◌, Bool, true, false, [], ◌∷◌, ◌++◌, map, Some, None, Ok}
+use Rattle.std.proofs.Common.{slice_get, slice_set, if◌then◌else◌}
 use Rattle.fdb_txn.specs.book.Transactions.{Transaction}
 use Rattle.fdb_txn.specs.declared.spot.Spot.TheVariants as spot
 use Rattle.fdb_client.specs.declared.finished.Finished.{Finished}

@@ -1,5 +1,6 @@
 -- The sequencer's ticket is what the machine says of the next entry.
-use Rattle.std.proofs.Common.{◌≡◌, ◌∙◌, refl, subst, arith, ℕ, ◌<◌, ◌≤◌, Bool, true, false, ◌++◌, inl, inr, Option, Some, None, Ok, Err, if◌then◌else◌}
+use Rattle.std.proofs.Common.{◌≡◌, ◌∙◌, refl, subst, arith, ℕ, ◌<◌, ◌≤◌, Bool, true, false, ◌++◌, inl, inr, Option}
+use Rattle.std.proofs.Common.{Some, None, Ok, Err, if◌then◌else◌}
 use Rattle.std.specs.Prelude.{◌⊎◌, ◌||◌, nat_lt, nat_le, slice_get}
 use Rattle.std.proofs.lemmas.Bool.{lt-leb, ltb-false}
 use Rattle.std.proofs.lemmas.Option.{slice_get_within}

@@ -12,8 +12,8 @@ use Rattle.fdb_core.specs.declared.world.CheckFault.TheVariants.{Txn}
 abbrev pub entries_through : List Entry → ℕ → ℕ
 entries_through book version = count_by (λ (entry : Entry). nat_le entry.version version) book
 
--- How many entries go before a spot, and how many places of the next entry up to the spot with its own. A read-only spot
--- goes after the entries of version at most its own, and before all places of the next one.
+-- How many entries go before a spot, and how many places of the next entry up to the spot with its own. A read-only
+-- spot goes after the entries of version at most its own, and before all places of the next one.
 abbrev pub moment_of : List Entry → Spot → ℕ × ℕ
 moment_of book (spot.Entry index place version) = (index, suc place)
 moment_of book (spot.ReadOnly version) = (entries_through book version, 0)

@@ -1,5 +1,6 @@
 -- What an accepted step answers, by what the trace told before it.
-use Rattle.std.specs.Prelude.{◌≡◌, ◌↔◌, ◌<◌, ◌≤◌, ℕ, suc, ◌+◌, Bool, true, false, min, max, nat_le, List, [], ◌∷◌, ◌++◌, length, map, take, Option, Some, Result, Ok, slice_get}
+use Rattle.std.specs.Prelude.{◌≡◌, ◌↔◌, ◌<◌, ◌≤◌, ℕ, suc, ◌+◌, Bool, true, false, min, max, nat_le, List, [], ◌∷◌, ◌++◌}
+use Rattle.std.specs.Prelude.{length, map, take, Option, Some, Result, Ok, slice_get}
 use Rattle.std.specs.List.{AllByRecursion, Contains, count_by}
 use Rattle.std.specs.FinMap.{get}
 use Rattle.fdb_keys.specs.declared.refusal.Refusal.{Refusal}
@@ -90,8 +91,8 @@ module _ (config : Config) (r : Readings) where
   IsAskedAt entry resolver p there =
       (place_at r.book entry p ≡ Some there) × (is_asked splits resolver there.0 ≡ true)
 
-  -- A resolver takes the entry that comes after those that it took. By place it says of each that it is asked about what
-  -- the rule says, and nothing of another one.
+  -- A resolver takes the entry that comes after those that it took. By place it says of each that it is asked about
+  -- what the rule says, and nothing of another one.
   pub record IsResolved (entry resolver : ℕ) (given : List (ℕ × Verdict)) : Type 0 where
     pub is_there : entry < length r.book
     pub exists : resolver < suc (length splits)

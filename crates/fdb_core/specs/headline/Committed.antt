@@ -21,7 +21,7 @@ pub record IsPlaceOf (splits : List Point) (book : List Entry) (n p : ℕ) (ther
   pub each_sealed : AllByRecursion IsSealed book
   pub there_is : place_at book n p ≡ Some there
 
--- A transcript whose transaction is committed at a place, and that was answered as on the map of the run at its read
+-- A transcript whose transaction is committed at a place, and that was answered as on the serial map at its read
 -- version, was answered as on the map right before the place.
 abbrev pub ReadsOfTheCommittedStand : Type 0
 ReadsOfTheCommittedStand =

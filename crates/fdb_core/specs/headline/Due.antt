@@ -1,6 +1,6 @@
 -- Which steps of roles are due: messages are delivered where their step made them, in their turn, and a proxy decides
--- where it has all verdicts that it needs. Such a step is accepted, and one that isn't due isn't, as what accepted steps
--- are answered says.
+-- where it has all verdicts that it needs. Such a step is accepted, and one that isn't due isn't, as what accepted
+-- steps are answered says.
 use Rattle.std.specs.Prelude.{◌≡◌, ◌<◌, ◌++◌, ℕ, suc, true, false, List, [], ◌∷◌, length, Some, Result, Ok, Err}
 use Rattle.fdb_keys.specs.declared.refusal.Refusal.{Refusal}
 use Rattle.fdb_keys.specs.declared.refusal.Refusal.TheVariants.{NotYet}

@@ -1,5 +1,6 @@
 -- What the headline says of small worlds: who stands where, what a shard has to answer, and which answers a trace has.
-use Rattle.std.specs.Prelude.{◌≡◌, ℕ, Bool, true, false, List, [], ◌∷◌, ◌++◌, Option, Some, None, Result, Ok, Err, codes}
+use Rattle.std.specs.Prelude.{◌≡◌, ℕ, Bool, true, false, List, [], ◌∷◌, ◌++◌, Option, Some, None, Result, Ok, Err}
+use Rattle.std.specs.Prelude.{codes}
 use Rattle.std.specs.FinMap.{get, empty, insert}
 use Rattle.fdb_keys.specs.declared.refusal.Refusal.{Refusal}
 use Rattle.fdb_keys.specs.declared.refusal.Refusal.TheVariants.{Unknown, Stale, FutureVersion}
@@ -82,9 +83,9 @@ adds_a_write_range = record does_nothing
 abbrev pub reads_only : Bool → Option (List ℕ) → Transcript
 reads_only snapshot answer = record does_nothing { ops = (op.Get (codes "a") snapshot, reply.Value answer) ∷ [] }
 
--- A transaction that wrote nothing is serialized at its read version alone; at one to which the book hasn't come, too, but
--- none is acknowledged there. It isn't if it had been answered otherwise. One that wrote is serialized at no such spot, and neither is one that added a
--- range to its write set.
+-- A transaction that wrote nothing is serialized at its read version alone; at one to which the book hasn't come, too,
+-- but none is acknowledged there. It isn't if it had been answered otherwise. One that wrote is serialized at no such
+-- spot, and neither is one that added a range to its write set.
 abbrev pub ReadOnlyAtItsVersion : Type 0
 ReadOnlyAtItsVersion =
     IsSerializedAtSpot [] two_in_one_entry does_nothing (spot.ReadOnly 0)
@@ -167,9 +168,11 @@ ShardsGoOnAndForget =
     × (next (two_shards 0 0 0) (step.Pull 2 9) ≡ Err Unknown)
     × (next (two_shards 1 40 0) (step.Forget 1 100)
     ≡ Ok (record { answer = answered.Version 100; next = two_shards 1 100 0 }))
-    × (next (two_shards 1 40 0) (step.Forget 1 30) ≡ Ok (record { answer = answered.Version 40; next = two_shards 1 40 0 }))
+    × (next (two_shards 1 40 0) (step.Forget 1 30) ≡ Ok
+    (record { answer = answered.Version 40; next = two_shards 1 40 0 }))
     × (next (two_shards 1 40 0) (step.Forget 1 101) ≡ Err FutureVersion)
-    × (next (two_shards 1 40 0) (step.Pop 1) ≡ Ok (record { answer = answered.Version 100; next = two_shards 1 40 100 }))
+    × (next (two_shards 1 40 0) (step.Pop 1) ≡ Ok (record
+    { answer = answered.Version 100; next = two_shards 1 40 100 }))
 
 -- A shard that serves up to the entry and has nothing at the key that it sets doesn't answer from the run.
 abbrev pub AnEmptyShardDoesNotServe : Type 0
@@ -195,7 +198,8 @@ set_and_cleared = two_in_one_entry ++ record {
 -- A shard that has nothing at the key answers from the run at version 200, but not if it still serves version 100.
 abbrev pub EachServedVersionCounts : Type 0
 EachServedVersionCounts =
-    (value_at (empty_from 100) 200 (codes "a") ≡ get (serial_map_at [] 200 (seen_of set_and_cleared).places) (codes "a"))
+    (value_at (empty_from 100) 200 (codes "a") ≡ get (serial_map_at [] 200 (seen_of set_and_cleared).places)
+    (codes "a"))
     × (ShardServes plain set_and_cleared 0 (empty_from 100) → ⊥)
   where
     empty_from : ℕ → Shard

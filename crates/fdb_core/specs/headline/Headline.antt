@@ -31,7 +31,7 @@ AnsweredOn map transcript = AgreeWhereOrdinary (program transcript.ops) (replies
     (exec map (program transcript.ops))
 
 -- The transaction is at its place of the book, under its version, and is committed there; it was answered as
--- on the map of the run right before that place.
+-- on the serial map right before that place.
 abbrev pub IsSerializedAt : List Point → List Entry → Transcript → ℕ → ℕ → ℕ → Type 0
 IsSerializedAt splits book transcript entry place version =
     (there : Place × List Place) × (place_at book entry place ≡ Some there)
@@ -44,7 +44,7 @@ abbrev pub WroteNothing : Transcript → Type 0
 WroteNothing transcript =
     (mutations_of (program transcript.ops) ≡ []) × (write_ranges (program transcript.ops) ≡ [])
 
--- The transaction wrote nothing, and was answered as on the map of the run after all entries of version at most
+-- The transaction wrote nothing, and was answered as on the serial map after all entries of version at most
 -- its read version.
 abbrev pub IsReadOnlyAt : List Point → List Entry → Transcript → ℕ → Type 0
 IsReadOnlyAt splits book transcript version =

@@ -60,8 +60,8 @@ overlapping =
     ∷ entry_of 300 200 [] (reads_and_sets 1 100 (codes "d" ∷ []) (codes "e" ∷ []) ∷ [])
     ∷ []
 
--- Of two moves of one entry the later one counts where both hold a key: resolver 1 is asked for b, and resolver 0 for d,
--- so that resolver 0 tells the conflict on d.
+-- Of two moves of one entry the later one counts where both hold a key: resolver 1 is asked for b, and resolver 0 for
+-- d, so that resolver 0 tells the conflict on d.
 abbrev pub TheLaterMoveCounts : Type 0
 TheLaterMoveCounts =
     (says overlapping 1 0 ≡ verdicts ((0, verdict.Yes) ∷ []))
@@ -77,8 +77,8 @@ both_moved = machine_of_trace two_resolvers
 
 abbrev pub both_sealed : Machine
 both_sealed = machine_of_trace two_resolvers
-    (step.Move (from_to (codes "a") (codes "z")) 1 ∷ step.Move (from_to (codes "c") (codes "f")) 0 ∷ step.Seal 0 100 ∷ [])
-    (Ok answered.Done ∷ Ok answered.Done ∷ Ok (answered.Issued 0 100 0 0) ∷ [])
+    (step.Move (from_to (codes "a") (codes "z")) 1 ∷ step.Move (from_to (codes "c") (codes "f")) 0 ∷ step.Seal 0 100
+    ∷ []) (Ok answered.Done ∷ Ok answered.Done ∷ Ok (answered.Issued 0 100 0 0) ∷ [])
 
 -- Moves take effect with the next entry, the earliest one first, and with no other. There is none to a resolver that
 -- doesn't exist, and none of an empty range.

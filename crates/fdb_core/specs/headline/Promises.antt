@@ -1,5 +1,6 @@
 -- What holds of the machine at every step and over every run.
-use Rattle.std.specs.Prelude.{◌≡◌, ◌↔◌, ◌<◌, ⊤, ℕ, suc, Bool, true, false, nat_lt, List, length, map, Some, Result, Ok, Err, slice_get}
+use Rattle.std.specs.Prelude.{◌≡◌, ◌↔◌, ◌<◌, ⊤, ℕ, suc, Bool, true, false, nat_lt, List, length, map, Some, Result, Ok}
+use Rattle.std.specs.Prelude.{Err, slice_get}
 use Rattle.std.specs.FinMap.{get}
 use Rattle.std.specs.List.{AllByRecursion}
 use Rattle.fdb_txn.specs.declared.spot.Spot.{Spot}

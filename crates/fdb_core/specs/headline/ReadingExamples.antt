@@ -52,8 +52,9 @@ EachOperationIsNoted = (readings_of all_operations their_answers).opened ≡ rec
       ∷ (op.AddWrite (from_to (codes "c") (codes "d")), reply.Done) ∷ [];
 } ∷ []
 
--- Two sessions are served, each by a proxy of its own. One sets a key and waits at proxy 1, the other one wrote nothing.
--- Keys go over, the batch of proxy 1 is sealed, keys go over once more, and the client is told that it was too old.
+-- Two sessions are served, each by a proxy of its own. One sets a key and waits at proxy 1, the other one wrote
+-- nothing. Keys go over, the batch of proxy 1 is sealed, keys go over once more, and the client is told that it was too
+-- old.
 abbrev pub at_two_proxies : List Step
 at_two_proxies =
     step.Ask 1 0 ∷ step.Grant 0 ∷ step.Ask 2 1 ∷ step.Grant 1
@@ -78,8 +79,8 @@ sets_a = record {
   ops = (op.Write (Set (codes "a") (codes "1")), reply.Done) ∷ [];
 }
 
--- Who submits waits at the proxy that was named, until this one seals; its batch has just those who waited, and its entry
--- the moves before it. Who wrote nothing is acknowledged at its read version, and who is too old isn't.
+-- Who submits waits at the proxy that was named, until this one seals; its batch has just those who waited, and its
+-- entry the moves before it. Who wrote nothing is acknowledged at its read version, and who is too old isn't.
 abbrev pub ReadAtTwoProxies : Type 0
 ReadAtTwoProxies =
     ((after_first 8).waiting 0 ≡ []) × ((after_first 8).waiting 1 ≡ sets_a ∷ [])
@@ -102,8 +103,8 @@ ReadAtTwoProxies =
     × ((after_first 12).answered ≡ 0 ∷ []) × ((after_first 12).reported ≡ 9000000)
 
 -- An entry goes through the roles: proxy 0 seals it, resolver 1 takes it and its verdicts come, it is decided, log 2
--- takes it and its acknowledgement comes, and it is reported. Shard 3 has it then, serves from version 40 on, and its log
--- drops it.
+-- takes it and its acknowledgement comes, and it is reported. Shard 3 has it then, serves from version 40 on, and its
+-- log drops it.
 abbrev pub through_the_roles : List Step
 through_the_roles =
     step.Ask 1 0 ∷ step.Grant 0 ∷ step.Write 1 (Set (codes "a") (codes "1")) ∷ step.Submit 1 0 ∷ step.Seal 0 100
@@ -121,8 +122,8 @@ each_is_accepted =
 abbrev pub progress_after : ℕ → Progress
 progress_after n = (readings_of (take n through_the_roles) (take n each_is_accepted)).progress
 
--- Each step is noted of the role that took it, and of no other one: the proxy waits for verdicts from its seal on until it
--- decides, and then for acknowledgements until it reports.
+-- Each step is noted of the role that took it, and of no other one: the proxy waits for verdicts from its seal on until
+-- it decides, and then for acknowledgements until it reports.
 abbrev pub ReadOffTheRoles : Type 0
 ReadOffTheRoles =
     ((progress_after 4).resolving 0 ≡ None) × ((progress_after 5).resolving 0 ≡ Some 0)

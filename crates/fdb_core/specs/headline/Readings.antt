@@ -1,6 +1,7 @@
 -- What a trace tells: it is read off the steps and their answers, one after another, and off nothing else. No role is
 -- looked at, no machine, and not what a read should have been answered.
-use Rattle.std.specs.Prelude.{ℕ, suc, max, Bool, true, false, ◌==◌, List, [], ◌∷◌, ◌++◌, fold, map, take, drop, Option, Some, None, Result, Ok, Err, if◌then◌else◌}
+use Rattle.std.specs.Prelude.{ℕ, suc, max, Bool, true, false, ◌==◌, List, [], ◌∷◌, ◌++◌, fold, map, take, drop, Option}
+use Rattle.std.specs.Prelude.{Some, None, Result, Ok, Err, if◌then◌else◌}
 use Rattle.std.specs.List.{count_by}
 use Rattle.fdb_keys.specs.declared.refusal.Refusal.{Refusal}
 use Rattle.fdb_txn.specs.Limits.{place_limit}

@@ -30,7 +30,7 @@ GoOnFrom version [] = ⊤
 GoOnFrom version (peek ∷ peeks) = (peek.after ≡ version) × GoOnFrom peek.through peeks
 
 -- The messages of peeks that go on from 0 leave at each point of the range and each version that they cover what stands
--- there on the run's map.
+-- there on the serial map.
 abbrev pub ReplaysTellTheRun : Type 0
 ReplaysTellTheRun =
     (splits : List Point) (range : Range) (book : List Entry) (peeks : List Peek)

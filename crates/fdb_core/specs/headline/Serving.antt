@@ -1,5 +1,6 @@
 -- What a world shows of its roles, and what holds of it.
-use Rattle.std.specs.Prelude.{◌≡◌, ◌<◌, ◌≤◌, ◌-◌, ◌++◌, ℕ, suc, true, false, List, take, length, Option, Some, None, IfSome, slice_get, if◌then◌else◌}
+use Rattle.std.specs.Prelude.{◌≡◌, ◌<◌, ◌≤◌, ◌-◌, ◌++◌, ℕ, suc, true, false, List, take, length, Option, Some, None}
+use Rattle.std.specs.Prelude.{IfSome, slice_get, if◌then◌else◌}
 use Rattle.std.specs.FinMap.{get}
 use Rattle.fdb_keys.specs.declared.refusal.Refusal.TheVariants.{Stale}
 use Rattle.fdb_keys.specs.Points.{Point}
@@ -126,7 +127,7 @@ pub record ShardReaches (m : Machine) (i : ℕ) (progress : ShardProgress) (shar
   pub popped : progress.popped ≤ shard.version
 
 -- A shard answers, at each version that it serves (from its floor through its version) and at each point that it
--- holds, what stands there on the map of the run of one committed transaction at a time.
+-- holds, what stands there on the serial map.
 abbrev pub ShardServes : Config → List Entry → ℕ → Shard → Type 0
 ShardServes config book i shard =
     (v : ℕ) (x : Point) → shard.floor ≤ v → v ≤ shard.version → in_range (piece config.shard_splits i) x ≡ true

@@ -44,10 +44,10 @@ abbrev pub alone : Option Transcript → List Transcript
 alone None = []
 alone (Some transcript) = transcript ∷ []
 
--- The machine has in its fields what is told: the entries, and the moves since the last one; for each session the open transaction with its operations
--- and replies, which is the only one that is told of it, and as its next number how often it began one, up to the
--- greatest number; those who wait at each commit proxy, the batch that it has in flight, the acknowledged transactions
--- with their spots, and the greatest version that was reported.
+-- The machine has in its fields what is told: the entries, and the moves since the last one; for each session the open
+-- transaction with its operations and replies, which is the only one that is told of it, and as its next number how
+-- often it began one, up to the greatest number; those who wait at each commit proxy, the batch that it has in flight,
+-- the acknowledged transactions with their spots, and the greatest version that was reported.
 pub record HasWhatIsTold (r : Readings) (m : Machine) : Type 0 where
   pub book : m.book ≡ r.book
   pub pending : m.pending ≡ r.pending

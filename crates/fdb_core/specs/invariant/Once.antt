@@ -8,7 +8,8 @@ use Rattle.fdb_client.specs.declared.program.Transcript.{Transcript}
 use Rattle.fdb_core.specs.invariant.Places.{AllStand}
 use Rattle.fdb_core.specs.machine.Machine.{Machine}
 use Rattle.fdb_core.specs.machine.Roles.{CommitProxy}
-use Rattle.fdb_core.specs.machine.Sessions.{Session, SessionState, Idle, Asking, Open, Waiting, Sessions, session_of, greatest_number}
+use Rattle.fdb_core.specs.machine.Sessions.{Session, SessionState, Idle, Asking, Open, Waiting, Sessions, session_of}
+use Rattle.fdb_core.specs.machine.Sessions.{greatest_number}
 
 -- 1 where the number is one of those up to the last one, else 0
 abbrev pub up_to : ℕ → Option ℕ → ℕ

@@ -1,11 +1,13 @@
 -- The steps of the commit proxies.
-use Rattle.std.specs.Prelude.{ℕ, max, Bool, true, false, not, ◌&&◌, ◌==◌, nat_lt, nat_le, List, [], ◌∷◌, ◌++◌, take, drop, map, length, replicate, Result, Ok, slice_get, slice_set, Option}
+use Rattle.std.specs.Prelude.{ℕ, max, Bool, true, false, not, ◌&&◌, ◌==◌, nat_lt, nat_le, List, [], ◌∷◌, ◌++◌, take}
+use Rattle.std.specs.Prelude.{drop, map, length, replicate, Result, Ok, slice_get, slice_set, Option}
 use Rattle.fdb_keys.specs.declared.refusal.Refusal.{Refusal}
 use Rattle.fdb_keys.specs.declared.refusal.Refusal.TheVariants.{Unknown, Stale, NotYet, Exhausted, BookFull, WrongState}
 use Rattle.fdb_txn.specs.Limits.{place_limit, version_limit}
 use Rattle.fdb_txn.specs.declared.spot.Spot.TheVariants as spot
 use Rattle.fdb_sequencer.specs.Sequencer.{next_version}
-use Rattle.fdb_core.specs.machine.Roles.{CommitProxy, Sender, FromResolver, FromLog, Stage, Idle, Resolving, Logging, Reported}
+use Rattle.fdb_core.specs.machine.Roles.{CommitProxy, Sender, FromResolver, FromLog, Stage, Idle, Resolving, Logging}
+use Rattle.fdb_core.specs.machine.Roles.{Reported}
 use Rattle.fdb_core.specs.declared.roles.client.Placed.{Placed}
 use Rattle.fdb_client.specs.declared.program.Transcript.{Transcript}
 use Rattle.fdb_client.specs.Programs.{commit_request_of}

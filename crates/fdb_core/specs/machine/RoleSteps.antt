@@ -1,5 +1,6 @@
 -- The steps of resolvers, logs and shards.
-use Rattle.std.specs.Prelude.{ℕ, ◌+◌, min, max, not, take, length, Result, Ok, slice_get, slice_set, nat_lt, List, Option, Some, None}
+use Rattle.std.specs.Prelude.{ℕ, ◌+◌, min, max, not, take, length, Result, Ok, slice_get, slice_set, nat_lt, List}
+use Rattle.std.specs.Prelude.{Option, Some, None}
 use Rattle.fdb_keys.specs.declared.refusal.Refusal.{Refusal}
 use Rattle.fdb_keys.specs.declared.refusal.Refusal.TheVariants.{Unknown, FutureVersion}
 use Rattle.fdb_txn.specs.declared.entry.Entry.{Entry}

@@ -1,5 +1,6 @@
 -- What each session is at.
-use Rattle.std.specs.Prelude.{ℕ, ◌+◌, ◌-◌, ◌^◌, ◌==◌, ◌||◌, min, Bool, true, false, List, [], fold, Option, Some, None, unwrap_or, IfSome}
+use Rattle.std.specs.Prelude.{ℕ, ◌+◌, ◌-◌, ◌^◌, ◌==◌, ◌||◌, min, Bool, true, false, List, [], fold, Option, Some, None}
+use Rattle.std.specs.Prelude.{unwrap_or, IfSome}
 use Rattle.std.specs.Ordering.{nat_cmp}
 use Rattle.std.specs.FinMap.{FinMap, get, insert}
 use Rattle.fdb_client.specs.declared.program.Transcript.{Transcript}

@@ -1,5 +1,6 @@
--- The world's parts as the machine, and what ties the roles' own lists to it.
-use Rattle.std.specs.Prelude.{◌≡◌, ℕ, ◌+◌, ◌<◌, ◌≤◌, Bool, true, List, take, map, length, Option, Some, None, slice_get, if◌then◌else◌, suc}
+-- The cluster of a world as the machine, and what ties the roles' own lists to it.
+use Rattle.std.specs.Prelude.{◌≡◌, ℕ, ◌+◌, ◌<◌, ◌≤◌, Bool, true, List, take, map, length, Option, Some, None, slice_get}
+use Rattle.std.specs.Prelude.{if◌then◌else◌, suc}
 use Rattle.std.specs.List.{AllByRecursion}
 use Rattle.fdb_txn.specs.declared.entry.Entry.{Entry}
 use Rattle.fdb_txn.specs.declared.entry.Move.{Move}
@@ -29,7 +30,7 @@ use Rattle.fdb_core.specs.headline.Serving.{System}
 abbrev pub sessions_of : List Asker → List ℕ
 sessions_of asked = map (λ (asker : Asker). asker.0) asked
 
--- the machine that the world's parts stand for
+-- the machine that a world's cluster stands for
 abbrev pub machine_of : Cluster → Machine
 machine_of k =
     record {
@@ -121,7 +122,7 @@ pub record GrvProxiesRefine (config : Config) (asked : List (List Asker)) : Type
   pub count : length asked ≡ config.proxies
   pub each : (i : ℕ) (there : List Asker) → slice_get asked i ≡ Some there → AllByRecursion HasSeenNone there
 
--- what holds of the world's parts between two steps
+-- what holds of a world's cluster between two steps
 pub record Refines (k : Cluster) : Type 0 where
   pub legal : IsLegal k.config
   pub room : length k.book.items ≤ k.config.book

@@ -1,5 +1,6 @@
 -- What ties a commit proxy of the world to the machine's and to the book.
-use Rattle.std.specs.Prelude.{◌≡◌, ◌≤◌, ◌<◌, ℕ, suc, Bool, true, false, List, [], ◌∷◌, ◌++◌, take, map, length, replicate, Option, Some, None, slice_get, if◌then◌else◌}
+use Rattle.std.specs.Prelude.{◌≡◌, ◌≤◌, ◌<◌, ℕ, suc, Bool, true, false, List, [], ◌∷◌, ◌++◌, take, map, length}
+use Rattle.std.specs.Prelude.{replicate, Option, Some, None, slice_get, if◌then◌else◌}
 use Rattle.std.specs.List.{AllByRecursion}
 use Rattle.std.specs.Option.{is_some}
 use Rattle.fdb_keys.specs.Points.{Point}
@@ -110,8 +111,8 @@ StageRefines config book is_reported i batch (core.Logging decided) =
     (entry : Entry) × IsBatchOf book i batch decided.position entry
     × IsLogging config book is_reported i entry decided
 
--- What the sequencer has for a commit proxy: the greatest version that was reported, and the moves that the proxy hasn't
--- had, by version.
+-- What the sequencer has for a commit proxy: the greatest version that was reported, and the moves that the proxy
+-- hasn't had, by version.
 pub record Known : Type 0 where
   pub committed : ℕ
   pub unlearnt : List Dated
@@ -120,8 +121,8 @@ abbrev pub known_to : Sequencer → ℕ → Known
 known_to sequencer proxy =
     record { committed = sequencer.committed; unlearnt = unlearnt_by sequencer proxy }
 
--- A proxy may learn these moves: they go to resolvers of which there are so many, and their versions rise from above the
--- last one that it learnt up to another.
+-- A proxy may learn these moves: they go to resolvers of which there are so many, and their versions rise from above
+-- the last one that it learnt up to another.
 pub record AreUnlearnt (resolvers last through : ℕ) (unlearnt : List Dated) : Type 0 where
   pub targets : GoToResolvers resolvers unlearnt
   pub rising : AreRisingUpTo through unlearnt
@@ -131,9 +132,9 @@ pub record AreUnlearnt (resolvers last through : ℕ) (unlearnt : List Dated) : 
 abbrev pub ReadsWithin : ℕ → Transcript → Type 0
 ReadsWithin committed transcript = transcript.read_version ≤ committed
 
--- The core works, and knows the configuration. The book's moves are those that it learnt and those that it hasn't had yet;
--- by the first ones its owners tell who owns a key. What waits there and what is in flight is what is judged of the
--- transcripts.
+-- The core works, and knows the configuration. The book's moves are those that it learnt and those that it hasn't had
+-- yet; by the first ones its owners tell who owns a key. What waits there and what is in flight is what is judged of
+-- the transcripts.
 pub record CommitProxyRefines (config : Config) (book : List Entry) (known : Known) (role : CommitProxyRole) : Type 0
   where
     pub works : role.core.proxy.is_failed ≡ false

@@ -1,6 +1,7 @@
 -- The points from which on a shard holds some of a range stand for all points of the range, whatever the splits. So a
 -- part of a range that the shards serve is served.
-use Rattle.std.proofs.Common.{◌≡◌, ◌∙◌, sym, ap, refl, ℕ, Bool, true, false, ◌&&◌, ◌||◌, List, [], ◌∷◌, map, Option, Some, None, slice_get, if◌then◌else◌}
+use Rattle.std.proofs.Common.{◌≡◌, ◌∙◌, sym, ap, refl, ℕ, Bool, true, false, ◌&&◌, ◌||◌, List, [], ◌∷◌, map, Option}
+use Rattle.std.proofs.Common.{Some, None, slice_get, if◌then◌else◌}
 use Rattle.std.specs.Prelude.{◌↔◌}
 use Rattle.std.specs.List.{filter, list_any}
 use Rattle.std.specs.Option.{is_some, option_or}

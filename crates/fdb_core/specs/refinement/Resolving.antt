@@ -51,7 +51,8 @@ pub record PartsRefine (splits : List Point) (book : List Entry) (parts : List (
   pub each : (i : ℕ) (entry : Entry) (of : List Part) → slice_get book i ≡ Some entry → slice_get parts i ≡ Some of
       → ArePartsOf splits book i entry of
 
--- Resolver i took its next entry, which has the number `index`, answered what the rule says of the entry's places, and sent just that.
+-- Resolver i took its next entry, which has the number `index`, answered what the rule says of the entry's places, and
+-- sent just that.
 pub record TakesNext (splits : List Point) (before : List Entry) (entry : Entry) (i index : ℕ) (old : ResolverRole)
     (answer : List (ℕ × Verdict)) (new : ResolverRole) : Type 0 where
   pub rule : answer ≡ verdicts_on splits i (seen_of before) entry

@@ -24,7 +24,7 @@ pub record ShardReads : Type 0 where
   pub book : List Entry
   pub shards : List ShardRole
 
--- the run's map at the version
+-- the serial map at the version
 abbrev pub run_map : ShardReads → Map
 run_map reads = serial_map_at reads.config.resolver_splits reads.version (seen_of reads.book).places
 
@@ -38,7 +38,7 @@ key_fault reads x =
 abbrev pub range_fault : ShardReads → Range → Option Refusal
 range_fault reads range = fault_among (key_fault reads) (shard_begins reads.config.shard_splits range)
 
--- the map has at each point of the range what the run's map has
+-- the map has at each point of the range what the serial map has
 abbrev pub HasTheRunIn : ShardReads → Range → Map → Type 0
 HasTheRunIn reads range map = AgreeIn range map (run_map reads)
 
@@ -48,7 +48,8 @@ pub record IsReadable (reads : ShardReads) (i : ℕ) (role : ShardRole) : Type 0
   pub works : role.core.is_failed ≡ false
   pub version : role.core.version ≡ last_version (take role.applied reads.book)
   pub serves : (x : Point) → role.core.floor ≤ reads.version → reads.version ≤ role.core.version
-      → in_range (piece reads.config.shard_splits i) x ≡ true → value_at role.core reads.version x ≡ get (run_map reads) x
+      → in_range (piece reads.config.shard_splits i) x ≡ true → value_at role.core reads.version x
+      ≡ get (run_map reads) x
 
 -- there is a shard for each piece of the keys, and each is readable
 pub record AreReadable (reads : ShardReads) : Type 0 where

@@ -1,5 +1,6 @@
 // The rule over all resolvers, entry by entry.
-ghost use Rattle.std.specs.Prelude.{◌≡◌, ◌<◌, ◌≤◌, ◌-◌, ◌++◌, ◌↔◌, suc, length, List, [], ◌∷◌, None, IsTrue, IfOk, IfErr, All};
+ghost use Rattle.std.specs.Prelude.{◌≡◌, ◌<◌, ◌≤◌, ◌-◌, ◌++◌, ◌↔◌, suc, length, List, [], ◌∷◌, None, IsTrue, IfOk};
+ghost use Rattle.std.specs.Prelude.{IfErr, All};
 ghost use Rattle.fdb_keys.specs.Answers.{Answers};
 ghost use Rattle.fdb_keys.specs.declared.refusal.Refusal.TheVariants.{NoMemory};
 ghost use Rattle.fdb_txn.specs.declared.entry.Entry.{Entry};
@@ -41,7 +42,12 @@ impl Model for Judge {
 
     ghost view = { λ judge. record { owners = judge.owners; last = judge.last; resolvers = judge.resolvers.items } };
 
-    ghost invariant = { λ judge. IsJudge (record { owners = judge.owners; last = judge.last; resolvers = judge.resolvers.items }) };
+    ghost invariant = { λ judge. IsJudge (record {
+      owners = judge.owners;
+      last = judge.last;
+      resolvers =
+          judge.resolvers.items;
+    }) };
 }
 
 impl Judge {
@@ -64,7 +70,7 @@ impl Judge {
         Splits::check(splits, RESOLVER_LIMIT as usize)?;
         let count = splits.len() as u32 + 1;
         let owners = Owners::new(alloc, splits, count)?;
-        let resolvers = new_resolvers(alloc, count)?;
+        let resolvers = new_cores(alloc, count)?;
         Ok(Judge {
             alloc,
             owners,
@@ -93,7 +99,7 @@ impl Judge {
 }
 
 // So many resolvers, which took nothing.
-fn new_resolvers(alloc: Global, count: u32) -> Result<Vec<ResolverCore>, AllocError>
+fn new_cores(alloc: Global, count: u32) -> Result<Vec<ResolverCore>, AllocError>
     ensures count { IfOk result (λ resolvers. length resolvers.items ≡ count) }
     ensures each { IfOk result (λ resolvers. Each IsNew resolvers.items) }
 {

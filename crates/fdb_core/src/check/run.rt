@@ -1,5 +1,6 @@
 // The run of the book's committed transactions, one at a time.
-ghost use Rattle.std.specs.Prelude.{◌≡◌, ◌<◌, ◌≤◌, suc, List, [], length, take, None, Some, slice_get, IfOk, IfErr, OnOk, if◌then◌else◌};
+ghost use Rattle.std.specs.Prelude.{◌≡◌, ◌<◌, ◌≤◌, suc, List, [], length, take, None, Some, slice_get, IfOk, IfErr};
+ghost use Rattle.std.specs.Prelude.{OnOk, if◌then◌else◌};
 ghost use Rattle.fdb_keys.specs.Answers.{Answers};
 ghost use Rattle.fdb_keys.specs.Points.{Point};
 ghost use Rattle.fdb_mutations.specs.Maps.{Map};
@@ -57,8 +58,8 @@ fn judged(
     }
 }
 
-/// The run before the first entry. It fails where memory runs out, and where these are no splits into at most 64 pieces,
-/// as those of a legal configuration are.
+/// The run before the first entry. It fails where memory runs out, and where these are no splits into at most 64
+/// pieces, as those of a legal configuration are.
 pub(crate) fn new_run(alloc: Global, splits: &[Key], book: &[Entry]) -> Result<Run, CheckFault>
     ensures ok { AreEntries (suc (length splits.now)) 0 book.now
         → IfOk result (λ run. HasComeTo splits.now book.now 0 0 run) }

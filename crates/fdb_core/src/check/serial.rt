@@ -1,5 +1,6 @@
 // The comparison of transcripts with the run of one transaction at a time.
-ghost use Rattle.std.specs.Prelude.{◌≡◌, ◌<◌, ◌≤◌, ◌⊎◌, suc, true, List, [], length, All, None, IfOk, MatchResult, if◌then◌else◌};
+ghost use Rattle.std.specs.Prelude.{◌≡◌, ◌<◌, ◌≤◌, ◌⊎◌, suc, true, List, [], length, All, None, IfOk, MatchResult};
+ghost use Rattle.std.specs.Prelude.{if◌then◌else◌};
 ghost use Rattle.std.specs.List.{AllByRecursion};
 ghost use Rattle.std.specs.List.Sorted.{IsPermutation};
 ghost use Rattle.fdb_keys.specs.Points.{Point};
@@ -68,7 +69,7 @@ fn know_sealed(book: &[Entry])
     }
 }
 
-// Compares them all. Keys that are no splits among at most 64 resolvers are answered as want of memory.
+// Compares them all. Keys that are no splits among at most 64 resolvers are answered as out of memory.
 fn check_placed(
     alloc: Global,
     splits: &[Key],
@@ -93,8 +94,8 @@ fn check_placed(
 /// the transcript has no mutation and an empty write set, and was answered as on the map after all entries up to that
 /// version; after the last one, where the book hasn't come to it.
 ///
-/// A fault `Txn` names the first one that isn't, in the order of the run: by entry and place, and a read-only spot after
-/// the entries of version at most its own. Else it fails only as `NoMemory`.
+/// A fault `Txn` names the first one that isn't, in the order of the run: by entry and place, and a read-only spot
+/// after the entries of version at most its own. Else it fails only as `NoMemory`.
 ///
 /// The configuration is a legal one. The entries are a book: versions rise from 0, and each previous version is that of
 /// the entry before; each transaction reads below its entry's version; moves go to resolvers that exist; no id is that
@@ -123,7 +124,7 @@ pub fn serial_check(
 /// something differs, for each book whose entries follow on one another from version 0 on, whose moves go to resolvers
 /// that exist, and whose transactions read below the versions of their entries and have in their write sets what their
 /// mutations name. Keys that are no splits among at most 64 resolvers, as no world's configuration has them, are
-/// answered as want of memory.
+/// answered as out of memory.
 pub(crate) fn check_all(cluster: &Cluster, with_shards: bool) -> Result<u64, CheckFault>
     requires { with_shards ≡ true → length cluster.now.shards.items ≤ shard_limit }
     ensures count { IfOk result (λ count. count ≡ length cluster.now.acknowledged.items) }

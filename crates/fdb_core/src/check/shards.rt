@@ -1,7 +1,8 @@
-// The shards beside the map of the run.
+// The shards beside the serial map.
 ghost use Rattle.std.specs.Prelude.{◌≡◌, ◌<◌, ◌≤◌, ◌+◌, ◌↔◌, ◌⊎◌, suc, List, length, IsTrue, IfOk, MatchResult};
 ghost use Rattle.fdb_txn.specs.Limits.{shard_limit};
-ghost use Rattle.fdb_core.specs.check.Holding.{is_below, HoldsTheRun, HasTheMap, HasTheMapThere, StopsByShard, ChecksShards};
+ghost use Rattle.fdb_core.specs.check.Holding.{is_below, HoldsTheRun, HasTheMap, HasTheMapThere, StopsByShard};
+ghost use Rattle.fdb_core.specs.check.Holding.{ChecksShards};
 ghost use Rattle.fdb_keys.specs.Points.{Point};
 ghost use Rattle.fdb_txn.specs.book.History.{AreEntries};
 ghost use Rattle.fdb_core.specs.check.Checking.{HaveHeld};
@@ -62,7 +63,7 @@ fn compare_shard(
     }
 }
 
-// Compares the shards whose version is from one on up to another, if there is one, with the map of the run there.
+// Compares the shards whose version is from one on up to another, if there is one, with the serial map there.
 fn compare_shards(
     alloc: Global,
     map: &PlainMap,
@@ -123,7 +124,7 @@ fn run_all(
 }
 
 /// Compares each shard at its version with the run of the book. Keys that are no splits among at most 64 resolvers are
-/// answered as want of memory.
+/// answered as out of memory.
 pub(crate) fn check_shards(
     alloc: Global,
     splits: &[Key],

@@ -6,7 +6,8 @@ ghost use Rattle.fdb_txn.specs.book.History.{AreEntries};
 ghost use Rattle.fdb_client.specs.Programs.{commit_request_of};
 ghost use Rattle.fdb_core.specs.check.Running.{IsRunAt, IsNotPast, HasComeTo, moment};
 ghost use Rattle.fdb_core.specs.check.Spots.{entries_through, moment_of};
-ghost use Rattle.fdb_core.specs.headline.Headline.{AnsweredOn, WroteNothing, IsSerializedAt, IsReadOnlyAt, IsSerialized};
+ghost use Rattle.fdb_core.specs.headline.Headline.{AnsweredOn, WroteNothing, IsSerializedAt, IsReadOnlyAt};
+ghost use Rattle.fdb_core.specs.headline.Headline.{IsSerialized};
 
 use crate::check::compare::is_answered_on;
 use crate::check::run::{Run, commits, go_to};
@@ -48,7 +49,7 @@ fn is_read_on(alloc: Global, map: &PlainMap, transcript: &Transcript) -> Result<
     Ok(answered)
 }
 
-// Refused only as want of memory.
+// Refused only as out of memory.
 fn found(answer: Result<bool, Refusal>) -> Result<bool, CheckFault>
     ensures ok { IfOk answer (λ same. result ≡ Ok same) }
     ensures err { IfErr answer (λ _. result ≡ Err CheckFault.NoMemory) }

@@ -40,7 +40,8 @@ pub(crate) struct CommitProxyRole {
 }
 
 impl CommitProxyRole {
-    ghost use Rattle.std.specs.Prelude.{◌≡◌, ◌≤◌, ◌<◌, ◌++◌, ⊤, true, false, [], ◌∷◌, List, ℕ, suc, length, None, Some, Err, map, drop, take, slice_get, OnOk, OnErr, if◌then◌else◌};
+    ghost use Rattle.std.specs.Prelude.{◌≡◌, ◌≤◌, ◌<◌, ◌++◌, ⊤, true, false, [], ◌∷◌, List, ℕ, suc, length, None, Some};
+    ghost use Rattle.std.specs.Prelude.{Err, map, drop, take, slice_get, OnOk, OnErr, if◌then◌else◌};
     ghost use Rattle.std.specs.List.{AllByRecursion};
     ghost use Rattle.fdb_keys.specs.Answers.{Answers, AnswersExactly};
     ghost use Rattle.fdb_keys.specs.declared.refusal.Refusal.TheVariants.{Stale, WrongState};
@@ -55,10 +56,12 @@ impl CommitProxyRole {
     ghost use Rattle.fdb_proxy.specs.Configs.{config_fault};
     ghost use Rattle.fdb_proxy.specs.Requests.{place_of};
     ghost use Rattle.fdb_proxy.specs.Verdicts.{is_needed};
-    ghost use Rattle.fdb_core.specs.machine.CommitProxySteps.{is_idle, is_resolving, is_logging, is_reported, awaits, with_received};
+    ghost use Rattle.fdb_core.specs.machine.CommitProxySteps.{is_idle, is_resolving, is_logging, is_reported, awaits};
+    ghost use Rattle.fdb_core.specs.machine.CommitProxySteps.{with_received};
     ghost use Rattle.fdb_core.specs.machine.Machine.{first_missing};
     ghost use Rattle.fdb_core.specs.machine.Roles.{FromResolver, FromLog};
-    ghost use Rattle.fdb_core.specs.refinement.CommitProxies.{Known, seen_as, CommitProxyRefines, IsNewCommitProxy, IsNextTicket, Seals, Decides, IsDone, IsSaid};
+    ghost use Rattle.fdb_core.specs.refinement.CommitProxies.{Known, seen_as, CommitProxyRefines, IsNewCommitProxy};
+    ghost use Rattle.fdb_core.specs.refinement.CommitProxies.{IsNextTicket, Seals, Decides, IsDone, IsSaid};
 
     /// The commit proxy with the number, without a batch, at which nobody waits. Refused only as `NoMemory`.
     pub(crate) fn new(alloc: Global, index: u32, config: &Config) -> Result<Self, Refusal>
@@ -102,7 +105,8 @@ impl CommitProxyRole {
         }
     }
 
-    // What the first of those who wait were answered, at most as many as a batch may have, is what those in flight were.
+    // What the first of those who wait were answered, at most as many as a batch may have, is what those in flight
+    // were.
     fn take_transcripts(&mut self, alloc: Global) -> Result<(), AllocError>
         ensures { OnOk result (self.new ≡ record self.old {
           waiting = drop place_limit self.old.waiting;
@@ -115,8 +119,8 @@ impl CommitProxyRole {
         Ok(())
     }
 
-    /// The first of those who wait, at most as many as a batch may have, become the batch of the ticket's entry. Answers
-    /// the batch, and the part of each resolver. Refused only as `NoMemory`.
+    /// The first of those who wait, at most as many as a batch may have, become the batch of the ticket's entry.
+    /// Answers the batch, and the part of each resolver. Refused only as `NoMemory`.
     pub(crate) fn seal(
         &mut self,
         alloc: Global,
@@ -151,9 +155,9 @@ impl CommitProxyRole {
         self.core.verdict(verdicts)
     }
 
-    /// Decides the batch. Answers what becomes of each place. Refused as `WrongState` unless the batch waits for verdicts,
-    /// as `NotYet` with the least resolver that is asked about some place and whose verdicts haven't come, and as
-    /// `NoMemory`. Then nothing changes.
+    /// Decides the batch. Answers what becomes of each place. Refused as `WrongState` unless the batch waits for
+    /// verdicts, as `NotYet` with the least resolver that is asked about some place and whose verdicts haven't come,
+    /// and as `NoMemory`. Then nothing changes.
     pub(crate) fn decide(&mut self) -> Result<Items<Outcome>, Refusal>
         ensures wrong { (config : Config) (book : List Entry) (known : Known)
             → CommitProxyRefines config book known self.old → is_resolving (seen_as self.old).stage ≡ false
@@ -171,7 +175,8 @@ impl CommitProxyRole {
         self.core.decide()
     }
 
-    /// The messages of the decided batch for the logs. Refused as `NoMemory`, and else only unless the batch is decided.
+    /// The messages of the decided batch for the logs. Refused as `NoMemory`, and else only unless the batch is
+    /// decided.
     pub(crate) fn messages(&self) -> Result<Items<LogMsg>, Refusal>
         ensures { (config : Config) (book : List Entry) (known : Known) (entry : Entry)
             → CommitProxyRefines config book known self.now → is_logging (seen_as self.now).stage ≡ true

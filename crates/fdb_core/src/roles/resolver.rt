@@ -16,7 +16,8 @@ pub(crate) struct ResolverRole {
 }
 
 impl ResolverRole {
-    ghost use Rattle.std.specs.Prelude.{◌≡◌, ◌<◌, ◌-◌, ◌+◌, ◌^◌, ◌++◌, suc, [], ◌∷◌, ℕ, List, length, None, Some, IfOk, slice_get};
+    ghost use Rattle.std.specs.Prelude.{◌≡◌, ◌<◌, ◌-◌, ◌+◌, ◌^◌, ◌++◌, suc, [], ◌∷◌, ℕ, List, length, None, Some, IfOk};
+    ghost use Rattle.std.specs.Prelude.{slice_get};
     ghost use Rattle.fdb_keys.specs.Answers.{Answers};
     ghost use Rattle.fdb_keys.specs.Points.{Point};
     ghost use Rattle.fdb_txn.specs.declared.entry.Entry.{Entry};

@@ -1,4 +1,5 @@
-use Rattle.fdb_core.proofs.headline.RoleLaws.{resolver_goes_on, owners_go_on, sequencer_goes_on, log_goes_on, shard_goes_on}
+use Rattle.fdb_core.proofs.headline.RoleLaws.{resolver_goes_on, owners_go_on, sequencer_goes_on, log_goes_on}
+use Rattle.fdb_core.proofs.headline.RoleLaws.{shard_goes_on}
 use Rattle.fdb_core.proofs.laws.roles_go_on_with_one_more_entry.Goals as goal
 
 pub returns : goal.returns

@@ -1,5 +1,15 @@
-use Rattle.fdb_core.proofs.headline.ExamplesLemmas.{only_the_first_is_serialized, read_only_at_its_version, after_a_version, an_empty_shard_does_not_serve, only_ordinary_reads_count, begun_by_serving, forgetful_roles_do_not_keep, read_off_the_trace, traced, shards_go_on_and_forget, each_served_version_counts, each_operation_is_noted, read_at_two_proxies, read_off_the_roles}
-use Rattle.fdb_core.proofs.headline.MoveExamplesLemmas.{moves_take_effect_with_the_next_entry, the_span_begins_at_the_window, the_later_move_counts}
+use Rattle.fdb_core.proofs.headline.ExamplesLemmas.{only_the_first_is_serialized, read_only_at_its_version}
+use Rattle.fdb_core.proofs.headline.ExamplesLemmas.{after_a_version, an_empty_shard_does_not_serve}
+use Rattle.fdb_core.proofs.headline.ExamplesLemmas.{only_ordinary_reads_count, begun_by_serving}
+use Rattle.fdb_core.proofs.headline.ExamplesLemmas.{forgetful_roles_do_not_keep, read_off_the_trace, traced}
+use Rattle.fdb_core.proofs.headline.ExamplesLemmas.{shards_go_on_and_forget, each_served_version_counts}
+use Rattle.fdb_core.proofs.headline.ExamplesLemmas.{each_operation_is_noted, read_at_two_proxies, read_off_the_roles}
+use Rattle.fdb_core.proofs.headline.MoveExamplesLemmas.{moves_take_effect_with_the_next_entry}
+use Rattle.fdb_core.proofs.headline.MoveExamplesLemmas.{the_span_begins_at_the_window, the_later_move_counts}
+use Rattle.fdb_core.proofs.headline.AnswerExamplesLemmas.{other_versions_are_no_answers, other_verdicts_are_no_answers}
+use Rattle.fdb_core.proofs.headline.AnswerExamplesLemmas.{early_decisions_are_no_answers, early_messages_are_no_answers}
+use Rattle.fdb_core.proofs.headline.AnswerExamplesLemmas.{other_outcomes_are_no_answers, messages_are_due}
+use Rattle.fdb_core.proofs.headline.ScriptExamplesLemmas.{worked_scripts_are_traces}
 use Rattle.fdb_core.proofs.laws.worked_examples.Goals as goal
 
 pub returns : goal.returns
@@ -21,4 +31,11 @@ returns c = record {
   moves = moves_take_effect_with_the_next_entry;
   span = the_span_begins_at_the_window;
   overlap = the_later_move_counts;
+  scripts = worked_scripts_are_traces;
+  versions = other_versions_are_no_answers;
+  verdicts = other_verdicts_are_no_answers;
+  decisions = early_decisions_are_no_answers;
+  messages = early_messages_are_no_answers;
+  outcomes = other_outcomes_are_no_answers;
+  due = messages_are_due;
 }

@@ -41,7 +41,8 @@ impl Sessions {
     ghost use Rattle.fdb_core.specs.refinement.Reads.{operation_of};
     ghost use Rattle.fdb_core.specs.refinement.Sessions.{OfOpen, Finishes};
     ghost use Rattle.fdb_core.specs.machine.GrvProxySteps.{has_no_number};
-    ghost use Rattle.fdb_core.specs.machine.Sessions.{Idle, Asking, Open, Waiting, session_of, open_at, with_state, is_busy, next_number, serve, tell};
+    ghost use Rattle.fdb_core.specs.machine.Sessions.{Idle, Asking, Open, Waiting, session_of, open_at, with_state};
+    ghost use Rattle.fdb_core.specs.machine.Sessions.{is_busy, next_number, serve, tell};
     ghost use Rattle.fdb_core.specs.refinement.Views.{state_of};
 
     /// No session did anything yet. It takes no memory.

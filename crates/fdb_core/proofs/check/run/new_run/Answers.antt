@@ -10,6 +10,7 @@ pub returns-clause-ok : goal.returns-clause-ok
 returns-clause-ok c entries =
     let splits = c.args.splits.now in
     let book = c.args.book.now in
-    let at = (answers-fault (splits_fault resolver_limit splits) c.in-Ok.judge (IsJudgeAt splits []) c.in-Ok.ensures).1 in
+    let at = (answers-fault (splits_fault resolver_limit splits) c.in-Ok.judge (IsJudgeAt splits [])
+    c.in-Ok.ensures).1 in
     let judged = c.in_ok-outcomes.ensures.ok splits entries at in
     comes-in splits book 0 0 0 _ refl refl refl judged.1 judged.0 c.new-2.ensures refl

@@ -1,4 +1,5 @@
-use Rattle.std.proofs.Common.{◌≡◌, ◌∙◌, ◌<◌, sym, ap, refl, Bool, [], length, Some, slice_get, if◌then◌else◌, rules, arith}
+use Rattle.std.proofs.Common.{◌≡◌, ◌∙◌, ◌<◌, sym, ap, refl, Bool, [], length, Some, slice_get, if◌then◌else◌, rules}
+use Rattle.std.proofs.Common.{arith}
 use Rattle.std.proofs.lemmas.Option.{slice_get_read, get_or_from_slice_get}
 use Rattle.fdb_mutations.specs.Mutations.{effects}
 use Rattle.fdb_proxy.specs.Logging.{is_commit}
@@ -13,7 +14,8 @@ loop-place-preserved c base count before =
     let p = c.loop-place.place in
     let t = c.index-batch-place.result in
     let within : p < length batch = search rules in
-    let there : slice_get batch p ≡ Some t = slice_get_read batch (length batch) p t refl within c.index-batch-place.is in
+    let there : slice_get batch p ≡ Some t = slice_get_read batch (length batch) p t refl within
+    c.index-batch-place.is in
     let decided : p < length outcomes = omega (arith, within, count) in
     let outcome = within-item outcomes p decided in
     let same = c.commits.ensures outcome.0 outcome.1

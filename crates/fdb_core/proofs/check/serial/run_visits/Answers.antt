@@ -20,8 +20,8 @@ returns-then-not-branch c splits entries start ordered same =
     c.index-placed-visit.is in
     let found = c.in_ok-is_serialized.ensures.ok splits entries so_far.at
     (moment-is book placed visits ordered same i visit one there at) (so_far.later i visit (omega arith) there) in
-    inr (so_far-stops book placed visits ordered same splits (IsSerialized splits book) i c.loop-number.run visit one so_far
-    there at (λ holds. absurd (both_ways _ c.if-not-branch.true (found.0.1 holds))))
+    inr (so_far-stops book placed visits ordered same splits (IsSerialized splits book) i c.loop-number.run visit one
+    so_far there at (λ holds. absurd (both_ways _ c.if-not-branch.true (found.0.1 holds))))
 
 pub loop-number-preserved : goal.loop-number-preserved
 loop-number-preserved c splits entries start ordered same =

@@ -5,5 +5,6 @@ use Rattle.fdb_core.proofs.check.serial.serial_check.Goals as goal
 pub returns : goal.returns
 returns c =
     let splits = c.args.config.now.resolver_splits in
-    let entries = (books_are_entries (suc (length splits)) c.args.book.now).0 (c.requires.book, c.know_sealed.ensures) in
+    let entries = (books_are_entries (suc (length splits)) c.args.book.now).0 (c.requires.book, c.know_sealed.ensures)
+    in
     (rw c.as_slice.ensures at c.check_placed.ensures.finds) entries.0

@@ -1,4 +1,5 @@
-use Rattle.std.proofs.Common.{◌≡◌, ◌≤◌, ◌<◌, ◌∙◌, subst, sym, refl, true, nat_lt, get_or, length, ℕ, List, Option, None, Some, slice_get, arith}
+use Rattle.std.proofs.Common.{◌≡◌, ◌≤◌, ◌<◌, ◌∙◌, subst, sym, refl, true, nat_lt, get_or, length, ℕ, List, Option, None}
+use Rattle.std.proofs.Common.{Some, slice_get, arith}
 use Rattle.std.proofs.lemmas.Bool.{both_ways, ltb-false}
 use Rattle.std.proofs.lemmas.Option.{slice_get_within}
 use Rattle.fdb_txn.specs.declared.entry.Entry.{Entry}
@@ -6,7 +7,8 @@ use Rattle.fdb_txn.specs.book.Transactions.{Transaction}
 use Rattle.fdb_proxy.specs.declared.outcome.Outcome.{Outcome}
 use Rattle.fdb_core.specs.check.Running.{batch_of}
 use Rattle.fdb_core.proofs.checking.RunningLemmas.{item-there, nothing-after, outcomes-come, map-come}
-use Rattle.fdb_core.proofs.checking.StandingLemmas.{answers-not, no-place, version-is, commits-there, outcome-there, stands-there, found-means}
+use Rattle.fdb_core.proofs.checking.StandingLemmas.{answers-not, no-place, version-is, commits-there, outcome-there}
+use Rattle.fdb_core.proofs.checking.StandingLemmas.{stands-there, found-means}
 use Rattle.fdb_core.proofs.check.standing.is_serialized_at.Goals as goal
 
 -- a transaction that a look-up gave
@@ -45,10 +47,12 @@ returns-then-entry-version-clause-ok c splits entries at not_past =
 pub go_to-requires : goal.go_to-requires
 go_to-requires c =
     let entry = c.in-Some.entry.now in
-    let there = item-there c.args.book.now c.args.index entry (c.in-Some.ensures.lookup.0, c.in-Some.ensures.lookup.1) in
+    let there = item-there c.args.book.now c.args.index entry (c.in-Some.ensures.lookup.0, c.in-Some.ensures.lookup.1)
+    in
     let its = txn-there entry.batch c.as_slice.result.now c.args.place c.in-Some-get.txn.now c.as_slice.ensures.places
     (c.in-Some-get.ensures.lookup.0, c.in-Some-get.ensures.lookup.1) in
-    let within : c.args.place < length entry.batch = slice_get_within entry.batch c.args.place c.in-Some-get.txn.now its in
+    let within : c.args.place < length entry.batch = slice_get_within entry.batch c.args.place c.in-Some-get.txn.now
+    its in
     subst (λ (next : Option Entry). c.args.place ≤ length (batch_of next)) (sym there) (omega (arith, within))
 
 pub returns-then-not-commits-clause-ok : goal.returns-then-not-commits-clause-ok

@@ -1,4 +1,5 @@
-use Rattle.std.proofs.Common.{◌≡◌, ◌∙◌, ◌<◌, ◌+◌, ◌++◌, ◌∷◌, [], ap, ap₂, sym, subst, refl, add-one, ℕ, length, List, take, Some, slice_get, rules, arith}
+use Rattle.std.proofs.Common.{◌≡◌, ◌∙◌, ◌<◌, ◌+◌, ◌++◌, ◌∷◌, [], ap, ap₂, sym, subst, refl, add-one, ℕ, length, List}
+use Rattle.std.proofs.Common.{take, Some, slice_get, rules, arith}
 use Rattle.std.specs.List.{All}
 use Rattle.std.proofs.lemmas.List.Elements.{All-push}
 use Rattle.std.proofs.lemmas.Option.{slice_get_read}
@@ -19,7 +20,8 @@ loop-index-preserved c =
     c.index-placed-index.result refl within c.index-placed-index.is in
     let none : i ≡ 0 + i = omega arith in
     let pushed : c.push.new.self.items ≡ before ++ one ∷ [] = c.in-Ok.ensures.items in
-    let inside : one.index < length placed = subst (λ (k : ℕ). k < length placed) (sym c.visit_of.ensures.index) within in (
+    let inside : one.index < length placed = subst (λ (k : ℕ). k < length placed) (sym c.visit_of.ensures.index)
+    within in (
       subst (All (λ (of : Visit). of.index < length placed)) (sym pushed)
           (All-push (λ (of : Visit). of.index < length placed) before one c.loop-index.invariant.0 inside),
       λ resolvers entries.

@@ -1,4 +1,5 @@
-use Rattle.std.proofs.Common.{◌≡◌, ◌∙◌, refl, sym, ap, ap₂, subst, ◌<◌, length, ℕ, ◌++◌, false, List, map, Some, None, Result, Ok, Err, slice_get, slice_set, rules}
+use Rattle.std.proofs.Common.{◌≡◌, ◌∙◌, refl, sym, ap, ap₂, subst, ◌<◌, length, ℕ, ◌++◌, false, List, map, Some, None}
+use Rattle.std.proofs.Common.{Result, Ok, Err, slice_get, slice_set, rules}
 use Rattle.std.proofs.lemmas.Option.{slice_get_read}
 use Rattle.fdb_keys.specs.Answers.{AnswersExactly}
 use Rattle.fdb_keys.specs.declared.refusal.Refusal.{Refusal}

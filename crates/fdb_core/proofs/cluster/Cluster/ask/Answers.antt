@@ -1,4 +1,5 @@
-use Rattle.std.proofs.Common.{◌≡◌, ◌∙◌, refl, sym, ap, ap₂, subst, ◌<◌, length, ℕ, [], ◌∷◌, ◌++◌, List, map, Some, slice_get, slice_set, rules}
+use Rattle.std.proofs.Common.{◌≡◌, ◌∙◌, refl, sym, ap, ap₂, subst, ◌<◌, length, ℕ, [], ◌∷◌, ◌++◌, List, map, Some}
+use Rattle.std.proofs.Common.{slice_get, slice_set, rules}
 use Rattle.std.specs.List.{AllByRecursion}
 use Rattle.std.proofs.lemmas.Option.{slice_get_read}
 use Rattle.fdb_proxy.specs.Askers.{Asker}

@@ -13,7 +13,8 @@ use Rattle.fdb_core.proofs.cluster.Cluster.decide.Goals as goal
 use Rattle.fdb_core.proofs.cluster.Cluster.decide.Goals.{After-index_mut, In_ok-messages}
 
 -- the proxy that is told to decide, and its number of the entry
-there : (c : After-index_mut) → slice_get c.args.self.now.commit_proxies.items c.args.proxy ≡ Some c.index_mut.result.now
+there : (c : After-index_mut) → slice_get c.args.self.now.commit_proxies.items c.args.proxy
+    ≡ Some c.index_mut.result.now
 there c =
     let k = c.args.self.now in
     let exists : c.args.proxy < length k.commit_proxies.items = search rules in
@@ -133,7 +134,8 @@ pub returns-clause-after : goal.returns-clause-after
 returns-clause-after c =
     let before = (goal.at.returns-clause-after c).After-index_mut in
     let exists : c.args.proxy < length c.args.self.now.commit_proxies.items = search rules in
-    sym (ap (after (machine_of c.args.self.now)) (made (goal.at.returns-clause-after c).In_ok-messages (there before) (number before) exists).0)
+    sym (ap (after (machine_of c.args.self.now)) (made (goal.at.returns-clause-after c).In_ok-messages (there before)
+    (number before) exists).0)
 
 pub returns-clause-refines : goal.returns-clause-refines
 returns-clause-refines c =

@@ -1,4 +1,5 @@
-use Rattle.std.proofs.Common.{◌≡◌, ◌∙◌, refl, sym, ap, ◌<◌, max, length, ℕ, List, map, Some, None, Ok, Err, slice_get, slice_set, rules}
+use Rattle.std.proofs.Common.{◌≡◌, ◌∙◌, refl, sym, ap, ◌<◌, max, length, ℕ, List, map, Some, None, Ok, Err, slice_get}
+use Rattle.std.proofs.Common.{slice_set, rules}
 use Rattle.std.proofs.lemmas.Option.{slice_get_read}
 use Rattle.std.proofs.lemmas.Result.{err_from_is_err_and}
 use Rattle.fdb_storage.specs.Shards.{Shard, forget_fault, HasForgotten}
@@ -90,5 +91,5 @@ pub returns-clause-refines : goal.returns-clause-refines
 returns-clause-refines c =
     let role = c.index_mut-role.result.now in
     shard-put c.args.self.now c.requires c.args.shard role (at c) (record role { core = c.forget.new.self })
-    (forgot c.args.self.now c.requires c.args.shard role (at c) c.args.version (faultless c) c.forget.new.self (forgotten c))
-    (λ log log_at. (c.requires.logs.each_tag c.args.shard role (at c) log log_at).0) refl
+    (forgot c.args.self.now c.requires c.args.shard role (at c) c.args.version (faultless c) c.forget.new.self
+    (forgotten c)) (λ log log_at. (c.requires.logs.each_tag c.args.shard role (at c) log log_at).0) refl

@@ -1,4 +1,5 @@
-use Rattle.std.proofs.Common.{◌≡◌, ◌∙◌, refl, sym, ap, ap₂, ◌<◌, length, ℕ, List, [], map, fold, true, false, Some, Ok, Err, slice_get, slice_set, arith, rules}
+use Rattle.std.proofs.Common.{◌≡◌, ◌∙◌, refl, sym, ap, ap₂, ◌<◌, length, ℕ, List, [], map, fold, true, false, Some, Ok}
+use Rattle.std.proofs.Common.{Err, slice_get, slice_set, arith, rules}
 use Rattle.std.specs.List.{AllByRecursion, list_any}
 use Rattle.std.proofs.lemmas.Option.{slice_get_read}
 use Rattle.fdb_keys.specs.declared.refusal.Refusal.TheVariants.{Exhausted}
@@ -10,7 +11,8 @@ use Rattle.fdb_core.specs.refinement.Cluster.{machine_of, HasSeenNone, sessions_
 use Rattle.fdb_core.specs.refinement.CommitProxies.{ReadsWithin}
 use Rattle.fdb_core.proofs.common.ListLemmas.{map-at, map-set, one-item}
 use Rattle.fdb_core.proofs.machine.SessionLemmas.{open-served}
-use Rattle.fdb_core.proofs.refinement.GrvProxyTies.{grv_proxies-set, used_up-is, granted-is, served-is, grants-exhausted, grants-transition}
+use Rattle.fdb_core.proofs.refinement.GrvProxyTies.{grv_proxies-set, used_up-is, granted-is, served-is}
+use Rattle.fdb_core.proofs.refinement.GrvProxyTies.{grants-exhausted, grants-transition}
 use Rattle.fdb_core.proofs.refinement.Ties.{refines-sessions}
 use Rattle.fdb_core.proofs.cluster.Cluster.grant.Goals as goal
 use Rattle.fdb_core.proofs.cluster.Cluster.grant.Goals.{Then-are_used_up, In_ok-serve_all}

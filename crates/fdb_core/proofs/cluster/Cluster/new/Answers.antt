@@ -4,7 +4,9 @@ use Rattle.fdb_core.specs.refinement.Cluster.{BookRefines, sessions_of}
 use Rattle.fdb_core.specs.refinement.CommitProxies.{ReadsWithin}
 use Rattle.fdb_core.specs.refinement.Resolving.{PartsRefine}
 use Rattle.fdb_core.proofs.machine.SessionLemmas.{open-new}
-use Rattle.fdb_core.proofs.refinement.StartLemmas.{sequencer-start, logs-start, taken-start, progress-start, commit_proxies-start, seen-start, resolvers-start, taken_by-start, asked-start, grv_proxies-start, legal-from}
+use Rattle.fdb_core.proofs.refinement.StartLemmas.{sequencer-start, logs-start, taken-start, progress-start}
+use Rattle.fdb_core.proofs.refinement.StartLemmas.{commit_proxies-start, seen-start, resolvers-start, taken_by-start}
+use Rattle.fdb_core.proofs.refinement.StartLemmas.{asked-start, grv_proxies-start, legal-from}
 use Rattle.fdb_core.proofs.cluster.Cluster.new.Goals as goal
 
 pub returns-clause-machine : goal.returns-clause-machine

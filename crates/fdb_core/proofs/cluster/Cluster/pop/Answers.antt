@@ -1,4 +1,5 @@
-use Rattle.std.proofs.Common.{◌≡◌, ◌∙◌, refl, sym, ap, ap₂, ◌<◌, ◌%◌, length, ℕ, List, map, Some, None, Ok, slice_get, slice_set, rules}
+use Rattle.std.proofs.Common.{◌≡◌, ◌∙◌, refl, sym, ap, ap₂, ◌<◌, ◌%◌, length, ℕ, List, map, Some, None, Ok, slice_get}
+use Rattle.std.proofs.Common.{slice_set, rules}
 use Rattle.std.proofs.lemmas.Option.{slice_get_read}
 use Rattle.fdb_keys.specs.declared.refusal.Refusal.{Refusal}
 use Rattle.fdb_log.specs.Logs.{tag_fault, HasPopped}
@@ -13,7 +14,8 @@ use Rattle.fdb_core.proofs.refinement.ShardSteps.{counted, pop-faultless, pop-go
 use Rattle.fdb_core.proofs.cluster.Cluster.pop.Goals as goal
 use Rattle.fdb_core.proofs.cluster.Cluster.pop.Goals.{After-from_residual, After-self-2-1}
 
-at-refused : (c : After-from_residual) → slice_get c.args.self.now.shards.items c.args.shard ≡ Some c.index_mut-role.result.now
+at-refused : (c : After-from_residual) → slice_get c.args.self.now.shards.items c.args.shard
+    ≡ Some c.index_mut-role.result.now
 at-refused c =
     let inside : c.args.shard < length c.args.self.now.shards.items = search rules in
     slice_get_read c.args.self.now.shards.items (length c.args.self.now.shards.items) c.args.shard

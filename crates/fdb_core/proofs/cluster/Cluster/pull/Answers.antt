@@ -1,4 +1,5 @@
-use Rattle.std.proofs.Common.{◌≡◌, ◌∙◌, refl, sym, ap, ◌+◌, ◌<◌, ◌%◌, length, ℕ, List, map, Some, None, Ok, slice_get, slice_set, arith, rules}
+use Rattle.std.proofs.Common.{◌≡◌, ◌∙◌, refl, sym, ap, ◌+◌, ◌<◌, ◌%◌, length, ℕ, List, map, Some, None, Ok, slice_get}
+use Rattle.std.proofs.Common.{slice_set, arith, rules}
 use Rattle.std.proofs.lemmas.Option.{slice_get_read}
 use Rattle.std.proofs.lemmas.Result.{err_from_is_err_and}
 use Rattle.fdb_log.specs.Logs.{peek_fault, peek_of}
@@ -11,11 +12,14 @@ use Rattle.fdb_core.specs.machine.Steps.{after, answer_of}
 use Rattle.fdb_core.specs.refinement.Cluster.{machine_of}
 use Rattle.fdb_core.specs.refinement.Logs.{progress_of}
 use Rattle.fdb_core.proofs.common.FaultLemmas.{answers-fault, lacks-memory}
-use Rattle.fdb_core.proofs.refinement.ShardSteps.{peek-faultless, apply-faultless, pull-room, pull-goes_on, pull-counted, pull-tied}
+use Rattle.fdb_core.proofs.refinement.ShardSteps.{peek-faultless, apply-faultless, pull-room, pull-goes_on}
+use Rattle.fdb_core.proofs.refinement.ShardSteps.{pull-counted, pull-tied}
 use Rattle.fdb_core.proofs.cluster.Cluster.pull.Goals as goal
-use Rattle.fdb_core.proofs.cluster.Cluster.pull.Goals.{After-from_residual, After-drop-peek, After-drop-peek-2, After-len-3}
+use Rattle.fdb_core.proofs.cluster.Cluster.pull.Goals.{After-from_residual, After-drop-peek, After-drop-peek-2}
+use Rattle.fdb_core.proofs.cluster.Cluster.pull.Goals.{After-len-3}
 
-at-lacking : (c : After-from_residual) → slice_get c.args.self.now.shards.items c.args.shard ≡ Some c.index_mut-role.result.now
+at-lacking : (c : After-from_residual) → slice_get c.args.self.now.shards.items c.args.shard
+    ≡ Some c.index_mut-role.result.now
 at-lacking c =
     let inside : c.args.shard < length c.args.self.now.shards.items = search rules in
     slice_get_read c.args.self.now.shards.items (length c.args.self.now.shards.items) c.args.shard
@@ -24,7 +28,8 @@ at-lacking c =
 count-lacking : (c : After-from_residual) → c.len-2.result ≡ length c.args.self.now.logs.items
 count-lacking c = search rules
 
-log-at-lacking : (c : After-from_residual) → slice_get c.args.self.now.logs.items (log_of (length c.args.self.now.logs.items) c.args.shard)
+log-at-lacking : (c : After-from_residual) → slice_get c.args.self.now.logs.items
+    (log_of (length c.args.self.now.logs.items) c.args.shard)
     ≡ Some c.index-log.result.now
 log-at-lacking c =
     let inside : c.args.shard % c.len-2.result < length c.args.self.now.logs.items = search rules in
@@ -32,10 +37,10 @@ log-at-lacking c =
     ∙ slice_get_read c.args.self.now.logs.items (length c.args.self.now.logs.items) (c.args.shard % c.len-2.result)
     c.index-log.result.now refl inside c.index-log.ensures
 
--- the log refuses nothing but for want of memory
+-- the log refuses nothing unless memory runs out
 no-fault : (c : After-from_residual) → peek_fault c.index-log.result.now.core c.args.shard c.version.result ≡ None
-no-fault c = peek-faultless c.args.self.now c.requires c.args.shard c.args.limit c.version.result c.index_mut-role.result.now c.index-log.result.now
-    (at-lacking c) (log-at-lacking c) c.version.ensures
+no-fault c = peek-faultless c.args.self.now c.requires c.args.shard c.args.limit c.version.result
+    c.index_mut-role.result.now c.index-log.result.now (at-lacking c) (log-at-lacking c) c.version.ensures
 
 pub returns-in_err-peek-clause-answer : goal.returns-in_err-peek-clause-answer
 returns-in_err-peek-clause-answer c =
@@ -51,7 +56,8 @@ returns-in_err-peek-clause-after c =
     (lacks-memory (peek_fault c.index-log.result.now.core c.args.shard c.version.result) c.in_err-peek.field-0.0 _ _
     (no-fault c) c.in_err-peek.ensures.answers)
 
-at-failed : (c : After-drop-peek) → slice_get c.args.self.now.shards.items c.args.shard ≡ Some c.index_mut-role.result.now
+at-failed : (c : After-drop-peek) → slice_get c.args.self.now.shards.items c.args.shard
+    ≡ Some c.index_mut-role.result.now
 at-failed c =
     let inside : c.args.shard < length c.args.self.now.shards.items = search rules in
     slice_get_read c.args.self.now.shards.items (length c.args.self.now.shards.items) c.args.shard
@@ -60,7 +66,8 @@ at-failed c =
 count-failed : (c : After-drop-peek) → c.len-2.result ≡ length c.args.self.now.logs.items
 count-failed c = search rules
 
-log-at-failed : (c : After-drop-peek) → slice_get c.args.self.now.logs.items (log_of (length c.args.self.now.logs.items) c.args.shard)
+log-at-failed : (c : After-drop-peek) → slice_get c.args.self.now.logs.items
+    (log_of (length c.args.self.now.logs.items) c.args.shard)
     ≡ Some c.index-log.result.now
 log-at-failed c =
     let inside : c.args.shard % c.len-2.result < length c.args.self.now.logs.items = search rules in
@@ -70,13 +77,14 @@ log-at-failed c =
 
 peek-is-failed : (c : After-drop-peek) → c.in_ok-peek.peek
     ≡ peek_of c.index-log.result.now.core c.args.shard c.version.result c.args.limit
-peek-is-failed c = (answers-fault (peek_fault c.index-log.result.now.core c.args.shard c.version.result) c.in_ok-peek.peek
-    (λ peek. peek ≡ peek_of c.index-log.result.now.core c.args.shard c.version.result c.args.limit)
+peek-is-failed c = (answers-fault (peek_fault c.index-log.result.now.core c.args.shard c.version.result)
+    c.in_ok-peek.peek (λ peek. peek ≡ peek_of c.index-log.result.now.core c.args.shard c.version.result c.args.limit)
     c.in_ok-peek.ensures.answers).1
 
 -- and neither does the shard
 none-failed : (c : After-drop-peek) → apply_fault c.index_mut-role.result.now.core c.in_ok-peek.peek ≡ None
-none-failed c = apply-faultless c.args.self.now c.requires c.args.shard c.args.limit c.version.result c.index_mut-role.result.now c.index-log.result.now
+none-failed c = apply-faultless c.args.self.now c.requires c.args.shard c.args.limit c.version.result
+    c.index_mut-role.result.now c.index-log.result.now
     (at-failed c) (log-at-failed c) c.version.ensures c.in_ok-peek.peek (peek-is-failed c)
 
 pub returns-in_err-apply-clause-answer : goal.returns-in_err-apply-clause-answer
@@ -109,7 +117,8 @@ at-counting c =
 count-counting : (c : After-len-3) → c.len-2.result ≡ length c.args.self.now.logs.items
 count-counting c = search rules
 
-log-at-counting : (c : After-len-3) → slice_get c.args.self.now.logs.items (log_of (length c.args.self.now.logs.items) c.args.shard)
+log-at-counting : (c : After-len-3) → slice_get c.args.self.now.logs.items
+    (log_of (length c.args.self.now.logs.items) c.args.shard)
     ≡ Some c.index-log.result.now
 log-at-counting c =
     let inside : c.args.shard % c.len-2.result < length c.args.self.now.logs.items = search rules in
@@ -119,13 +128,14 @@ log-at-counting c =
 
 peek-is-counting : (c : After-len-3) → c.in_ok-peek.peek
     ≡ peek_of c.index-log.result.now.core c.args.shard c.version.result c.args.limit
-peek-is-counting c = (answers-fault (peek_fault c.index-log.result.now.core c.args.shard c.version.result) c.in_ok-peek.peek
-    (λ peek. peek ≡ peek_of c.index-log.result.now.core c.args.shard c.version.result c.args.limit)
+peek-is-counting c = (answers-fault (peek_fault c.index-log.result.now.core c.args.shard c.version.result)
+    c.in_ok-peek.peek (λ peek. peek ≡ peek_of c.index-log.result.now.core c.args.shard c.version.result c.args.limit)
     c.in_ok-peek.ensures.answers).1
 
 pub overflow_add-role : goal.overflow_add-role
 overflow_add-role c =
-    let room = pull-room c.args.self.now c.requires c.args.shard c.args.limit c.version.result c.index_mut-role.result.now c.index-log.result.now
+    let room = pull-room c.args.self.now c.requires c.args.shard c.args.limit c.version.result
+    c.index_mut-role.result.now c.index-log.result.now
     (at-counting c) (log-at-counting c) c.version.ensures c.in_ok-peek.peek (peek-is-counting c) in
     let count : c.len-3.result ≡ length c.in_ok-peek.peek.messages = c.len-3.ensures in
     omega (arith, room, count)
@@ -139,7 +149,8 @@ at c =
 count : (c : After-drop-peek-2) → c.len-2.result ≡ length c.args.self.now.logs.items
 count c = search rules
 
-log-at : (c : After-drop-peek-2) → slice_get c.args.self.now.logs.items (log_of (length c.args.self.now.logs.items) c.args.shard)
+log-at : (c : After-drop-peek-2) → slice_get c.args.self.now.logs.items
+    (log_of (length c.args.self.now.logs.items) c.args.shard)
     ≡ Some c.index-log.result.now
 log-at c =
     let inside : c.args.shard % c.len-2.result < length c.args.self.now.logs.items = search rules in
@@ -166,7 +177,8 @@ goes_on : (c : After-drop-peek-2) → pulls (machine_of c.args.self.now) c.args.
         { applied = c.index_mut-role.result.now.applied + c.len-3.result });
   };
 })
-goes_on c = pull-goes_on c.args.self.now c.requires c.args.shard c.args.limit c.version.result c.index_mut-role.result.now c.index-log.result.now
+goes_on c = pull-goes_on c.args.self.now c.requires c.args.shard c.args.limit c.version.result
+    c.index_mut-role.result.now c.index-log.result.now
     (at c) (log-at c) c.version.ensures c.in_ok-peek.peek (peek-is c) c.apply.new.self (applied c) c.len-3.result
     c.len-3.ensures
 
@@ -177,13 +189,15 @@ returns-clause-answer c =
 pub returns-clause-after : goal.returns-clause-after
 returns-clause-after c =
     ap (λ (shards : List ShardProgress). record (machine_of c.args.self.now) { shards = shards })
-    (pull-counted c.args.self.now c.requires c.args.shard c.args.limit c.version.result c.index_mut-role.result.now c.index-log.result.now
+    (pull-counted c.args.self.now c.requires c.args.shard c.args.limit c.version.result c.index_mut-role.result.now
+    c.index-log.result.now
     (at c) (log-at c) c.version.ensures c.in_ok-peek.peek (peek-is c) c.apply.new.self (applied c) c.len-3.result
     c.len-3.ensures)
     ∙ sym (ap (after (machine_of c.args.self.now)) (goes_on c))
 
 pub returns-clause-refines : goal.returns-clause-refines
 returns-clause-refines c =
-    pull-tied c.args.self.now c.requires c.args.shard c.args.limit c.version.result c.index_mut-role.result.now c.index-log.result.now
+    pull-tied c.args.self.now c.requires c.args.shard c.args.limit c.version.result c.index_mut-role.result.now
+    c.index-log.result.now
     (at c) (log-at c) c.version.ensures c.in_ok-peek.peek (peek-is c) c.apply.new.self (applied c) c.len-3.result
     c.len-3.ensures

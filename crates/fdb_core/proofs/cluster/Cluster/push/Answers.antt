@@ -1,4 +1,5 @@
-use Rattle.std.proofs.Common.{◌≡◌, ◌∙◌, refl, sym, ap, subst, ◌+◌, ◌<◌, length, ℕ, List, Option, Some, None, Ok, Err, slice_set, arith, rules}
+use Rattle.std.proofs.Common.{◌≡◌, ◌∙◌, refl, sym, ap, subst, ◌+◌, ◌<◌, length, ℕ, List, Option, Some, None, Ok, Err}
+use Rattle.std.proofs.Common.{slice_set, arith, rules}
 use Rattle.std.proofs.lemmas.Option.{slice_get_read}
 use Rattle.std.proofs.lemmas.Result.{err_from_is_err_and}
 use Rattle.fdb_keys.specs.declared.refusal.Refusal.{Refusal}
@@ -13,7 +14,8 @@ use Rattle.fdb_core.specs.refinement.Cluster.{machine_of}
 use Rattle.fdb_core.specs.refinement.Logs.{logs_taken}
 use Rattle.fdb_core.proofs.common.AllLemmas.{within-item}
 use Rattle.fdb_core.proofs.common.FaultLemmas.{unless-fault, answers-fault}
-use Rattle.fdb_core.proofs.refinement.PushSteps.{Pushing, pushing, enough, undecided, refused, accepted, counted, put-same, room, stays, tied, message-rises}
+use Rattle.fdb_core.proofs.refinement.PushSteps.{Pushing, pushing, enough, undecided, refused, accepted, counted}
+use Rattle.fdb_core.proofs.refinement.PushSteps.{put-same, room, stays, tied, message-rises}
 use Rattle.fdb_core.proofs.cluster.Cluster.push.Goals as goal
 use Rattle.fdb_core.proofs.cluster.Cluster.push.Goals.{In_default, After-self-2-1, After-from_residual}
 
@@ -27,7 +29,8 @@ nothing-made c =
     let entry = within-item k.book.items c.args.entry
     (subst (λ (n : ℕ). c.args.entry < n) c.requires.book.each_pooled inside) in
     undecided k c.requires c.args.entry c.args.log entry.0 role.0 entry.1 role.1
-    (slice_get_read k.messages.items (length k.messages.items) c.args.entry c.index.result.now refl inside c.index.ensures
+    (slice_get_read k.messages.items (length k.messages.items) c.args.entry c.index.result.now refl inside
+    c.index.ensures
     ∙ ap (λ (it : Option (List LogMsg)). Some it) c.in_default.is)
 
 pub returns-in_default-clause-answer : goal.returns-in_default-clause-answer
@@ -75,8 +78,8 @@ refuses : (c : After-from_residual) (why : Refusal)
     → pushes (machine_of c.args.self.now) c.args.entry c.args.log ≡ Err why
 refuses c why fault =
     let p = pushing-refused c in
-    refused c.args.self.now c.requires c.args.entry c.args.log p.entry c.index_mut-role.result.now p.there p.at p.messages
-    p.pooled c.index-as_slice-of.result p.message_there why fault
+    refused c.args.self.now c.requires c.args.entry c.args.log p.entry c.index_mut-role.result.now p.there p.at
+    p.messages p.pooled c.index-as_slice-of.result p.message_there why fault
 
 -- and the log stays
 same-core : (c : After-from_residual) (why : Refusal)

@@ -7,7 +7,8 @@ use Rattle.fdb_core.specs.refinement.CommitProxies.{seen_as}
 use Rattle.fdb_core.specs.refinement.Views.{sender_of}
 use Rattle.fdb_core.proofs.refinement.ReceivingLemmas.{nobody, not-taken, no-entry, no-proxy}
 use Rattle.fdb_core.proofs.cluster.Cluster.receiver.Goals as goal
-use Rattle.fdb_core.proofs.cluster.Cluster.receiver.Goals.{then-taken-entry-via-then-taken-entry, then-taken-entry-via-else-taken-entry+then-entry-len}
+use Rattle.fdb_core.proofs.cluster.Cluster.receiver.Goals.{then-taken-entry-via-then-taken-entry}
+use Rattle.fdb_core.proofs.cluster.Cluster.receiver.Goals.{then-taken-entry-via-else-taken-entry+then-entry-len}
 
 pub returns-in_default : goal.returns-in_default
 returns-in_default c =

@@ -1,4 +1,5 @@
-use Rattle.std.proofs.Common.{◌≡◌, ◌∙◌, refl, sym, ap, ap₂, subst, ◌<◌, ◌≤◌, max, length, map, slice_get, slice_set, Some, Ok, Err, ℕ, suc, true, arith, rules}
+use Rattle.std.proofs.Common.{◌≡◌, ◌∙◌, refl, sym, ap, ap₂, subst, ◌<◌, ◌≤◌, max, length, map, slice_get, slice_set}
+use Rattle.std.proofs.Common.{Some, Ok, Err, ℕ, suc, true, arith, rules}
 use Rattle.std.proofs.lemmas.Option.{slice_get_read}
 use Rattle.std.proofs.lemmas.Result.{err_from_is_err_and}
 use Rattle.fdb_keys.specs.declared.refusal.Refusal.{Refusal}
@@ -17,7 +18,8 @@ use Rattle.fdb_core.proofs.refinement.BookLemmas.{below-last}
 use Rattle.fdb_core.proofs.refinement.ReportingTies.{IsReporting, its, refuses, passes}
 use Rattle.fdb_core.proofs.refinement.RunLaws.{entries-rising}
 use Rattle.fdb_core.proofs.cluster.Cluster.report.Goals as goal
-use Rattle.fdb_core.proofs.cluster.Cluster.report.Goals.{After-check_logged, After-index-2, After-index-3, After-take_report, After-report}
+use Rattle.fdb_core.proofs.cluster.Cluster.report.Goals.{After-check_logged, After-index-2, After-index-3}
+use Rattle.fdb_core.proofs.cluster.Cluster.report.Goals.{After-take_report, After-report}
 
 -- the proxy whose batch is looked at
 there : (c : After-check_logged)

@@ -4,7 +4,8 @@ use Rattle.fdb_core.specs.declared.step.Answered.TheVariants as answered
 use Rattle.fdb_core.specs.machine.RoleSteps.{resolves}
 use Rattle.fdb_core.specs.machine.Steps.{answer_of, after}
 use Rattle.fdb_core.specs.refinement.Cluster.{machine_of, Refines}
-use Rattle.fdb_core.proofs.refinement.ResolverTies.{ToResolve, to-resolve, found-within, found-part, found-lacks, found-resolved}
+use Rattle.fdb_core.proofs.refinement.ResolverTies.{ToResolve, to-resolve, found-within, found-part, found-lacks}
+use Rattle.fdb_core.proofs.refinement.ResolverTies.{found-resolved}
 use Rattle.fdb_core.proofs.cluster.Cluster.resolve.Goals as goal
 use Rattle.fdb_core.proofs.cluster.Cluster.resolve.Goals.{After-as_slice, In_ok-answer}
 

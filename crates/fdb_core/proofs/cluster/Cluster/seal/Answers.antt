@@ -1,4 +1,5 @@
-use Rattle.std.proofs.Common.{◌≡◌, ◌∙◌, refl, sym, ap, ⊎_elim, inl, inr, subst, ◌<◌, ◌≤◌, true, length, map, List, [], ◌∷◌, ◌++◌, take, Some, None, Ok, Err, slice_get, slice_set, arith, rules}
+use Rattle.std.proofs.Common.{◌≡◌, ◌∙◌, refl, sym, ap, ⊎_elim, inl, inr, subst, ◌<◌, ◌≤◌, true, length, map, List, []}
+use Rattle.std.proofs.Common.{◌∷◌, ◌++◌, take, Some, None, Ok, Err, slice_get, slice_set, arith, rules}
 use Rattle.std.specs.Prelude.{◌⊎◌}
 use Rattle.std.proofs.lemmas.List.{length-append}
 use Rattle.std.proofs.lemmas.Option.{slice_get_read}
@@ -23,7 +24,8 @@ use Rattle.fdb_core.proofs.common.ListLemmas.{map-at, map-set, one-item}
 use Rattle.fdb_core.proofs.machine.Sealing.{seals-transition, length-sealed}
 use Rattle.fdb_core.proofs.refinement.BookPushes.{book-push, resolvers-push, parts-push, logs-push}
 use Rattle.fdb_core.proofs.refinement.CoreSeals.{ticket-for}
-use Rattle.fdb_core.proofs.refinement.SealingLemmas.{ticket_for, next-ticket, reads-below, entry-is, proxy-is, follows, parts-are, tied, sequencer-tied}
+use Rattle.fdb_core.proofs.refinement.SealingLemmas.{ticket_for, next-ticket, reads-below, entry-is, proxy-is, follows}
+use Rattle.fdb_core.proofs.refinement.SealingLemmas.{parts-are, tied, sequencer-tied}
 use Rattle.fdb_core.proofs.refinement.TicketTies.{plan-refused, plan-given, seals-exhausted}
 use Rattle.fdb_core.proofs.cluster.Cluster.seal.Goals as goal
 use Rattle.fdb_core.proofs.cluster.Cluster.seal.Goals.{After-index_mut-commit_proxy, In_err-ticket, In_ok-batch}
@@ -113,7 +115,8 @@ returns-in_err-batch-clause-answer c =
     let k = c.args.self.now in
     let before = (goal.at.returns-in_err-batch-clause-answer c).After-index_mut-commit_proxy in
     let same : c.from_residual-in_err-batch.result ≡ Err c.in_err-batch.field-0.0 = search rules in
-    let lacks : c.in_err-batch.field-0.0 ≡ NoMemory = c.in_err-batch.ensures k.config k.book.items (known_to k.sequencer c.args.proxy)
+    let lacks : c.in_err-batch.field-0.0 ≡ NoMemory = c.in_err-batch.ensures k.config k.book.items
+    (known_to k.sequencer c.args.proxy)
     (c.requires.commit_proxies.each c.args.proxy c.index_mut-commit_proxy.result.now (there before)) (idle before)
     (next-ticket k c.requires c.args.proxy c.args.advance c.index_mut-commit_proxy.result.now (there before)
     c.in_ok-ticket.ticket (given before).1) in
@@ -124,7 +127,8 @@ returns-in_err-batch-clause-after c =
     let k = c.args.self.now in
     let before = (goal.at.returns-in_err-batch-clause-after c).After-index_mut-commit_proxy in
     let same : c.from_residual-in_err-batch.result ≡ Err c.in_err-batch.field-0.0 = search rules in
-    let lacks : c.in_err-batch.field-0.0 ≡ NoMemory = c.in_err-batch.ensures k.config k.book.items (known_to k.sequencer c.args.proxy)
+    let lacks : c.in_err-batch.field-0.0 ≡ NoMemory = c.in_err-batch.ensures k.config k.book.items
+    (known_to k.sequencer c.args.proxy)
     (c.requires.commit_proxies.each c.args.proxy c.index_mut-commit_proxy.result.now (there before)) (idle before)
     (next-ticket k c.requires c.args.proxy c.args.advance c.index_mut-commit_proxy.result.now (there before)
     c.in_ok-ticket.ticket (given before).1) in
@@ -135,7 +139,8 @@ returns-in_err-batch-clause-refines c =
     let k = c.args.self.now in
     let before = (goal.at.returns-in_err-batch-clause-refines c).After-index_mut-commit_proxy in
     let same : c.from_residual-in_err-batch.result ≡ Err c.in_err-batch.field-0.0 = search rules in
-    let lacks : c.in_err-batch.field-0.0 ≡ NoMemory = c.in_err-batch.ensures k.config k.book.items (known_to k.sequencer c.args.proxy)
+    let lacks : c.in_err-batch.field-0.0 ≡ NoMemory = c.in_err-batch.ensures k.config k.book.items
+    (known_to k.sequencer c.args.proxy)
     (c.requires.commit_proxies.each c.args.proxy c.index_mut-commit_proxy.result.now (there before)) (idle before)
     (next-ticket k c.requires c.args.proxy c.args.advance c.index_mut-commit_proxy.result.now (there before)
     c.in_ok-ticket.ticket (given before).1) in
@@ -166,7 +171,8 @@ returns-clause-answer c =
     ap (λ (batch : List Transaction). length batch) c.as_slice.ensures.places
     ∙ length-sealed role.waiting c.in_ok-batch.batch is.batch_is in
     rw (seals-transition (machine_of k) c.args.proxy c.args.advance (seen_as role)
-    (map-at seen_as k.commit_proxies.items c.args.proxy role (there before)) (idle before) (given before).0 (room before))
+    (map-at seen_as k.commit_proxies.items c.args.proxy role (there before)) (idle before) (given before).0
+    (room before))
     (λ i. Ok (answered.Issued ((given before).1 i).index ((given before).1 i).version ((given before).1 i).prev
     (places i)))
 
@@ -181,8 +187,8 @@ returns-clause-after c =
     let proxy = proxy-is k c.requires c.args.proxy c.args.advance role (there before) c.in_ok-ticket.ticket
     (given before).1 c.in_ok-batch.batch c.in_ok-batch.parts c.seal.new.self is in
     rw (seals-transition (machine_of k) c.args.proxy c.args.advance (seen_as role)
-    (map-at seen_as k.commit_proxies.items c.args.proxy role (there before)) (idle before) (given before).0 (room before))
-    (λ i. record (machine_of k) {
+    (map-at seen_as k.commit_proxies.items c.args.proxy role (there before)) (idle before) (given before).0
+    (room before)) (λ i. record (machine_of k) {
       book = (c.in_ok-push.ensures.items ∙ ap (λ (e : Entry). k.book.items ++ e ∷ []) entry) i;
       entry_proxies = c.in_ok-add_undecided.ensures.entry_proxies i;
       decided = c.in_ok-add_undecided.ensures.decided i;
@@ -214,7 +220,12 @@ returns-clause-refines c =
       sequencer = rw (c.issue.ensures, book)
           (sequencer-tied k old c.args.proxy c.args.advance role (there before) ticket (given before).1 batch
           c.in_ok-batch.parts c.seal.new.self is);
-      book = rw (book, c.in_ok-add_undecided.ensures.entry_proxies, c.in_ok-add_undecided.ensures.decided, c.in_ok-add_undecided.ensures.messages)
+      book = rw (
+        book,
+        c.in_ok-add_undecided.ensures.entry_proxies,
+        c.in_ok-add_undecided.ensures.decided,
+        c.in_ok-add_undecided.ensures.messages,
+      )
           (book-push k.book.items entry k.config k.entry_proxies.items k.decided.items k.messages.items c.args.proxy
           old.book next);
       parts = rw (book, c.in_ok-add_undecided.ensures.parts)

@@ -1,4 +1,5 @@
-use Rattle.std.proofs.Common.{◌≡◌, ◌∙◌, refl, sym, ap, subst, ◌<◌, length, map, [], ◌∷◌, ◌++◌, false, None, Some, Result, Ok, Err, slice_get, slice_set, rules}
+use Rattle.std.proofs.Common.{◌≡◌, ◌∙◌, refl, sym, ap, subst, ◌<◌, length, map, [], ◌∷◌, ◌++◌, false, None, Some}
+use Rattle.std.proofs.Common.{Result, Ok, Err, slice_get, slice_set, rules}
 use Rattle.std.proofs.lemmas.Option.{slice_get_read}
 use Rattle.std.proofs.lemmas.Result.{err_from_is_err_and}
 use Rattle.fdb_keys.specs.Answers.{Answers}
@@ -18,10 +19,12 @@ use Rattle.fdb_core.proofs.common.ListLemmas.{map-at}
 use Rattle.fdb_core.proofs.machine.FinishLemmas.{unfinished}
 use Rattle.fdb_core.proofs.machine.SessionLemmas.{open-put}
 use Rattle.fdb_core.proofs.machine.SessionMaps.{state-again}
-use Rattle.fdb_core.proofs.refinement.SubmittingTies.{finished-read_only, finished-some, submits-read_only, unrepeated, reads-within, waits, tied}
+use Rattle.fdb_core.proofs.refinement.SubmittingTies.{finished-read_only, finished-some, submits-read_only, unrepeated}
+use Rattle.fdb_core.proofs.refinement.SubmittingTies.{reads-within, waits, tied}
 use Rattle.fdb_core.proofs.refinement.Ties.{refines-sessions}
 use Rattle.fdb_core.proofs.cluster.Cluster.submit.Goals as goal
-use Rattle.fdb_core.proofs.cluster.Cluster.submit.Goals.{After-finish, After-acknowledge, After-submit, In_ok-submit-in-ToCommit}
+use Rattle.fdb_core.proofs.cluster.Cluster.submit.Goals.{After-finish, After-acknowledge, After-submit}
+use Rattle.fdb_core.proofs.cluster.Cluster.submit.Goals.{In_ok-submit-in-ToCommit}
 
 -- the proxy at which it is submitted
 there : (c : After-finish) → (role : CommitProxyRole)
@@ -126,8 +129,8 @@ submitted c =
     let before = c.requires.refines in
     let at = role-there c in
     let found = was c in
-    c.submit.ensures k.config k.book.items (known_to k.sequencer c.args.proxy) (before.commit_proxies.each c.args.proxy role at)
-    found.3
+    c.submit.ensures k.config k.book.items (known_to k.sequencer c.args.proxy)
+    (before.commit_proxies.each c.args.proxy role at) found.3
     (reads-within k before c.requires.named c.args.session c.args.proxy role at c.in-ToCommit.transcript found.0)
     (unrepeated k before c.requires.named c.args.session c.args.proxy role at c.in-ToCommit.transcript found.0)
 

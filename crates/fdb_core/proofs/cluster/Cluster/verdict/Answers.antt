@@ -9,7 +9,8 @@ use Rattle.fdb_core.specs.machine.Steps.{answer_of, after, ran_out}
 use Rattle.fdb_core.specs.refinement.Cluster.{machine_of, Refines}
 use Rattle.fdb_core.specs.refinement.CommitProxies.{known_to}
 use Rattle.fdb_core.proofs.common.FaultLemmas.{unless}
-use Rattle.fdb_core.proofs.refinement.ReceivingLemmas.{verdicts-stale, verdicts-awaited, was-sent, receiver-there, resolver-there}
+use Rattle.fdb_core.proofs.refinement.ReceivingLemmas.{verdicts-stale, verdicts-awaited, was-sent, receiver-there}
+use Rattle.fdb_core.proofs.refinement.ReceivingLemmas.{resolver-there}
 use Rattle.fdb_core.proofs.cluster.Cluster.verdict.Goals as goal
 use Rattle.fdb_core.proofs.cluster.Cluster.verdict.Goals.{In_err-verdict, In_ok-verdict}
 
@@ -28,14 +29,14 @@ stale : (c : In_err-verdict) →
     × (machine_of later ≡ machine_of k) × Refines later
 stale c =
     let k = c.args.self.now in
-    let at = receiver-there k c.args.entry (FromResolver c.args.resolver) c.in_ok-at.at c.index_mut-commit_proxy.result.now
-    c.in_ok-at.ensures c.index_mut-commit_proxy.ensures.value in
+    let at = receiver-there k c.args.entry (FromResolver c.args.resolver) c.in_ok-at.at
+    c.index_mut-commit_proxy.result.now c.in_ok-at.ensures c.index_mut-commit_proxy.ensures.value in
     verdicts-stale k c.requires c.args.entry c.args.resolver c.in_ok-at.at c.in_ok-at.ensures
     c.index_mut-commit_proxy.result.now c.verdict.new.self at c.index.result.now
     (resolver-there k c.args.entry c.args.resolver c.in_ok-at.at c.index.result.now c.in_ok-at.ensures c.index.ensures)
     c.in_ok-verdicts.verdicts c.in_ok-verdicts.ensures ⊤ c.in_err-verdict.field-0.0
-    (λ e tied said. c.in_err-verdict.ensures.answers k.config k.book.items (known_to k.sequencer c.in_ok-at.at) e tied said)
-    c.in_err-verdict.ensures.refused
+    (λ e tied said. c.in_err-verdict.ensures.answers k.config k.book.items (known_to k.sequencer c.in_ok-at.at) e tied
+    said) c.in_err-verdict.ensures.refused
 
 -- the proxy took it
 taken : (c : In_ok-verdict) →
@@ -45,13 +46,14 @@ taken : (c : In_ok-verdict) →
     ≡ Ok (record { answer = answered.Done; next = machine_of later })) × Refines later
 taken c =
     let k = c.args.self.now in
-    let at = receiver-there k c.args.entry (FromResolver c.args.resolver) c.in_ok-at.at c.index_mut-commit_proxy.result.now
-    c.in_ok-at.ensures c.index_mut-commit_proxy.ensures.value in
+    let at = receiver-there k c.args.entry (FromResolver c.args.resolver) c.in_ok-at.at
+    c.index_mut-commit_proxy.result.now c.in_ok-at.ensures c.index_mut-commit_proxy.ensures.value in
     verdicts-awaited k c.requires c.args.entry c.args.resolver c.in_ok-at.at c.in_ok-at.ensures
     c.index_mut-commit_proxy.result.now c.verdict.new.self at c.index.result.now
     (resolver-there k c.args.entry c.args.resolver c.in_ok-at.at c.index.result.now c.in_ok-at.ensures c.index.ensures)
     c.in_ok-verdicts.verdicts c.in_ok-verdicts.ensures ⊤ c.in_ok-verdict.field-0
-    (λ e tied said. c.in_ok-verdict.ensures.answers k.config k.book.items (known_to k.sequencer c.in_ok-at.at) e tied said)
+    (λ e tied said. c.in_ok-verdict.ensures.answers k.config k.book.items (known_to k.sequencer c.in_ok-at.at) e tied
+    said)
 
 pub returns-in_err-verdict-clause-answer : goal.returns-in_err-verdict-clause-answer
 returns-in_err-verdict-clause-answer c =

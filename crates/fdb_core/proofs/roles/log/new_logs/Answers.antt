@@ -10,7 +10,7 @@ loop-log-init c = rw c.new-list.ensures.items (no-logs c.args.logs c.args.tags)
 pub loop-log-preserved : goal.loop-log-preserved
 loop-log-preserved c =
     rw c.in_ok-push.ensures.items
-    (one-log c.loop-log.log c.args.logs c.args.tags c.loop-log.list.items (record { core = c.in_ok-core.core; taken = 0 })
-    c.loop-log.invariant
+    (one-log c.loop-log.log c.args.logs c.args.tags c.loop-log.list.items
+    (record { core = c.in_ok-core.core; taken = 0 }) c.loop-log.invariant
     (answers-fault (config_fault c.loop-log.log c.args.logs c.args.tags) c.in_ok-core.core
     (IsNewLog c.loop-log.log c.args.logs c.args.tags) c.in_ok-core.ensures).1 refl)

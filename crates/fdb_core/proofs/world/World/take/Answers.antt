@@ -32,8 +32,8 @@ legal : (c : After-ran_out-self-inside)
 legal c = rw c.ran_out-self-inside.ensures
     (unless-map (ran_out c.step-answer.result) _ (config_fault c.step-answer.new.self.config ≡ None)
     (λ after. ap (λ (m : Machine). config_fault m.config) after
-    ∙ ap config_fault (config-after (machine_of c.self.inside.cluster) c.args.step.now) ∙ (c.self.invariant c.if-self.false).2)
-    c.step-answer.ensures.after)
+    ∙ ap config_fault (config-after (machine_of c.self.inside.cluster) c.args.step.now)
+    ∙ (c.self.invariant c.if-self.false).2) c.step-answer.ensures.after)
 
 refines : (c : After-ran_out-self-inside) → Unless c.ran_out-self-inside.result (Refines c.step-answer.new.self)
 refines c = rw c.ran_out-self-inside.ensures c.step-answer.ensures.refines

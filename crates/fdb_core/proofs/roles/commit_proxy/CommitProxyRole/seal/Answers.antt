@@ -12,7 +12,8 @@ returns-in_err-learn c config book known ok idle next =
     let left = err_from_is_err_and c.from_residual-in_err-learn.result c.from_residual-in_err-learn.ensures.1 in
     rw (left.1, left.2)
     (learn-lacks config book known c.args.self.now ok idle c.args.ticket.now next (Unit {0}) c.seal.new.self.proxy
-    c.learn.new.self c.in_ok-batch.batch c.in_err-learn.field-0.0 c.in_ok-batch.ensures.answers c.in_err-learn.ensures.answers)
+    c.learn.new.self c.in_ok-batch.batch c.in_err-learn.field-0.0 c.in_ok-batch.ensures.answers
+    c.in_err-learn.ensures.answers)
 
 pub returns : goal.returns
 returns c config book known ok idle next =
