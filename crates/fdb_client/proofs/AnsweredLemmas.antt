@@ -1,5 +1,6 @@
 -- What a transcript was answered, operation by operation.
-use Rattle.std.proofs.Common.{◌≡◌, ◌∙◌, sym, ap, subst, ℕ, ◌+◌, true, List, [], ◌∷◌, ◌++◌, take, drop, append_assoc, append-nil, take-append-drop, Some}
+use Rattle.std.proofs.Common.{◌≡◌, ◌∙◌, sym, ap, subst, ℕ, ◌+◌, true, List, [], ◌∷◌, ◌++◌, take, drop, append_assoc}
+use Rattle.std.proofs.Common.{append-nil, take-append-drop, Some}
 use Rattle.std.specs.List.{slice_get}
 use Rattle.std.proofs.lemmas.List.{take_more}
 use Rattle.std.proofs.lemmas.Option.{slice_get_within, get_or_from_slice_get}

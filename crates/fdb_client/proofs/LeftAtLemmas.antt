@@ -1,5 +1,6 @@
 -- What is kept for a point, after something was put under a key.
-use Rattle.std.proofs.Common.{◌≡◌, ◌∙◌, sym, ap, refl, ℕ, Bool, true, false, cond, if◌then◌else◌, List, Option, Some, None, [], ◌∷◌, ◌||◌, Result, Ok, Err, ⊎_elim}
+use Rattle.std.proofs.Common.{◌≡◌, ◌∙◌, sym, ap, refl, ℕ, Bool, true, false, cond, if◌then◌else◌, List, Option, Some}
+use Rattle.std.proofs.Common.{None, [], ◌∷◌, ◌||◌, Result, Ok, Err, ⊎_elim}
 use Rattle.std.specs.Ordering.{nat_cmp}
 use Rattle.std.specs.Cmp.{eq_by_cmp_equiv}
 use Rattle.std.specs.Cmp.Lexicographic.{slice_cmp, bytes_decides}

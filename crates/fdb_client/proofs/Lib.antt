@@ -2,6 +2,7 @@ pub mod AnsweredLemmas
 mod ClearedLemmas
 pub mod DecidedLemmas
 mod FaultLemmas
+mod KeyExamplesLemmas
 mod LeftAtLemmas
 mod MergingLemmas
 mod OwnKeysLemmas

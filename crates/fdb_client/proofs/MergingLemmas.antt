@@ -1,5 +1,6 @@
 -- One key more of a read of a range: a key of the own writes, or the first pair of the map.
-use Rattle.std.proofs.Common.{◌≡◌, ◌≢◌, ◌∙◌, sym, ap, refl, subst, ℕ, ◌≤◌, Bool, true, false, not, ◌&&◌, nat_eq, List, [], ◌∷◌, ◌++◌, length, arith, Option, Some, None, if◌then◌else◌}
+use Rattle.std.proofs.Common.{◌≡◌, ◌≢◌, ◌∙◌, sym, ap, refl, subst, ℕ, ◌≤◌, Bool, true, false, not, ◌&&◌, nat_eq, List}
+use Rattle.std.proofs.Common.{[], ◌∷◌, ◌++◌, length, arith, Option, Some, None, if◌then◌else◌}
 use Rattle.std.specs.FinMap.{get}
 use Rattle.std.proofs.lemmas.Bool.{both_ways, eq-eqb}
 use Rattle.std.proofs.lemmas.List.{append_assoc, length-append}
@@ -18,7 +19,8 @@ use Rattle.fdb_client.specs.declared.left.Left.{Left}
 use Rattle.fdb_client.specs.declared.left.Left.TheVariants.{Value, Changes}
 use Rattle.fdb_client.specs.declared.own_writes.OwnWrites.{OwnWrites}
 use Rattle.fdb_client.specs.LeftAt.{left_at, entry_of, HasNoEntry}
-use Rattle.fdb_client.specs.Merging.{GoesOn, HasNoValue, IsCopyOf, IsFirstOwn, IsPartOf, IsWithin, LiesIn, TookOwn, ahead_of}
+use Rattle.fdb_client.specs.Merging.{GoesOn, HasNoValue, IsCopyOf, IsFirstOwn, IsPartOf, IsWithin, LiesIn, TookOwn}
+use Rattle.fdb_client.specs.Merging.{ahead_of}
 use Rattle.fdb_client.specs.OwnWrites.{kept_of, value_over}
 
 -- ---- parts of a range

@@ -1,9 +1,13 @@
 -- A page of a snapshot that is merged with the own writes, pair by pair.
-use Rattle.std.proofs.Common.{◌≡◌, ◌∙◌, sym, ap, refl, ◌⊎◌, inl, inr, ⊎_elim, subst, if◌then◌else◌, ℕ, ◌<◌, ◌+◌, ◌&&◌, nat_eq, Bool, true, false, not, min, List, [], ◌∷◌, ◌++◌, length, take, drop, Some, None, arith}
+use Rattle.std.proofs.Common.{◌≡◌, ◌∙◌, sym, ap, refl, ◌⊎◌, inl, inr, ⊎_elim, subst, if◌then◌else◌, ℕ, ◌<◌, ◌+◌, ◌&&◌}
+use Rattle.std.proofs.Common.{nat_eq, Bool, true, false, not, min, List, [], ◌∷◌, ◌++◌, length, take, drop, Some, None}
+use Rattle.std.proofs.Common.{arith}
 use Rattle.std.specs.List.{AllByRecursion, slice_get}
-use Rattle.std.proofs.lemmas.Bool.{and_parts, and_right, both_ways, cases_Bool, cond-false, cond-true, eq-eqb, eqb-true, ltb-false, ltb-true, not-true}
+use Rattle.std.proofs.lemmas.Bool.{and_parts, and_right, both_ways, cases_Bool, cond-false, cond-true, eq-eqb, eqb-true}
+use Rattle.std.proofs.lemmas.Bool.{ltb-false, ltb-true, not-true}
 use Rattle.std.proofs.Math.Bool.{and-true}
-use Rattle.std.proofs.lemmas.List.{append-nil, take-append-drop, drop_all, drop_more, get_or-take, length-drop, length-take, take-append-le, take_all}
+use Rattle.std.proofs.lemmas.List.{append-nil, take-append-drop, drop_all, drop_more, get_or-take, length-drop}
+use Rattle.std.proofs.lemmas.List.{length-take, take-append-le, take_all}
 use Rattle.std.proofs.Math.Seq.{take-length}
 use Rattle.std.proofs.lemmas.Option.{get_or_from_slice_get, slice_get_within}
 use Rattle.std.proofs.Math.ListN.{get_or}
@@ -21,9 +25,11 @@ use Rattle.fdb_client.specs.declared.left.Left.{Left}
 use Rattle.fdb_client.specs.declared.own_writes.OwnWrites.{OwnWrites}
 use Rattle.fdb_client.specs.declared.snapshot.Page.{Page}
 use Rattle.fdb_client.specs.LeftAt.{left_at}
-use Rattle.fdb_client.specs.Merging.{GoesOn, HasFirst, HasNoValue, IsCopyOf, IsWithin, ReadsOn, ReadsPage, TookOwn, TookPage}
+use Rattle.fdb_client.specs.Merging.{GoesOn, HasFirst, HasNoValue, IsCopyOf, IsWithin, ReadsOn, ReadsPage, TookOwn}
+use Rattle.fdb_client.specs.Merging.{TookPage}
 use Rattle.fdb_client.specs.OwnWrites.{value_over}
-use Rattle.fdb_client.proofs.MergingLemmas.{goes_on-start, goes_on-take, goes_on-both, pair-copy, pair-inside, pair-map, pair-none}
+use Rattle.fdb_client.proofs.MergingLemmas.{goes_on-start, goes_on-take, goes_on-both, pair-copy, pair-inside, pair-map}
+use Rattle.fdb_client.proofs.MergingLemmas.{pair-none}
 
 -- as many pairs of the page were taken
 pub record PageSoFar (map copy : Map) (is_reverse : Bool) (count : ℕ) (before : List (Point × List ℕ)) (range : Range)

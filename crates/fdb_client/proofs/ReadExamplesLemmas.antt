@@ -1,5 +1,6 @@
 -- What programs read of the map of three pairs.
-use Rattle.std.proofs.Common.{◌≡◌, ◌∙◌, sym, ap, refl, ℕ, Bool, true, false, not, List, [], ◌∷◌, Option, reverse, if◌then◌else◌}
+use Rattle.std.proofs.Common.{◌≡◌, ◌∙◌, sym, ap, refl, ℕ, Bool, true, false, not, List, [], ◌∷◌, Option, reverse}
+use Rattle.std.proofs.Common.{if◌then◌else◌}
 use Rattle.std.specs.Ordering.{nat_cmp}
 use Rattle.std.specs.Cmp.Lexicographic.{slice_cmp}
 use Rattle.std.specs.FinMap.{entries, entries-insert}
@@ -10,9 +11,9 @@ use Rattle.fdb_keys.specs.Insertion.{inserted}
 use Rattle.fdb_keys.specs.Points.{Point, point_lt}
 use Rattle.fdb_keys.specs.Ranges.{Range, in_range}
 use Rattle.fdb_mutations.specs.declared.mutation.Mutation.TheVariants.{Add}
-use Rattle.fdb_mutations.specs.Examples.{one}
+use Rattle.fdb_mutations.specs.Examples.{one, span}
 use Rattle.fdb_mutations.specs.Mutations.{effect, new_value, with_value}
-use Rattle.fdb_mutations.specs.PairExamples.{pair, three_pairs, three, span}
+use Rattle.fdb_mutations.specs.PairExamples.{pair, three_pairs, three}
 use Rattle.fdb_mutations.specs.PairLaws.{given_of}
 use Rattle.fdb_mutations.specs.Pairs.{pairs_within, first_of, scanned}
 use Rattle.fdb_mutations.proofs.MapsLemmas.{entries-sorted, get-pairs, some_kept}

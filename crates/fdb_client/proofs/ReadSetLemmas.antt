@@ -1,5 +1,6 @@
 -- The read set of a program as ranges, and point by point.
-use Rattle.std.proofs.Common.{◌≡◌, ◌∙◌, sym, ap, refl, Bool, true, false, not, ◌&&◌, ◌||◌, if◌then◌else◌, List, [], ◌∷◌, ⊎_elim}
+use Rattle.std.proofs.Common.{◌≡◌, ◌∙◌, sym, ap, refl, Bool, true, false, not, ◌&&◌, ◌||◌, if◌then◌else◌, List, [], ◌∷◌}
+use Rattle.std.proofs.Common.{⊎_elim}
 use Rattle.std.specs.Cmp.Lexicographic.{bytes_decides}
 use Rattle.std.proofs.lemmas.Bool.{cases_Bool, and_right}
 use Rattle.std.proofs.Math.Bool.{and-true}
@@ -17,7 +18,8 @@ use Rattle.fdb_client.specs.declared.program.Op.TheVariants.{Get, Write, AddRead
 use Rattle.fdb_client.specs.declared.program.Op.TheVariants as operation
 use Rattle.fdb_client.specs.declared.program.Reply.{Reply}
 use Rattle.fdb_client.specs.ProgramLaws.{IsExecuted}
-use Rattle.fdb_client.specs.Programs.{program, replies_of, decided, decided_ranges, read_set, read_ranges, copy, exec, reply_on, reads_on, add_reads, add_scanned}
+use Rattle.fdb_client.specs.Programs.{program, replies_of, decided, decided_ranges, read_set, read_ranges, copy, exec}
+use Rattle.fdb_client.specs.Programs.{reply_on, reads_on, add_reads, add_scanned}
 use Rattle.fdb_client.proofs.DecidedLemmas.{in_decided_ranges}
 
 -- a read adds its key, if it is an ordinary one and the key isn't decided

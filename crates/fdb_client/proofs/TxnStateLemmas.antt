@@ -15,7 +15,8 @@ use Rattle.fdb_client.specs.declared.program.Reply.{Reply}
 use Rattle.fdb_client.specs.LeftAt.{left_at, HasLegalKeys}
 use Rattle.fdb_client.specs.OwnWrites.{left_by, left_by_ops, is_value, value_over}
 use Rattle.fdb_client.specs.TxnState.{AreOf, WritesNothing}
-use Rattle.fdb_client.specs.Programs.{program, copy, decided, add_decided, add_reads, add_writes, add_mutation, decided_ranges, read_ranges, write_ranges, mutations_of}
+use Rattle.fdb_client.specs.Programs.{program, copy, decided, add_decided, add_reads, add_writes, add_mutation}
+use Rattle.fdb_client.specs.Programs.{decided_ranges, read_ranges, write_ranges, mutations_of}
 use Rattle.fdb_client.proofs.DecidedLemmas.{in_decided_ranges}
 use Rattle.fdb_client.proofs.OwnWritesLemmas.{decided-left, copy-left, unwritten-left}
 use Rattle.fdb_client.proofs.ProgramLemmas.{program-push, replies-push}
@@ -67,7 +68,8 @@ module _ (ops : List (Op × Reply)) (own : OwnWrites) (reads writes : List Range
   -- and where the set of what they decide has it
   pub left_at-decided : in_set own.decided key ≡ is_value (left_at own key)
   left_at-decided =
-      ap (λ (set : List Range). in_set set key) are.are_decided ∙ in_decided_ranges (program ops) key ∙ sym left_at-decides
+      ap (λ (set : List Range). in_set set key) are.are_decided ∙ in_decided_ranges (program ops) key
+      ∙ sym left_at-decides
 
   -- and make of what a map has there what the operations make of it
   pub left_at-value : (map : Map) → value_over (left_at own key) (get map key) ≡ get (copy map (program ops)) key

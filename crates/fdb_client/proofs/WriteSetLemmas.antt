@@ -15,7 +15,8 @@ use Rattle.fdb_client.specs.declared.program.Op.TheVariants.{Get, Write, AddRead
 use Rattle.fdb_client.specs.declared.program.Op.TheVariants as operation
 use Rattle.fdb_client.specs.declared.program.Transcript.{Transcript}
 use Rattle.fdb_client.specs.ProgramLaws.{CommitRequestsAreWhole}
-use Rattle.fdb_client.specs.Programs.{program, copy, mutations_of, write_set, writes_on, add_writes, write_ranges, commit_request_of}
+use Rattle.fdb_client.specs.Programs.{program, copy, mutations_of, write_set, writes_on, add_writes, write_ranges}
+use Rattle.fdb_client.specs.Programs.{commit_request_of}
 use Rattle.fdb_client.proofs.ReadSetLemmas.{in_executed_ranges}
 
 -- one operation more adds what it writes

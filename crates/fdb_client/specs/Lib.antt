@@ -4,9 +4,11 @@ pub mod Merging
 pub mod OwnWrites
 pub mod Pages
 pub mod TxnState
+pub mod KeyExamples
 pub mod ProgramLaws
 pub mod Programs
 pub mod ReadExamples
+pub mod WriteExamples
 pub use Rattle.fdb_keys.specs.Answers
 pub use Rattle.fdb_keys.specs.Insertion
 pub use Rattle.fdb_keys.specs.Points

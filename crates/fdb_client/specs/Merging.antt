@@ -1,5 +1,6 @@
 -- A read of a range on its way: what it was given so far, and what is left of the range.
-use Rattle.std.specs.Prelude.{◌≡◌, ◌<◌, ◌≤◌, ℕ, Bool, true, false, not, nat_eq, nat_lt, Option, Some, None, is_some, List, [], ◌++◌, ⊤, length, take, drop}
+use Rattle.std.specs.Prelude.{◌≡◌, ◌<◌, ◌≤◌, ℕ, Bool, true, false, not, nat_eq, nat_lt, Option, Some, None, is_some}
+use Rattle.std.specs.Prelude.{List, [], ◌++◌, ⊤, length, take, drop}
 use Rattle.std.specs.FinMap.{get}
 use Rattle.fdb_keys.specs.Cutting.{range_behind}
 use Rattle.fdb_keys.specs.Points.{Point}

@@ -2,8 +2,8 @@
 use Rattle.std.specs.Prelude.{◌≡◌, ℕ, Bool, true, false, List, [], ◌∷◌}
 use Rattle.fdb_keys.specs.Ranges.{Range}
 use Rattle.fdb_mutations.specs.declared.mutation.Mutation.TheVariants.{Set, ClearRange, Add}
-use Rattle.fdb_mutations.specs.Examples.{one, two}
-use Rattle.fdb_mutations.specs.PairExamples.{pair, three_pairs, three, span}
+use Rattle.fdb_mutations.specs.Examples.{one, two, span}
+use Rattle.fdb_mutations.specs.PairExamples.{pair, three_pairs, three}
 use Rattle.fdb_client.specs.declared.program.Op.{Op}
 use Rattle.fdb_client.specs.declared.program.Op.TheVariants.{Write}
 use Rattle.fdb_client.specs.declared.program.Op.TheVariants as operation

@@ -13,7 +13,8 @@ use Rattle.fdb_client.specs.declared.program.Reply.{Reply}
 use Rattle.fdb_client.specs.declared.program.Transcript.{Transcript}
 use Rattle.fdb_client.specs.LeftAt.{left_at, HasLegalKeys}
 use Rattle.fdb_client.specs.OwnWrites.{left_by_ops, left_by}
-use Rattle.fdb_client.specs.Programs.{program, replies_of, add_decided, add_writes, add_mutation, decided_ranges, read_ranges, write_ranges, mutations_of}
+use Rattle.fdb_client.specs.Programs.{program, replies_of, add_decided, add_writes, add_mutation, decided_ranges}
+use Rattle.fdb_client.specs.Programs.{read_ranges, write_ranges, mutations_of}
 
 -- the transcript with one operation more, and the reply to it
 abbrev pub with_op : Transcript → Op → Reply → Transcript

@@ -25,7 +25,8 @@ pub(crate) fn buffer(
     requires legal_keys { HasLegalKeys own.old }
     requires decided { (x : Point) → in_set own.old.decided x ≡ is_value (left_at own.old x) }
     requires written { (x : Point) → in_set writes.old x ≡ false → left_at own.old x ≡ Changes [] }
-    ensures kept { Answers result None (λ _. (x : Point) → left_at own.new x ≡ left_with x (left_at own.old x) mutation.now) }
+    ensures kept { Answers result None (λ _. (x : Point) → left_at own.new x
+        ≡ left_with x (left_at own.old x) mutation.now) }
     ensures decided { OnOk result (own.new.decided
         ≡ (if is_blind mutation.now then with_range (named_range mutation.now) own.old.decided else own.old.decided)) }
     ensures writes { OnOk result (writes.new ≡ with_range (named_range mutation.now) writes.old) }

@@ -1,6 +1,8 @@
 //! What holds of programs, for the proofs of the crates that use transactions.
+ghost use Rattle.fdb_client.specs.KeyExamples.{WorkedKeyReads};
 ghost use Rattle.fdb_client.specs.ProgramLaws.{CommitRequestsAreWhole, ProgramsAgree, OneMoreIsExecuted};
 ghost use Rattle.fdb_client.specs.ReadExamples.{WorkedRangeReads};
+ghost use Rattle.fdb_client.specs.WriteExamples.{WorkedWrites};
 
 /// What is submitted of a transcript holds just the points that its program reads, on a map that it was executed on,
 /// and those that it writes, and its mutations leave any map as executing the program leaves it.
@@ -20,7 +22,10 @@ pub fn transcripts_of_one_map_are_its_executions()
     ensures { OneMoreIsExecuted }
 {}
 
-/// What programs that read some ranges are answered, and read.
-pub fn worked_range_reads()
-    ensures { WorkedRangeReads }
+/// What programs that read some ranges and keys are answered, and read; what programs write, and what is submitted of a
+/// transcript.
+pub fn worked_programs()
+    ensures ranges { WorkedRangeReads }
+    ensures keys { WorkedKeyReads }
+    ensures writes { WorkedWrites }
 {}

@@ -1,5 +1,6 @@
 // What a transaction's own writes leave at each key, and which keys they decide.
-ghost use Rattle.std.specs.Prelude.{◌≡◌, None, IfOk, OnOk, OnErr, IsSome, IfSome, IfNone, IsTrue, ⊤, if◌then◌else◌, not, true, false, []};
+ghost use Rattle.std.specs.Prelude.{◌≡◌, None, IfOk, OnOk, OnErr, IsSome, IfSome, IfNone, IsTrue, ⊤, if◌then◌else◌};
+ghost use Rattle.std.specs.Prelude.{not, true, false, []};
 ghost use Rattle.fdb_keys.specs.Answers.{Answers};
 ghost use Rattle.fdb_keys.specs.Cutting.{range_behind};
 ghost use Rattle.fdb_keys.specs.Points.{Point, point_eq};

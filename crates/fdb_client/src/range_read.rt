@@ -8,7 +8,8 @@ ghost use Rattle.fdb_mutations.specs.Maps.{Map};
 ghost use Rattle.fdb_mutations.specs.Pairs.{is_limit_reached};
 ghost use Rattle.fdb_mutations.specs.PairLaws.{given_of, pair_of};
 ghost use Rattle.fdb_client.specs.LeftAt.{left_at, HasLegalKeys};
-ghost use Rattle.fdb_client.specs.Merging.{HasFirst, HasNoValue, IsCopyOf, IsFirstOwn, IsWithin, LiesIn, ReadsOn, ReadsPage, TookOwn, TookPage, ahead_of};
+ghost use Rattle.fdb_client.specs.Merging.{HasFirst, HasNoValue, IsCopyOf, IsFirstOwn, IsWithin, LiesIn, ReadsOn};
+ghost use Rattle.fdb_client.specs.Merging.{ReadsPage, TookOwn, TookPage, ahead_of};
 ghost use Rattle.fdb_client.specs.OwnWrites.{value_over};
 ghost use Rattle.fdb_client.specs.Pages.{IsPage};
 
@@ -222,7 +223,8 @@ impl<'a> RangeRead<'a> {
         requires copy { (copy : Map) × IsCopyOf (left_at self.now.own.now) (S.map snapshot.now) copy }
         requires served { S.range_fault snapshot.now range.now ≡ None }
         requires page { IsPage (S.map snapshot.now) range.now self.now.limit self.now.reverse page.now }
-        ensures { Answers result None (λ given. (copy : Map) → IsCopyOf (left_at self.now.own.now) (S.map snapshot.now) copy
+        ensures { Answers result None (λ given. (copy : Map)
+            → IsCopyOf (left_at self.now.own.now) (S.map snapshot.now) copy
             → given ≡ given_of copy range.now self.now.limit self.now.reverse) }
     {
         let left = range.clone()?;

@@ -7,7 +7,9 @@ ghost use Rattle.fdb_mutations.specs.Mutations.{named_range};
 ghost use Rattle.fdb_mutations.specs.PairLaws.{given_of};
 ghost use Rattle.fdb_mutations.specs.Pairs.{scanned};
 ghost use Rattle.fdb_client.specs.declared.program.Op.{Op};
-ghost use Rattle.fdb_client.specs.Programs.{program, replies_of, exec, reply_on, add_scanned, add_reads, add_decided, add_writes, add_mutation, decided_ranges, read_ranges, write_ranges, mutations_of, commit_request_of};
+ghost use Rattle.fdb_client.specs.Programs.{program, replies_of, exec, reply_on, add_scanned, add_reads, add_decided};
+ghost use Rattle.fdb_client.specs.Programs.{add_writes, add_mutation, decided_ranges, read_ranges, write_ranges};
+ghost use Rattle.fdb_client.specs.Programs.{mutations_of, commit_request_of};
 ghost use Rattle.fdb_client.specs.ProgramLaws.{is_ordinary, AgreeWhereOrdinary};
 
 use crate::buffering::add_key;

@@ -42,7 +42,8 @@ impl Txn {
     ghost use Rattle.fdb_client.specs.Finishing.{finish_fault, IsFinished};
     ghost use Rattle.fdb_client.specs.TxnState.{with_op};
     ghost use Rattle.fdb_client.specs.ProgramLaws.{IsExecuted};
-    ghost use Rattle.fdb_client.specs.Programs.{program, replies_of, copy, decided, read_set, write_set, read_ranges, write_ranges, is_read_only};
+    ghost use Rattle.fdb_client.specs.Programs.{program, replies_of, copy, decided, read_set, write_set, read_ranges};
+    ghost use Rattle.fdb_client.specs.Programs.{write_ranges, is_read_only};
     ghost use Rattle.fdb_client.specs.declared.program.Op.TheVariants as operation;
     ghost use Rattle.fdb_client.specs.declared.program.Reply.TheVariants as answer;
 

@@ -1,8 +1,11 @@
 -- What one mutation does to a map, point by point.
-use Rattle.std.proofs.Common.{◌≡◌, ◌∙◌, sym, ap, refl, ℕ, Bool, true, false, not, ◌&&◌, cond, List, Option, Some, None, if◌then◌else◌, ⊎_elim}
-use Rattle.std.specs.FinMap.{get, get-insert, get-remove, get-retain_keys, slice_cmp-IsAntisymmetric, nat_cmp-IsAntisymmetric}
+use Rattle.std.proofs.Common.{◌≡◌, ◌∙◌, sym, ap, refl, ℕ, Bool, true, false, not, ◌&&◌, cond, List, Option, Some, None}
+use Rattle.std.proofs.Common.{if◌then◌else◌, ⊎_elim}
+use Rattle.std.specs.FinMap.{get, get-insert, get-remove, get-retain_keys, slice_cmp-IsAntisymmetric}
+use Rattle.std.specs.FinMap.{nat_cmp-IsAntisymmetric}
 use Rattle.std.specs.Cmp.Lexicographic.{bytes_decides}
-use Rattle.std.proofs.lemmas.Bool.{cases_Bool, both_ways, and_parts, and_from, cond-true, cond-false, false_from_ne_true}
+use Rattle.std.proofs.lemmas.Bool.{cases_Bool, both_ways, and_parts, and_from, cond-true, cond-false}
+use Rattle.std.proofs.lemmas.Bool.{false_from_ne_true}
 use Rattle.std.proofs.lemmas.Cmp.{nat_list_cmp_total}
 use Rattle.std.proofs.lemmas.Map.Text.{is_eq-slice_cmp}
 use Rattle.fdb_keys.specs.Points.{Point, point_eq}
@@ -15,7 +18,9 @@ use Rattle.fdb_mutations.specs.declared.mutation.Mutation.{Mutation}
 use Rattle.fdb_mutations.specs.declared.mutation.Mutation.TheVariants.{Set, Clear, ClearRange}
 use Rattle.fdb_mutations.specs.Maps.{Map}
 use Rattle.fdb_mutations.specs.Naming.{NamedKeys, OneKey, KeysIn, is_named, range_of}
-use Rattle.fdb_mutations.specs.Mutations.{EffectAtEveryPoint, BlindIsBlind, RangesAreCleared, effect, effect_of, named, names, named_range, new_value, is_blind, with_value, with_new, within, clipped_mutation}
+use Rattle.fdb_mutations.specs.Mutations.{EffectAtEveryPoint, BlindIsBlind, RangesAreCleared, effect, effect_of, named}
+use Rattle.fdb_mutations.specs.Mutations.{names, named_range, new_value, is_blind, with_value, with_new, within}
+use Rattle.fdb_mutations.specs.Mutations.{clipped_mutation}
 
 -- a map with a value at a key has it there, and elsewhere what it had
 get-with_value : (map : Map) (key : Point) (value : Option (List ℕ)) (x : Point)

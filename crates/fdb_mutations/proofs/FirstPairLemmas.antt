@@ -1,5 +1,6 @@
 -- The first pair that a range has in the order in which it is read, and a range without a pair.
-use Rattle.std.proofs.Common.{◌≡◌, ◌∙◌, sym, ap, refl, subst, ℕ, Bool, true, false, not, List, [], ◌∷◌, ◌++◌, reverse, Option, Some, None}
+use Rattle.std.proofs.Common.{◌≡◌, ◌∙◌, sym, ap, refl, subst, ℕ, Bool, true, false, not, List, [], ◌∷◌, ◌++◌, reverse}
+use Rattle.std.proofs.Common.{Option, Some, None}
 use Rattle.std.specs.Ordering.{nat_cmp}
 use Rattle.std.specs.Cmp.Lexicographic.{slice_cmp}
 use Rattle.std.specs.List.{AllByRecursion}
@@ -86,7 +87,8 @@ module _ (map : Map) (range : Range) (key : Point) (value : List ℕ) (rest : Li
       by_value : (found : Option (List ℕ)) → pair_of key found ++ pairs_in map behind is_reverse ≡ (key, value) ∷ rest
           → (found ≡ Some value) × (pairs_in map behind is_reverse ≡ rest)
       by_value None same = absurd (outside is_reverse
-          (subst (AllByRecursion (λ pair. in_range behind pair.0 ≡ true)) same (all_in-pairs_in map behind is_reverse)).0)
+          (subst (AllByRecursion (λ pair. in_range behind pair.0 ≡ true)) same
+          (all_in-pairs_in map behind is_reverse)).0)
       by_value (Some found) same =
           let others : pairs_in map behind is_reverse ≡ rest = cc in
           let pair : (key, found) ≡ (key, value) = cc in

@@ -1,5 +1,7 @@
 -- Sorted pairs as a finite map.
-use Rattle.std.proofs.Common.{◌≡◌, ◌∙◌, sym, ap, ap₂, refl, subst, ℕ, ◌-◌, ◌<◌, ◌^◌, Bool, true, false, not, ◌&&◌, cond, List, [], ◌∷◌, ◌++◌, zero, suc, length, take, reverse, filter, Option, Some, None, Ordering, Less, Equal, Greater, if◌then◌else◌, nat_eq, T, ⊎_elim, arith}
+use Rattle.std.proofs.Common.{◌≡◌, ◌∙◌, sym, ap, ap₂, refl, subst, ℕ, ◌-◌, ◌<◌, ◌^◌, Bool, true, false, not, ◌&&◌, cond}
+use Rattle.std.proofs.Common.{List, [], ◌∷◌, ◌++◌, zero, suc, length, take, reverse, filter, Option, Some, None}
+use Rattle.std.proofs.Common.{Ordering, Less, Equal, Greater, if◌then◌else◌, nat_eq, T, ⊎_elim, arith}
 use Rattle.std.specs.Ordering.{nat_cmp, is_lt, is_le, is_gt, ordering_reverse, match_ordering}
 use Rattle.std.specs.Cmp.{eq_by_cmp_equiv}
 use Rattle.std.specs.Cmp.Lexicographic.{slice_cmp, pointwise, pointwise_decides, bytes_decides}
@@ -7,7 +9,10 @@ use Rattle.std.specs.Bool.{Decides}
 use Rattle.std.proofs.lemmas.Bool.Decides.{Decides-and}
 use Rattle.std.specs.List.{AllByRecursion}
 use Rattle.std.specs.List.Sorted.{IsStrictlySortedBy}
-use Rattle.std.specs.FinMap.{get, insert, remove, retain_keys, entries, empty, len-empty, len-entries, entries-insert, from_entries, find, is_sorted, same_map, entries_sorted, get-insert, get-remove, get-retain_keys, get-from_entries, get-entries, slice_cmp-IsAntisymmetric, nat_cmp-IsAntisymmetric}
+use Rattle.std.specs.FinMap.{get, insert, remove, retain_keys, entries, empty, len-empty, len-entries, entries-insert}
+use Rattle.std.specs.FinMap.{from_entries, find, is_sorted, same_map, entries_sorted, get-insert, get-remove}
+use Rattle.std.specs.FinMap.{get-retain_keys, get-from_entries, get-entries, slice_cmp-IsAntisymmetric}
+use Rattle.std.specs.FinMap.{nat_cmp-IsAntisymmetric}
 use Rattle.std.specs.FinMap.Entries.{where_key, put, by_order, below_all, find-where_key, same_entries}
 use Rattle.std.specs.BTreeMap.{is_at, insert_entry}
 use Rattle.std.specs.BTreeMap.Range.{range_contains, entries_between}

@@ -1,5 +1,7 @@
 -- Little-endian numbers: their bytes, their sums and their order.
-use Rattle.std.proofs.Common.{◌≡◌, ◌∙◌, sym, ap, refl, ℕ, zero, suc, ◌+◌, ◌*◌, ◌-◌, ◌^◌, ◌/◌, ◌%◌, ◌<◌, ◌≤◌, List, [], ◌∷◌, ◌++◌, length, take, drop, get_or, arith, ap₂, length-drop, length-append, add-zero, ⊎_elim}
+use Rattle.std.proofs.Common.{◌≡◌, ◌∙◌, sym, ap, refl, ℕ, zero, suc, ◌+◌, ◌*◌, ◌-◌, ◌^◌, ◌/◌, ◌%◌, ◌<◌, ◌≤◌, List, []}
+use Rattle.std.proofs.Common.{◌∷◌, ◌++◌, length, take, drop, get_or, arith, ap₂, length-drop, length-append, add-zero}
+use Rattle.std.proofs.Common.{⊎_elim}
 use Rattle.std.specs.Prelude.{replicate, reverse, nat_lt}
 use Rattle.std.specs.Int.{w128, byte_at, byte_worth, sum_through, bytes_low_first, from_le_bytes, to_le_bytes}
 use Rattle.std.proofs.Math.Nat.{pow-suc, one-le-pow, div-one, mod-add-div, add-mul-mod_self_left, add-mul-div_left}

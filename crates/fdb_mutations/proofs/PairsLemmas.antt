@@ -1,10 +1,12 @@
 -- The pairs of a map in a range.
-use Rattle.std.proofs.Common.{◌≡◌, ◌∙◌, sym, ap, ap₂, refl, ℕ, Bool, true, false, not, ◌&&◌, cond, List, [], ◌∷◌, ◌++◌, reverse, filter, Option, Some, None, T, Equal, if◌then◌else◌}
+use Rattle.std.proofs.Common.{◌≡◌, ◌∙◌, sym, ap, ap₂, refl, ℕ, Bool, true, false, not, ◌&&◌, cond, List, [], ◌∷◌, ◌++◌}
+use Rattle.std.proofs.Common.{reverse, filter, Option, Some, None, T, Equal, if◌then◌else◌}
 use Rattle.std.specs.Ordering.{nat_cmp}
 use Rattle.std.specs.Cmp.{both_ways}
 use Rattle.std.specs.Cmp.Lexicographic.{slice_cmp, bytes_decides}
 use Rattle.std.specs.List.{AllByRecursion}
-use Rattle.std.specs.FinMap.{get, entries, find, is_sorted, entries_sorted, get-entries, slice_cmp-IsAntisymmetric, nat_cmp-IsAntisymmetric}
+use Rattle.std.specs.FinMap.{get, entries, find, is_sorted, entries_sorted, get-entries, slice_cmp-IsAntisymmetric}
+use Rattle.std.specs.FinMap.{nat_cmp-IsAntisymmetric}
 use Rattle.std.specs.FinMap.Entries.{below_all, same_entries, is_sorted-where_key, find-where_key}
 use Rattle.std.proofs.lemmas.Bool.{and_parts, and_from, not-true, not_from_true, not_from_false}
 use Rattle.std.proofs.lemmas.Cmp.{nat_list_cmp_total}
@@ -18,8 +20,10 @@ use Rattle.fdb_keys.proofs.RangesLemmas.{in_range_parts, in_range_from}
 use Rattle.fdb_keys.proofs.SingleLemmas.{in_range-single, next_after, below_next}
 use Rattle.fdb_mutations.specs.Maps.{Map}
 use Rattle.fdb_mutations.specs.Pairs.{pairs_within, pairs_in}
-use Rattle.fdb_mutations.specs.PairLaws.{RangeHasThePairsOfItsParts, PairsFromAKeyOn, KeyHasItsPair, SameValuesSamePairs, NoValuesNoPairs, pair_of}
-use Rattle.fdb_mutations.proofs.OrderedLemmas.{AreOrdered, all-passes, all-reverse, ordered-filter, ordered-reverse, filter-reverse, filter_both, parted}
+use Rattle.fdb_mutations.specs.PairLaws.{RangeHasThePairsOfItsParts, PairsFromAKeyOn, KeyHasItsPair}
+use Rattle.fdb_mutations.specs.PairLaws.{SameValuesSamePairs, NoValuesNoPairs, pair_of}
+use Rattle.fdb_mutations.proofs.OrderedLemmas.{AreOrdered, all-passes, all-reverse, ordered-filter, ordered-reverse}
+use Rattle.fdb_mutations.proofs.OrderedLemmas.{filter-reverse, filter_both, parted}
 
 -- ---- the pairs are in the order of their keys
 true_from_T : (b : Bool) → T b → b ≡ true

@@ -1,8 +1,10 @@
 -- What a read of a range scanned: the pairs that it was given, and no other.
-use Rattle.std.proofs.Common.{◌≡◌, ◌∙◌, sym, ap, refl, subst, ℕ, ◌-◌, ◌<◌, Bool, true, false, not, ◌&&◌, List, [], ◌∷◌, ◌++◌, length, take, drop, filter, Some, nat_eq, ⊎_elim, arith}
+use Rattle.std.proofs.Common.{◌≡◌, ◌∙◌, sym, ap, refl, subst, ℕ, ◌-◌, ◌<◌, Bool, true, false, not, ◌&&◌, List, [], ◌∷◌}
+use Rattle.std.proofs.Common.{◌++◌, length, take, drop, filter, Some, nat_eq, ⊎_elim, arith}
 use Rattle.std.specs.Cmp.{both_ways as same_tests}
 use Rattle.std.specs.List.{AllByRecursion, slice_get}
-use Rattle.std.proofs.lemmas.Bool.{cases_Bool, cases_order, both_ways, and_parts, and_from, not-true, cond-true, cond-false, eqb-true, eq-eqb}
+use Rattle.std.proofs.lemmas.Bool.{cases_Bool, cases_order, both_ways, and_parts, and_from, not-true, cond-true}
+use Rattle.std.proofs.lemmas.Bool.{cond-false, eqb-true, eq-eqb}
 use Rattle.std.proofs.lemmas.List.{take_all, take-append-drop, take_at, length-take-le, append-nil}
 use Rattle.fdb_keys.specs.Points.{Point, point_lt}
 use Rattle.fdb_keys.specs.Ranges.{Range, in_range, single_range}
@@ -11,9 +13,11 @@ use Rattle.fdb_keys.proofs.RangesLemmas.{in_range_parts, in_range_from}
 use Rattle.fdb_keys.proofs.SingleLemmas.{below_next}
 use Rattle.fdb_mutations.specs.Maps.{Map}
 use Rattle.fdb_mutations.specs.Pairs.{pairs_in, first_of, is_limit_reached, part_to_last}
-use Rattle.fdb_mutations.specs.PairLaws.{given_of, scanned_of, ScannedLiesInTheRange, ScannedHasWhatWasGiven, ScannedDecidesWhatIsGiven}
+use Rattle.fdb_mutations.specs.PairLaws.{given_of, scanned_of, ScannedLiesInTheRange, ScannedHasWhatWasGiven}
+use Rattle.fdb_mutations.specs.PairLaws.{ScannedDecidesWhatIsGiven}
 use Rattle.fdb_mutations.proofs.OrderedLemmas.{all_at, parted, kept_through_last, last_of}
-use Rattle.fdb_mutations.proofs.PairsLemmas.{comes_before, ordered-pairs_in, all_in-pairs_in, pairs_in-part, in_after, same_values}
+use Rattle.fdb_mutations.proofs.PairsLemmas.{comes_before, ordered-pairs_in, all_in-pairs_in, pairs_in-part, in_after}
+use Rattle.fdb_mutations.proofs.PairsLemmas.{same_values}
 
 -- ---- the part of a range up to a key
 -- The part of a range up to one of its points has the points that don't come behind it.

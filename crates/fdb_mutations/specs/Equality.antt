@@ -7,7 +7,8 @@ use Rattle.std.proofs.lemmas.Bool.{both_ways, and_parts, and_from}
 use Rattle.fdb_keys.specs.Equality.{key_eq, key_eq_decides, range_eq_decides}
 use Rattle.fdb_keys.specs.declared.key.Key.{Key}
 use Rattle.fdb_mutations.specs.declared.mutation.Mutation.{Mutation}
-use Rattle.fdb_mutations.specs.declared.mutation.Mutation.TheVariants.{Set, Clear, ClearRange, Add, And, Or, Xor, Max, Min, ByteMin, ByteMax, CompareAndClear}
+use Rattle.fdb_mutations.specs.declared.mutation.Mutation.TheVariants.{Set, Clear, ClearRange, Add, And, Or, Xor, Max}
+use Rattle.fdb_mutations.specs.declared.mutation.Mutation.TheVariants.{Min, ByteMin, ByteMax, CompareAndClear}
 use Rattle.fdb_mutations.specs.contracts.mutation.MutationPartialEq.TheImpl as of_mutations
 
 -- `==` of two mutations

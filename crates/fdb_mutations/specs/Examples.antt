@@ -1,8 +1,12 @@
 -- Rows that the definitions give.
-use Rattle.std.specs.Prelude.{◌≡◌, ℕ, List, [], ◌∷◌, replicate, Some, None}
+use Rattle.std.specs.Prelude.{◌≡◌, ℕ, true, false, List, [], ◌∷◌, replicate, Some, None}
+use Rattle.fdb_keys.specs.Ranges.{Range}
 use Rattle.fdb_keys.specs.declared.refusal.Refusal.TheVariants.{BadOperand}
-use Rattle.fdb_mutations.specs.declared.mutation.Mutation.TheVariants.{Set, Clear, ClearRange, Add, And, Or, Xor, Max, Min, ByteMin, ByteMax, CompareAndClear}
-use Rattle.fdb_mutations.specs.Mutations.{carried, new_value, mutation_fault, mutation_size}
+use Rattle.fdb_mutations.specs.declared.mutation.Mutation.TheVariants.{Set, Clear, ClearRange, Add, And, Or, Xor, Max}
+use Rattle.fdb_mutations.specs.declared.mutation.Mutation.TheVariants.{Min, ByteMin, ByteMax, CompareAndClear}
+use Rattle.fdb_mutations.specs.Maps.{Map}
+use Rattle.fdb_mutations.specs.Mutations.{carried, new_value, is_blind, mutation_fault, mutation_size, clipped_mutation}
+use Rattle.fdb_mutations.specs.Mutations.{effect, effect_of}
 
 -- a value of one byte, and one of two
 abbrev pub one : ℕ → List ℕ
@@ -10,6 +14,10 @@ one byte = byte ∷ []
 
 abbrev pub two : ℕ → ℕ → List ℕ
 two first second = first ∷ second ∷ []
+
+-- the range from one key of one byte to another
+abbrev pub span : ℕ → ℕ → Range
+span begin end = record { begin = one begin; end = one end }
 
 -- what each kind leaves of an old value
 abbrev pub WorkedExamples : Type 0
@@ -77,3 +85,48 @@ OperandsAreCarried =
     × (carried (ByteMin key operand) ≡ operand)
     × (carried (ByteMax key operand) ≡ operand)
     × (carried (CompareAndClear key operand) ≡ operand)
+
+-- What is left of a clear of a range that is cut to the keys from 2 to 5: all of it, its part there, or nothing where
+-- the two have no point in common. A mutation of a key that lies there is left as it is, and one of another key isn't.
+abbrev pub WorkedClips : Type 0
+WorkedClips =
+    (clipped_mutation (span 2 5) (ClearRange (span 3 4)) ≡ Some (ClearRange (span 3 4)))
+    × (clipped_mutation (span 2 5) (ClearRange (span 1 9)) ≡ Some (ClearRange (span 2 5)))
+    × (clipped_mutation (span 2 5) (ClearRange (span 1 3)) ≡ Some (ClearRange (span 2 3)))
+    × (clipped_mutation (span 2 5) (ClearRange (span 4 9)) ≡ Some (ClearRange (span 4 5)))
+    × (clipped_mutation (span 2 5) (ClearRange (span 1 2)) ≡ None)
+    × (clipped_mutation (span 2 5) (ClearRange (span 5 9)) ≡ None)
+    × (clipped_mutation (span 2 5) (ClearRange (span 3 3)) ≡ None)
+    × (clipped_mutation (span 3 3) (ClearRange (span 1 9)) ≡ None)
+    × (clipped_mutation (span 2 5) (Set (one 1) (one 7)) ≡ None)
+    × (clipped_mutation (span 2 5) (Set (one 2) (one 7)) ≡ Some (Set (one 2) (one 7)))
+    × (clipped_mutation (span 2 5) (Clear (two 4 9)) ≡ Some (Clear (two 4 9)))
+    × (clipped_mutation (span 2 5) (Clear (one 5)) ≡ None)
+    × (clipped_mutation (span 2 5) (Add (one 3) (one 7)) ≡ Some (Add (one 3) (one 7)))
+    × (clipped_mutation (span 2 5) (And (one 3) (one 7)) ≡ Some (And (one 3) (one 7)))
+    × (clipped_mutation (span 2 5) (Or (one 3) (one 7)) ≡ Some (Or (one 3) (one 7)))
+    × (clipped_mutation (span 2 5) (Xor (one 3) (one 7)) ≡ Some (Xor (one 3) (one 7)))
+    × (clipped_mutation (span 2 5) (Max (one 3) (one 7)) ≡ Some (Max (one 3) (one 7)))
+    × (clipped_mutation (span 2 5) (Min (one 3) (one 7)) ≡ Some (Min (one 3) (one 7)))
+    × (clipped_mutation (span 2 5) (ByteMin (one 3) (one 7)) ≡ Some (ByteMin (one 3) (one 7)))
+    × (clipped_mutation (span 2 5) (ByteMax (one 3) (one 7)) ≡ Some (ByteMax (one 3) (one 7)))
+    × (clipped_mutation (span 2 5) (CompareAndClear (one 3) (one 7)) ≡ Some (CompareAndClear (one 3) (one 7)))
+    × ((map : Map) → effect_of map None ≡ map)
+    × ((map : Map) → effect_of map (Some (Clear (one 3))) ≡ effect map (Clear (one 3)))
+
+-- A set and the clears are blind, and no other kind is.
+abbrev pub WorkedBlindness : Type 0
+WorkedBlindness =
+    (key operand : List ℕ) (range : Range)
+    → (is_blind (Set key operand) ≡ true)
+    × (is_blind (Clear key) ≡ true)
+    × (is_blind (ClearRange range) ≡ true)
+    × (is_blind (Add key operand) ≡ false)
+    × (is_blind (And key operand) ≡ false)
+    × (is_blind (Or key operand) ≡ false)
+    × (is_blind (Xor key operand) ≡ false)
+    × (is_blind (Max key operand) ≡ false)
+    × (is_blind (Min key operand) ≡ false)
+    × (is_blind (ByteMin key operand) ≡ false)
+    × (is_blind (ByteMax key operand) ≡ false)
+    × (is_blind (CompareAndClear key operand) ≡ false)

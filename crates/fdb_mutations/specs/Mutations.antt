@@ -1,5 +1,6 @@
 -- What mutations do to maps.
-use Rattle.std.specs.Prelude.{◌≡◌, ℕ, ◌+◌, Bool, true, false, not, nat_lt, List, [], ◌∷◌, length, bit_and, bit_or, bit_xor, Option, Some, None, if◌then◌else◌}
+use Rattle.std.specs.Prelude.{◌≡◌, ℕ, ◌+◌, Bool, true, false, not, nat_lt, List, [], ◌∷◌, length, bit_and, bit_or}
+use Rattle.std.specs.Prelude.{bit_xor, Option, Some, None, if◌then◌else◌}
 use Rattle.std.specs.FinMap.{get, insert, remove, retain_keys}
 use Rattle.fdb_keys.specs.Points.{Point}
 use Rattle.fdb_keys.specs.Ranges.{Range, in_range, ranges_meet}
@@ -8,7 +9,8 @@ use Rattle.fdb_keys.specs.Clipping.{common_range}
 use Rattle.fdb_keys.specs.declared.refusal.Refusal.{Refusal}
 use Rattle.fdb_keys.specs.declared.refusal.Refusal.TheVariants.{ValueTooLarge, BadOperand}
 use Rattle.fdb_mutations.specs.declared.mutation.Mutation.{Mutation}
-use Rattle.fdb_mutations.specs.declared.mutation.Mutation.TheVariants.{Set, Clear, ClearRange, Add, And, Or, Xor, Max, Min, ByteMin, ByteMax, CompareAndClear}
+use Rattle.fdb_mutations.specs.declared.mutation.Mutation.TheVariants.{Set, Clear, ClearRange, Add, And, Or, Xor, Max}
+use Rattle.fdb_mutations.specs.declared.mutation.Mutation.TheVariants.{Min, ByteMin, ByteMax, CompareAndClear}
 use Rattle.fdb_mutations.specs.Limits.{value_limit}
 use Rattle.fdb_mutations.specs.Maps.{Map}
 use Rattle.fdb_mutations.specs.Naming.{NamedKeys, OneKey, KeysIn, is_named, range_of, naming_size}

@@ -1,5 +1,6 @@
 -- What is made of an old value and an operand.
-use Rattle.std.specs.Prelude.{ℕ, ◌+◌, ◌-◌, ◌++◌, Bool, false, ◌&&◌, nat_le, List, [], length, take, replicate, map, Option, Some, None}
+use Rattle.std.specs.Prelude.{ℕ, ◌+◌, ◌-◌, ◌++◌, Bool, false, ◌&&◌, nat_le, List, [], length, take, replicate, map}
+use Rattle.std.specs.Prelude.{Option, Some, None}
 use Rattle.std.specs.List.{zip}
 use Rattle.fdb_keys.specs.Points.{point_eq}
 use Rattle.fdb_mutations.specs.Numbers.{number_of, bytes_of}

@@ -1,5 +1,6 @@
 -- The pairs of a map, in a range.
-use Rattle.std.specs.Prelude.{ℕ, ◌+◌, ◌-◌, ◌^◌, ◌||◌, Bool, nat_eq, not, ◌&&◌, List, length, filter, take, reverse, if◌then◌else◌, Option, Some, None}
+use Rattle.std.specs.Prelude.{ℕ, ◌+◌, ◌-◌, ◌^◌, ◌||◌, Bool, nat_eq, not, ◌&&◌, List, length, filter, take, reverse}
+use Rattle.std.specs.Prelude.{if◌then◌else◌, Option, Some, None}
 use Rattle.std.specs.List.{slice_get}
 use Rattle.std.specs.FinMap.{entries}
 use Rattle.fdb_keys.specs.Points.{Point}

@@ -2,10 +2,13 @@
 ghost use Rattle.std.specs.Prelude.{◌≡◌};
 ghost use Rattle.std.specs.Bool.{Decides};
 ghost use Rattle.fdb_mutations.specs.Equality.{mutation_eq};
-ghost use Rattle.fdb_mutations.specs.Examples.{WorkedExamples, WorkedSizes, OperandsAreCarried};
+ghost use Rattle.fdb_mutations.specs.Examples.{WorkedExamples, WorkedSizes, OperandsAreCarried, WorkedClips};
+ghost use Rattle.fdb_mutations.specs.Examples.{WorkedBlindness};
 ghost use Rattle.fdb_mutations.specs.Mutations.{EffectAtEveryPoint, BlindIsBlind, RangesAreCleared};
-ghost use Rattle.fdb_mutations.specs.PairExamples.{WorkedReads};
-ghost use Rattle.fdb_mutations.specs.PairLaws.{RangeHasThePairsOfItsParts, PairsFromAKeyOn, KeyHasItsPair, SameValuesSamePairs, NoValuesNoPairs, ScannedLiesInTheRange, ScannedHasWhatWasGiven, ScannedDecidesWhatIsGiven};
+ghost use Rattle.fdb_mutations.specs.PairExamples.{WorkedReads, WorkedLimits};
+ghost use Rattle.fdb_mutations.specs.PairLaws.{RangeHasThePairsOfItsParts, PairsFromAKeyOn, KeyHasItsPair};
+ghost use Rattle.fdb_mutations.specs.PairLaws.{SameValuesSamePairs, NoValuesNoPairs, ScannedLiesInTheRange};
+ghost use Rattle.fdb_mutations.specs.PairLaws.{ScannedHasWhatWasGiven, ScannedDecidesWhatIsGiven};
 
 use crate::mutation::Mutation;
 
@@ -55,11 +58,15 @@ pub fn scanned_decides_what_is_given()
     ensures decided { ScannedDecidesWhatIsGiven }
 {}
 
-/// What mutations of each kind leave of some values, how many bytes they have, and what they carry.
+/// What mutations of each kind leave of some values, how many bytes they have, what they carry, where the limits of
+/// values and of pairs lie, what is left of mutations that are cut to a range, and which kinds are blind.
 pub fn worked_examples()
     ensures left { WorkedExamples }
     ensures sizes { WorkedSizes }
     ensures carried { OperandsAreCarried }
+    ensures limits { WorkedLimits }
+    ensures clips { WorkedClips }
+    ensures blindness { WorkedBlindness }
 {}
 
 /// What reads of some ranges are given and scanned.

@@ -21,7 +21,9 @@ impl Mutation {
     ghost use Rattle.std.specs.Prelude.{◌≡◌};
     ghost use Rattle.fdb_keys.specs.Answers.{Answers};
     ghost use Rattle.fdb_keys.specs.Texts.{key_fault, range_fault};
-    ghost use Rattle.fdb_mutations.specs.declared.mutation.Mutation.TheVariants.{Set, Clear, ClearRange, Add, And, Or, Xor, Max, Min, ByteMin, ByteMax, CompareAndClear};
+    ghost use Rattle.fdb_mutations.specs.declared.mutation.Mutation.TheVariants.{Set, Clear, ClearRange, Add, And, Or};
+    ghost use Rattle.fdb_mutations.specs.declared.mutation.Mutation.TheVariants.{Xor, Max, Min, ByteMin, ByteMax};
+    ghost use Rattle.fdb_mutations.specs.declared.mutation.Mutation.TheVariants.{CompareAndClear};
 
     /// The key is to have the value. Refused as `Key::new` refuses the key, and as `NoMemory`; the value is looked at
     /// by `check` alone, as the operands of the other mutations are. O(n) in the bytes given.

@@ -5,7 +5,8 @@ ghost use Rattle.fdb_keys.specs.Answers.{Answers, AnswersExactly};
 ghost use Rattle.fdb_keys.specs.Points.{Point};
 ghost use Rattle.fdb_keys.specs.Ranges.{Range, in_range};
 ghost use Rattle.fdb_mutations.specs.Maps.{Map};
-ghost use Rattle.fdb_mutations.specs.Mutations.{mutation_fault, named, names, named_range, is_blind, mutation_size, new_value, value_after, effect, clipped_mutation, effect_of, carried};
+ghost use Rattle.fdb_mutations.specs.Mutations.{mutation_fault, named, names, named_range, is_blind, mutation_size};
+ghost use Rattle.fdb_mutations.specs.Mutations.{new_value, value_after, effect, clipped_mutation, effect_of, carried};
 ghost use Rattle.fdb_mutations.specs.Naming.{named_by};
 ghost use Rattle.fdb_mutations.specs.declared.mutation.Mutation.TheVariants.{Set, Clear, ClearRange};
 
@@ -169,8 +170,8 @@ impl Mutation {
         }
     }
 
-    /// What stands at the key after the mutation, by what stood there: the same where the mutation doesn't name the key.
-    /// Refused only as `NoMemory`.
+    /// What stands at the key after the mutation, by what stood there: the same where the mutation doesn't name the
+    /// key. Refused only as `NoMemory`.
     pub fn value_after(
         &self,
         alloc: Global,

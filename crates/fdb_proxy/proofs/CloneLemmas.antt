@@ -16,7 +16,8 @@ same_item a b copied =
 
 same_part : (a b : Part) → (of_parts.ghosts).is_clone a b → b ≡ a
 same_part a b copied =
-    let items : b.items ≡ a.items = same_from_all_zip (of_items.ghosts).is_clone a.items b.items (search rules) same_item in
+    let items : b.items ≡ a.items = same_from_all_zip (of_items.ghosts).is_clone a.items b.items (search rules)
+    same_item in
     search rules
 
 pub same_parts : (xs ys : List Part) → AllZip (of_parts.ghosts).is_clone xs ys → ys ≡ xs

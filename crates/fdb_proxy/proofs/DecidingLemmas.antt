@@ -1,5 +1,6 @@
 -- One more verdict, and what it makes of the outcomes.
-use Rattle.std.proofs.Common.{◌≡◌, ◌∙◌, refl, sym, ap, subst, ℕ, ◌<◌, ◌≤◌, Bool, true, false, ◌&&◌, ◌||◌, ◌==◌, List, [], ◌∷◌, ◌++◌, length, slice_set, get_or, Option, Some, if◌then◌else◌, ⊎_elim, arith}
+use Rattle.std.proofs.Common.{◌≡◌, ◌∙◌, refl, sym, ap, subst, ℕ, ◌<◌, ◌≤◌, Bool, true, false, ◌&&◌, ◌||◌, ◌==◌, List}
+use Rattle.std.proofs.Common.{[], ◌∷◌, ◌++◌, length, slice_set, get_or, Option, Some, if◌then◌else◌, ⊎_elim, arith}
 use Rattle.std.specs.List.{list_any}
 use Rattle.std.proofs.lemmas.Bool.{cases_Bool, eqb-true, eq-eqb}
 use Rattle.std.proofs.lemmas.List.{same_lists, get_or-set_same, get_or-set_other, length-set}
@@ -121,9 +122,12 @@ outcomes-more version count verdicts said place v d within =
         same is =
             let at : place ≡ k = eqb-true place k is in
             ap (λ (i : ℕ). get_or changed i e) (sym at)
-            ∙ get_or-set_same old place (worse (get_or old place d) v) e (subst (λ (n : ℕ). place < n) (sym (count-outcomes version before count)) within)
-            ∙ ap (λ (o : Outcome). worse o v) (outcome-at version before count place d within ∙ ap (outcome_by version before) at)
-            ∙ sym (ap (λ (b : Bool). if b then worse (outcome_by version before k) v else outcome_by version before k) is)
+            ∙ get_or-set_same old place (worse (get_or old place d) v) e
+            (subst (λ (n : ℕ). place < n) (sym (count-outcomes version before count)) within)
+            ∙ ap (λ (o : Outcome). worse o v) (outcome-at version before count place d within
+            ∙ ap (outcome_by version before) at)
+            ∙ sym (ap (λ (b : Bool). if b then worse (outcome_by version before k) v else outcome_by version before k)
+            is)
             ∙ sym (more k)
             ∙ sym (outcome-at version after count k e here)
 
@@ -132,7 +136,8 @@ outcomes-more version count verdicts said place v d within =
             get_or-set_other old place k (worse (get_or old place d) v) e
             (λ (at : k ≡ place). absurd (differs at))
             ∙ outcome-at version before count k e here
-            ∙ sym (ap (λ (b : Bool). if b then worse (outcome_by version before k) v else outcome_by version before k) isnt)
+            ∙ sym (ap (λ (b : Bool). if b then worse (outcome_by version before k) v else outcome_by version before k)
+            isnt)
             ∙ sym (more k)
             ∙ sym (outcome-at version after count k e here)
           where
@@ -179,8 +184,8 @@ verdict-taken version count verdicts said place v d old read new changed is same
     ∙ ap (slice_set old place) (made ∙ ap (λ (os : List Outcome). worse (get_or os place d) v) same)
     ∙ ap (λ (os : List Outcome). slice_set os place (worse (get_or os place d) v)) is
     ∙ outcomes-more version count verdicts said place v d
-    (subst (λ (n : ℕ). place < n) (ap (λ (os : List Outcome). length os) is ∙ count-outcomes version (verdicts ++ Some said ∷ []) count)
-    inside)
+    (subst (λ (n : ℕ). place < n) (ap (λ (os : List Outcome). length os) is
+    ∙ count-outcomes version (verdicts ++ Some said ∷ []) count) inside)
 
 -- one on no place
 pub verdict-past : (version count : ℕ) (verdicts : List (Option Said)) (said : Said) (place : ℕ) (v : Verdict)
@@ -189,8 +194,8 @@ pub verdict-past : (version count : ℕ) (verdicts : List (Option Said)) (said :
 verdict-past version count verdicts said place v old is beyond =
     is
     ∙ outcomes-same version count verdicts said place v
-    (subst (λ (n : ℕ). n ≤ place) (ap (λ (os : List Outcome). length os) is ∙ count-outcomes version (verdicts ++ Some said ∷ []) count)
-    beyond)
+    (subst (λ (n : ℕ). n ≤ place) (ap (λ (os : List Outcome). length os) is
+    ∙ count-outcomes version (verdicts ++ Some said ∷ []) count) beyond)
 
 or-nothing : (a : Bool) → (a || (false || false)) ≡ a
 or-nothing true = refl

@@ -1,5 +1,6 @@
 -- The mutations of a batch's transactions that commit, one transaction after another.
-use Rattle.std.proofs.Common.{◌≡◌, ◌∙◌, refl, sym, ap, ℕ, zero, suc, ◌+◌, ◌<◌, append-nil, append_assoc, List, [], ◌∷◌, ◌++◌, map, get_or, length, take, slice_get, Some, if◌then◌else◌, arith}
+use Rattle.std.proofs.Common.{◌≡◌, ◌∙◌, refl, sym, ap, ℕ, zero, suc, ◌+◌, ◌<◌, append-nil, append_assoc, List, [], ◌∷◌}
+use Rattle.std.proofs.Common.{◌++◌, map, get_or, length, take, slice_get, Some, if◌then◌else◌, arith}
 use Rattle.std.proofs.lemmas.List.{map-append}
 use Rattle.std.proofs.lemmas.Option.{slice_get-get_or}
 use Rattle.fdb_keys.specs.Points.{Point}
@@ -33,8 +34,8 @@ body-next p (first ∷ ts) (said ∷ others) (suc i) t o there at =
     let number : suc p + i ≡ p + suc i = omega arith in
     ap (λ (rest : Body). (if is_commit said.1 then at_place p first.mutations else []) ++ rest)
     (body-next (suc p) ts others i t o there at
-    ∙ ap (λ (n : ℕ). body_by (suc p) (take i ts) (take i others) ++ (if is_commit o.1 then at_place n t.mutations else []))
-    number)
+    ∙ ap (λ (n : ℕ). body_by (suc p) (take i ts) (take i others)
+    ++ (if is_commit o.1 then at_place n t.mutations else [])) number)
     ∙ sym (append_assoc (if is_commit said.1 then at_place p first.mutations else [])
     (body_by (suc p) (take i ts) (take i others)) (if is_commit o.1 then at_place (p + suc i) t.mutations else []))
 

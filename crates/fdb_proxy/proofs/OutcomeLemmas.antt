@@ -1,8 +1,11 @@
 -- Verdicts by the rule decide each place as the rule does.
-use Rattle.std.proofs.Common.{◌≡◌, ◌∙◌, ◌↔◌, refl, sym, ap, ap₂, subst, ℕ, suc, ◌<◌, ◌≤◌, Bool, true, false, not, ◌&&◌, ◌||◌, ◌==◌, List, [], ◌∷◌, length, map, slice_get, Option, Some, None, if◌then◌else◌, ⊎_elim, arith, add-one}
+use Rattle.std.proofs.Common.{◌≡◌, ◌∙◌, ◌↔◌, refl, sym, ap, ap₂, subst, ℕ, suc, ◌<◌, ◌≤◌, Bool, true, false, not, ◌&&◌}
+use Rattle.std.proofs.Common.{◌||◌, ◌==◌, List, [], ◌∷◌, length, map, slice_get, Option, Some, None, if◌then◌else◌}
+use Rattle.std.proofs.Common.{⊎_elim, arith, add-one}
 use Rattle.std.specs.List.{list_any, range_with_len}
 use Rattle.std.proofs.Math.Bool.{or-false}
-use Rattle.std.proofs.lemmas.Bool.{cases_Bool, both_ways, and_parts, and_from, or_cases, or_parts, not-true, not_from_false, false_from_ne_true, eqb-true, eq-eqb}
+use Rattle.std.proofs.lemmas.Bool.{cases_Bool, both_ways, and_parts, and_from, or_cases, or_parts, not-true}
+use Rattle.std.proofs.lemmas.Bool.{not_from_false, false_from_ne_true, eqb-true, eq-eqb}
 use Rattle.std.proofs.lemmas.Option.{slice_get_within, slice_get_cases}
 use Rattle.std.proofs.lemmas.Map.Keys.{any_passes_from_place}
 use Rattle.fdb_keys.specs.Points.{Point}
@@ -65,7 +68,8 @@ abbrev mentions : (Verdict → Bool) → ℕ → Said → Bool
 mentions test q said = list_any (λ (one : ℕ × Verdict). (one.0 == q) && test one.1) said
 
 mentions-front : (test : Verdict → Bool) (q p : ℕ) (v : Verdict) (asked : Bool) (said : Said)
-    → mentions test q (if asked then (p, v) ∷ said else said) ≡ ((asked && ((p == q) && test v)) || mentions test q said)
+    → mentions test q (if asked then (p, v) ∷ said else said)
+    ≡ ((asked && ((p == q) && test v)) || mentions test q said)
 mentions-front test q p v true said = refl
 mentions-front test q p v false said = refl
 
@@ -225,7 +229,8 @@ module _ (splits : List Point) (version : ℕ) (moves : List Stamped) (verdicts 
 
   outcomes-by_rule : (ts : List Transaction) (earlier : List Place) (p : ℕ)
       → IsHistory (suc (length splits)) (add_places version moves ts earlier) → AreHeard ts earlier p
-      → map (outcome_by version verdicts) (range_with_len p (length ts)) ≡ outcomes_from splits version moves ts earlier p
+      → map (outcome_by version verdicts) (range_with_len p (length ts))
+      ≡ outcomes_from splits version moves ts earlier p
   outcomes-by_rule [] earlier p history heard = refl
   outcomes-by_rule (t ∷ ts) earlier p history heard =
       let place = placed version moves t in

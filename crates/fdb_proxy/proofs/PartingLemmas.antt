@@ -1,5 +1,6 @@
 -- What each resolver is sent of a batch, place by place.
-use Rattle.std.proofs.Common.{◌≡◌, ◌∙◌, sym, ap, subst, refl, ℕ, zero, suc, ◌+◌, true, false, ◌||◌, List, [], ◌∷◌, ◌++◌, append-nil, length, slice_get, Option, Some, None, ⊎_elim, inl, inr, arith}
+use Rattle.std.proofs.Common.{◌≡◌, ◌∙◌, sym, ap, subst, refl, ℕ, zero, suc, ◌+◌, true, false, ◌||◌, List, [], ◌∷◌, ◌++◌}
+use Rattle.std.proofs.Common.{append-nil, length, slice_get, Option, Some, None, ⊎_elim, inl, inr, arith}
 use Rattle.std.specs.Option.{option_to_list}
 use Rattle.std.proofs.lemmas.Bool.{or_left, or_right, or_cases, false_from_ne_true, both_ways}
 use Rattle.std.proofs.lemmas.Slice.Zip.{AllZip-long}
@@ -120,7 +121,8 @@ module _ (splits : List Point) (moves : List Stamped) (i version : ℕ) where
 -- a batch's last transaction, with its spread
 last-spread : (splits : List Point) (moves : List Stamped) (version : ℕ) (batch : List Transaction)
     (spreads : List Spread) (spread : Spread) → AreSpreadsOf splits moves version batch (spreads ++ spread ∷ [])
-    → (ts : List Transaction) × (t : Transaction) × (batch ≡ ts ++ t ∷ []) × AreSpreadsOf splits moves version ts spreads
+    → (ts : List Transaction) × (t : Transaction) × (batch ≡ ts ++ t ∷ [])
+    × AreSpreadsOf splits moves version ts spreads
     × IsSpreadOf splits (placed version moves t) spread
 last-spread splits moves version [] [] spread are = absurd are
 last-spread splits moves version [] (first ∷ spreads) spread are = absurd are
@@ -143,8 +145,8 @@ items-next splits moves i version batch spreads spread number items given count 
     let last = last-spread splits moves version batch spreads spread are in
     let place = placed version moves last.1 in
     let numbered : number ≡ length last.0 = sym count ∙ AllZip-long _ last.0 spreads last.3 in
-    subst (λ (all : List Transaction). AreItems splits moves i version 0 all (items ++ option_to_list given)) (sym last.2)
-    (items-add splits moves i version last.0 last.1 items given (before last.0 last.3)
+    subst (λ (all : List Transaction). AreItems splits moves i version 0 all (items ++ option_to_list given))
+    (sym last.2) (items-add splits moves i version last.0 last.1 items given (before last.0 last.3)
     (subst (λ (n : ℕ). IsItemIfAsked splits i n place given) numbered (its place last.4)))
 
 -- a batch with one transaction more, and its spread

@@ -1,5 +1,6 @@
 -- Which verdicts are missing, resolver by resolver, and on which places they are.
-use Rattle.std.proofs.Common.{◌≡◌, ◌∙◌, refl, sym, ap, ℕ, zero, suc, Bool, true, false, ◌&&◌, List, [], ◌∷◌, drop, length, slice_get, ◌==◌, Option, Some, None, if◌then◌else◌}
+use Rattle.std.proofs.Common.{◌≡◌, ◌∙◌, refl, sym, ap, ℕ, zero, suc, Bool, true, false, ◌&&◌, List, [], ◌∷◌, drop}
+use Rattle.std.proofs.Common.{length, slice_get, ◌==◌, Option, Some, None, if◌then◌else◌}
 use Rattle.std.proofs.lemmas.Bool.{and_parts, and_from, eq-eqb}
 use Rattle.fdb_keys.specs.Points.{Point}
 use Rattle.fdb_resolver.specs.declared.part.Item.{Item}
@@ -51,7 +52,8 @@ pub on-lengths : (items : List Item) (said : Said) → are_on items said ≡ tru
 on-lengths [] [] is = refl
 on-lengths [] (one ∷ said) is = cc
 on-lengths (item ∷ items) [] is = cc
-on-lengths (item ∷ items) (one ∷ said) is = ap suc (on-lengths items said (and_parts (item.place == one.0) (are_on items said) is).1)
+on-lengths (item ∷ items) (one ∷ said) is = ap suc (on-lengths items said
+    (and_parts (item.place == one.0) (are_on items said) is).1)
 
 -- a resolver's verdicts on the items of its part are on just their places
 pub verdicts-are-on : (version : ℕ) (f : Point → ℕ) (items : List Item) (answers : List (ℕ × Verdict))

@@ -1,5 +1,7 @@
 -- A ticket's moves are learnt version by version.
-use Rattle.std.proofs.Common.{◌≡◌, ◌∙◌, refl, sym, ap, subst, ℕ, zero, suc, ◌+◌, ◌<◌, ◌≤◌, Bool, true, false, not, List, [], ◌∷◌, take, drop, get_or, slice_get, Option, Some, None, Ok, nat_le, if◌then◌else◌, arith}
+use Rattle.std.proofs.Common.{◌≡◌, ◌∙◌, refl, sym, ap, subst, ℕ, zero, suc, ◌+◌, ◌<◌, ◌≤◌, Bool, true, false, not, List}
+use Rattle.std.proofs.Common.{[], ◌∷◌, take, drop, get_or, slice_get, Option, Some, None, Ok, nat_le, if◌then◌else◌}
+use Rattle.std.proofs.Common.{arith}
 use Rattle.std.specs.List.{AllByRecursion, list_any}
 use Rattle.std.proofs.lemmas.Bool.{lt-leb, leb-false, or_parts}
 use Rattle.std.proofs.lemmas.List.{take_more}
@@ -79,7 +81,8 @@ given-none None given P answers = refl
 given-none (Some why) given P answers = absurd answers
 
 fresh-fault : (failed unsealed stale : Bool)
-    → (if failed then Some Failed else (if unsealed then Some WrongState else (if stale then Some Stale else None))) ≡ None
+    → (if failed then Some Failed else (if unsealed then Some WrongState else (if stale then Some Stale else None)))
+    ≡ None
     → stale ≡ false
 fresh-fault true unsealed stale none = cc
 fresh-fault false true stale none = cc

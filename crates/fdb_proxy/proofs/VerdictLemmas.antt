@@ -1,5 +1,6 @@
 -- What a resolver says of its part of a batch is what the rule over the book says.
-use Rattle.std.proofs.Common.{◌≡◌, ◌∙◌, sym, ap, subst, refl, ℕ, suc, ◌-◌, ◌≤◌, Bool, false, not, ◌||◌, ◌==◌, nat_lt, List, [], ◌∷◌, length, ⊎_elim, arith}
+use Rattle.std.proofs.Common.{◌≡◌, ◌∙◌, sym, ap, subst, refl, ℕ, suc, ◌-◌, ◌≤◌, Bool, false, not, ◌||◌, ◌==◌, nat_lt}
+use Rattle.std.proofs.Common.{List, [], ◌∷◌, length, ⊎_elim, arith}
 use Rattle.std.proofs.lemmas.Bool.{both_ways, and_right, or_left, false_from_ne_true, eqb-true, cond-true, cond-false}
 use Rattle.fdb_keys.specs.Points.{Point}
 use Rattle.fdb_txn.specs.book.Transactions.{Transaction}

@@ -1,5 +1,6 @@
 -- A commit proxy, what each call answers, and what it leaves.
-use Rattle.std.specs.Prelude.{◌≡◌, ◌-◌, ◌<◌, ◌≤◌, ⊤, ℕ, max, min, Bool, true, false, not, ◌||◌, ◌++◌, nat_le, List, [], ◌∷◌, fold, length, replicate, take, drop, Option, Some, None, if◌then◌else◌}
+use Rattle.std.specs.Prelude.{◌≡◌, ◌-◌, ◌<◌, ◌≤◌, ⊤, ℕ, max, min, Bool, true, false, not, ◌||◌, ◌++◌, nat_le, List, []}
+use Rattle.std.specs.Prelude.{◌∷◌, fold, length, replicate, take, drop, Option, Some, None, if◌then◌else◌}
 use Rattle.std.specs.List.{AllByRecursion, list_any}
 use Rattle.std.specs.Option.{option_or, is_none}
 use Rattle.fdb_keys.specs.Points.{Point}
@@ -161,14 +162,20 @@ is_stale last ticket = nat_le ticket.version last || list_any (λ (of : ℕ × L
 -- why a ticket isn't learnt
 abbrev pub learn_fault : CommitProxy → Ticket → Option Refusal
 learn_fault p ticket =
-    fault_of p (if not (is_sealed p.stage) then Some WrongState else (if is_stale p.last ticket then Some Stale else None))
+    fault_of p (if not (is_sealed p.stage) then Some WrongState else
+    (if is_stale p.last ticket then Some Stale else None))
 
 abbrev pub position_of : Ticket → Position
 position_of ticket = record { index = ticket.index; version = ticket.version; prev = ticket.prev }
 
 -- before any verdicts came
 abbrev pub without_verdicts : Position → List Part → Resolving
-without_verdicts position parts = record { position = position; parts = parts; verdicts = replicate (length parts) None }
+without_verdicts position parts = record {
+  position = position;
+  parts = parts;
+  verdicts =
+      replicate (length parts) None;
+}
 
 -- owners that learnt the ticket's moves, and forgot what lies below the begin of its window
 pub record HaveLearnt (old : Ownership) (ticket : Ticket) (new : Ownership) : Type 0 where
@@ -178,7 +185,8 @@ pub record HaveLearnt (old : Ownership) (ticket : Ticket) (new : Ownership) : Ty
 
 -- a batch at the position of a ticket, before any verdicts came, with a part for each resolver by whatever moves the
 -- owners agree with
-pub record IsWithoutVerdicts (owners : Ownership) (ticket : Ticket) (batch : List Transaction) (resolving : Resolving) : Type 0
+pub record IsWithoutVerdicts (owners : Ownership) (ticket : Ticket) (batch : List Transaction)
+    (resolving : Resolving) : Type 0
   where
     pub rest : resolving ≡ without_verdicts (position_of ticket) resolving.parts
     pub parts : (moves : List Stamped) → AgreesWith owners moves
@@ -191,8 +199,8 @@ pub record HasLearntTicket (old : CommitProxy) (ticket : Ticket) (new : CommitPr
   pub learnt : HaveLearnt old.owners ticket new.owners
   pub without_verdicts : IsWithoutVerdicts new.owners ticket old.batch resolving
 
--- It holds the batch as one with an entry, whose ticket it didn't learn, and refuses whatever comes. The ticket's version
--- is its last one, and the owners may have learnt some of the moves; all else is as it was.
+-- It holds the batch as one with an entry, whose ticket it didn't learn, and refuses whatever comes. The ticket's
+-- version is its last one, and the owners may have learnt some of the moves; all else is as it was.
 pub record HasFailed (old : CommitProxy) (ticket : Ticket) (new : CommitProxy) : Type 0 where
   pub rest : new ≡ record old {
     owners = new.owners;

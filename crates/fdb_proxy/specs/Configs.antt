@@ -1,5 +1,5 @@
 -- Which configurations are legal.
-use Rattle.std.specs.Prelude.{ℕ, Bool, ◌&&◌, Option, Some, if◌then◌else◌}
+use Rattle.std.specs.Prelude.{Bool, ◌&&◌, Option, Some, if◌then◌else◌}
 use Rattle.std.specs.Option.{option_or}
 use Rattle.fdb_keys.specs.declared.refusal.Refusal.{Refusal}
 use Rattle.fdb_keys.specs.declared.refusal.Refusal.TheVariants.{BadConfig}

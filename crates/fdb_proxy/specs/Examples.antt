@@ -13,7 +13,9 @@ use Rattle.fdb_proxy.specs.declared.outcome.Outcome.TheVariants as outcome
 use Rattle.fdb_proxy.specs.declared.position.Position.{Position}
 use Rattle.fdb_proxy.specs.declared.stage.Stage.{Stage}
 use Rattle.fdb_proxy.specs.declared.stage.Stage.TheVariants as stage
-use Rattle.fdb_proxy.specs.CommitProxies.{CommitProxy, submit_fault, seal_fault, is_idle, unsealing, learn_fault, parts_fault, verdict_fault, decide_fault, messages_fault, logged_fault, all_logged_fault, done_fault}
+use Rattle.fdb_proxy.specs.CommitProxies.{CommitProxy, submit_fault, seal_fault, is_idle, unsealing, learn_fault}
+use Rattle.fdb_proxy.specs.CommitProxies.{parts_fault, verdict_fault, decide_fault, messages_fault, logged_fault}
+use Rattle.fdb_proxy.specs.CommitProxies.{all_logged_fault, done_fault}
 use Rattle.fdb_proxy.specs.Deciding.{Said, outcomes_by}
 
 -- the first transaction of a session, which reads and writes nothing
@@ -108,7 +110,7 @@ WorkedStages =
     × (is_idle (logging false) ≡ false)
 
 -- A ticket comes at the wrong stage before it comes again, and once it was learnt it comes again. A proxy that didn't
--- learn one for want of memory says that it failed.
+-- learn one, since memory ran out, says that it failed.
 abbrev pub WorkedTickets : Type 0
 WorkedTickets =
     (learn_fault (proxy stage.Sealed true) (ticket 100) ≡ Some Failed)
@@ -151,8 +153,8 @@ WorkedDecisions =
 abbrev pub acknowledges : ℕ → ℕ → LogAck
 acknowledges log index = record { log = log; index = index }
 
--- An acknowledgement is stale that came before, that is of another entry or of a log that isn't there. The batch is done
--- once every log has acknowledged it.
+-- An acknowledgement is stale that came before, that is of another entry or of a log that isn't there. The batch is
+-- done once every log has acknowledged it.
 abbrev pub WorkedLogging : Type 0
 WorkedLogging =
     (messages_fault (proxy (resolving []) false) ≡ Some WrongState)

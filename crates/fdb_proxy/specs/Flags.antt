@@ -1,5 +1,6 @@
 -- Lists of flags, one for each role of a kind.
-use Rattle.std.specs.Prelude.{ℕ, suc, Bool, false, List, [], ◌∷◌, Option, Some, None, unwrap_or, slice_get, if◌then◌else◌}
+use Rattle.std.specs.Prelude.{ℕ, suc, Bool, false, List, [], ◌∷◌, Option, Some, None, unwrap_or, slice_get}
+use Rattle.std.specs.Prelude.{if◌then◌else◌}
 
 -- the flag with the number is there and set
 abbrev pub is_set : List Bool → ℕ → Bool

@@ -1,6 +1,7 @@
 pub mod Askers
 pub mod CommitFields
 pub mod CommitProxies
+pub mod ConfigExamples
 pub mod Configs
 pub mod Deciding
 pub mod Examples

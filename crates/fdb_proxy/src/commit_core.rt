@@ -18,10 +18,10 @@ use std::mem;
 
 /// A commit proxy: it makes batches of what is submitted, asks resolvers about them, decides, and tells the logs.
 ///
-/// A batch is sealed, and given up or, once it has a ticket, resolved; it is decided, logged and done. Then the next one
-/// may be sealed. Once memory ran out while it learnt a ticket, or once it was told to fail, a proxy has failed: every
-/// call that may be refused is, as `Failed`. A batch whose ticket it didn't learn for want of memory has an entry all the
-/// same. So it stays in flight for good: nothing gives it up, and its requests never wait again.
+/// A batch is sealed, and given up or, once it has a ticket, resolved; it is decided, logged and done. Then the next
+/// one may be sealed. Once memory ran out while it learnt a ticket, or once it was told to fail, a proxy has failed:
+/// every call that may be refused is, as `Failed`. A batch whose ticket it didn't learn, since memory ran out, has an
+/// entry all the same. So it stays in flight for good: nothing gives it up, and its requests never wait again.
 #[derive(Drop)]
 pub struct CommitCore {
     alloc: Global,
@@ -52,7 +52,12 @@ impl CommitCore {
     ghost use Rattle.fdb_keys.specs.Answers.{Answers, AnswersExactly, AnswersOrHandsBack, AnswersExactlyOrHandsBack};
     ghost use Rattle.fdb_txn.specs.Limits.{place_limit};
     ghost use Rattle.fdb_txn.specs.book.Transactions.{Transaction};
-    ghost use Rattle.fdb_proxy.specs.CommitProxies.{new_fault, IsNewProxy, is_idle, failed_fault, id_fault, submit_fault, submitting, seal_fault, sealing, unsealing, IsTicketFor, learn_fault, HasLearntTicket, HasFailed, parts_fault, parts_in, verdict_fault, with_verdict, decide_fault, outcomes_in, deciding, messages_fault, messages_of, logged_fault, with_logged, all_logged_fault, done_fault, answers_in, finishing};
+    ghost use Rattle.fdb_proxy.specs.CommitProxies.{new_fault, IsNewProxy, is_idle, failed_fault, id_fault};
+    ghost use Rattle.fdb_proxy.specs.CommitProxies.{submit_fault, submitting, seal_fault, sealing, unsealing};
+    ghost use Rattle.fdb_proxy.specs.CommitProxies.{IsTicketFor, learn_fault, HasLearntTicket, HasFailed, parts_fault};
+    ghost use Rattle.fdb_proxy.specs.CommitProxies.{parts_in, verdict_fault, with_verdict, decide_fault, outcomes_in};
+    ghost use Rattle.fdb_proxy.specs.CommitProxies.{deciding, messages_fault, messages_of, logged_fault, with_logged};
+    ghost use Rattle.fdb_proxy.specs.CommitProxies.{all_logged_fault, done_fault, answers_in, finishing};
 
     /// The commit proxy with the number, of so many roles as the configuration says. Nobody waits there yet. Refused as
     /// `BadConfig` where the configuration isn't legal and where it has no proxy with the number, and as `NoMemory`.
@@ -88,8 +93,8 @@ impl CommitCore {
     }
 
     /// Makes room for one more request, so that a `submit` that comes next takes no memory. It is promised of that one
-    /// alone: what any other call that changes the proxy leaves of the room isn't said. Nothing else changes. Refused as
-    /// `Failed`, and as `NoMemory`.
+    /// alone: what any other call that changes the proxy leaves of the room isn't said. Nothing else changes. Refused
+    /// as `Failed`, and as `NoMemory`.
     pub fn reserve(&mut self) -> Result<(), Refusal>
         ensures answers { Answers result (failed_fault self.old.proxy) (λ _. 1 ≤ self.new.spare) }
         ensures same { self.new.proxy ≡ self.old.proxy }
@@ -130,8 +135,8 @@ impl CommitCore {
     }
 
     /// The first 4,096 of those that wait, in order, become the batch in flight, all of them where there are no more.
-    /// Answers a copy of it. Refused as `Failed`, as `WrongState` where a batch is in flight already, and as `NoMemory`,
-    /// and then nothing changes.
+    /// Answers a copy of it. Refused as `Failed`, as `WrongState` where a batch is in flight already, and as
+    /// `NoMemory`, and then nothing changes.
     pub fn seal(&mut self) -> Result<Batch, Refusal>
         ensures answers { Answers result (seal_fault self.old.proxy)
             (λ batch. (batch ≡ take place_limit self.old.proxy.waiting) × (self.new.proxy ≡ sealing self.old.proxy)) }
@@ -146,9 +151,9 @@ impl CommitCore {
         Ok(batch)
     }
 
-    /// Gives up a sealed batch, which has no entry yet: its requests wait again, before all others. At every other stage
-    /// nothing changes, also once memory ran out while the batch's ticket was learnt: its entry stands, and its requests
-    /// must not come into another one. It takes no memory, and O(1) time.
+    /// Gives up a sealed batch, which has no entry yet: its requests wait again, before all others. At every other
+    /// stage nothing changes, also once memory ran out while the batch's ticket was learnt: its entry stands, and its
+    /// requests must not come into another one. It takes no memory, and O(1) time.
     pub fn unseal(&mut self)
         ensures { self.new.proxy ≡ unsealing self.old.proxy }
     {
@@ -168,12 +173,12 @@ impl CommitCore {
         self.requests.refuse_all()
     }
 
-    /// Learns the ticket of the batch: its moves, and what each resolver is asked about the batch. The ticket's version is
-    /// above what the batch read at, and its moves, at versions that rise up to the ticket's, go to resolvers that exist.
-    /// Refused as `Failed`, as `WrongState` unless a batch is sealed, as `Stale` where the ticket's version or that of
-    /// one of its moves isn't above the last ticket's, and then nothing changes; and as `NoMemory`. Then the proxy has
-    /// failed and keeps the batch in flight, whose entry stands, so that it can't be unsealed. The ticket's version is its
-    /// last one, and it may have learnt some of the ticket's moves; all else is as it was.
+    /// Learns the ticket of the batch: its moves, and what each resolver is asked about the batch. The ticket's version
+    /// is above what the batch read at, and its moves, at versions that rise up to the ticket's, go to resolvers that
+    /// exist. Refused as `Failed`, as `WrongState` unless a batch is sealed, as `Stale` where the ticket's version or
+    /// that of one of its moves isn't above the last ticket's, and then nothing changes; and as `NoMemory`. Then the
+    /// proxy has failed and keeps the batch in flight, whose entry stands, so that it can't be unsealed. The ticket's
+    /// version is its last one, and it may have learnt some of the ticket's moves; all else is as it was.
     pub fn learn(&mut self, ticket: &Ticket) -> Result<(), Refusal>
         requires { IsTicketFor self.old.proxy ticket.now }
         ensures answers { Answers result (learn_fault self.old.proxy ticket.now)
@@ -226,10 +231,10 @@ impl CommitCore {
         }
     }
 
-    /// Decides the batch: a place commits where all resolvers that are asked about it say yes, is old where one says so,
-    /// and else conflicts. Answers what becomes of each place. Refused as `Failed`, as `WrongState` unless the batch waits
-    /// for verdicts, as `NotYet` with the least resolver that is asked about some place and whose verdicts haven't come,
-    /// and as `NoMemory`. Then nothing changes.
+    /// Decides the batch: a place commits where all resolvers that are asked about it say yes, is old where one says
+    /// so, and else conflicts. Answers what becomes of each place. Refused as `Failed`, as `WrongState` unless the
+    /// batch waits for verdicts, as `NotYet` with the least resolver that is asked about some place and whose verdicts
+    /// haven't come, and as `NoMemory`. Then nothing changes.
     pub fn decide(&mut self) -> Result<Items<Outcome>, Refusal>
         ensures answers { Answers result (decide_fault self.old.proxy) (λ outcomes.
             (outcomes ≡ outcomes_in self.old.proxy) × (self.new.proxy ≡ deciding self.old.proxy)) }
@@ -270,8 +275,8 @@ impl CommitCore {
         Ok(messages)
     }
 
-    /// Takes a log's acknowledgement. It takes no memory. Refused as `Failed`; as `Stale` unless the batch waits for it:
-    /// it is of its entry, of a log that there is, and the log's first. Then nothing changes.
+    /// Takes a log's acknowledgement. It takes no memory. Refused as `Failed`; as `Stale` unless the batch waits for
+    /// it: it is of its entry, of a log that there is, and the log's first. Then nothing changes.
     pub fn logged(&mut self, ack: LogAck) -> Result<(), Refusal>
         ensures answers { AnswersExactly result (logged_fault self.old.proxy ack)
             (λ _. self.new.proxy ≡ with_logged self.old.proxy ack) }
@@ -284,8 +289,8 @@ impl CommitCore {
         }
     }
 
-    /// Whether all logs have acknowledged the batch. It takes no memory. Refused as `Failed`, as `WrongState` unless the
-    /// batch is decided and isn't done, and as `NotYet` with the least log whose acknowledgement hasn't come.
+    /// Whether all logs have acknowledged the batch. It takes no memory. Refused as `Failed`, as `WrongState` unless
+    /// the batch is decided and isn't done, and as `NotYet` with the least log whose acknowledgement hasn't come.
     pub fn all_logged(&self) -> Result<(), Refusal>
         ensures { AnswersExactly result (all_logged_fault self.now.proxy) (λ _. ⊤) }
     {
@@ -300,8 +305,8 @@ impl CommitCore {
     }
 
     /// The batch is done: answers the id of each transaction with what became of it, by place. The next batch may be
-    /// sealed. It takes no memory. Refused as `Failed`, and as `WrongState` unless all logs have acknowledged the batch.
-    /// Then nothing changes.
+    /// sealed. It takes no memory. Refused as `Failed`, and as `WrongState` unless all logs have acknowledged the
+    /// batch. Then nothing changes.
     pub fn done(&mut self) -> Result<Items<(TxnId, Outcome)>, Refusal>
         ensures answers { AnswersExactly result (done_fault self.old.proxy) (λ answers.
             (answers ≡ answers_in self.old.proxy.stage) × (self.new.proxy ≡ finishing self.old.proxy)) }

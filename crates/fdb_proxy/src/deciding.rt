@@ -69,8 +69,9 @@ fn all_committed(alloc: Global, version: u64, count: usize) -> Result<Items<Outc
 }
 
 /// What becomes of as many places of the entry with the version, by the verdicts that came: those of each resolver in
-/// order, by place. A place is old where some resolver says so, else a conflict where some says so, and else it commits;
-/// what is said of other places means nothing. There are fewer than 2^32 places. Refused only where memory runs out.
+/// order, by place. A place is old where some resolver says so, else a conflict where some says so, and else it
+/// commits; what is said of other places means nothing. There are fewer than 2^32 places. Refused only where memory
+/// runs out.
 pub fn outcomes_of(
     alloc: Global,
     version: u64,

@@ -1,8 +1,11 @@
 //! What the rule over the book says of resolvers' verdicts and of the messages for logs, for the proofs of the crates
 //! that use the proxies.
-ghost use Rattle.fdb_proxy.specs.Examples.{WorkedSubmits, WorkedSeals, WorkedStages, WorkedTickets, WorkedVerdicts, WorkedDecisions, WorkedLogging};
+ghost use Rattle.fdb_proxy.specs.ConfigExamples.{WorkedConfigs, WorkedGrants};
+ghost use Rattle.fdb_proxy.specs.Examples.{WorkedSubmits, WorkedSeals, WorkedStages, WorkedTickets, WorkedVerdicts};
+ghost use Rattle.fdb_proxy.specs.Examples.{WorkedDecisions, WorkedLogging};
 ghost use Rattle.fdb_proxy.specs.MessageLaws.{MessagesHoldTheCommitted};
-ghost use Rattle.fdb_proxy.specs.VerdictLaws.{BatchesAreJudgedByTheRule, EntriesAreJudgedByTheRule, ItemsWhereAsked, BatchesAreDecidedByTheRule, EntriesAreDecidedByTheRule};
+ghost use Rattle.fdb_proxy.specs.VerdictLaws.{BatchesAreJudgedByTheRule, EntriesAreJudgedByTheRule, ItemsWhereAsked};
+ghost use Rattle.fdb_proxy.specs.VerdictLaws.{BatchesAreDecidedByTheRule, EntriesAreDecidedByTheRule};
 
 /// A resolver that is sent its part of a batch, and has forgotten what lies below the window, says of the batch
 /// what the rule over the book says, and keeps the versions of which that rule speaks; so it does of an entry.
@@ -29,9 +32,9 @@ pub fn logs_are_sent_what_the_committed_write()
     ensures { MessagesHoldTheCommitted }
 {}
 
-/// Why a commit proxy's calls are refused, and what verdicts decide, by examples: which refusal comes first, which batches
-/// are given up, at which stages one is in flight, which verdicts and acknowledgements are stale, and what a batch waits
-/// for.
+/// Why a commit proxy's calls are refused, and what verdicts decide, by examples: which refusal comes first, which
+/// batches are given up, at which stages one is in flight, which verdicts and acknowledgements are stale, and what a
+/// batch waits for.
 pub fn worked_refusals()
     ensures submits { WorkedSubmits }
     ensures seals { WorkedSeals }
@@ -40,4 +43,10 @@ pub fn worked_refusals()
     ensures verdicts { WorkedVerdicts }
     ensures decisions { WorkedDecisions }
     ensures logging { WorkedLogging }
+{}
+
+/// Which configurations are legal, and which versions those who ask are granted, by examples.
+pub fn worked_examples()
+    ensures configs { WorkedConfigs }
+    ensures grants { WorkedGrants }
 {}

@@ -1,12 +1,14 @@
 // A batch that is decided, and what it makes for the logs.
-ghost use Rattle.std.specs.Prelude.{◌≡◌, ◌<◌, ◌^◌, ◌++◌, ℕ, [], Some, None, true, false, filter, map, length, replicate, IsTrue, IfOk, OnErr, if◌then◌else◌};
+ghost use Rattle.std.specs.Prelude.{◌≡◌, ◌<◌, ◌^◌, ◌++◌, ℕ, [], Some, None, true, false, filter, map, length};
+ghost use Rattle.std.specs.Prelude.{replicate, IsTrue, IfOk, OnErr, if◌then◌else◌};
 ghost use Rattle.std.specs.List.{range_with_len};
 ghost use Rattle.fdb_keys.specs.Answers.{Answers, AnswersExactly};
 ghost use Rattle.fdb_keys.specs.declared.refusal.Refusal.TheVariants.{Stale};
 ghost use Rattle.fdb_txn.specs.rules.Messages.{at_place};
 ghost use Rattle.fdb_storage.specs.LogMessages.{tagged, is_for_log};
 ghost use Rattle.fdb_proxy.specs.Flags.{first_unset};
-ghost use Rattle.fdb_proxy.specs.Logging.{is_commit, answers_by, body_by, message_with, messages_by, is_awaited, with_acknowledgement};
+ghost use Rattle.fdb_proxy.specs.Logging.{is_commit, answers_by, body_by, message_with, messages_by, is_awaited};
+ghost use Rattle.fdb_proxy.specs.Logging.{with_acknowledgement};
 
 use crate::flags::{first_unset, is_set, unset};
 use crate::outcome::Outcome;

@@ -182,10 +182,10 @@ fn part_of(
     })
 }
 
-/// The part of each resolver of the batch at the position, in the order of their numbers, by owners that have learnt the
-/// moves through the position's version and none after it, and have forgotten none from the begin of its window on. A
-/// resolver has an item for each transaction that it is asked about. Each transaction read below the version, and there
-/// are fewer than 2^32 of them. Refused only as `NoMemory`.
+/// The part of each resolver of the batch at the position, in the order of their numbers, by owners that have learnt
+/// the moves through the position's version and none after it, and have forgotten none from the begin of its window on.
+/// A resolver has an item for each transaction that it is asked about. Each transaction read below the version, and
+/// there are fewer than 2^32 of them. Refused only as `NoMemory`.
 pub fn parts_of(
     alloc: Global,
     owners: &Owners,

@@ -36,7 +36,8 @@ impl Model for Requests {
 }
 
 impl Requests {
-    ghost use Rattle.std.specs.Prelude.{◌≡◌, ◌==◌, ◌≤◌, ◌++◌, [], ◌∷◌, take, drop, length, map, IsOk, IfOk, IfErr, OnOk, OnErr};
+    ghost use Rattle.std.specs.Prelude.{◌≡◌, ◌==◌, ◌≤◌, ◌++◌, [], ◌∷◌, take, drop, length, map, IsOk, IfOk, IfErr};
+    ghost use Rattle.std.specs.Prelude.{OnOk, OnErr};
     ghost use Rattle.fdb_txn.specs.Limits.{place_limit};
     ghost use Rattle.fdb_txn.specs.book.Transactions.{Transaction};
     ghost use Rattle.fdb_proxy.specs.Requests.{Holds, place_of};

@@ -1,10 +1,12 @@
 // A batch that waits for verdicts.
-ghost use Rattle.std.specs.Prelude.{◌≡◌, ◌<◌, ◌^◌, ◌&&◌, None, Some, List, ℕ, length, replicate, slice_get, IfOk, OnErr, IsTrue, if◌then◌else◌};
+ghost use Rattle.std.specs.Prelude.{◌≡◌, ◌<◌, ◌^◌, ◌&&◌, None, Some, List, ℕ, length, replicate, slice_get, IfOk};
+ghost use Rattle.std.specs.Prelude.{OnErr, IsTrue, if◌then◌else◌};
 ghost use Rattle.fdb_keys.specs.Answers.{AnswersExactly};
 ghost use Rattle.fdb_keys.specs.declared.refusal.Refusal.TheVariants.{Stale};
 ghost use Rattle.fdb_resolver.specs.declared.verdict.Verdict.{Verdict};
 ghost use Rattle.fdb_proxy.specs.Deciding.{Said, outcomes_by};
-ghost use Rattle.fdb_proxy.specs.Resolving.{are_on, are_on_part, is_awaited, with_verdicts, asks, has_not_come, first_missing};
+ghost use Rattle.fdb_proxy.specs.Resolving.{are_on, are_on_part, is_awaited, with_verdicts, asks, has_not_come};
+ghost use Rattle.fdb_proxy.specs.Resolving.{first_missing};
 
 use crate::deciding::outcomes_of;
 use crate::outcome::Outcome;

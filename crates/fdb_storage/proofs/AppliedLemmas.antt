@@ -1,5 +1,6 @@
 -- What a shard answers once it has applied messages.
-use Rattle.std.proofs.Common.{◌≡◌, ◌∙◌, sym, ap, refl, ℕ, ◌<◌, ◌≤◌, le_refl, le_trans, nat_le, List, [], ◌∷◌, ◌++◌, fold, Option, None, arith}
+use Rattle.std.proofs.Common.{◌≡◌, ◌∙◌, sym, ap, refl, ℕ, ◌<◌, ◌≤◌, le_refl, le_trans, nat_le, List, [], ◌∷◌, ◌++◌}
+use Rattle.std.proofs.Common.{fold, Option, None, arith}
 use Rattle.std.specs.List.{AllByRecursion}
 use Rattle.std.proofs.lemmas.Bool.{cond-true, cond-false, le-leb, leb-true, false_from_ne_true}
 use Rattle.std.proofs.lemmas.List.Sums.{fold-append}

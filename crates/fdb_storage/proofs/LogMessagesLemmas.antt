@@ -1,5 +1,6 @@
 -- What logs are sent, beside the messages of the shards.
-use Rattle.std.proofs.Common.{◌≡◌, ◌∙◌, sym, ap, ap₂, refl, ℕ, suc, ◌<◌, ◌≤◌, le_refl, le_trans, le_of_lt, Bool, true, false, List, [], ◌∷◌, ◌++◌, map, filter, length, ⊎_elim, arith}
+use Rattle.std.proofs.Common.{◌≡◌, ◌∙◌, sym, ap, ap₂, refl, ℕ, suc, ◌<◌, ◌≤◌, le_refl, le_trans, le_of_lt, Bool, true}
+use Rattle.std.proofs.Common.{false, List, [], ◌∷◌, ◌++◌, map, filter, length, ⊎_elim, arith}
 use Rattle.std.specs.List.{list_any}
 use Rattle.std.specs.Prelude.{◌==◌, nat_lt}
 use Rattle.std.proofs.lemmas.List.Elements.{filter-append}
@@ -40,7 +41,8 @@ sent-of_tag shard_splits logs tag within (sent ∷ body) = ⊎_elim
     (λ meets.
     let has : has_tag tag this ≡ true = has-tag shard_splits sent.1 tag within ∙ meets in
     ap (sent_to tag) (cond-true (keeps this) (this ∷ others) others (sent-where_tagged logs tag this.tags has))
-    ∙ ap (map pair) (cond-true (has_tag tag this) (this ∷ filter (has_tag tag) others) (filter (has_tag tag) others) has)
+    ∙ ap (map pair) (cond-true (has_tag tag this) (this ∷ filter (has_tag tag) others) (filter (has_tag tag) others)
+    has)
     ∙ ap (λ (rest : Body). sent ∷ rest) (sent-of_tag shard_splits logs tag within body)
     ∙ sym (cond-true (meets_shard sent) (sent ∷ filter meets_shard body) (filter meets_shard body) meets))
     (λ apart.

@@ -1,6 +1,7 @@
 -- Refusals of a shard, computed.
 use Rattle.std.specs.Prelude.{◌≡◌, ℕ, Bool, true, false, [], ◌∷◌, Some, None}
-use Rattle.fdb_keys.specs.declared.refusal.Refusal.TheVariants.{NotYet, Stale, Failed, Unknown, KeyOutsideLegalRange, TransactionTooOld, FutureVersion}
+use Rattle.fdb_keys.specs.declared.refusal.Refusal.TheVariants.{NotYet, Stale, Failed, Unknown, KeyOutsideLegalRange}
+use Rattle.fdb_keys.specs.declared.refusal.Refusal.TheVariants.{TransactionTooOld, FutureVersion}
 use Rattle.fdb_keys.specs.Ranges.{Range}
 use Rattle.fdb_log.specs.declared.peek.Peek.{Peek}
 use Rattle.fdb_storage.specs.Shards.{Shard, key_fault, range_fault, part_fault, apply_fault, forget_fault}
@@ -35,11 +36,15 @@ WorkedReads =
     × (range_fault (shard false) (span 10 20) 101 ≡ Some FutureVersion)
     × (range_fault (shard false) (span 10 20) 75 ≡ None)
 
--- A range of which the shard has no part isn't asked of it at any version.
+-- A range of which the shard has no part, or that has no point, isn't asked of it at any version.
 abbrev pub WorkedParts : Type 0
 WorkedParts =
     (part_fault (shard true) (span 1 5) 40 ≡ Some Failed)
     × (part_fault (shard false) (span 1 10) 40 ≡ None)
+    × (part_fault (shard false) (span 20 30) 40 ≡ None)
+    × (part_fault (shard false) (span 12 12) 40 ≡ None)
+    × (part_fault (shard false) (span 12 15) 50 ≡ None)
+    × (part_fault (shard false) (span 1 30) 100 ≡ None)
     × (part_fault (shard false) (span 1 11) 40 ≡ Some TransactionTooOld)
     × (part_fault (shard false) (span 19 30) 101 ≡ Some FutureVersion)
 

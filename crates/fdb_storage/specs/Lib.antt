@@ -4,3 +4,4 @@ pub mod LogMessages
 pub mod Replays
 pub mod ShardMaps
 pub mod Shards
+pub mod ValueExamples

@@ -1,9 +1,11 @@
 -- What a shard keeps, why it refuses, and what its calls leave.
-use Rattle.std.specs.Prelude.{◌≡◌, ◌≤◌, ℕ, max, Bool, true, false, not, ◌&&◌, ◌==◌, nat_lt, List, fold, length, Option, Some, None, if◌then◌else◌}
+use Rattle.std.specs.Prelude.{◌≡◌, ◌≤◌, ℕ, max, Bool, true, false, not, ◌&&◌, ◌==◌, nat_lt, List, fold, length, Option}
+use Rattle.std.specs.Prelude.{Some, None, if◌then◌else◌}
 use Rattle.std.specs.List.{AllByRecursion}
 use Rattle.std.specs.FinMap.{get}
 use Rattle.fdb_keys.specs.declared.refusal.Refusal.{Refusal}
-use Rattle.fdb_keys.specs.declared.refusal.Refusal.TheVariants.{Failed, Unknown, KeyOutsideLegalRange, TransactionTooOld, FutureVersion}
+use Rattle.fdb_keys.specs.declared.refusal.Refusal.TheVariants.{Failed, Unknown, KeyOutsideLegalRange}
+use Rattle.fdb_keys.specs.declared.refusal.Refusal.TheVariants.{TransactionTooOld, FutureVersion}
 use Rattle.fdb_keys.specs.Points.{Point}
 use Rattle.fdb_keys.specs.Ranges.{Range, in_range, is_within, ranges_meet}
 use Rattle.fdb_mutations.specs.Maps.{Map}
@@ -89,8 +91,8 @@ IsKeptOutside shard range old new =
     (x : Point) → (in_range range x && in_range shard.range x) ≡ false → get new x ≡ get old x
 
 -- The map has in the shard's part of the range what the shard has there at the version, if it had nothing there before,
--- and elsewhere what it had. Where it had a value in that part, what it has there now isn't said: that would tell how the
--- shard keeps its values.
+-- and elsewhere what it had. Where it had a value in that part, what it has there now isn't said: that would tell how
+-- the shard keeps its values.
 pub record HasCopied (shard : Shard) (range : Range) (v : ℕ) (old new : Map) : Type 0 where
   pub inside : (x : Point) → in_range range x ≡ true → in_range shard.range x ≡ true → get old x ≡ None
       → get new x ≡ value_at shard v x

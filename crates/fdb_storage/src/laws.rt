@@ -2,6 +2,8 @@
 ghost use Rattle.fdb_storage.specs.Examples.{WorkedReads, WorkedParts, WorkedApplies, WorkedFloors};
 ghost use Rattle.fdb_storage.specs.LogMessages.{LogsAreSentTheMessages, MessagesAboveAVersion};
 ghost use Rattle.fdb_storage.specs.ShardMaps.{TagsAreTheShards};
+ghost use Rattle.fdb_storage.specs.ValueExamples.{WorkedValues, WorkedPages, WorkedApplied, WorkedForgotten};
+ghost use Rattle.fdb_storage.specs.ValueExamples.{WorkedCopied, WorkedReplays};
 
 /// A mutation has the tag of a shard exactly where it names a point of the shard's range.
 pub fn tags_are_the_shards_that_a_mutation_concerns()
@@ -22,4 +24,15 @@ pub fn worked_refusals()
     ensures parts { WorkedParts }
     ensures applies { WorkedApplies }
     ensures floors { WorkedFloors }
+{}
+
+/// What a shard answers at each version, which pages it gives, what it answers once it applied messages or raised its
+/// floor, what is copied of it, and what peeks one after another cover, by examples.
+pub fn worked_examples()
+    ensures values { WorkedValues }
+    ensures pages { WorkedPages }
+    ensures applied { WorkedApplied }
+    ensures forgotten { WorkedForgotten }
+    ensures copied { WorkedCopied }
+    ensures replays { WorkedReplays }
 {}

@@ -43,7 +43,9 @@ impl Shard {
     ghost use Rattle.std.specs.Prelude.{◌≡◌, ⊤, IsSome, IsNone, IfOk, OnErr};
     ghost use Rattle.fdb_keys.specs.Answers.{Answers, AnswersExactly};
     ghost use Rattle.fdb_log.specs.Peeks.{IsPeek};
-    ghost use Rattle.fdb_storage.specs.Shards.{IsNewShard, apply_fault, key_fault, range_fault, forget_fault, part_fault, read_fault, serving_fault, value_at, IsPage, HasApplied, HasCopied, IsKeptOutside, HasFailed, HasForgotten};
+    ghost use Rattle.fdb_storage.specs.Shards.{IsNewShard, apply_fault, key_fault, range_fault, forget_fault};
+    ghost use Rattle.fdb_storage.specs.Shards.{part_fault, read_fault, serving_fault, value_at, IsPage, HasApplied};
+    ghost use Rattle.fdb_storage.specs.Shards.{HasCopied, IsKeptOutside, HasFailed, HasForgotten};
 
     /// The shard with the tag and the range, which has applied nothing and serves version 0 alone. It takes no memory.
     pub fn new(alloc: Global, tag: u32, range: KeyRange) -> Self
@@ -114,13 +116,13 @@ impl Shard {
     }
 
     /// Gives the map the values that the shard has at the version in its part of the range. The map is to have no value
-    /// there yet: what it has afterwards at a key of that part where it had one isn't said. It changes nothing elsewhere,
-    /// also where it is refused, and nothing where the shard holds nothing of the range: then no version is refused.
-    /// Refused as `Failed` once memory ran out in `apply`, else, where it holds some of the range, as
+    /// there yet: what it has afterwards at a key of that part where it had one isn't said. It changes nothing
+    /// elsewhere, also where it is refused, and nothing where the shard holds nothing of the range: then no version is
+    /// refused. Refused as `Failed` once memory ran out in `apply`, else, where it holds some of the range, as
     /// `TransactionTooOld` where the version is below the floor and as `FutureVersion` where it is above the shard's,
-    /// and then nothing changes; and as `NoMemory`. Then the map's values in that part are of no use: it may have some of
-    /// the shard's, or those of an earlier version. It takes O(m p) time for m mutations that were applied and p pairs
-    /// of the map.
+    /// and then nothing changes; and as `NoMemory`. Then the map's values in that part are of no use: it may have some
+    /// of the shard's, or those of an earlier version. It takes O(m p) time for m mutations that were applied and p
+    /// pairs of the map.
     pub fn copy_into(
         &self,
         map: &mut PlainMap,

@@ -10,5 +10,6 @@ add_read-requires c ordinary =
     let index = c.loop-op.op-index in
     let done = c.loop-op-item.result in
     let within : index < length ops = search rules in
-    let there : slice_get ops index ≡ Some done = slice_get_read ops (length ops) index done refl within c.loop-op-item.is in
+    let there : slice_get ops index ≡ Some done = slice_get_read ops (length ops) index done refl within
+    c.loop-op-item.is in
     (copy c.requires.0 (program (take index ops)), answered-at c.requires.0 ops index done there c.requires.1 ordinary)

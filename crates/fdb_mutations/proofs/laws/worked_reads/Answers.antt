@@ -3,7 +3,8 @@ use Rattle.std.specs.FinMap.{entries}
 use Rattle.std.specs.List.Sorted.{IsStrictlySortedBy}
 use Rattle.fdb_keys.specs.Points.{Point, point_lt}
 use Rattle.fdb_keys.specs.Ranges.{Range}
-use Rattle.fdb_mutations.specs.PairExamples.{three, three_pairs, span}
+use Rattle.fdb_mutations.specs.Examples.{span}
+use Rattle.fdb_mutations.specs.PairExamples.{three, three_pairs}
 use Rattle.fdb_mutations.specs.PairLaws.{given_of, scanned_of}
 use Rattle.fdb_mutations.specs.Pairs.{pairs_within, first_of, scanned}
 use Rattle.fdb_mutations.proofs.MapsLemmas.{entries-sorted}

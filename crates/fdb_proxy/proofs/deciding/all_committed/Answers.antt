@@ -7,5 +7,6 @@ use Rattle.fdb_proxy.proofs.deciding.all_committed.Goals as goal
 pub loop-place-preserved : goal.loop-place-preserved
 loop-place-preserved c =
     c.in_ok-push.ensures.ok
-    ∙ ap (λ (before : List Outcome). before ++ outcome_by c.args.version [] c.loop-place.place ∷ []) c.loop-place.invariant
+    ∙ ap (λ (before : List Outcome). before ++ outcome_by c.args.version [] c.loop-place.place ∷ [])
+    c.loop-place.invariant
     ∙ sym (map-range_with_len_more (outcome_by c.args.version []) 0 c.loop-place.place c.loop-place.place (omega arith))

@@ -3,7 +3,8 @@ use Rattle.fdb_owners.specs.declared.parts.Owned.{Owned}
 use Rattle.fdb_proxy.specs.Spreads.{is_held}
 use Rattle.fdb_proxy.proofs.PartingLemmas.{unasked, item_if_asked}
 use Rattle.fdb_proxy.proofs.parting.item_of.Goals as goal
-use Rattle.fdb_proxy.proofs.parting.item_of.Goals.{else-not-has_points-via-then-not-has_points+else-not-has_points-2, else-not-has_points-via-else-not-has_points}
+use Rattle.fdb_proxy.proofs.parting.item_of.Goals.{else-not-has_points-via-then-not-has_points+else-not-has_points-2}
+use Rattle.fdb_proxy.proofs.parting.item_of.Goals.{else-not-has_points-via-else-not-has_points}
 
 pub returns-then-not-has_points-2 : goal.returns-then-not-has_points-2
 returns-then-not-has_points-2 c splits of is =

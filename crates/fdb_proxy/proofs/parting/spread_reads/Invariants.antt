@@ -10,5 +10,6 @@ use Rattle.fdb_proxy.proofs.parting.spread_reads.Given as goal
 abbrev pub invariant-loop-range : goal.invariant-loop-range
 invariant-loop-range l =
     (i : ℕ) (x : Point)
-    → (is_held l.parts.items i x || in_set (iter_rest l.range-iterator) x && owned_between l.owners i x l.from l.version)
+    → (is_held l.parts.items i x || in_set (iter_rest l.range-iterator) x
+    && owned_between l.owners i x l.from l.version)
     ≡ (in_set l.reads x && owned_between l.owners i x l.from l.version)

@@ -17,7 +17,8 @@ loop-of-preserved c =
     let there = slice_get_read c.args.dated.now (length c.args.dated.now) c.loop-of.of-index c.of-item.result refl
     c.loop-of-test.true c.of-item.is in
     let has = learnt-by c in
-    let rising = rising-at c.args.version c.args.dated.now c.loop-of.of-index c.of-item.result c.requires.rising there in
+    let rising = rising-at c.args.version c.args.dated.now c.loop-of.of-index c.of-item.result c.requires.rising there
+    in
     let last = has.last in
     let count : suc c.loop-of.of-index ≡ c.loop-of.of-index + 1 = omega arith in
     record {

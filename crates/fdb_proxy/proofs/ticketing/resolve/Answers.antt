@@ -7,10 +7,11 @@ use Rattle.fdb_proxy.proofs.ticketing.resolve.Goals as goal
 
 pub returns-clause-answers : goal.returns-clause-answers
 returns-clause-answers c =
-    let parts : c.in_ok-parts.parts ≡ c.in_ok-resolving.resolving.parts = ap (λ (batch : Resolving). batch.parts) (sym c.in_ok-resolving.ensures) in
+    let parts : c.in_ok-parts.parts ≡ c.in_ok-resolving.resolving.parts =
+    ap (λ (batch : Resolving). batch.parts) (sym c.in_ok-resolving.ensures) in
     record {
       rest = c.in_ok-resolving.ensures ∙ ap (without_verdicts (position_of c.args.ticket.now)) parts;
       parts = λ moves agrees. subst
-          (λ (some : List Part). AreParts c.expire.new.self.splits moves (position_of c.args.ticket.now) c.args.batch.now some)
-          parts (c.in_ok-parts.ensures moves agrees);
+          (λ (some : List Part). AreParts c.expire.new.self.splits moves (position_of c.args.ticket.now)
+          c.args.batch.now some) parts (c.in_ok-parts.ensures moves agrees);
     }

@@ -10,4 +10,5 @@ pub returns-in_err-apply_cut-clause-refused : goal.returns-in_err-apply_cut-clau
 returns-in_err-apply_cut-clause-refused c =
     let refused = err_from_is_err_and c.from_residual.result c.from_residual.ensures.1 in
     rw refused.1 (λ x apart. ap (λ (map : Map). get map x) (c.in_err-apply_cut.ensures.refused ∙ c.loop-place.invariant)
-    ∙ outside-body c.args.range.now x apart c.args.map.now (mutations_in (take c.loop-place._place-index c.args.body.now)))
+    ∙ outside-body c.args.range.now x apart c.args.map.now
+    (mutations_in (take c.loop-place._place-index c.args.body.now)))

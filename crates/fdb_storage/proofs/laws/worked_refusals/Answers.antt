@@ -27,6 +27,10 @@ returns-clause-parts c = (
   refl,
   refl,
   refl,
+  refl,
+  refl,
+  refl,
+  refl,
 )
 
 pub returns-clause-applies : goal.returns-clause-applies

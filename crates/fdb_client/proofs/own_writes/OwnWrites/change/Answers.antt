@@ -6,7 +6,8 @@ use Rattle.fdb_keys.specs.Points.{Point, point_eq}
 use Rattle.fdb_client.specs.declared.left.Left.{Left}
 use Rattle.fdb_client.specs.LeftAt.{left_at}
 use Rattle.fdb_client.specs.OwnWrites.{left_after, kept_at}
-use Rattle.fdb_client.proofs.LeftAtLemmas.{found, left_at-changed, changed-at, first-change, legal-put, either_way, on_err, answers_also}
+use Rattle.fdb_client.proofs.LeftAtLemmas.{found, left_at-changed, changed-at, first-change, legal-put, either_way}
+use Rattle.fdb_client.proofs.LeftAtLemmas.{on_err, answers_also}
 use Rattle.fdb_client.proofs.own_writes.OwnWrites.change.Goals as goal
 
 pub returns-in_err-change-clause-err : goal.returns-in_err-change-clause-err
@@ -19,7 +20,8 @@ returns-in_err-change-clause-err c =
     = λ x. let follows = c.get_mut.follows.holds c.change.new.self in search rules in
     let same : c.change.new.self ≡ left_at own key = search rules in
     on_err c.from_residual.result _ (λ x.
-    left_at-changed own.keys.entries after.entries own.decided key c.change.new.self (λ (left : Left). left) there same x
+    left_at-changed own.keys.entries after.entries own.decided key c.change.new.self (λ (left : Left). left) there
+    same x
     ∙ either_way (point_eq x key) (left_at own x))
 
 pub returns-in-Some-clause-answers : goal.returns-in-Some-clause-answers

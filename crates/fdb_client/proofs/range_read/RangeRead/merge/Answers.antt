@@ -7,7 +7,8 @@ use Rattle.fdb_client.specs.LeftAt.{left_at}
 use Rattle.fdb_client.specs.OwnWrites.{value_over}
 use Rattle.fdb_client.proofs.FaultLemmas.{same_fault}
 use Rattle.fdb_client.proofs.MergingLemmas.{within-take}
-use Rattle.fdb_client.proofs.PagesLemmas.{PagesSoFar, next-inside, next-none, next-full, next-taken, page-more, page-none, page-last}
+use Rattle.fdb_client.proofs.PagesLemmas.{PagesSoFar, next-inside, next-none, next-full, next-taken, page-more}
+use Rattle.fdb_client.proofs.PagesLemmas.{page-none, page-last}
 use Rattle.fdb_client.proofs.range_read.RangeRead.merge.Goals as goal
 
 pub take_own-requires-clause-next : goal.take_own-requires-clause-next

@@ -36,7 +36,8 @@ returns-in_err-more-2 g c =
     let is_more : c.loop-more.more ≡ true = c.loop-more-test.true in
     let on : ReadsOn (left_at read.own.now) map range read.reverse read.limit c.loop-more.progress.given left =
     rw is_more at c.loop-more.invariant in
-    let served : fault left ≡ None = g.met.S.Snapshot.serves_parts c.args.snapshot.now left range on.part c.requires.served in
+    let served : fault left ≡ None = g.met.S.Snapshot.serves_parts c.args.snapshot.now left range on.part
+    c.requires.served in
     let why = c.in_err-more-2.field-0.0 in
     let same : c.from_residual-in_err-more-2.result ≡ Err why = search rules in
     rw same (lacked_memory why (fault left) _ served c.in_err-more-2.ensures)

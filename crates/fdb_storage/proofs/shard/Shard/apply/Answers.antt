@@ -3,7 +3,8 @@ use Rattle.fdb_txn.specs.declared.tag_msg.TagMsg.{TagMsg}
 use Rattle.fdb_log.specs.declared.peek.Peek.{Peek}
 use Rattle.fdb_log.specs.Peeks.{IsPeek}
 use Rattle.fdb_storage.specs.Shards.{Shard, HasApplied, apply_fault}
-use Rattle.fdb_storage.proofs.AppliedLemmas.{Within, within-more, within-append, within-through, through-reaches, before-applied, after-applied}
+use Rattle.fdb_storage.proofs.AppliedLemmas.{Within, within-more, within-append, within-through, through-reaches}
+use Rattle.fdb_storage.proofs.AppliedLemmas.{before-applied, after-applied}
 use Rattle.fdb_storage.proofs.FaultLemmas.{none-of, given, apply_fault-none}
 use Rattle.fdb_storage.proofs.shard.Shard.apply.Goals as goal
 
