@@ -1,5 +1,6 @@
 -- The program's words, as clap reads them.
-use Rattle.std.specs.Prelude.{◌≡◌, ℕ, List, [], true, codes, Option, ◌⊎◌}
+use Rattle.std.specs.Prelude.{◌≡◌, ℕ, List, [], true, codes, Option, Result, Ok, Err, ◌⊎◌}
+use Rattle.std.specs.declared.io.Error.{Error}
 use Rattle.std.specs.Io.KnownBytes.{Appends, Keeps}
 use Rattle.clap.specs.Words.{App, IsAmong, Text, fault_of, new_app, with_subcommand}
 use Rattle.clap.specs.declared.error.kind.ErrorKind.{ErrorKind}
@@ -32,7 +33,7 @@ abbrev pub AreRefused : List Text → Option (List ℕ) → Option (List ℕ) �
 AreRefused words old new status =
     (fault : ErrorKind) × IsAmong fault (fault_of commands words) × EndsBy fault old new status
 
--- what is printed to the standard error for want of memory
+-- what is printed to the standard error where memory runs out
 abbrev pub out_of_memory : List ℕ
 out_of_memory = printed_line (codes "error: out of memory")
 
@@ -40,10 +41,15 @@ out_of_memory = printed_line (codes "error: out of memory")
 abbrev pub LackMemory : Option (List ℕ) → Option (List ℕ) → Option (List ℕ) → Option (List ℕ) → ℕ → Type 0
 LackMemory old new err_old err_new status = (status ≡ 2) × Keeps old new × Appends err_old err_new out_of_memory
 
--- Words play the script of the input exactly where they give the command, and else end by their fault; but
--- for want of memory.
+-- Words play the script of the input exactly where they give the command, and else end by their fault, unless
+-- memory runs out.
 abbrev pub Obeys : List Text → Option (List ℕ) → Option (List ℕ) → Option (List ℕ) → Option (List ℕ)
     → Option (List ℕ) → ℕ → Type 0
 Obeys words input old new err_old err_new status =
     PlaysScript words input old new status
     ⊎ (AreRefused words old new status ⊎ LackMemory old new err_old err_new status)
+
+-- the status that the process ends with: what its command answered, and 2 where its streams failed
+abbrev pub status_of : Result ℕ Error → ℕ
+status_of (Ok status) = status
+status_of (Err error) = 2

@@ -1,5 +1,5 @@
 -- Which errors a run answers, where the reads of its input and the writes of its output may answer these.
-use Rattle.std.specs.Prelude.{◌≡◌, ◌⊎◌, ⊤}
+use Rattle.std.specs.Prelude.{◌≡◌, ◌<◌, ◌≤◌, ◌⊎◌, ⊤, ℕ}
 use Rattle.std.specs.IoError.{error_kind}
 use Rattle.std.specs.declared.io.Error.{Error}
 use Rattle.std.specs.declared.io.ErrorKind.TheVariants.{Other}
@@ -20,3 +20,13 @@ FailsWith errors (Io error) = errors error
 -- a read answered the error, or it says that the input did not end
 abbrev pub IsLimitedError : (Error → Type 0) → Error → Type 0
 IsLimitedError read_errors error = read_errors error ⊎ (error_kind error ≡ Other)
+
+-- how many reads an input may take
+abbrev pub read_limit : ℕ
+read_limit = 4294967296
+
+-- After so many reads the reader's own read answered the error, as long as there are fewer than the limit; from the
+-- limit on none is asked for, and the error says that the input did not end.
+abbrev pub IsLimitedErrorAfter : ℕ → (Error → Type 0) → Error → Type 0
+IsLimitedErrorAfter reads read_errors error =
+    ((reads < read_limit) × read_errors error) ⊎ ((read_limit ≤ reads) × (error_kind error ≡ Other))

@@ -21,8 +21,8 @@ const HELPED: u8 = 0;
 /// status. `run` runs the script that the reader gives, and prints to `out`.
 ///
 /// Words that ask for help print it to `out`, with status 0. Others that give no command print what is wrong
-/// with them to `err`, with status 2 and nothing on `out`. Want of memory while they are read does so too, and
-/// prints `error: out of memory`. A read or a write that fails is answered as that error, and no other error is.
+/// with them to `err`, with status 2 and nothing on `out`. Where memory runs out while they are read it does so too,
+/// and prints `error: out of memory`. A read or a write that fails is answered as that error, and no other error is.
 pub fn run_words<R: Source, O: Sink, E: Sink>(
     alloc: Global,
     words: &[&str],
@@ -76,7 +76,7 @@ fn print_fault<O: Sink, E: Sink>(fault: &Error, out: &mut O, err: &mut E) -> Res
     ensures errors { IfErr result (IsStreamError O.errors E.errors) }
 {
     if let ErrorKind::OutOfMemory = fault.kind() {
-        print_want_of_memory(err)?;
+        print_out_of_memory(err)?;
         return Ok(BAD_WORDS);
     }
     if fault.use_stderr() {
@@ -88,7 +88,7 @@ fn print_fault<O: Sink, E: Sink>(fault: &Error, out: &mut O, err: &mut E) -> Res
     }
 }
 
-fn print_want_of_memory<E: Sink>(err: &mut E) -> Result<(), io::Error>
+fn print_out_of_memory<E: Sink>(err: &mut E) -> Result<(), io::Error>
     ensures printed { OnOk result (Appends (E.contents err.old) (E.contents err.new) out_of_memory) }
     ensures errors { IfErr result E.errors }
 {

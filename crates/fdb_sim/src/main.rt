@@ -2,6 +2,10 @@
 //! step answers.
 #![tactic(auto)]
 
+ghost use Rattle.std.specs.Prelude.{◌≡◌, ◌≤◌, IfOk};
+ghost use Rattle.std.specs.Process.{exit_status};
+ghost use Rattle.fdb_sim.specs.Commands.{status_of};
+
 mod command;
 mod play;
 mod print;
@@ -19,17 +23,27 @@ use std::{env, io};
 const FAULT: u8 = 2;
 
 fn main(rt: HostRuntime) -> ExitCode {
-    match run(&rt) {
-        Ok(status) => ExitCode::from(status),
-        Err(error) => {
-            let _ = eprintln!(rt; "fdb_sim: {error}");
-            ExitCode::from(FAULT)
-        }
+    let ended = run(&rt);
+    if let Err(error) = &ended {
+        let _ = eprintln!(rt; "fdb_sim: {error}");
+    }
+    exit_code(&ended)
+}
+
+// The status that the process ends with: the script's own one, or that of a fault.
+fn exit_code(ended: &io::Result<u8>) -> ExitCode
+    ensures { exit_status result ≡ status_of ended.now }
+{
+    match ended {
+        Ok(status) => ExitCode::from(*status),
+        Err(_error) => ExitCode::from(FAULT),
     }
 }
 
 // Runs the process's own words over its standard streams. What was printed before an error is flushed.
-fn run(rt: &HostRuntime) -> io::Result<u8> {
+fn run(rt: &HostRuntime) -> io::Result<u8>
+    ensures { IfOk result (λ status. status ≤ 2) }
+{
     let alloc = rt.alloc();
     let args: Vec<String> = env::args(rt)?.skip(1).collect(alloc)?;
     let words: Vec<&str> = args.iter().map(|word| word.as_str()).collect(alloc)?;

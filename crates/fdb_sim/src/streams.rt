@@ -70,6 +70,23 @@ impl<R> Limited<R> {
     }
 }
 
+impl<R: Source> Limited<R> {
+    ghost use Rattle.fdb_sim.specs.Streams.{IsLimitedErrorAfter};
+
+    // Reads as the reader does, and is refused exactly after as many reads as the limit.
+    fn read_within(&mut self, buffer: &mut [u8]) -> io::Result<usize>
+        ensures bound { ReadsAtMost result buffer.new }
+        ensures bytes { ReadConsumes (R.remaining self.old.reader) (R.remaining self.new.reader) result buffer.new }
+        ensures errors { IfErr result (IsLimitedErrorAfter self.old.reads R.errors) }
+    {
+        if self.reads >= READ_LIMIT {
+            return Err(io::Error::other("the input did not end"));
+        }
+        self.reads += 1;
+        self.reader.read(buffer)
+    }
+}
+
 impl<R: Source> Source for Limited<R> {
     ghost use Rattle.fdb_sim.specs.Streams.{IsLimitedError};
 
@@ -78,11 +95,7 @@ impl<R: Source> Source for Limited<R> {
     ghost errors = { IsLimitedError R.errors };
 
     fn read(&mut self, buffer: &mut [u8]) -> io::Result<usize> {
-        if self.reads >= READ_LIMIT {
-            return Err(io::Error::other("the input did not end"));
-        }
-        self.reads += 1;
-        self.reader.read(buffer)
+        self.read_within(buffer)
     }
 }
 

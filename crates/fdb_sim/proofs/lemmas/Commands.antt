@@ -1,7 +1,8 @@
 -- Examples of words that give the command, and of the kinds of the faults of words that don't.
 use Rattle.std.proofs.Common.{refl, ◌≡◌, [], ◌∷◌, codes}
 use Rattle.clap.specs.Words.{fault_of}
-use Rattle.clap.specs.declared.error.kind.ErrorKind.TheVariants.{DisplayHelp, InvalidSubcommand, MissingSubcommand, UnknownArgument}
+use Rattle.clap.specs.declared.error.kind.ErrorKind.TheVariants.{DisplayHelp, InvalidSubcommand, MissingSubcommand}
+use Rattle.clap.specs.declared.error.kind.ErrorKind.TheVariants.{UnknownArgument}
 use Rattle.clap.proofs.OnLiterals.{clap_on_literals}
 use Rattle.fdb_sim.specs.Commands.{commands}
 

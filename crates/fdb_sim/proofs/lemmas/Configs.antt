@@ -1,5 +1,6 @@
 -- Words that write a configuration, and pieces that write texts.
-use Rattle.std.proofs.Common.{◌≡◌, refl, ℕ, ◌+◌, ◌<◌, Bool, true, false, ◌||◌, List, [], ◌∷◌, ◌++◌, Option, Some, None, length, take, get_or, subst, ap, sym, ◌∙◌, if◌then◌else◌, codes}
+use Rattle.std.proofs.Common.{◌≡◌, refl, ℕ, ◌+◌, ◌<◌, Bool, true, false, ◌||◌, List, [], ◌∷◌, ◌++◌, Option, Some, None}
+use Rattle.std.proofs.Common.{length, take, get_or, subst, ap, sym, ◌∙◌, if◌then◌else◌, codes}
 use Rattle.std.specs.List.{AllZip, list_any}
 use Rattle.std.specs.Option.{option_or}
 use Rattle.std.proofs.lemmas.Bool.{or_from}
@@ -10,7 +11,8 @@ use Rattle.fdb_proxy.specs.declared.config.Config.{Config}
 use Rattle.fdb_keys.specs.declared.refusal.Refusal.{Refusal}
 use Rattle.fdb_keys.specs.declared.refusal.Refusal.TheVariants.{KeyTooLarge, KeyOutsideLegalRange}
 use Rattle.fdb_keys.specs.Texts.{begins_with_ff, key_fault}
-use Rattle.fdb_sim.specs.script.Configs.{WritesConfig, WritesOutline, WritesSplits, first_fault, is_too_long, line_fault, splits_fault}
+use Rattle.fdb_sim.specs.script.Configs.{WritesConfig, WritesOutline, WritesSplits, first_fault, is_too_long}
+use Rattle.fdb_sim.specs.script.Configs.{line_fault, splits_fault}
 use Rattle.fdb_sim.specs.script.Grammar.{WritesText}
 use Rattle.fdb_sim.specs.script.Words.{words_of}
 

@@ -1,5 +1,6 @@
 -- Steps that are tried one after another, in parts.
-use Rattle.std.proofs.Common.{◌≡◌, refl, ◌+◌, ◌-◌, ◌<◌, subst, ℕ, zero, suc, List, [], ◌∷◌, ◌++◌, Option, Result, Ok, Err, inl, inr, arith}
+use Rattle.std.proofs.Common.{◌≡◌, refl, ◌+◌, ◌-◌, ◌<◌, subst, ℕ, zero, suc, List, [], ◌∷◌, ◌++◌, Option, Result, Ok}
+use Rattle.std.proofs.Common.{Err, inl, inr, arith}
 use Rattle.fdb_keys.specs.declared.refusal.Refusal.{Refusal}
 use Rattle.fdb_core.specs.declared.in_flight.InFlight.{InFlight}
 use Rattle.fdb_core.specs.declared.step.Answered.{Answered}
@@ -7,7 +8,8 @@ use Rattle.fdb_core.specs.declared.step.Step.{Step}
 use Rattle.fdb_core.specs.declared.step.Step.TheVariants.{Decide, Report, Answer}
 use Rattle.fdb_core.specs.machine.Machine.{Machine}
 use Rattle.fdb_core.specs.machine.Worlds.{IsStep}
-use Rattle.fdb_sim.specs.play.Driving.{AreAccepted, AreRefused, DrivesWhole, for_each, log_steps, resolver_steps, steps_before_answer}
+use Rattle.fdb_sim.specs.play.Driving.{AreAccepted, AreRefused, DrivesWhole, for_each, log_steps, resolver_steps}
+use Rattle.fdb_sim.specs.play.Driving.{steps_before_answer}
 
 -- two parts are accepted
 pub accepted_both : (old mid new : Option Machine) (front back : List Step) → AreAccepted old front mid

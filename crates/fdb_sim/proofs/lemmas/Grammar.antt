@@ -1,18 +1,23 @@
 -- What the words of a line write, and what they don't.
-use Rattle.std.proofs.Common.{◌≡◌, ◌≢◌, ◌+◌, ◌*◌, ◌==◌, ℕ, true, false, List, [], ◌∷◌, Option, Err, get_or, refl, ap, sym, subst, ◌∙◌, if◌then◌else◌, codes}
+use Rattle.std.proofs.Common.{◌≡◌, ◌≢◌, ◌+◌, ◌*◌, ◌==◌, ℕ, true, false, List, [], ◌∷◌, Option, Err, get_or, refl, ap}
+use Rattle.std.proofs.Common.{sym, subst, ◌∙◌, if◌then◌else◌, codes}
 use Rattle.std.specs.Cmp.Lexicographic.{bytes_decides}
 use Rattle.std.proofs.lemmas.Bool.{both_ways}
 use Rattle.fdb_core.specs.declared.step.Step.{Step}
 use Rattle.fdb_keys.specs.declared.refusal.Refusal.{Refusal}
 use Rattle.fdb_sim.specs.script.Faults.{Reads}
-use Rattle.fdb_sim.specs.script.Grammar.{WritesSmall, WritesOne, WritesNumberAnd, WritesRest, WritesStep, WritesLine, step_fault, read_fault}
+use Rattle.fdb_sim.specs.script.Grammar.{WritesSmall, WritesOne, WritesNumberAnd, WritesRest, WritesStep, WritesLine}
+use Rattle.fdb_sim.specs.script.Grammar.{step_fault, read_fault}
 use Rattle.fdb_sim.specs.script.Kinds.{name_of}
 use Rattle.fdb_sim.specs.script.Words.{words_of}
 use Rattle.fdb_sim.specs.declared.script.fault.Fault.{Fault}
 use Rattle.fdb_sim.specs.declared.script.line.Line.{Line}
 use Rattle.fdb_sim.specs.declared.script.line.Line.TheVariants as given
 use Rattle.fdb_sim.specs.declared.script.step_line.Kind.{Kind}
-use Rattle.fdb_sim.specs.declared.script.step_line.Kind.TheVariants.{Ask, Grant, Get, SnapshotGet, Range, SnapshotRange, Write, AddRead, AddWrite, Submit, Seal, Resolve, Verdict, Decide, Push, Logged, Report, Answer, Pull, Forget, Pop, Move}
+use Rattle.fdb_sim.specs.declared.script.step_line.Kind.TheVariants.{Ask, Grant, Get, SnapshotGet, Range, SnapshotRange}
+use Rattle.fdb_sim.specs.declared.script.step_line.Kind.TheVariants.{Write, AddRead, AddWrite, Submit, Seal, Resolve}
+use Rattle.fdb_sim.specs.declared.script.step_line.Kind.TheVariants.{Verdict, Decide, Push, Logged, Report, Answer}
+use Rattle.fdb_sim.specs.declared.script.step_line.Kind.TheVariants.{Pull, Forget, Pop, Move}
 use Rattle.fdb_sim.proofs.lemmas.Faults.{Reads-whole}
 use Rattle.fdb_sim.proofs.lemmas.Words.{after_first, first_of}
 

@@ -1,7 +1,10 @@
 -- Each kind is one of twenty-two.
 use Rattle.std.proofs.Common.{◌≢◌, ℕ, ◌<◌, List, [], ◌∷◌, get_or, arith}
 use Rattle.fdb_sim.specs.declared.script.step_line.Kind.{Kind}
-use Rattle.fdb_sim.specs.declared.script.step_line.Kind.TheVariants.{Ask, Grant, Get, SnapshotGet, Range, SnapshotRange, Write, AddRead, AddWrite, Submit, Seal, Resolve, Verdict, Decide, Push, Logged, Report, Answer, Pull, Forget, Pop, Move}
+use Rattle.fdb_sim.specs.declared.script.step_line.Kind.TheVariants.{Ask, Grant, Get, SnapshotGet, Range, SnapshotRange}
+use Rattle.fdb_sim.specs.declared.script.step_line.Kind.TheVariants.{Write, AddRead, AddWrite, Submit, Seal, Resolve}
+use Rattle.fdb_sim.specs.declared.script.step_line.Kind.TheVariants.{Verdict, Decide, Push, Logged, Report, Answer}
+use Rattle.fdb_sim.specs.declared.script.step_line.Kind.TheVariants.{Pull, Forget, Pop, Move}
 use Rattle.fdb_sim.specs.script.Kinds.{name_of}
 
 abbrev kinds : List Kind

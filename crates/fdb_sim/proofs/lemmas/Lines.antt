@@ -1,5 +1,6 @@
 -- The lines of a text, and its first line, which is read through its LF.
-use Rattle.std.proofs.Common.{◌≡◌, ◌≢◌, ◌⊎◌, ℕ, ◌-◌, ◌<◌, false, cond, List, [], ◌∷◌, ◌++◌, All, length, IfSome, None, Some, inl, inr, refl, ap, sym, subst, ◌∙◌, arith, append-nil, length-append, ⊎_elim}
+use Rattle.std.proofs.Common.{◌≡◌, ◌≢◌, ◌⊎◌, ℕ, ◌-◌, ◌<◌, false, cond, List, [], ◌∷◌, ◌++◌, All, length, IfSome, None}
+use Rattle.std.proofs.Common.{Some, inl, inr, refl, ap, sym, subst, ◌∙◌, arith, append-nil, length-append, ⊎_elim}
 use Rattle.std.specs.Prelude.{Option, ◌==◌}
 use Rattle.std.specs.List.{slice_split}
 use Rattle.std.specs.Str.Lines.{lines_of_parts, strip_carriage_return}

@@ -1,5 +1,6 @@
 -- What is written of a byte is read as that byte.
-use Rattle.std.proofs.Common.{◌≡◌, ℕ, ◌+◌, ◌*◌, ◌/◌, ◌%◌, ◌<◌, ◌==◌, true, false, suc, List, [], ◌∷◌, ◌++◌, Some, refl, ap, sym, ◌∙◌, ⊎_elim, arith, true≢false}
+use Rattle.std.proofs.Common.{◌≡◌, ℕ, ◌+◌, ◌*◌, ◌/◌, ◌%◌, ◌<◌, ◌==◌, true, false, suc, List, [], ◌∷◌, ◌++◌, Some, refl}
+use Rattle.std.proofs.Common.{ap, sym, ◌∙◌, ⊎_elim, arith, true≢false}
 use Rattle.std.specs.Prelude.{All, nat_lt}
 use Rattle.std.specs.Char.{digit_value, digit_char}
 use Rattle.std.proofs.lemmas.Bool.{cases_Bool, lt-ltb, eqb-true, and_from}

@@ -1,5 +1,6 @@
 -- How the parts of a script's run come together.
-use Rattle.std.proofs.Common.{◌≡◌, ◌∙◌, refl, sym, ap, subst, ℕ, suc, List, [], ◌∷◌, ◌++◌, append_assoc, append-nil, Option, Some, None, true, false, Result, Ok, Err, inl, inr}
+use Rattle.std.proofs.Common.{◌≡◌, ◌∙◌, refl, sym, ap, subst, ℕ, suc, List, [], ◌∷◌, ◌++◌, append_assoc, append-nil}
+use Rattle.std.proofs.Common.{Option, Some, None, true, false, Result, Ok, Err, inl, inr}
 use Rattle.fdb_keys.specs.declared.refusal.Refusal.{Refusal}
 use Rattle.fdb_keys.specs.Answers.{Answers}
 use Rattle.fdb_proxy.specs.declared.config.Config.{Config}
@@ -14,7 +15,8 @@ use Rattle.fdb_sim.specs.script.Configs.{WritesConfig, line_fault}
 use Rattle.fdb_sim.specs.declared.play.stop.Stop.{Stop}
 use Rattle.fdb_sim.specs.declared.play.stop.Stop.TheVariants as stop
 use Rattle.fdb_sim.specs.script.Lines.{lines_of, LosesLine, IsInputFault}
-use Rattle.fdb_sim.specs.play.Scripts.{Plays, PlaysFrom, PlaysOn, IsChecked, AnswersLine, Unconfigured, StopsAt, printed_line, refused_line, is_silent, Reaches, Says, Knows, Printed, stop_text}
+use Rattle.fdb_sim.specs.play.Scripts.{Plays, PlaysFrom, PlaysOn, IsChecked, AnswersLine, Unconfigured, StopsAt}
+use Rattle.fdb_sim.specs.play.Scripts.{printed_line, refused_line, is_silent, Reaches, Says, Knows, Printed, stop_text}
 
 refused-at : {T : Type 0} (fault : Option Refusal) (config : Config) (why : Refusal) (P : T → Type 0) (number : ℕ)
     (lines : List (List ℕ))

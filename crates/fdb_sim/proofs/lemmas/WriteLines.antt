@@ -1,5 +1,6 @@
 -- What the words after a session's number write, and what they don't.
-use Rattle.std.proofs.Common.{◌≡◌, ◌≢◌, ℕ, ◌<◌, false, List, [], ◌∷◌, None, Some, Err, get_or, refl, ap, sym, ◌∙◌, codes, arith}
+use Rattle.std.proofs.Common.{◌≡◌, ◌≢◌, ℕ, ◌<◌, false, List, [], ◌∷◌, None, Some, Err, get_or, refl, ap, sym, ◌∙◌}
+use Rattle.std.proofs.Common.{codes, arith}
 use Rattle.std.specs.Cmp.Lexicographic.{bytes_decides}
 use Rattle.std.proofs.lemmas.Bool.{both_ways}
 use Rattle.fdb_keys.specs.Ranges.{Range}
@@ -7,11 +8,13 @@ use Rattle.fdb_keys.specs.Texts.{key_fault}
 use Rattle.fdb_mutations.specs.declared.mutation.Mutation.{Mutation}
 use Rattle.fdb_mutations.specs.declared.mutation.Mutation.TheVariants as made
 use Rattle.fdb_sim.specs.script.Faults.{MatchFault, Reads}
-use Rattle.fdb_sim.specs.script.Grammar.{WritesText, WritesOneText, WritesTwoTexts, WritesBounds, WritesMutation, bounds_fault, mutation_fault}
+use Rattle.fdb_sim.specs.script.Grammar.{WritesText, WritesOneText, WritesTwoTexts, WritesBounds, WritesMutation}
+use Rattle.fdb_sim.specs.script.Grammar.{bounds_fault, mutation_fault}
 use Rattle.fdb_sim.specs.script.Operations.{operation_name, operation_on}
 use Rattle.fdb_sim.specs.declared.script.fault.Fault.{Fault}
 use Rattle.fdb_sim.specs.declared.script.operation.Operation.{Operation}
-use Rattle.fdb_sim.specs.declared.script.operation.Operation.TheVariants.{Set, Add, And, Or, Xor, Max, Min, ByteMin, ByteMax, CompareAndClear}
+use Rattle.fdb_sim.specs.declared.script.operation.Operation.TheVariants.{Set, Add, And, Or, Xor, Max, Min, ByteMin}
+use Rattle.fdb_sim.specs.declared.script.operation.Operation.TheVariants.{ByteMax, CompareAndClear}
 use Rattle.fdb_sim.proofs.lemmas.Faults.{Reads-refused, Reads-whole}
 use Rattle.fdb_sim.proofs.lemmas.Words.{after_first, first_of}
 

@@ -1,5 +1,6 @@
 -- What a script prints, and the status that it ends with.
-use Rattle.std.specs.Prelude.{◌≡◌, ℕ, suc, ◌==◌, Bool, true, false, List, [], ◌∷◌, ◌++◌, length, Option, Some, None, IfSome, Result, ◌⊎◌, codes}
+use Rattle.std.specs.Prelude.{◌≡◌, ℕ, suc, ◌==◌, Bool, true, false, List, [], ◌∷◌, ◌++◌, length, Option, Some, None}
+use Rattle.std.specs.Prelude.{IfSome, Result, ◌⊎◌, codes}
 use Rattle.std.specs.Io.KnownBytes.{Appends}
 use Rattle.std.specs.Fmt.{decimal}
 use Rattle.fdb_keys.specs.declared.refusal.Refusal.{Refusal}
@@ -45,7 +46,7 @@ refused_line refusal = printed_line (refusal_text refusal)
 abbrev pub Ends : List ℕ → List ℕ → ℕ → Type 0
 Ends last printed status = (printed ≡ last) × (status ≡ 2)
 
--- the script ends for want of memory
+-- the script ends since memory ran out
 abbrev pub RunsOut : List ℕ → ℕ → Type 0
 RunsOut printed status = Ends (refused_line NoMemory) printed status
 

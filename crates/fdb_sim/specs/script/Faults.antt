@@ -5,12 +5,12 @@ use Rattle.fdb_keys.specs.declared.refusal.Refusal.TheVariants.{NoMemory}
 use Rattle.fdb_sim.specs.declared.script.fault.Fault.{Fault}
 use Rattle.fdb_sim.specs.declared.script.fault.Fault.TheVariants as fault
 
--- the fault of a line whose key is refused: want of memory is a fault of its own
+-- the fault of a line whose key is refused: that memory ran out is a fault of its own
 abbrev pub fault_of : Refusal → Fault
 fault_of NoMemory = fault.NoMemory
 fault_of why = fault.Refused why
 
--- what a fault says: one fact of a bad line, one of a key that is refused. Want of memory says nothing
+-- what a fault says: one fact of a bad line, one of a key that is refused. That memory ran out says nothing
 abbrev pub MatchFault : Fault → Type 0 → (Refusal → Type 0) → Type 0
 MatchFault fault.Bad bad refused = bad
 MatchFault (fault.Refused why) bad refused = refused why

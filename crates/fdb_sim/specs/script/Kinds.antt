@@ -1,7 +1,10 @@
 -- The first words of lines.
 use Rattle.std.specs.Prelude.{ℕ, List, codes}
 use Rattle.fdb_sim.specs.declared.script.step_line.Kind.{Kind}
-use Rattle.fdb_sim.specs.declared.script.step_line.Kind.TheVariants.{Ask, Grant, Get, SnapshotGet, Range, SnapshotRange, Write, AddRead, AddWrite, Submit, Seal, Resolve, Verdict, Decide, Push, Logged, Report, Answer, Pull, Forget, Pop, Move}
+use Rattle.fdb_sim.specs.declared.script.step_line.Kind.TheVariants.{Ask, Grant, Get, SnapshotGet, Range, SnapshotRange}
+use Rattle.fdb_sim.specs.declared.script.step_line.Kind.TheVariants.{Write, AddRead, AddWrite, Submit, Seal, Resolve}
+use Rattle.fdb_sim.specs.declared.script.step_line.Kind.TheVariants.{Verdict, Decide, Push, Logged, Report, Answer}
+use Rattle.fdb_sim.specs.declared.script.step_line.Kind.TheVariants.{Pull, Forget, Pop, Move}
 
 -- the word that names the kind
 abbrev pub name_of : Kind → List ℕ

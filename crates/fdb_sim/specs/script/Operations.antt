@@ -3,7 +3,8 @@ use Rattle.std.specs.Prelude.{ℕ, List, codes}
 use Rattle.fdb_mutations.specs.declared.mutation.Mutation.{Mutation}
 use Rattle.fdb_mutations.specs.declared.mutation.Mutation.TheVariants as made
 use Rattle.fdb_sim.specs.declared.script.operation.Operation.{Operation}
-use Rattle.fdb_sim.specs.declared.script.operation.Operation.TheVariants.{Set, Add, And, Or, Xor, Max, Min, ByteMin, ByteMax, CompareAndClear}
+use Rattle.fdb_sim.specs.declared.script.operation.Operation.TheVariants.{Set, Add, And, Or, Xor, Max, Min, ByteMin}
+use Rattle.fdb_sim.specs.declared.script.operation.Operation.TheVariants.{ByteMax, CompareAndClear}
 
 -- the word that names the kind
 abbrev pub operation_name : Operation → List ℕ

@@ -1,11 +1,13 @@
-ghost use Rattle.std.specs.Prelude.{◌≡◌, ◌<◌, ◌≤◌, ◌++◌, ℕ, List, [], Some, None, true, false, IfOk, IfErr, OnOk, string_bytes, codes};
+ghost use Rattle.std.specs.Prelude.{◌≡◌, ◌<◌, ◌≤◌, ◌++◌, ℕ, List, [], Some, None, true, false, IfOk, IfErr, OnOk};
+ghost use Rattle.std.specs.Prelude.{string_bytes, codes};
 ghost use Rattle.std.specs.Io.KnownBytes.{Appends};
 ghost use Rattle.fdb_proxy.specs.Configs.{config_fault};
 ghost use Rattle.fdb_core.specs.machine.Worlds.{start};
 ghost use Rattle.fdb_sim.specs.Streams.{FailsWith, IsLimitedError, IsStreamError};
 ghost use Rattle.fdb_sim.specs.script.Configs.{WritesConfig, line_fault};
 ghost use Rattle.fdb_sim.specs.script.Lines.{left, line_text, line_number};
-ghost use Rattle.fdb_sim.specs.play.Scripts.{is_silent, printed_line, AnswersLine, PlaysOn, PlaysFrom, Plays, Unconfigured, StopsAt, Printed, Knows, Says, Reaches};
+ghost use Rattle.fdb_sim.specs.play.Scripts.{is_silent, printed_line, AnswersLine, PlaysOn, PlaysFrom, Plays};
+ghost use Rattle.fdb_sim.specs.play.Scripts.{Unconfigured, StopsAt, Printed, Knows, Says, Reaches};
 
 use crate::play::driving::drive;
 use crate::play::showing::push_shown;
@@ -24,7 +26,7 @@ use std::io;
 
 /// Runs the script that the reader gives, and writes what it prints to the writer, which isn't flushed.
 /// Answers the status: 0 where the check at the end held, 1 where it failed, and 2 where the script ended
-/// before, by a bad line, by a refused configuration or for want of memory. What is printed and the status
+/// before, by a bad line, by a refused configuration or since memory ran out. What is printed and the status
 /// are said of a reader whose bytes and a writer whose contents are known, as those over memory.
 ///
 /// A read or a write that fails is answered as that error, and what was written then is a prefix of what
@@ -75,7 +77,8 @@ fn run_to_end<R: Source, W: Sink>(alloc: Global, reader: &mut R, writer: &mut W)
 // Prints that the configuration was taken, and gives the world back.
 fn greet<W: Sink>(world: World, writer: &mut W) -> Result<World, Stop>
     ensures ok { IfOk result (λ same. same ≡ world) }
-    ensures printed { OnOk result (Appends (W.contents writer.old) (W.contents writer.new) (printed_line (codes "ok"))) }
+    ensures printed { OnOk result (Appends (W.contents writer.old) (W.contents writer.new)
+        (printed_line (codes "ok"))) }
     ensures stops { IfErr result (λ stop. Says stop (λ _. ⊥)) }
     ensures errors { IfErr result (FailsWith W.errors) }
 {

@@ -2,7 +2,9 @@
 ghost use Rattle.std.specs.Prelude.{◌≡◌, ◌++◌, OnOk, string_bytes};
 ghost use Rattle.std.specs.Fmt.{decimal};
 ghost use Rattle.fdb_keys.specs.Refusals.{code_of};
-ghost use Rattle.fdb_sim.specs.print.Answers.{granted_text, value_text, pair_text, pairs_text, verdict_name, verdicts_text, outcome_name, outcomes_text, version_text, told_text, clients_text, answer_text, result_text};
+ghost use Rattle.fdb_sim.specs.print.Answers.{granted_text, value_text, pair_text, pairs_text, verdict_name};
+ghost use Rattle.fdb_sim.specs.print.Answers.{verdicts_text, outcome_name, outcomes_text, version_text, told_text};
+ghost use Rattle.fdb_sim.specs.print.Answers.{clients_text, answer_text, result_text};
 ghost use Rattle.fdb_sim.specs.play.Scripts.{printed_line, refused_line};
 
 use crate::print::refusals::RefusalLine;
@@ -38,7 +40,7 @@ pub fn push_refusal(text: &mut String, refusal: Refusal) -> Result<(), AllocErro
     writeln!(text, "{line}")
 }
 
-/// Appends what a step of this kind answered, as a script prints it. Only want of memory is an error.
+/// Appends what a step of this kind answered, as a script prints it. It fails only where memory runs out.
 pub fn push_answer(text: &mut String, kind: Kind, answered: &Answered) -> Result<(), AllocError>
     ensures { OnOk result (string_bytes text.new ≡ string_bytes text.old ++ answer_text kind answered.now) }
 {

@@ -1,6 +1,7 @@
 ghost use Rattle.std.specs.Prelude.{◌≡◌, ◌≢◌, ◌++◌, ℕ, List, ◌∷◌, None, Some, IfOk, IfErr};
 ghost use Rattle.std.specs.List.{list_any};
-ghost use Rattle.fdb_sim.specs.script.Configs.{WritesConfig, WritesOutline, WritesSplits, WritesTexts, first_fault, is_too_long, line_fault, splits_fault};
+ghost use Rattle.fdb_sim.specs.script.Configs.{WritesConfig, WritesOutline, WritesSplits, WritesTexts, first_fault};
+ghost use Rattle.fdb_sim.specs.script.Configs.{is_too_long, line_fault, splits_fault};
 ghost use Rattle.fdb_sim.specs.script.Faults.{MatchFault, Reads};
 ghost use Rattle.fdb_sim.specs.script.Grammar.{WritesSmall, WritesText};
 ghost use Rattle.fdb_sim.specs.script.Words.{words_of};

@@ -1,7 +1,8 @@
 // Keys and ranges that are the last words of a line. All words are read before a key or a range is made.
 ghost use Rattle.fdb_keys.specs.Texts.{key_fault};
 ghost use Rattle.fdb_sim.specs.script.Faults.{Reads};
-ghost use Rattle.fdb_sim.specs.script.Grammar.{WritesBounds, WritesOneText, WritesRangeRead, WritesTarget, bounds_fault};
+ghost use Rattle.fdb_sim.specs.script.Grammar.{WritesBounds, WritesOneText, WritesRangeRead, WritesTarget};
+ghost use Rattle.fdb_sim.specs.script.Grammar.{bounds_fault};
 
 use crate::script::fault::Fault;
 use crate::script::texts::{make_key, make_range};

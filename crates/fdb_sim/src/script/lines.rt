@@ -10,8 +10,8 @@ use std::io;
 use std::io::{BufRead, BufReader, Read};
 use std::marker::Model;
 
-/// A reader that keeps the error that its last read answered, which tells that error from want of memory for
-/// the line.
+/// A reader that keeps the error that its last read answered, which tells that error from one line's lack of
+/// memory.
 #[derive(Drop)]
 struct Noting<R: Source> {
     reader: R,
@@ -102,7 +102,7 @@ impl<R: Source + Drop> Lines<R> {
     }
 
     /// Goes to the next line, and answers whether there is one. It fails where a read fails, with that error,
-    /// and where memory runs out; the number of a line that would not fit counts as want of memory, since no
+    /// and where memory runs out; the number of a line that would not fit counts as out of memory, since no
     /// input is that long. Nothing is known of the lines after a failure.
     pub fn advance(&mut self) -> Result<bool, Stop>
         ensures line { result ≡ Ok true

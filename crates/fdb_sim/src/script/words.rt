@@ -27,7 +27,8 @@ impl<'a> Words<'a> {
     ghost use Rattle.std.specs.Prelude.{◌≡◌, ◌≢◌, Bool, List, ℕ, [], ◌∷◌, IfOk, IfErr, MatchResult};
     ghost use Rattle.fdb_sim.specs.script.Faults.{MatchFault};
     ghost use Rattle.fdb_sim.specs.script.Words.{words_of};
-    ghost use Rattle.fdb_sim.specs.script.Grammar.{WritesNumber, WritesSmall, WritesText, WritesOne, WritesTwo, WritesOrder};
+    ghost use Rattle.fdb_sim.specs.script.Grammar.{WritesNumber, WritesSmall, WritesText, WritesOne, WritesTwo};
+    ghost use Rattle.fdb_sim.specs.script.Grammar.{WritesOrder};
 
     /// All words of the line.
     pub fn new(line: &'a [u8]) -> Words<'a>
@@ -137,8 +138,8 @@ impl<'a> Words<'a> {
         Ok(text)
     }
 
-    /// Whether the last word is `reverse`, where no word is left otherwise. Refused as bad where another word comes, and
-    /// where words are left after it.
+    /// Whether the last word is `reverse`, where no word is left otherwise. Refused as bad where another word comes,
+    /// and where words are left after it.
     pub fn last_order(&mut self) -> Result<bool, Fault>
         ensures ok { IfOk result (λ is_reverse. WritesOrder self.old is_reverse) }
         ensures bad { IfErr result

@@ -1,6 +1,6 @@
-// Scripts as tables: each line stands beside what it prints, as `grant 0 > grant 0=0`. A line without ` > ` prints `ok`,
-// and an empty one and a comment print nothing. What is printed at the end of the input stands after `end > `; a table
-// without it is of a script that ends at its last line, with status 2.
+// Scripts as tables: each line stands beside what it prints, as `grant 0 > grant 0=0`. A line without ` > ` prints
+// `ok`, and an empty one and a comment print nothing. What is printed at the end of the input stands after `end > `; a
+// table without it is of a script that ends at its last line, with status 2.
 mod batches;
 mod drives;
 mod moves;

@@ -1,6 +1,7 @@
 use Rattle.std.proofs.Common.{inl}
 use Rattle.std.proofs.lemmas.Result.{err_from_is_err_and}
-use Rattle.fdb_sim.proofs.lemmas.Driving.{one_accepted, refused_first, refused_second, refused_third, refused_fourth, answered_last}
+use Rattle.fdb_sim.proofs.lemmas.Driving.{one_accepted, refused_first, refused_second, refused_third, refused_fourth}
+use Rattle.fdb_sim.proofs.lemmas.Driving.{answered_last}
 use Rattle.fdb_sim.proofs.play.driving.drive_whole.Goals as goal
 
 pub returns-in_err-resolve_everywhere : goal.returns-in_err-resolve_everywhere

@@ -1,7 +1,9 @@
 use Rattle.std.proofs.Common.{sym, ap, ◌∙◌, ◌++◌, Ok}
 use Rattle.std.proofs.lemmas.Result.{err_from_is_err_and}
-use Rattle.fdb_sim.proofs.lemmas.Script.{if_ok_map, if_err_map, steps_reading_stops, steps_checked, steps_unchecked, steps_line_stops, steps_silent, steps_line}
-use Rattle.fdb_sim.proofs.play.script.take_steps.Goals.{then-not-is_silent+in_ok-take_line+in_ok-write_all, else-not-is_silent}
+use Rattle.fdb_sim.proofs.lemmas.Script.{if_ok_map, if_err_map, steps_reading_stops, steps_checked, steps_unchecked}
+use Rattle.fdb_sim.proofs.lemmas.Script.{steps_line_stops, steps_silent, steps_line}
+use Rattle.fdb_sim.proofs.play.script.take_steps.Goals.{then-not-is_silent+in_ok-take_line+in_ok-write_all}
+use Rattle.fdb_sim.proofs.play.script.take_steps.Goals.{else-not-is_silent}
 use Rattle.fdb_sim.specs.declared.play.stop.Stop.TheVariants.{NoMemory}
 use Rattle.fdb_sim.proofs.play.script.take_steps.Goals as goal
 

@@ -28,7 +28,8 @@ module _ (words after : List (List ℕ)) (begin : List ℕ)
     no_limit : ((word : List ℕ) (rest : List (List ℕ)) (value : ℕ) → later ≡ word ∷ rest → ¬ WritesSmall word value)
         → (read : RangeRead) → ¬ WritesRangeRead words read
     no_limit none read written =
-        none written.2 written.3 read.limit (after_first (sym second.1 ∙ after_first (sym first.1 ∙ written.4))) written.7
+        none written.2 written.3 read.limit (after_first (sym second.1 ∙ after_first (sym first.1 ∙ written.4)))
+        written.7
 
     -- or what they end with is no word for an order
     no_order : (last : List (List ℕ)) (limit : ℕ) → ((x : List ℕ) × (later ≡ x ∷ last) × WritesSmall x limit)
