@@ -1,51 +1,18 @@
-// The client's side of transactions, with known answers. What asks a transaction is a closure that is lent it.
+// The client's side of transactions: steps with their known answers.
 mod cut_snapshot;
 mod marks;
 mod programs;
-mod ranges;
 mod steps;
 
-use crate::making::{are_ranges, ask, code_of, filled, made_of, same, text_of};
+use self::cut_snapshot::CutSnapshot;
+use self::steps::{Asked, Change, Text};
+use crate::making::{are_ranges, ask, coded, filled, made_of, same, text_of};
 use bytes::Bytes;
-use fdb_client::{Finished, Page, PlainSnapshot, Snapshot, Txn};
-use fdb_keys::{Key, KeyRange, Refusal, Refused, TreeRangeSet};
+use fdb_client::{Finished, PlainSnapshot, Snapshot, Txn};
+use fdb_keys::{Items, Key, KeyRange, Refusal, Refused, TreeRangeSet};
 use fdb_mutations::{Mutation, PlainMap};
 use fdb_txn::{Sealed, TxnId};
 use std::alloc::Global;
-
-// A snapshot that isn't reached yet.
-#[derive(Drop)]
-struct FutureSnapshot {
-    version: u64,
-}
-
-impl Snapshot for FutureSnapshot {
-    ghost use Rattle.std.specs.Prelude.{Some};
-    ghost use Rattle.std.specs.FinMap.{empty};
-    ghost use Rattle.fdb_keys.specs.declared.refusal.Refusal.TheVariants.{FutureVersion};
-
-    ghost at = { λ snapshot. snapshot.version };
-
-    ghost map = { λ snapshot. empty };
-
-    ghost key_fault = { λ snapshot key. Some FutureVersion };
-
-    ghost range_fault = { λ snapshot range. Some FutureVersion };
-
-    ghost serves_parts = { λ snapshot part range inside served. served };
-
-    fn version(&self) -> u64 {
-        self.version
-    }
-
-    fn get(&self, _key: &Key) -> Result<Option<Bytes>, Refusal> {
-        Err(Refusal::FutureVersion)
-    }
-
-    fn page(&self, _range: &KeyRange, _limit: u32, _reverse: bool) -> Result<Page, Refusal> {
-        Err(Refusal::FutureVersion)
-    }
-}
 
 fn begin(alloc: Global) -> Txn {
     let id = TxnId {
@@ -55,59 +22,94 @@ fn begin(alloc: Global) -> Txn {
     Txn::begin(alloc, id, 40)
 }
 
-// What is answered of a new transaction.
-fn begun<A: Drop, F: FnOnce(&mut Txn) -> A + Drop>(alloc: Global, question: F) -> A
-    requires { F.IsAlwaysCallable question }
-{
-    let mut txn = begin(alloc);
-    let answer = question(&mut txn);
-    drop(txn);
-    answer
-}
-
-// The code of the refusal of a write, or 0.
-fn write(txn: &mut Txn, mutation: Result<Mutation, Refusal>) -> u32 {
-    match mutation {
-        Ok(mutation) => code_of(txn.write(mutation)),
-        Err(why) => why.code(),
+fn mutation_of(alloc: Global, change: Change) -> Result<Mutation, Refusal> {
+    match change {
+        Change::Set(key, value) => Mutation::set(alloc, key, &[value]),
+        Change::Clear(key) => Mutation::clear(alloc, key),
+        Change::ClearRange(begin, end) => Mutation::clear_range(alloc, begin, end),
+        Change::Add(key, operand) => Mutation::add(alloc, key, &[operand]),
+        Change::CompareAndClear(key, operand) => Mutation::compare_and_clear(
+            alloc,
+            key,
+            &[operand],
+        ),
     }
 }
 
-// Adds the range to the read set. The code of the refusal, or 0.
-fn add_read(txn: &mut Txn, alloc: Global, begin: &[u8], end: &[u8]) -> u32 {
-    code_of(made_of(
-        KeyRange::new(alloc, begin, end),
-        |range| txn.add_read(range),
-    ))
+fn write(txn: &mut Txn, mutation: Result<Mutation, Refusal>) -> Result<(), Refusal> {
+    match mutation {
+        Ok(mutation) => txn.write(mutation),
+        Err(why) => Err(why),
+    }
 }
 
-// Adds the range to the write set. The code of the refusal, or 0.
-fn add_write(txn: &mut Txn, alloc: Global, begin: &[u8], end: &[u8]) -> u32 {
-    code_of(made_of(
-        KeyRange::new(alloc, begin, end),
-        |range| txn.add_write(range),
-    ))
+fn add_read(txn: &mut Txn, alloc: Global, begin: Text, end: Text) -> Result<(), Refusal> {
+    let range = KeyRange::new(alloc, begin, end)?;
+    txn.add_read(&range)
 }
 
-// Reads the key over the map.
+fn add_write(txn: &mut Txn, alloc: Global, begin: Text, end: Text) -> Result<(), Refusal> {
+    let range = KeyRange::new(alloc, begin, end)?;
+    txn.add_write(&range)
+}
+
 fn get(
     txn: &mut Txn,
-    map: &PlainMap,
-    alloc: Global,
-    key: &[u8],
+    base: CutSnapshot<'_>,
+    key: &Key,
     is_snapshot: bool,
 ) -> Result<Option<Bytes>, Refusal> {
-    let key = Key::new(alloc, key)?;
     let version = txn.transcript().read_version;
-    txn.get(&PlainSnapshot { version, map }, &key, is_snapshot)
+    txn.get(&CutSnapshot { version, ..base }, key, is_snapshot)
 }
 
-// Reads the key where the snapshot isn't reached yet.
-fn get_decided(txn: &mut Txn, alloc: Global, key: &[u8]) -> Result<Option<Bytes>, Refusal> {
-    let key = Key::new(alloc, key)?;
+fn range(
+    txn: &mut Txn,
+    base: CutSnapshot<'_>,
+    keys: &KeyRange,
+    asked: Asked,
+) -> Result<Items<(Key, Bytes)>, Refusal> {
     let version = txn.transcript().read_version;
-    txn.get(&FutureSnapshot { version }, &key, false)
+    let snapshot = CutSnapshot { version, ..base };
+    txn.get_range(
+        &snapshot,
+        keys,
+        asked.limit,
+        asked.reverse,
+        asked.is_snapshot,
+    )
 }
+
+// What is done with an open transaction, or asked of it.
+#[derive(Clone, Copy)]
+enum Line {
+    Write(Change),
+    // The addition of a number of as many bytes to a.
+    AddLong(usize),
+    // Sets as many keys to values of as many bytes.
+    SetEach(u8, usize),
+    AddRead(Text, Text),
+    AddWrite(Text, Text),
+    // By an ordinary read or by a snapshot read.
+    Get(Text, bool),
+    // Whether just these pairs are read.
+    Range(Asked, &'static [(Text, u8)]),
+    // Whether the read set, or the write set, is just these ranges.
+    Reads(&'static [(Text, Text)]),
+    Writes(&'static [(Text, Text)]),
+    // How many operations are noted.
+    Ops,
+}
+
+// The one byte of a value, if there is one, the number that is asked for, 1 where something is done or holds, or the
+// code of the refusal.
+type Answer = Result<Option<usize>, u32>;
+
+const DONE: Answer = Ok(Some(1));
+
+const YES: Answer = Ok(Some(1));
+
+const NO_VALUE: Answer = Ok(None);
 
 fn first_byte(bytes: &[u8]) -> u8 {
     match bytes {
@@ -116,59 +118,101 @@ fn first_byte(bytes: &[u8]) -> u8 {
     }
 }
 
-fn only_byte(value: Option<&Bytes>) -> u8 {
-    match value {
-        Some(value) => first_byte(value.as_slice()),
-        None => 0,
-    }
-}
-
-// The one byte that was read, or 0 where there is no value, or the code of the refusal.
-fn byte_or_code(read: Result<Option<Bytes>, Refusal>) -> Result<u8, u32> {
-    ask(read, |value| only_byte(value.as_ref()))
-}
-
-// What the key is read as over the map.
-fn byte_of(txn: &mut Txn, map: &PlainMap, alloc: Global, key: &[u8]) -> Result<u8, u32> {
-    byte_or_code(get(txn, map, alloc, key, false))
-}
-
-// What a is read as after the write.
-fn after(
+fn byte_of(
     txn: &mut Txn,
-    map: &PlainMap,
+    base: CutSnapshot<'_>,
     alloc: Global,
-    mutation: Result<Mutation, Refusal>,
-) -> Result<u8, u32> {
-    match write(txn, mutation) {
-        0 => byte_of(txn, map, alloc, b"a"),
-        code => Err(code),
+    key: Text,
+    is_snapshot: bool,
+) -> Result<Option<usize>, Refusal> {
+    let key = Key::new(alloc, key)?;
+    match get(txn, base, &key, is_snapshot)? {
+        Some(value) => Ok(Some(usize::from(first_byte(value.as_slice())))),
+        None => Ok(None),
     }
 }
 
-// What the key is read as where the snapshot isn't reached yet.
-fn decided_byte(txn: &mut Txn, alloc: Global, key: &[u8]) -> Result<u8, u32> {
-    byte_or_code(get_decided(txn, alloc, key))
+// Whether these are just the pairs of the keys and the values of one byte.
+fn are(pairs: &[(Key, Bytes)], wanted: &[(Text, u8)]) -> bool {
+    pairs.len() == wanted.len()
+        && pairs.iter().zip(wanted).all(|(pair, (key, value))| {
+            pair.0.bytes() == *key && pair.1.as_slice() == [*value].as_slice()
+        })
 }
 
-// Whether the set is just these ranges.
-fn has(set: &TreeRangeSet, alloc: Global, bounds: &[(&[u8], &[u8])]) -> bool {
-    ask(
-        set.to_set(alloc),
-        |set| are_ranges(set.iter().as_slice(), bounds),
-    ) == Ok(true)
+fn gives(
+    txn: &mut Txn,
+    base: CutSnapshot<'_>,
+    alloc: Global,
+    asked: Asked,
+    wanted: &[(Text, u8)],
+) -> Result<bool, Refusal> {
+    let keys = KeyRange::new(alloc, asked.begin, asked.end)?;
+    let pairs = range(txn, base, &keys, asked)?;
+    Ok(are(pairs.as_slice(), wanted))
 }
 
-fn reads(txn: &Txn, alloc: Global, bounds: &[(&[u8], &[u8])]) -> bool {
-    has(txn.read_conflicts(), alloc, bounds)
+fn has(set: &TreeRangeSet, alloc: Global, bounds: &[(Text, Text)]) -> Result<bool, Refusal> {
+    let set = set.to_set(alloc)?;
+    Ok(are_ranges(set.iter().as_slice(), bounds))
 }
 
-fn has_no_conflicts(txn: &Txn) -> bool {
-    txn.read_conflicts().is_empty() && txn.write_conflicts().is_empty()
+fn add_long(txn: &mut Txn, alloc: Global, count: usize) -> Result<(), Refusal> {
+    let operand = text_of(alloc, 1, count)?;
+    write(txn, Mutation::add(alloc, b"a", operand.as_slice()))
 }
 
-fn op_count(txn: &Txn) -> usize {
-    txn.transcript().ops.len()
+fn set_each(txn: &mut Txn, alloc: Global, keys: u8, count: usize) -> Result<(), Refusal> {
+    let value = text_of(alloc, b'v', count)?;
+    for key in 0..keys {
+        write(txn, Mutation::set(alloc, &[key], value.as_slice()))?;
+    }
+    Ok(())
+}
+
+fn done(answer: Result<(), Refusal>) -> Answer {
+    match answer {
+        Ok(()) => DONE,
+        Err(why) => Err(why.code()),
+    }
+}
+
+fn held(answer: Result<bool, Refusal>) -> Answer {
+    match answer {
+        Ok(holds) => Ok(Some(usize::from(holds))),
+        Err(why) => Err(why.code()),
+    }
+}
+
+fn answer(txn: &mut Txn, base: CutSnapshot<'_>, alloc: Global, line: Line) -> Answer {
+    match line {
+        Line::Write(change) => done(write(txn, mutation_of(alloc, change))),
+        Line::AddLong(count) => done(add_long(txn, alloc, count)),
+        Line::SetEach(keys, count) => done(set_each(txn, alloc, keys, count)),
+        Line::AddRead(begin, end) => done(add_read(txn, alloc, begin, end)),
+        Line::AddWrite(begin, end) => done(add_write(txn, alloc, begin, end)),
+        Line::Get(key, is_snapshot) => coded(byte_of(txn, base, alloc, key, is_snapshot)),
+        Line::Range(asked, pairs) => held(gives(txn, base, alloc, asked, pairs)),
+        Line::Reads(bounds) => held(has(txn.read_conflicts(), alloc, bounds)),
+        Line::Writes(bounds) => held(has(txn.write_conflicts(), alloc, bounds)),
+        Line::Ops => Ok(Some(txn.transcript().ops.len())),
+    }
+}
+
+// The first line that is answered otherwise than is wanted, by its place, and its answer.
+fn first_wrong(
+    txn: &mut Txn,
+    base: CutSnapshot<'_>,
+    alloc: Global,
+    lines: &[(Line, Answer)],
+) -> Option<(usize, Answer)> {
+    for (place, (line, wanted)) in lines.iter().enumerate() {
+        let given = answer(txn, base, alloc, *line);
+        if given != *wanted {
+            return Some((place, given));
+        }
+    }
+    None
 }
 
 fn sets_a_to_1(mutations: &[Mutation]) -> bool {
@@ -179,8 +223,9 @@ fn sets_a_to_1(mutations: &[Mutation]) -> bool {
     }
 }
 
-// Whether the write set is just these ranges, how many mutations there are, and whether they are just the set of a to 1.
-fn asks_for(sealed: &Sealed, writes: &[(&[u8], &[u8])]) -> (bool, usize, bool) {
+// Whether the write set is just these ranges, how many mutations there are, and whether they are just the set of a
+// to 1.
+fn asks_for(sealed: &Sealed, writes: &[(Text, Text)]) -> (bool, usize, bool) {
     (
         are_ranges(sealed.writes().iter().as_slice(), writes),
         sealed.mutations().len(),
@@ -191,256 +236,393 @@ fn asks_for(sealed: &Sealed, writes: &[(&[u8], &[u8])]) -> (bool, usize, bool) {
 // The same where something is to be committed, and why it is not finished, with how many operations are handed back.
 type Ended = Result<Option<(bool, usize, bool)>, (u32, usize)>;
 
-fn told(finished: &Result<Finished, Refused<Txn>>, writes: &[(&[u8], &[u8])]) -> Ended {
+fn told(finished: &Result<Finished, Refused<Txn>>, writes: &[(Text, Text)]) -> Ended {
     match finished {
         Ok(Finished::ReadOnly(_)) => Ok(None),
         Ok(Finished::ToCommit(sealed, _)) => Ok(Some(asks_for(sealed, writes))),
-        Err(refused) => Err((refused.why.code(), op_count(&refused.back))),
+        Err(refused) => Err((refused.why.code(), refused.back.transcript().ops.len())),
     }
 }
 
-fn finish(txn: Txn, writes: &[(&[u8], &[u8])]) -> Ended {
+fn finish(txn: Txn, writes: &[(Text, Text)]) -> Ended {
     let finished = txn.finish();
     let found = told(&finished, writes);
     drop(finished);
     found
 }
 
-// What is answered of a new transaction, which is finished then.
-fn finished<A: Drop, F: FnOnce(&mut Txn) -> A + Drop>(
-    alloc: Global,
-    writes: &[(&[u8], &[u8])],
-    question: F,
-) -> (A, Ended)
-    requires { F.IsAlwaysCallable question }
-{
+// What a new transaction is asked over the map in which a, b and c are 1, 2 and 3, and how it ends when it is finished
+// then, with these ranges as its write set.
+#[derive(Clone, Copy)]
+struct Case {
+    what: &'static str,
+    // Why each read of the map is refused.
+    fault: Option<Refusal>,
+    lines: &'static [(Line, Answer)],
+    writes: &'static [(Text, Text)],
+    ended: Ended,
+}
+
+const READ_ONLY: Ended = Ok(None);
+
+const ORDINARY: bool = false;
+
+const SNAPSHOT: bool = true;
+
+// What isn't reached yet.
+const FUTURE: Option<Refusal> = Some(Refusal::FutureVersion);
+
+// The first two pairs from a to z, the first four, all, and the last one.
+const TWO: Asked = Asked {
+    begin: b"a",
+    end: b"z",
+    limit: 2,
+    reverse: false,
+    is_snapshot: false,
+};
+
+const FOUR: Asked = Asked {
+    begin: b"a",
+    end: b"z",
+    limit: 4,
+    reverse: false,
+    is_snapshot: false,
+};
+
+const ALL: Asked = Asked {
+    begin: b"a",
+    end: b"z",
+    limit: 0,
+    reverse: false,
+    is_snapshot: false,
+};
+
+const LAST: Asked = Asked {
+    begin: b"a",
+    end: b"z",
+    limit: 1,
+    reverse: true,
+    is_snapshot: false,
+};
+
+// The first two by a snapshot read.
+const SNAPSHOT_OF_TWO: Asked = Asked {
+    begin: b"a",
+    end: b"z",
+    limit: 2,
+    reverse: false,
+    is_snapshot: true,
+};
+
+// The range without keys.
+const NONE: Asked = Asked {
+    begin: b"a",
+    end: b"a",
+    limit: 0,
+    reverse: false,
+    is_snapshot: false,
+};
+
+// The first four from a to the end of all keys.
+const FOUR_OF_ALL: Asked = Asked {
+    begin: b"a",
+    end: b"\xff",
+    limit: 4,
+    reverse: false,
+    is_snapshot: false,
+};
+
+static CASES: [Case; 21] = [
+    Case {
+        what: "own clears are read",
+        fault: None,
+        lines: &[
+            (Line::Get(b"a", ORDINARY), Ok(Some(1))),
+            (Line::Write(Change::Clear(b"a")), DONE),
+            (Line::Get(b"a", ORDINARY), NO_VALUE),
+            (Line::Reads(&[(b"a", b"a\0")]), YES),
+            (Line::Ops, Ok(Some(3))),
+        ],
+        writes: &[(b"a", b"a\0")],
+        ended: Ok(Some((true, 1, false))),
+    },
+    Case {
+        what: "compared keys are read",
+        fault: None,
+        lines: &[
+            (Line::Write(Change::CompareAndClear(b"a", 1)), DONE),
+            (Line::Write(Change::CompareAndClear(b"b", 9)), DONE),
+            (Line::Get(b"a", ORDINARY), NO_VALUE),
+            (Line::Get(b"b", ORDINARY), Ok(Some(2))),
+            (Line::Reads(&[(b"a", b"a\0"), (b"b", b"b\0")]), YES),
+        ],
+        writes: &[(b"a", b"a\0"), (b"b", b"b\0")],
+        ended: Ok(Some((true, 2, false))),
+    },
+    Case {
+        what: "own additions are read",
+        fault: None,
+        lines: &[
+            (Line::Write(Change::Add(b"a", 5)), DONE),
+            (Line::Get(b"a", ORDINARY), Ok(Some(6))),
+            (Line::Write(Change::Set(b"a", 7)), DONE),
+            (Line::Get(b"a", ORDINARY), Ok(Some(7))),
+            (Line::Write(Change::Add(b"a", 5)), DONE),
+            (Line::Get(b"a", ORDINARY), Ok(Some(12))),
+        ],
+        writes: &[(b"a", b"a\0")],
+        ended: Ok(Some((true, 3, false))),
+    },
+    Case {
+        what: "decided keys are not asked",
+        fault: FUTURE,
+        lines: &[
+            (Line::Write(Change::ClearRange(b"a", b"c")), DONE),
+            (Line::Get(b"b", ORDINARY), NO_VALUE),
+            (Line::Get(b"c", ORDINARY), Err(1009)),
+            (Line::Reads(&[]), YES),
+            (Line::Ops, Ok(Some(2))),
+        ],
+        writes: &[(b"a", b"c")],
+        ended: Ok(Some((true, 1, false))),
+    },
+    Case {
+        what: "entries of cleared keys go",
+        fault: FUTURE,
+        lines: &[
+            (Line::Write(Change::Set(b"b", 2)), DONE),
+            (Line::Write(Change::ClearRange(b"a", b"c")), DONE),
+            (Line::Get(b"b", ORDINARY), NO_VALUE),
+        ],
+        writes: &[(b"a", b"c")],
+        ended: Ok(Some((true, 2, false))),
+    },
+    Case {
+        what: "snapshot reads add nothing",
+        fault: None,
+        lines: &[
+            (Line::Get(b"a", SNAPSHOT), Ok(Some(1))),
+            (Line::Reads(&[]), YES),
+        ],
+        writes: &[],
+        ended: READ_ONLY,
+    },
+    Case {
+        what: "added reads are whole",
+        fault: FUTURE,
+        lines: &[
+            (Line::Write(Change::Set(b"b", 2)), DONE),
+            (Line::AddRead(b"a", b"c"), DONE),
+            (Line::Reads(&[(b"a", b"c")]), YES),
+        ],
+        writes: &[(b"b", b"b\0")],
+        ended: Ok(Some((true, 1, false))),
+    },
+    Case {
+        what: "empty ranges add nothing",
+        fault: FUTURE,
+        lines: &[
+            (Line::AddRead(b"a", b"a"), DONE),
+            (Line::AddWrite(b"a", b"a"), DONE),
+            (Line::Reads(&[]), YES),
+            (Line::Writes(&[]), YES),
+        ],
+        writes: &[],
+        ended: READ_ONLY,
+    },
+    Case {
+        what: "reads alone are finished",
+        fault: None,
+        lines: &[(Line::Get(b"a", ORDINARY), Ok(Some(1)))],
+        writes: &[],
+        ended: READ_ONLY,
+    },
+    Case {
+        what: "added writes are to commit",
+        fault: FUTURE,
+        lines: &[(Line::AddWrite(b"a", b"c"), DONE)],
+        writes: &[(b"a", b"c")],
+        ended: Ok(Some((true, 0, false))),
+    },
+    Case {
+        what: "mutations are to commit",
+        fault: FUTURE,
+        lines: &[(Line::Write(Change::Set(b"a", 1)), DONE)],
+        writes: &[(b"a", b"a\0")],
+        ended: Ok(Some((true, 1, true))),
+    },
+    Case {
+        what: "refused writes are not noted",
+        fault: FUTURE,
+        lines: &[
+            (Line::AddLong(17), Err(9008)),
+            (Line::Ops, Ok(Some(0))),
+            (Line::Reads(&[]), YES),
+            (Line::Writes(&[]), YES),
+            (Line::AddLong(100_001), Err(2103)),
+            (Line::Ops, Ok(Some(0))),
+            (Line::Reads(&[]), YES),
+            (Line::Writes(&[]), YES),
+        ],
+        writes: &[],
+        ended: READ_ONLY,
+    },
+    Case {
+        what: "too large transactions are handed back",
+        fault: FUTURE,
+        lines: &[(Line::SetEach(101, 99_999), DONE)],
+        writes: &[],
+        ended: Err((2101, 101)),
+    },
+    Case {
+        what: "decided keys of a range are not read",
+        fault: None,
+        lines: &[
+            (Line::Write(Change::Clear(b"a")), DONE),
+            (Line::Write(Change::Set(b"bb", b'x')), DONE),
+            (Line::Range(TWO, &[(b"b", 2), (b"bb", b'x')]), YES),
+            (Line::Reads(&[(b"a\0", b"bb")]), YES),
+            (Line::Writes(&[(b"a", b"a\0"), (b"bb", b"bb\0")]), YES),
+        ],
+        writes: &[(b"a", b"a\0"), (b"bb", b"bb\0")],
+        ended: Ok(Some((true, 2, false))),
+    },
+    Case {
+        what: "snapshot ranges are not read",
+        fault: None,
+        lines: &[
+            (Line::Write(Change::Clear(b"a")), DONE),
+            (Line::Write(Change::Set(b"bb", b'x')), DONE),
+            (
+                Line::Range(SNAPSHOT_OF_TWO, &[(b"b", 2), (b"bb", b'x')]),
+                YES,
+            ),
+            (Line::Reads(&[]), YES),
+        ],
+        writes: &[(b"a", b"a\0"), (b"bb", b"bb\0")],
+        ended: Ok(Some((true, 2, false))),
+    },
+    Case {
+        what: "compared keys of a range are read",
+        fault: None,
+        lines: &[
+            (Line::Write(Change::CompareAndClear(b"a", 1)), DONE),
+            (Line::Write(Change::CompareAndClear(b"b", 9)), DONE),
+            (Line::Range(ALL, &[(b"b", 2), (b"c", 3)]), YES),
+            (Line::Reads(&[(b"a", b"z")]), YES),
+        ],
+        writes: &[(b"a", b"a\0"), (b"b", b"b\0")],
+        ended: Ok(Some((true, 2, false))),
+    },
+    Case {
+        what: "reverse ranges are read from their end",
+        fault: None,
+        lines: &[
+            (Line::Range(LAST, &[(b"c", 3)]), YES),
+            (Line::Reads(&[(b"c", b"z")]), YES),
+        ],
+        writes: &[],
+        ended: READ_ONLY,
+    },
+    Case {
+        what: "own sets behind the last pair are given",
+        fault: None,
+        lines: &[
+            (Line::Write(Change::Set(b"d", 4)), DONE),
+            (
+                Line::Range(FOUR, &[(b"a", 1), (b"b", 2), (b"c", 3), (b"d", 4)]),
+                YES,
+            ),
+            (Line::Reads(&[(b"a", b"d")]), YES),
+        ],
+        writes: &[(b"d", b"d\0")],
+        ended: Ok(Some((true, 1, false))),
+    },
+    Case {
+        what: "empty ranges read nothing",
+        fault: None,
+        lines: &[
+            (Line::Range(NONE, &[]), YES),
+            (Line::Reads(&[]), YES),
+            (Line::Writes(&[]), YES),
+        ],
+        writes: &[],
+        ended: READ_ONLY,
+    },
+    Case {
+        what: "ranges with room left are read whole",
+        fault: None,
+        lines: &[
+            (
+                Line::Range(FOUR_OF_ALL, &[(b"a", 1), (b"b", 2), (b"c", 3)]),
+                YES,
+            ),
+            (Line::Reads(&[(b"a", b"\xff")]), YES),
+        ],
+        writes: &[],
+        ended: READ_ONLY,
+    },
+    Case {
+        what: "refused ranges are not noted",
+        fault: FUTURE,
+        lines: &[
+            (Line::AddRead(b"a", b"c"), DONE),
+            (Line::Range(ALL, &[]), Err(1009)),
+            (Line::Ops, Ok(Some(1))),
+            (Line::Reads(&[(b"a", b"c")]), YES),
+        ],
+        writes: &[],
+        ended: READ_ONLY,
+    },
+];
+
+// The first wrong line, and how the transaction ends.
+fn played(alloc: Global, map: &PlainMap, case: Case) -> (Option<(usize, Answer)>, Ended) {
+    let base = CutSnapshot {
+        version: 0,
+        map,
+        cut: 0,
+        fault: case.fault,
+    };
     let mut txn = begin(alloc);
-    let answer = question(&mut txn);
-    (answer, finish(txn, writes))
+    let wrong = first_wrong(&mut txn, base, alloc, case.lines);
+    (wrong, finish(txn, case.writes))
 }
 
-// Gives the value to each of as many keys.
-fn write_each(txn: &mut Txn, alloc: Global, count: u8, value: &[u8]) {
-    for key in 0..count {
-        let _code = write(txn, Mutation::set(alloc, &[key], value));
-    }
-}
-
-fn page_of(map: &PlainMap, alloc: Global, limit: u32, reverse: bool) -> Result<Page, Refusal> {
-    let snapshot = PlainSnapshot { version: 40, map };
-    made_of(
-        KeyRange::new(alloc, b"a", b"c"),
-        |range| snapshot.page(range, limit, reverse),
-    )
-}
-
-fn first_value(pairs: &[(Key, Bytes)]) -> u8 {
-    match pairs.first() {
-        Some((_, value)) => first_byte(value.as_slice()),
-        None => 0,
+#[test]
+fn transactions_read_and_write_what_their_steps_say(rt: HostRuntime) {
+    let alloc = rt.alloc();
+    for case in CASES.as_slice() {
+        let found = ask(filled(alloc), |map| played(alloc, map, *case));
+        same(&rt, (case.what, found), (case.what, Ok((None, case.ended))));
     }
 }
 
 // The page of the keys from a to c, which has two pairs: how many pairs, the first value, and whether there is more.
 fn page(
-    map: &PlainMap,
     alloc: Global,
+    map: &PlainMap,
     limit: u32,
     reverse: bool,
-) -> Result<(usize, u8, bool), u32> {
-    ask(page_of(map, alloc, limit, reverse), |page| {
-        (
-            page.pairs.len(),
-            first_value(page.pairs.as_slice()),
-            page.more,
-        )
-    })
-}
-
-#[test]
-fn own_clear_is_read(rt: HostRuntime) {
-    let alloc = rt.alloc();
-    let found = ask(filled(alloc), |map| {
-        begun(alloc, |txn| {
-            (
-                byte_of(txn, map, alloc, b"a"),
-                after(txn, map, alloc, Mutation::clear(alloc, b"a")),
-                reads(txn, alloc, &[(b"a", b"a\0")]),
-                op_count(txn),
-            )
-        })
-    });
-    same(&rt, found, Ok((Ok(1), Ok(0), true, 3)));
-}
-
-#[test]
-fn compared_keys_are_read(rt: HostRuntime) {
-    let alloc = rt.alloc();
-    let found = ask(filled(alloc), |map| {
-        begun(alloc, |txn| {
-            (
-                write(txn, Mutation::compare_and_clear(alloc, b"a", &[1])),
-                write(txn, Mutation::compare_and_clear(alloc, b"b", &[9])),
-                byte_of(txn, map, alloc, b"a"),
-                byte_of(txn, map, alloc, b"b"),
-                reads(txn, alloc, &[(b"a", b"a\0"), (b"b", b"b\0")]),
-            )
-        })
-    });
-    same(&rt, found, Ok((0, 0, Ok(0), Ok(2), true)));
-}
-
-#[test]
-fn own_additions_are_read(rt: HostRuntime) {
-    let alloc = rt.alloc();
-    let found = ask(filled(alloc), |map| {
-        begun(alloc, |txn| {
-            [
-                after(txn, map, alloc, Mutation::add(alloc, b"a", &[5])),
-                after(txn, map, alloc, Mutation::set(alloc, b"a", &[7])),
-                after(txn, map, alloc, Mutation::add(alloc, b"a", &[5])),
-            ]
-        })
-    });
-    same(&rt, found, Ok([Ok(6), Ok(7), Ok(12)]));
-}
-
-#[test]
-fn decided_keys_are_not_asked(rt: HostRuntime) {
-    let alloc = rt.alloc();
-    let found = begun(alloc, |txn| {
-        (
-            write(txn, Mutation::clear_range(alloc, b"a", b"c")),
-            decided_byte(txn, alloc, b"b"),
-            decided_byte(txn, alloc, b"c"),
-            txn.read_conflicts().is_empty(),
-            op_count(txn),
-        )
-    });
-    same(&rt, found, (0, Ok(0), Err(1009), true, 2));
-}
-
-#[test]
-fn entries_of_cleared_keys_go(rt: HostRuntime) {
-    let alloc = rt.alloc();
-    let found = begun(alloc, |txn| {
-        (
-            write(txn, Mutation::set(alloc, b"b", &[2])),
-            write(txn, Mutation::clear_range(alloc, b"a", b"c")),
-            decided_byte(txn, alloc, b"b"),
-        )
-    });
-    same(&rt, found, (0, 0, Ok(0)));
-}
-
-#[test]
-fn snapshot_reads_add_nothing(rt: HostRuntime) {
-    let alloc = rt.alloc();
-    let found = ask(filled(alloc), |map| {
-        begun(alloc, |txn| {
-            let byte = byte_or_code(get(txn, map, alloc, b"a", true));
-            (byte, txn.read_conflicts().is_empty())
-        })
-    });
-    same(&rt, found, Ok((Ok(1), true)));
-}
-
-#[test]
-fn added_reads_are_whole(rt: HostRuntime) {
-    let alloc = rt.alloc();
-    let found = begun(alloc, |txn| {
-        (
-            write(txn, Mutation::set(alloc, b"b", &[2])),
-            add_read(txn, alloc, b"a", b"c"),
-            reads(txn, alloc, &[(b"a", b"c")]),
-        )
-    });
-    same(&rt, found, (0, 0, true));
-}
-
-#[test]
-fn empty_ranges_add_nothing(rt: HostRuntime) {
-    let alloc = rt.alloc();
-    let found = finished(alloc, &[], |txn| {
-        (
-            add_read(txn, alloc, b"a", b"a"),
-            add_write(txn, alloc, b"a", b"a"),
-            has_no_conflicts(txn),
-        )
-    });
-    same(&rt, found, ((0, 0, true), Ok(None)));
-}
-
-#[test]
-fn reads_alone_are_finished(rt: HostRuntime) {
-    let alloc = rt.alloc();
-    let found = ask(filled(alloc), |map| {
-        finished(alloc, &[], |txn| byte_of(txn, map, alloc, b"a"))
-    });
-    same(&rt, found, Ok((Ok(1), Ok(None))));
-}
-
-#[test]
-fn added_writes_are_to_commit(rt: HostRuntime) {
-    let alloc = rt.alloc();
-    let found = finished(
-        alloc,
-        &[(b"a", b"c")],
-        |txn| add_write(txn, alloc, b"a", b"c"),
-    );
-    same(&rt, found, (0, Ok(Some((true, 0, false)))));
-}
-
-#[test]
-fn mutations_are_to_commit(rt: HostRuntime) {
-    let alloc = rt.alloc();
-    let found = finished(
-        alloc,
-        &[(b"a", b"a\0")],
-        |txn| write(txn, Mutation::set(alloc, b"a", &[1])),
-    );
-    same(&rt, found, (0, Ok(Some((true, 1, true)))));
-}
-
-// The code of the refusal of a new transaction's addition of as many bytes, or 0, and whether it is noted.
-fn try_add(alloc: Global, count: usize) -> Result<(u32, bool), u32> {
-    ask(text_of(alloc, 1, count), |operand| {
-        begun(alloc, |txn| {
-            let code = write(txn, Mutation::add(alloc, b"a", operand));
-            (code, op_count(txn) != 0 || !has_no_conflicts(txn))
-        })
-    })
-}
-
-#[test]
-fn refused_writes_are_not_noted(rt: HostRuntime) {
-    let alloc = rt.alloc();
-    same(&rt, try_add(alloc, 17), Ok((9008, false)));
-    same(&rt, try_add(alloc, 100_001), Ok((2103, false)));
-}
-
-#[test]
-fn too_large_transactions_are_handed_back(rt: HostRuntime) {
-    let alloc = rt.alloc();
-    let found = ask(text_of(alloc, b'v', 99_999), |value| {
-        finished(alloc, &[], |txn| write_each(txn, alloc, 101, value))
-    });
-    same(&rt, found, Ok(((), Err((2101, 101)))));
+) -> Result<(usize, u8, bool), Refusal> {
+    let keys = KeyRange::new(alloc, b"a", b"c")?;
+    let page = PlainSnapshot { version: 40, map }.page(&keys, limit, reverse)?;
+    let first = match page.pairs.as_slice() {
+        [(_, value), ..] => first_byte(value.as_slice()),
+        [] => 0,
+    };
+    Ok((page.pairs.len(), first, page.more))
 }
 
 #[test]
 fn pages_say_whether_there_is_more(rt: HostRuntime) {
     let alloc = rt.alloc();
-    let found = ask(filled(alloc), |map| {
-        [
-            page(map, alloc, 1, false),
-            page(map, alloc, 2, false),
-            page(map, alloc, 0, true),
-        ]
-    });
-    same(
-        &rt,
-        found,
-        Ok([Ok((1, 1, true)), Ok((2, 1, false)), Ok((2, 2, false))]),
-    );
+    for (limit, reverse, wanted) in [
+        (1, false, (1, 1, true)),
+        (2, false, (2, 1, false)),
+        (0, true, (2, 2, false)),
+    ] {
+        let found = made_of(filled(alloc), |map| page(alloc, map, limit, reverse));
+        same(&rt, found, Ok(wanted));
+    }
 }

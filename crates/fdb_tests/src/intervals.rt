@@ -1,8 +1,10 @@
 // Marks with known answers.
-use crate::making::{ask, ask_mut, made_of, same};
+use crate::making::{both, same};
 use fdb_interval::LastCommit;
 use fdb_keys::{KeyRange, Refusal};
 use std::alloc::Global;
+
+type Text = &'static [u8];
 
 // The keys of the first range are marked with 100, and then those of the second one with 200.
 fn marked(alloc: Global, first: &KeyRange, second: &KeyRange) -> Result<LastCommit, Refusal> {
@@ -14,50 +16,57 @@ fn marked(alloc: Global, first: &KeyRange, second: &KeyRange) -> Result<LastComm
 
 // The same of the keys from b to d, and of those from c to e.
 fn two_marks(alloc: Global) -> Result<LastCommit, Refusal> {
-    made_of(KeyRange::new(alloc, b"b", b"d"), |first| {
-        made_of(
-            KeyRange::new(alloc, b"c", b"e"),
-            |second| marked(alloc, first, second),
-        )
-    })
+    let (first, second) = both(
+        KeyRange::new(alloc, b"b", b"d"),
+        KeyRange::new(alloc, b"c", b"e"),
+    )?;
+    marked(alloc, &first, &second)
 }
 
 fn is_newer(
     last: &LastCommit,
     alloc: Global,
-    begin: &[u8],
-    end: &[u8],
+    begin: Text,
+    end: Text,
     version: u64,
-) -> Result<bool, u32> {
-    ask(
-        KeyRange::new(alloc, begin, end),
-        |range| last.newer_than(range, version),
-    )
+) -> Result<bool, Refusal> {
+    let range = KeyRange::new(alloc, begin, end)?;
+    Ok(last.newer_than(&range, version))
+}
+
+// Whether the keys from the begin up to the end have a mark above the version.
+type Row = (Text, Text, u64, bool);
+
+// Later marks win where they stand.
+const MARKED: [Row; 4] = [
+    (b"b", b"c", 99, true),
+    (b"b", b"c", 100, false),
+    (b"c", b"d", 199, true),
+    (b"e", b"f", 0, false),
+];
+
+// Versions above the expired one, which is 100, are kept.
+const EXPIRED: [Row; 2] = [(b"b", b"c", 100, false), (b"d", b"e", 150, true)];
+
+// The place of the first row that is answered otherwise.
+fn first_wrong(last: &LastCommit, alloc: Global, rows: &[Row]) -> Option<usize> {
+    for (place, (begin, end, version, wanted)) in rows.iter().enumerate() {
+        if is_newer(last, alloc, begin, end, *version) != Ok(*wanted) {
+            return Some(place);
+        }
+    }
+    None
+}
+
+// The first wrong row after the two marks, and the first one after the expiry.
+fn first_wrongs(alloc: Global) -> Result<[Option<usize>; 2], Refusal> {
+    let mut last = two_marks(alloc)?;
+    let of_marked = first_wrong(&last, alloc, MARKED.as_slice());
+    last.expire(100);
+    Ok([of_marked, first_wrong(&last, alloc, EXPIRED.as_slice())])
 }
 
 #[test]
-fn later_marks_win_where_they_stand(rt: HostRuntime) {
-    let alloc = rt.alloc();
-    let found = ask(two_marks(alloc), |last| {
-        [
-            is_newer(last, alloc, b"b", b"c", 99),
-            is_newer(last, alloc, b"b", b"c", 100),
-            is_newer(last, alloc, b"c", b"d", 199),
-            is_newer(last, alloc, b"e", b"f", 0),
-        ]
-    });
-    same(&rt, found, Ok([Ok(true), Ok(false), Ok(true), Ok(false)]));
-}
-
-#[test]
-fn versions_above_the_expired_one_are_kept(rt: HostRuntime) {
-    let alloc = rt.alloc();
-    let found = ask_mut(two_marks(alloc), |last| {
-        last.expire(100);
-        [
-            is_newer(last, alloc, b"b", b"c", 100),
-            is_newer(last, alloc, b"d", b"e", 150),
-        ]
-    });
-    same(&rt, found, Ok([Ok(false), Ok(true)]));
+fn later_marks_win_and_versions_above_the_expired_one_are_kept(rt: HostRuntime) {
+    same(&rt, first_wrongs(rt.alloc()), Ok([None, None]));
 }

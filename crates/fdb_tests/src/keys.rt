@@ -1,76 +1,139 @@
 // Keys, ranges and sets of ranges with known answers.
 use crate::making::{
-    after, are_ranges, ask, ask_both, ask_mut, code_of, equals_copy, has_bounds, made_of, same,
-    set_of, text_of,
+    after, are_ranges, both, code_of, equals_copy, has_bounds, same, set_of, text_of,
 };
 use fdb_keys::{Items, Key, KeyRange, RangeSet, Refusal, Refused, TreeRangeSet};
 use std::alloc::Global;
 
+type Text = &'static [u8];
+
 // Bounds of a range.
-type Bounds<'a> = (&'a [u8], &'a [u8]);
+type Bounds = (Text, Text);
 
 // The key of as many bytes.
 fn long_key(alloc: Global, count: usize) -> Result<Key, Refusal> {
-    made_of(text_of(alloc, b'a', count), |text| Key::new(alloc, text))
+    let text = text_of(alloc, b'a', count)?;
+    Key::new(alloc, text.as_slice())
 }
 
-fn contains(alloc: Global, range: &KeyRange, key: &[u8]) -> Result<bool, u32> {
-    ask(Key::new(alloc, key), |key| range.contains(key))
+#[test]
+fn keys_are_short_and_come_before_ff(rt: HostRuntime) {
+    let alloc = rt.alloc();
+    let found = [
+        code_of(long_key(alloc, 10_000)),
+        code_of(long_key(alloc, 10_001)),
+        code_of(Key::new(alloc, &[0xff])),
+    ];
+    same(&rt, found, [0, 2102, 2004]);
 }
 
-fn tree_contains(alloc: Global, tree: &TreeRangeSet, key: &[u8]) -> Result<bool, u32> {
-    ask(Key::new(alloc, key), |key| tree.contains(key))
+#[test]
+fn ranges_are_ordered_and_end_at_ff(rt: HostRuntime) {
+    let alloc = rt.alloc();
+    let found = [
+        code_of(KeyRange::new(alloc, b"a", &[0xff])),
+        code_of(KeyRange::new(alloc, b"a", &[0xff, 0])),
+        code_of(KeyRange::new(alloc, b"b", b"a")),
+    ];
+    same(&rt, found, [0, 2004, 2005]);
 }
 
-// Whether the keys from a to c meet the range of the two texts.
-fn a_to_c_meets(alloc: Global, begin: &[u8], end: &[u8]) -> Result<bool, u32> {
-    ask_both(
+// Whether the key lies in the range from a to c, and in the tree of that range.
+fn a_to_c_contains(alloc: Global, key: Text) -> Result<[bool; 2], Refusal> {
+    let sets = both(
         KeyRange::new(alloc, b"a", b"c"),
-        KeyRange::new(alloc, begin, end),
-        |range, other| range.meets(other),
-    )
+        tree_of(alloc, &[(b"a", b"c")]),
+    );
+    let ((range, tree), key) = both(sets, Key::new(alloc, key))?;
+    Ok([range.contains(&key), tree.contains(&key)])
 }
 
-// Whether the keys from a to c lie in the range of the two texts.
-fn a_to_c_is_within(alloc: Global, begin: &[u8], end: &[u8]) -> Result<bool, u32> {
-    ask_both(
+// Whether the keys from a to c meet the other range, whether they lie in it, and whether the other one is empty.
+fn a_to_c_beside(alloc: Global, other: Bounds) -> Result<[bool; 3], Refusal> {
+    let (range, other) = both(
         KeyRange::new(alloc, b"a", b"c"),
-        KeyRange::new(alloc, begin, end),
-        |range, whole| range.is_within(whole),
-    )
+        KeyRange::new(alloc, other.0, other.1),
+    )?;
+    Ok([
+        range.meets(&other),
+        range.is_within(&other),
+        other.is_empty(),
+    ])
 }
 
-// Whether the call gave the range with the bounds.
-fn gave_range(answer: Result<KeyRange, Refusal>, bounds: Bounds<'_>) -> bool {
-    ask(answer, |range| has_bounds(range, bounds.0, bounds.1)) == Ok(true)
+static BESIDE: [(Bounds, [bool; 3]); 4] = [
+    // Touching ranges do not meet.
+    ((b"c", b"d"), [false, false, false]),
+    ((b"b", b"d"), [true, false, false]),
+    ((b"", b"c"), [true, true, false]),
+    ((b"a", b"b"), [true, false, false]),
+];
+
+#[test]
+fn range_has_its_begin_and_not_its_end(rt: HostRuntime) {
+    let alloc = rt.alloc();
+    let found = [a_to_c_contains(alloc, b"a"), a_to_c_contains(alloc, b"c")];
+    same(&rt, found, [Ok([true, true]), Ok([false, false])]);
+    for (other, wanted) in BESIDE.as_slice() {
+        same(&rt, a_to_c_beside(alloc, *other), Ok(*wanted));
+    }
 }
 
-// Whether the key lies in the range, and the parts through it and behind it have the bounds.
-fn is_cut(
+// Whether the range of the key a alone ends right after it.
+fn is_single(alloc: Global) -> Result<bool, Refusal> {
+    let key = Key::new(alloc, b"a")?;
+    let range = KeyRange::single(alloc, &key)?;
+    Ok(key.bytes() == b"a".as_slice() && has_bounds(&range, b"a", b"a\0"))
+}
+
+// Whether the key lies in the range, and the parts of this through it and behind it have the bounds.
+fn are_parts(
     alloc: Global,
     range: &KeyRange,
     key: &Key,
     reverse: bool,
-    bounds: [Bounds<'static>; 2],
-) -> bool {
-    let [through, behind] = bounds;
-    range.contains(key)
-        && gave_range(range.through(alloc, reverse, key), through)
-        && gave_range(range.behind(alloc, reverse, key), behind)
+    bounds: [Bounds; 2],
+) -> Result<bool, Refusal> {
+    if !range.contains(key) {
+        return Ok(false);
+    }
+    let (through, behind) = both(
+        range.through(alloc, reverse, key),
+        range.behind(alloc, reverse, key),
+    )?;
+    let [first, second] = bounds;
+    Ok(has_bounds(&through, first.0, first.1) && has_bounds(&behind, second.0, second.1))
 }
 
 // Whether the keys from a to d are so cut at b.
-fn a_to_d_is_cut(alloc: Global, reverse: bool, bounds: [Bounds<'static>; 2]) -> Result<bool, u32> {
-    ask_both(
-        KeyRange::new(alloc, b"a", b"d"),
-        Key::new(alloc, b"b"),
-        |range, key| is_cut(alloc, range, key, reverse, bounds),
-    )
+fn is_cut(alloc: Global, reverse: bool, bounds: [Bounds; 2]) -> Result<bool, Refusal> {
+    let (range, key) = both(KeyRange::new(alloc, b"a", b"d"), Key::new(alloc, b"b"))?;
+    are_parts(alloc, &range, &key, reverse, bounds)
 }
 
-// Whether the call gave the set of just the ranges with the bounds.
-fn gave(answer: Result<RangeSet, Refusal>, bounds: &[Bounds<'_>]) -> bool {
-    ask(answer, |set| are_ranges(set.iter().as_slice(), bounds)) == Ok(true)
+#[test]
+fn range_is_cut_at_a_key(rt: HostRuntime) {
+    let alloc = rt.alloc();
+    let found = [
+        is_single(alloc),
+        is_cut(alloc, false, [(b"a", b"b\0"), (b"b\0", b"d")]),
+        is_cut(alloc, true, [(b"b", b"d"), (b"a", b"b")]),
+    ];
+    same(&rt, found, [Ok(true), Ok(true), Ok(true)]);
+}
+
+fn add_to_tree(tree: &mut TreeRangeSet, alloc: Global, bounds: Bounds) -> Result<(), Refusal> {
+    let range = KeyRange::new(alloc, bounds.0, bounds.1)?;
+    tree.add(&range)
+}
+
+// The set of the ranges, which are added one after another.
+fn tree_of(alloc: Global, bounds: &[Bounds]) -> Result<TreeRangeSet, Refusal> {
+    let mut tree = TreeRangeSet::new(alloc);
+    for bounds in bounds {
+        add_to_tree(&mut tree, alloc, *bounds)?;
+    }
+    Ok(tree)
 }
 
 // The keys from a to d, of which the first come in two ranges that touch.
@@ -78,82 +141,144 @@ fn a_to_d(alloc: Global) -> Result<RangeSet, Refusal> {
     set_of(alloc, &[(b"a", b"c"), (b"c", b"d"), (b"e", b"e")])
 }
 
-// The range from a to d without the other one.
-fn a_to_d_minus(alloc: Global, begin: &[u8], end: &[u8]) -> Result<RangeSet, Refusal> {
-    made_of(KeyRange::new(alloc, b"a", b"d"), |range| {
-        made_of(
-            KeyRange::new(alloc, begin, end),
-            |other| range.minus(alloc, other),
-        )
-    })
+// A set of ranges.
+#[derive(Clone, Copy)]
+enum Made {
+    // The set of the keys from a to d.
+    Set,
+    // The range from a to d without the other one.
+    Minus(Bounds),
+    // That set, out of which the range was taken.
+    Without(Bounds),
+    // What of the range from a to z is not in the tree of the ranges.
+    Outside(&'static [Bounds]),
 }
 
-// The set of the keys from a to d after the range was taken out of it.
-fn a_to_d_without(alloc: Global, begin: &[u8], end: &[u8]) -> Result<RangeSet, Refusal> {
-    made_of(KeyRange::new(alloc, begin, end), |range| {
-        after(a_to_d(alloc), |set| set.remove(range))
-    })
+fn minus(alloc: Global, other: Bounds) -> Result<RangeSet, Refusal> {
+    let (range, other) = both(
+        KeyRange::new(alloc, b"a", b"d"),
+        KeyRange::new(alloc, other.0, other.1),
+    )?;
+    range.minus(alloc, &other)
 }
 
-fn add_to_tree(
-    tree: &mut TreeRangeSet,
-    alloc: Global,
-    begin: &[u8],
-    end: &[u8],
-) -> Result<(), Refusal> {
-    made_of(KeyRange::new(alloc, begin, end), |range| tree.add(range))
+fn without(alloc: Global, other: Bounds) -> Result<RangeSet, Refusal> {
+    let other = KeyRange::new(alloc, other.0, other.1)?;
+    after(a_to_d(alloc), |set| set.remove(&other))
 }
 
-// The set of the ranges, which are added one after another.
-fn tree_of(alloc: Global, bounds: &[Bounds<'_>]) -> Result<TreeRangeSet, Refusal> {
-    let mut tree = TreeRangeSet::new(alloc);
-    for (begin, end) in bounds {
-        add_to_tree(&mut tree, alloc, begin, end)?;
+fn outside(alloc: Global, bounds: &[Bounds]) -> Result<RangeSet, Refusal> {
+    let (range, tree) = both(KeyRange::new(alloc, b"a", b"z"), tree_of(alloc, bounds))?;
+    tree.outside(alloc, &range)
+}
+
+fn set_made(alloc: Global, how: Made) -> Result<RangeSet, Refusal> {
+    match how {
+        Made::Set => a_to_d(alloc),
+        Made::Minus(other) => minus(alloc, other),
+        Made::Without(other) => without(alloc, other),
+        Made::Outside(bounds) => outside(alloc, bounds),
     }
-    Ok(tree)
 }
 
-// The tree of the keys from b to c, to which the ranges are added at once.
-fn b_to_c_with_all(alloc: Global, bounds: &[Bounds<'_>]) -> Result<TreeRangeSet, Refusal> {
-    made_of(set_of(alloc, bounds), |set| {
-        after(tree_of(alloc, &[(b"b", b"c")]), |tree| tree.add_all(set))
-    })
+// Whether it is empty, and whether it is the set of just these ranges.
+fn is_set(alloc: Global, how: Made, wanted: &[Bounds]) -> Result<[bool; 2], Refusal> {
+    let set = set_made(alloc, how)?;
+    Ok([set.is_empty(), are_ranges(set.iter().as_slice(), wanted)])
 }
 
-// Whether the set is the one range, and so is the list that it gives.
-fn is_one(alloc: Global, tree: &TreeRangeSet, begin: &[u8], end: &[u8]) -> bool {
+// The sets with their ranges. Ranges that touch are joined.
+static SETS: [(Made, &'static [Bounds]); 6] = [
+    (Made::Set, &[(b"a", b"d")]),
+    (Made::Minus((b"b", b"c")), &[(b"a", b"b"), (b"c", b"d")]),
+    (Made::Minus((b"d", b"e")), &[(b"a", b"d")]),
+    (Made::Minus((b"a", b"e")), &[]),
+    (Made::Without((b"b", b"c")), &[(b"a", b"b"), (b"c", b"d")]),
+    (
+        Made::Outside(&[(b"b", b"c"), (b"d", b"e")]),
+        &[(b"a", b"b"), (b"c", b"d"), (b"e", b"z")],
+    ),
+];
+
+#[test]
+fn sets_have_just_their_ranges(rt: HostRuntime) {
+    for (how, wanted) in SETS.as_slice() {
+        same(
+            &rt,
+            is_set(rt.alloc(), *how, wanted),
+            Ok([wanted.is_empty(), true]),
+        );
+    }
+}
+
+// Whether the tree is the one range, and so is the list that it gives.
+fn is_one(alloc: Global, tree: &TreeRangeSet, bounds: Bounds) -> bool {
     let has_one = match tree.iter().next() {
-        Some(range) => has_bounds(range, begin, end) && tree.iter().count() == 1,
+        Some(range) => has_bounds(range, bounds.0, bounds.1) && tree.iter().count() == 1,
         None => false,
     };
-    has_one && gave(tree.to_set(alloc), &[(begin, end)])
+    match tree.to_set(alloc) {
+        Ok(set) => has_one && !tree.is_empty() && are_ranges(set.iter().as_slice(), &[bounds]),
+        Err(_why) => false,
+    }
 }
 
-// The same of the set that the call gave.
-fn gave_one(
+// Whether the tree of the ranges, to which the others are added at once, is the one range.
+fn joins(
     alloc: Global,
-    answer: Result<TreeRangeSet, Refusal>,
-    begin: &[u8],
-    end: &[u8],
-) -> bool {
-    ask(answer, |tree| is_one(alloc, tree, begin, end)) == Ok(true)
+    bounds: &[Bounds],
+    others: &[Bounds],
+    wanted: Bounds,
+) -> Result<bool, Refusal> {
+    let (others, mut tree) = both(set_of(alloc, others), tree_of(alloc, bounds))?;
+    Ok(tree.add_all(&others).is_ok() && is_one(alloc, &tree, wanted))
 }
 
-// What of the range from a to z is not in the set of the ranges.
-fn outside(alloc: Global, bounds: &[Bounds<'_>]) -> Result<RangeSet, Refusal> {
-    made_of(tree_of(alloc, bounds), |tree| {
-        made_of(
-            KeyRange::new(alloc, b"a", b"z"),
-            |range| tree.outside(alloc, range),
-        )
-    })
-}
+// The ranges of a tree, those that are added to it at once, and the range that it is then.
+static TREES: [(&'static [Bounds], &'static [Bounds], Bounds); 5] = [
+    // Ranges that touch are joined, and an empty one adds nothing.
+    (
+        &[(b"a", b"c"), (b"c", b"d"), (b"e", b"e")],
+        &[],
+        (b"a", b"d"),
+    ),
+    // A range swallows those that it touches.
+    (
+        &[(b"a", b"b"), (b"e", b"g"), (b"c", b"d"), (b"b", b"f")],
+        &[],
+        (b"a", b"g"),
+    ),
+    // A range in a tree adds nothing.
+    (&[(b"a", b"d"), (b"b", b"c")], &[], (b"a", b"d")),
+    (&[(b"b", b"c")], &[(b"a", b"b"), (b"c", b"d")], (b"a", b"d")),
+    (&[(b"b", b"c")], &[], (b"b", b"c")),
+];
 
-// Whether the keys from b to c, which are added to both trees, join those of the first one, and are all of the second.
-fn are_both_added(alloc: Global, first: &mut TreeRangeSet, range: &KeyRange) -> bool {
+// Whether the range, which is added to the tree from a to b and to an empty one, makes the keys from a to c of the
+// first one and those from b to c of the other.
+fn joins_both(alloc: Global, first: &mut TreeRangeSet, range: &KeyRange) -> bool {
     let mut second = TreeRangeSet::new(alloc);
-    let is_added = TreeRangeSet::add_to_both(first, &mut second, range).is_ok();
-    is_added && is_one(alloc, first, b"a", b"c") && is_one(alloc, &second, b"b", b"c")
+    TreeRangeSet::add_to_both(first, &mut second, range).is_ok()
+        && is_one(alloc, first, (b"a", b"c"))
+        && is_one(alloc, &second, (b"b", b"c"))
+}
+
+// Whether the keys from b to c do so.
+fn are_both_added(alloc: Global) -> Result<bool, Refusal> {
+    let (range, mut first) = both(
+        KeyRange::new(alloc, b"b", b"c"),
+        tree_of(alloc, &[(b"a", b"b")]),
+    )?;
+    Ok(joins_both(alloc, &mut first, &range))
+}
+
+#[test]
+fn trees_join_the_ranges_that_touch(rt: HostRuntime) {
+    let alloc = rt.alloc();
+    for (bounds, others, wanted) in TREES.as_slice() {
+        same(&rt, joins(alloc, bounds, others, *wanted), Ok(true));
+    }
+    same(&rt, are_both_added(alloc), Ok(true));
 }
 
 // The list of the one byte.
@@ -163,197 +288,39 @@ fn one_item(alloc: Global, byte: u8) -> Result<Items<u8>, Refusal> {
     Ok(items)
 }
 
+// Whether a key, a set and a list equal their copies.
+fn equal_copies(alloc: Global) -> Result<[bool; 3], Refusal> {
+    let ((key, set), items) = both(
+        both(Key::new(alloc, b"a"), a_to_d(alloc)),
+        one_item(alloc, 7),
+    )?;
+    Ok([
+        equals_copy(&key, key.clone()),
+        equals_copy(&set, set.clone()),
+        equals_copy(&items, items.clone()),
+    ])
+}
+
 // The items of the vector of 1 and 2.
 fn two_items(alloc: Global) -> Result<Vec<u8>, Refusal> {
     let items = Items::from_vec(vec![in alloc; 1u8, 2]?);
     Ok(items.into_vec())
 }
 
+// Whether a list has its one item, and that of a vector has those of the vector.
+fn have_items(alloc: Global) -> Result<[bool; 2], Refusal> {
+    let (one, two) = both(one_item(alloc, 7), two_items(alloc))?;
+    Ok([
+        one.as_slice() == [7].as_slice() && one.len() == 1 && !one.is_empty(),
+        two.as_slice() == [1, 2].as_slice(),
+    ])
+}
+
 #[test]
-fn keys_are_short_and_come_before_ff(rt: HostRuntime) {
+fn copies_are_equal_and_items_come_in_order(rt: HostRuntime) {
     let alloc = rt.alloc();
-    same(&rt, code_of(long_key(alloc, 10_000)), 0);
-    same(&rt, code_of(long_key(alloc, 10_001)), 2102);
-    same(&rt, code_of(Key::new(alloc, &[0xff])), 2004);
-}
-
-#[test]
-fn ranges_are_ordered_and_end_at_ff(rt: HostRuntime) {
-    let alloc = rt.alloc();
-    same(&rt, code_of(KeyRange::new(alloc, b"a", &[0xff])), 0);
-    same(&rt, code_of(KeyRange::new(alloc, b"a", &[0xff, 0])), 2004);
-    same(&rt, code_of(KeyRange::new(alloc, b"b", b"a")), 2005);
-}
-
-#[test]
-fn range_has_its_begin_and_not_its_end(rt: HostRuntime) {
-    let alloc = rt.alloc();
-    let found = ask(KeyRange::new(alloc, b"a", b"c"), |range| {
-        (
-            contains(alloc, range, b"a"),
-            contains(alloc, range, b"c"),
-            range.is_empty(),
-        )
-    });
-    same(&rt, found, Ok((Ok(true), Ok(false), false)));
-}
-
-#[test]
-fn touching_ranges_do_not_meet(rt: HostRuntime) {
-    let alloc = rt.alloc();
-    same(&rt, a_to_c_meets(alloc, b"c", b"d"), Ok(false));
-    same(&rt, a_to_c_meets(alloc, b"b", b"d"), Ok(true));
-    same(&rt, a_to_c_is_within(alloc, b"", b"c"), Ok(true));
-    same(&rt, a_to_c_is_within(alloc, b"a", b"b"), Ok(false));
-}
-
-#[test]
-fn range_of_one_key_ends_right_after_it(rt: HostRuntime) {
-    let alloc = rt.alloc();
-    let found = ask(Key::new(alloc, b"a"), |key| {
-        key.bytes() == b"a".as_slice() && gave_range(KeyRange::single(alloc, key), (b"a", b"a\0"))
-    });
-    same(&rt, found, Ok(true));
-}
-
-#[test]
-fn range_is_cut_at_a_key(rt: HostRuntime) {
-    let alloc = rt.alloc();
-    let forward = a_to_d_is_cut(alloc, false, [(b"a", b"b\0"), (b"b\0", b"d")]);
-    same(&rt, forward, Ok(true));
-    let backward = a_to_d_is_cut(alloc, true, [(b"b", b"d"), (b"a", b"b")]);
-    same(&rt, backward, Ok(true));
-}
-
-#[test]
-fn touching_ranges_are_joined(rt: HostRuntime) {
-    let found = ask(a_to_d(rt.alloc()), |set| {
-        (
-            are_ranges(set.iter().as_slice(), &[(b"a", b"d")]),
-            set.is_empty(),
-        )
-    });
-    same(&rt, found, Ok((true, false)));
-}
-
-#[test]
-fn range_is_taken_out_of_another_one(rt: HostRuntime) {
-    let alloc = rt.alloc();
-    assert!(rt;
-        gave(
-            a_to_d_minus(alloc, b"b", b"c"),
-            &[(b"a", b"b"), (b"c", b"d")]
-        )
-    );
-    assert!(rt; gave(a_to_d_minus(alloc, b"d", b"e"), &[(b"a", b"d")]));
-    assert!(rt; gave(a_to_d_minus(alloc, b"a", b"e"), &[]));
-}
-
-#[test]
-fn range_is_taken_out_of_a_set(rt: HostRuntime) {
-    let left = a_to_d_without(rt.alloc(), b"b", b"c");
-    assert!(rt; gave(left, &[(b"a", b"b"), (b"c", b"d")]));
-}
-
-#[test]
-fn range_has_parts_outside_a_tree(rt: HostRuntime) {
-    let parts = outside(rt.alloc(), &[(b"b", b"c"), (b"d", b"e")]);
-    assert!(rt; gave(parts, &[(b"a", b"b"), (b"c", b"d"), (b"e", b"z")]));
-}
-
-#[test]
-fn range_is_added_to_both_trees(rt: HostRuntime) {
-    let alloc = rt.alloc();
-    let found = ask(KeyRange::new(alloc, b"b", b"c"), |range| {
-        ask_mut(
-            tree_of(alloc, &[(b"a", b"b")]),
-            |first| are_both_added(alloc, first, range),
-        )
-    });
-    same(&rt, found, Ok(Ok(true)));
-}
-
-#[test]
-fn ranges_are_added_to_a_tree_at_once(rt: HostRuntime) {
-    let alloc = rt.alloc();
-    let joined = b_to_c_with_all(alloc, &[(b"a", b"b"), (b"c", b"d")]);
-    assert!(rt; gave_one(alloc, joined, b"a", b"d"));
-    assert!(rt; gave_one(alloc, b_to_c_with_all(alloc, &[]), b"b", b"c"));
-}
-
-#[test]
-fn tree_joins_touching_ranges(rt: HostRuntime) {
-    let alloc = rt.alloc();
-    let tree = tree_of(alloc, &[(b"a", b"c"), (b"c", b"d"), (b"e", b"e")]);
-    let found = ask(
-        tree,
-        |tree| (is_one(alloc, tree, b"a", b"d"), tree.is_empty()),
-    );
-    same(&rt, found, Ok((true, false)));
-}
-
-#[test]
-fn tree_swallows_the_ranges_that_one_touches(rt: HostRuntime) {
-    let alloc = rt.alloc();
-    let tree = tree_of(
-        alloc,
-        &[(b"a", b"b"), (b"e", b"g"), (b"c", b"d"), (b"b", b"f")],
-    );
-    assert!(rt; gave_one(alloc, tree, b"a", b"g"));
-}
-
-#[test]
-fn range_in_a_tree_adds_nothing(rt: HostRuntime) {
-    let alloc = rt.alloc();
-    let tree = tree_of(alloc, &[(b"a", b"d"), (b"b", b"c")]);
-    assert!(rt; gave_one(alloc, tree, b"a", b"d"));
-}
-
-#[test]
-fn tree_has_the_begin_of_a_range_and_not_its_end(rt: HostRuntime) {
-    let alloc = rt.alloc();
-    let found = ask(tree_of(alloc, &[(b"a", b"c")]), |tree| {
-        [
-            tree_contains(alloc, tree, b"a"),
-            tree_contains(alloc, tree, b"c"),
-        ]
-    });
-    same(&rt, found, Ok([Ok(true), Ok(false)]));
-}
-
-#[test]
-fn copies_are_equal(rt: HostRuntime) {
-    let alloc = rt.alloc();
-    let key = ask(Key::new(alloc, b"a"), |key| equals_copy(key, key.clone()));
-    same(&rt, key, Ok(true));
-    let set = ask(a_to_d(alloc), |set| equals_copy(set, set.clone()));
-    same(&rt, set, Ok(true));
-    let items = ask(
-        one_item(alloc, 7),
-        |items| equals_copy(items, items.clone()),
-    );
-    same(&rt, items, Ok(true));
-}
-
-#[test]
-fn items_come_in_order(rt: HostRuntime) {
-    let found = ask(one_item(rt.alloc(), 7), |items| {
-        (
-            items.as_slice() == [7].as_slice(),
-            items.len(),
-            items.is_empty(),
-        )
-    });
-    same(&rt, found, Ok((true, 1, false)));
-}
-
-#[test]
-fn items_are_the_items_of_a_vector(rt: HostRuntime) {
-    let found = ask(
-        two_items(rt.alloc()),
-        |list| list.as_slice() == [1, 2].as_slice(),
-    );
-    same(&rt, found, Ok(true));
+    same(&rt, equal_copies(alloc), Ok([true, true, true]));
+    same(&rt, have_items(alloc), Ok([true, true]));
 }
 
 // Whether a refusal is written as the text, alone and with what is handed back.
@@ -368,7 +335,7 @@ fn is_written(alloc: Global, why: Refusal, text: &str) -> bool {
 #[test]
 fn refusals_have_codes_and_texts(rt: HostRuntime) {
     let why = Refusal::NotYet(5);
-    same(&rt, (why.code(), why.name()), (9002, "NotYet"));
     let text = "something that comes before this, numbered 5, has not come yet";
-    assert!(rt; is_written(rt.alloc(), why, text));
+    let found = (why.code(), why.name(), is_written(rt.alloc(), why, text));
+    same(&rt, found, (9002, "NotYet", true));
 }

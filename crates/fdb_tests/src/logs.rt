@@ -1,27 +1,22 @@
 // Logs with known answers.
-ghost use Rattle.std.specs.Prelude.{◌<◌};
-
-use crate::making::{ask, ask_mut, code_of, push, refusal_of, same};
+use crate::making::{ask, code_of, made_of, push, same};
 use fdb_keys::{Items, Refusal};
 use fdb_log::{LogAck, LogCore, LogMsg, Tagged};
 use fdb_mutations::Mutation;
 use fdb_txn::TagMsg;
 use std::alloc::Global;
 
-fn new_code(alloc: Global, log: u32, logs: u32, tags: u32) -> u32 {
-    code_of(LogCore::new(alloc, log, logs, tags))
-}
-
-// What the log answers to a message of entry 7.
-fn take_body(
+// What the log answers to a message of entry 7 after the version before it.
+fn take(
     core: &mut LogCore,
     log: u32,
     version: u64,
     prev: u64,
     body: Items<Tagged>,
-) -> Result<LogAck, Refusal>
-    requires { prev < version }
-{
+) -> Result<LogAck, Refusal> {
+    if version <= prev {
+        return Err(Refusal::BadConfig);
+    }
     let message = LogMsg {
         log,
         index: 7,
@@ -30,34 +25,6 @@ fn take_body(
         body,
     };
     core.push(&message)
-}
-
-// The same without mutations.
-fn take(
-    core: &mut LogCore,
-    alloc: Global,
-    log: u32,
-    version: u64,
-    prev: u64,
-) -> Result<LogAck, Refusal>
-    requires { prev < version }
-{
-    take_body(core, log, version, prev, Items::new(alloc))
-}
-
-// Whether the log took messages at 100 and 200, and told so.
-fn take_two(core: &mut LogCore, alloc: Global) -> bool {
-    let first = ask(take(core, alloc, 0, 100, 0), |ack| (ack.log, ack.index));
-    let second = ask(take(core, alloc, 0, 200, 100), |ack| (ack.log, ack.index));
-    first == Ok((0, 7)) && second == Ok((0, 7))
-}
-
-// How many messages there are, and through which version they go.
-fn peek(core: &LogCore, tag: u32, after: u64, limit: u32) -> Result<(usize, u64), u32> {
-    ask(
-        core.peek(tag, after, limit),
-        |peek| (peek.messages.len(), peek.through),
-    )
 }
 
 fn tagged(alloc: Global, place: u32, key: &[u8], tags: &[u32]) -> Result<Tagged, Refusal> {
@@ -77,21 +44,15 @@ fn add(body: &mut Items<Tagged>, sent: Result<Tagged, Refusal>) -> Result<(), Re
     }
 }
 
-// Three mutations: for tag 0, for tags 0 and 2, and for tag 2.
-fn three_clears(alloc: Global) -> Result<Items<Tagged>, Refusal> {
-    let mut body = Items::new(alloc);
-    add(&mut body, tagged(alloc, 0, b"a", &[0]))?;
-    add(&mut body, tagged(alloc, 3, b"b", &[0, 2]))?;
-    add(&mut body, tagged(alloc, 5, b"c", &[2]))?;
-    Ok(body)
-}
+// Clears by their places, keys and tags.
+type Clears = &'static [(u32, &'static [u8], &'static [u32])];
 
-// Whether the log took these at 100.
-fn take_three_clears(core: &mut LogCore, alloc: Global) -> bool {
-    match three_clears(alloc) {
-        Ok(body) => take_body(core, 0, 100, 0, body).is_ok(),
-        Err(_why) => false,
+fn body_of(alloc: Global, clears: Clears) -> Result<Items<Tagged>, Refusal> {
+    let mut body = Items::new(alloc);
+    for (place, key, tags) in clears {
+        add(&mut body, tagged(alloc, *place, key, tags))?;
     }
+    Ok(body)
 }
 
 fn clears(mutation: &Mutation, wanted: &[u8]) -> bool {
@@ -101,33 +62,179 @@ fn clears(mutation: &Mutation, wanted: &[u8]) -> bool {
     }
 }
 
-fn is_clear(sent: &(u32, Mutation), place: u32, key: &[u8]) -> bool {
-    sent.0 == place && clears(&sent.1, key)
-}
-
-fn are_two_clears(messages: &[TagMsg], places: [u32; 2], keys: [&[u8]; 2]) -> bool {
+// Whether there is one message, which clears just these keys at their places.
+fn are_clears(messages: &[TagMsg], wanted: &[(u32, &[u8])]) -> bool {
     let [message] = messages else {
         return false;
     };
-    match message.body.as_slice() {
-        [first, second] => {
-            is_clear(first, places[0], keys[0]) && is_clear(second, places[1], keys[1])
+    let body = message.body.as_slice();
+    body.len() == wanted.len()
+        && body.iter().zip(wanted).all(|(sent, (place, key))| sent.0 == *place
+            && clears(&sent.1, key))
+}
+
+// What a log is asked.
+#[derive(Clone, Copy)]
+enum Line {
+    // To take a message to the log of the number, at the version, after the one before, with these clears.
+    Take(u32, u64, u64, Clears),
+    // The tag's messages after the version, up to so many.
+    Peek(u32, u64, u32),
+    // Whether the tag has one message, which clears just these keys at their places.
+    Gives(u32, &'static [(u32, &'static [u8])]),
+    // To forget the tag's messages through the version.
+    Pop(u32, u64),
+}
+
+// The log and the entry of what is acknowledged, or how many messages there are and through which version they go. Else
+// it is 1 where something is done or holds, and 0.
+type Answer = Result<(u64, u64), Refusal>;
+
+const YES: Answer = Ok((1, 0));
+
+const DONE: Answer = Ok((1, 0));
+
+fn take_body(
+    core: &mut LogCore,
+    alloc: Global,
+    log: u32,
+    version: u64,
+    prev: u64,
+    clears: Clears,
+) -> Answer {
+    let body = body_of(alloc, clears)?;
+    let ack = take(core, log, version, prev, body)?;
+    Ok((u64::from(ack.log), u64::from(ack.index)))
+}
+
+fn peek(core: &LogCore, tag: u32, after: u64, limit: u32) -> Answer {
+    let peek = core.peek(tag, after, limit)?;
+    Ok((peek.messages.len() as u64, peek.through))
+}
+
+fn gives_clears(core: &LogCore, tag: u32, wanted: &[(u32, &[u8])]) -> Answer {
+    let peek = core.peek(tag, 0, 9)?;
+    let holds = are_clears(peek.messages.as_slice(), wanted);
+    Ok((u64::from(holds), 0))
+}
+
+fn answer(core: &mut LogCore, alloc: Global, line: Line) -> Answer {
+    match line {
+        Line::Take(log, version, prev, clears) => take_body(
+            core, alloc, log, version, prev, clears,
+        ),
+        Line::Peek(tag, after, limit) => peek(core, tag, after, limit),
+        Line::Gives(tag, wanted) => gives_clears(core, tag, wanted),
+        Line::Pop(tag, through) => {
+            core.pop(tag, through)?;
+            DONE
         }
-        _ => false,
     }
 }
 
-// Whether the tag has one message, which clears the two keys.
-fn gives_two_clears(core: &LogCore, tag: u32, places: [u32; 2], keys: [&'static [u8]; 2]) -> bool {
-    let holds = ask(core.peek(tag, 0, 9), |peek| {
-        are_two_clears(peek.messages.as_slice(), places, keys)
-    });
-    holds == Ok(true)
+// What a new log answers, of which there are so many, with so many tags.
+#[derive(Clone, Copy)]
+struct Case {
+    what: &'static str,
+    logs: u32,
+    tags: u32,
+    lines: &'static [(Line, Answer)],
 }
 
-// Whether it clears b at place 3, with the tags 0 and 2.
-fn clears_b(sent: &Tagged) -> bool {
-    sent.place == 3 && clears(&sent.mutation, b"b") && sent.tags.as_slice() == [0, 2].as_slice()
+static CASES: [Case; 4] = [
+    Case {
+        what: "messages after a version are given up to the limit",
+        logs: 1,
+        tags: 1,
+        lines: &[
+            (Line::Take(0, 100, 0, &[]), Ok((0, 7))),
+            (Line::Take(0, 200, 100, &[]), Ok((0, 7))),
+            (Line::Peek(0, 0, 0), Ok((0, 0))),
+            (Line::Peek(0, 0, 1), Ok((1, 100))),
+            (Line::Peek(0, 0, 9), Ok((2, 200))),
+            (Line::Peek(0, 200, 9), Ok((0, 200))),
+            (Line::Peek(0, 201, 9), Err(Refusal::BadConfig)),
+            (Line::Peek(1, 0, 9), Err(Refusal::BadConfig)),
+        ],
+    },
+    Case {
+        what: "popped messages are gone",
+        logs: 1,
+        tags: 1,
+        lines: &[
+            (Line::Take(0, 100, 0, &[]), Ok((0, 7))),
+            (Line::Take(0, 200, 100, &[]), Ok((0, 7))),
+            (Line::Pop(0, 999), Err(Refusal::BadConfig)),
+            (Line::Pop(1, 100), Err(Refusal::BadConfig)),
+            (Line::Pop(0, 100), DONE),
+            (Line::Peek(0, 0, 9), Err(Refusal::TransactionTooOld)),
+            (Line::Peek(0, 100, 9), Ok((1, 200))),
+        ],
+    },
+    Case {
+        what: "messages out of turn are refused",
+        logs: 1,
+        tags: 1,
+        lines: &[
+            (Line::Take(1, 100, 0, &[]), Err(Refusal::Unknown)),
+            (Line::Take(0, 100, 0, &[]), Ok((0, 7))),
+            (Line::Take(0, 200, 100, &[]), Ok((0, 7))),
+            (Line::Take(0, 200, 100, &[]), Err(Refusal::Stale)),
+            (Line::Take(0, 400, 300, &[]), Err(Refusal::NotYet(300))),
+        ],
+    },
+    Case {
+        what: "each tag of a log has its own mutations",
+        logs: 2,
+        tags: 3,
+        lines: &[
+            (
+                Line::Take(
+                    0,
+                    100,
+                    0,
+                    &[(0, b"a", &[0]), (3, b"b", &[0, 2]), (5, b"c", &[2])],
+                ),
+                Ok((0, 7)),
+            ),
+            (Line::Gives(0, &[(0, b"a"), (3, b"b")]), YES),
+            (Line::Peek(1, 0, 9), Err(Refusal::BadConfig)),
+            (Line::Pop(0, 100), DONE),
+            (Line::Peek(0, 100, 9), Ok((0, 100))),
+            (Line::Gives(2, &[(3, b"b"), (5, b"c")]), YES),
+        ],
+    },
+];
+
+// The first line that is answered otherwise than is wanted, by its place, and its answer.
+fn first_wrong(
+    core: &mut LogCore,
+    alloc: Global,
+    lines: &[(Line, Answer)],
+) -> Option<(usize, Answer)> {
+    for (place, (line, wanted)) in lines.iter().enumerate() {
+        let given = answer(core, alloc, *line);
+        if given != *wanted {
+            return Some((place, given));
+        }
+    }
+    None
+}
+
+fn played(alloc: Global, case: Case) -> Result<Option<(usize, Answer)>, Refusal> {
+    let mut core = LogCore::new(alloc, 0, case.logs, case.tags)?;
+    Ok(first_wrong(&mut core, alloc, case.lines))
+}
+
+#[test]
+fn logs_answer_each_line(rt: HostRuntime) {
+    for case in CASES.as_slice() {
+        same(
+            &rt,
+            (case.what, played(rt.alloc(), *case)),
+            (case.what, Ok(None)),
+        );
+    }
 }
 
 fn copied(alloc: Global, sent: &Tagged) -> Result<Tagged, Refusal> {
@@ -135,91 +242,26 @@ fn copied(alloc: Global, sent: &Tagged) -> Result<Tagged, Refusal> {
     Ok(copy)
 }
 
-#[test]
-fn a_copy_has_the_place_the_mutation_and_the_tags(rt: HostRuntime) {
-    let alloc = rt.alloc();
-    let found = ask(tagged(alloc, 3, b"b", &[0, 2]), |sent| {
-        ask(copied(alloc, sent), |copy| clears_b(copy))
-    });
-    same(&rt, found, Ok(Ok(true)));
+// Whether it clears b at place 3, with the tags 0 and 2.
+fn clears_b(sent: &Tagged) -> bool {
+    sent.place == 3 && clears(&sent.mutation, b"b") && sent.tags.as_slice() == [0, 2].as_slice()
 }
 
-#[test]
-fn configurations_are_within_their_limits(rt: HostRuntime) {
-    let alloc = rt.alloc();
-    same(&rt, new_code(alloc, 15, 16, 64), 0);
-    same(&rt, new_code(alloc, 1, 1, 1), 9009);
-    same(&rt, new_code(alloc, 0, 17, 1), 9009);
-    same(&rt, new_code(alloc, 0, 1, 0), 9009);
-    same(&rt, new_code(alloc, 0, 1, 65), 9009);
-}
+// The number of a log, how many logs and tags there are, and the code of why there is no such log, or 0.
+static CONFIGURATIONS: [(u32, u32, u32, u32); 5] = [
+    (15, 16, 64, 0),
+    (1, 1, 1, 9009),
+    (0, 17, 1, 9009),
+    (0, 1, 0, 9009),
+    (0, 1, 65, 9009),
+];
 
 #[test]
-fn messages_after_a_version_are_given_up_to_the_limit(rt: HostRuntime) {
+fn logs_within_their_limits_are_served_and_messages_are_copied(rt: HostRuntime) {
     let alloc = rt.alloc();
-    let found = ask_mut(LogCore::new(alloc, 0, 1, 1), |core| {
-        let is_taken = take_two(core, alloc);
-        let own = [(0, 0), (0, 1), (0, 9), (200, 9), (201, 9)].map(|(after, limit)| peek(
-            core, 0, after, limit,
-        ));
-        (is_taken, own, peek(core, 1, 0, 9))
-    });
-    let own = [
-        Ok((0, 0)),
-        Ok((1, 100)),
-        Ok((2, 200)),
-        Ok((0, 200)),
-        Err(9009),
-    ];
-    same(&rt, found, Ok((true, own, Err(9009))));
-}
-
-#[test]
-fn popped_messages_are_gone(rt: HostRuntime) {
-    let alloc = rt.alloc();
-    let found = ask_mut(LogCore::new(alloc, 0, 1, 1), |core| {
-        let is_taken = take_two(core, alloc);
-        let codes = [(0, 999), (1, 100), (0, 100)].map(|(tag, through)| code_of(core.pop(
-            tag, through,
-        )));
-        (is_taken, codes, peek(core, 0, 0, 9), peek(core, 0, 100, 9))
-    });
-    same(
-        &rt,
-        found,
-        Ok((true, [9009, 9009, 0], Err(1007), Ok((1, 200)))),
-    );
-}
-
-#[test]
-fn messages_out_of_turn_are_refused(rt: HostRuntime) {
-    let alloc = rt.alloc();
-    let found = ask_mut(LogCore::new(alloc, 0, 1, 1), |core| {
-        (
-            refusal_of(take(core, alloc, 1, 100, 0)),
-            take_two(core, alloc),
-            refusal_of(take(core, alloc, 0, 200, 100)),
-            refusal_of(take(core, alloc, 0, 400, 300)),
-        )
-    });
-    let (unknown, stale) = (Some(Refusal::Unknown), Some(Refusal::Stale));
-    same(
-        &rt,
-        found,
-        Ok((unknown, true, stale, Some(Refusal::NotYet(300)))),
-    );
-}
-
-#[test]
-fn each_tag_of_a_log_has_its_own_mutations(rt: HostRuntime) {
-    let alloc = rt.alloc();
-    let found = ask_mut(LogCore::new(alloc, 0, 2, 3), |core| {
-        take_three_clears(core, alloc)
-            && gives_two_clears(core, 0, [0, 3], [b"a", b"b"])
-            && peek(core, 1, 0, 9) == Err(9009)
-            && core.pop(0, 100).is_ok()
-            && peek(core, 0, 100, 9) == Ok((0, 100))
-            && gives_two_clears(core, 2, [3, 5], [b"b", b"c"])
-    });
-    same(&rt, found, Ok(true));
+    for (log, logs, tags, code) in CONFIGURATIONS.as_slice() {
+        same(&rt, code_of(LogCore::new(alloc, *log, *logs, *tags)), *code);
+    }
+    let copy = made_of(tagged(alloc, 3, b"b", &[0, 2]), |sent| copied(alloc, sent));
+    same(&rt, ask(copy, |copy| clears_b(copy)), Ok(true));
 }

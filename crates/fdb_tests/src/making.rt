@@ -57,6 +57,17 @@ pub fn ask_both<T: Drop, U: Drop, A: Drop, F: FnOnce(&T, &U) -> A + Drop>(
     }
 }
 
+/// Both values. Where several are held, one exit before any is costs the prover less than an exit at each.
+pub fn both<T: Drop, U: Drop>(
+    first: Result<T, Refusal>,
+    second: Result<U, Refusal>,
+) -> Result<(T, U), Refusal> {
+    match (first, second) {
+        (Ok(first), Ok(second)) => Ok((first, second)),
+        (Err(why), _) | (_, Err(why)) => Err(why),
+    }
+}
+
 /// What is made of the value.
 pub fn made_of<T: Drop, U, F: FnOnce(&T) -> Result<U, Refusal> + Drop>(
     made: Result<T, Refusal>,
@@ -124,6 +135,31 @@ pub fn code_of<T: Drop>(answer: Result<T, Refusal>) -> u32 {
     }
 }
 
+/// The code of the refusal, and the number that it names, 0 where it names none.
+pub fn numbers_of(why: Refusal) -> (u32, u64) {
+    match why {
+        Refusal::NotYet(number) => (why.code(), number),
+        Refusal::Repeated(place) => (why.code(), u64::from(place)),
+        _ => (why.code(), 0),
+    }
+}
+
+/// Whether it is done, where the answer tells no more.
+pub fn is_done(answer: Result<(), Refusal>) -> Result<bool, Refusal> {
+    match answer {
+        Ok(()) => Ok(true),
+        Err(why) => Err(why),
+    }
+}
+
+/// The same answer, with the code of the refusal.
+pub fn coded<T: Drop>(answer: Result<T, Refusal>) -> Result<T, u32> {
+    match answer {
+        Ok(given) => Ok(given),
+        Err(why) => Err(why.code()),
+    }
+}
+
 /// The byte as many times.
 pub fn text_of(alloc: Global, byte: u8, count: usize) -> Result<Vec<u8>, Refusal> {
     let text = vec![in alloc; byte; count]?;
@@ -170,6 +206,20 @@ pub fn rising_keys(alloc: Global, count: u8) -> Result<Items<Key>, Refusal> {
         keys.push(Key::new(alloc, &[byte])?)?;
     }
     Ok(keys)
+}
+
+/// These keys, or as many keys of one byte that rise.
+#[derive(Clone, Copy)]
+pub enum Splits {
+    Keys(&'static [&'static [u8]]),
+    Rising(u8),
+}
+
+pub fn splits_of(alloc: Global, splits: Splits) -> Result<Items<Key>, Refusal> {
+    match splits {
+        Splits::Keys(texts) => keys_of(alloc, texts),
+        Splits::Rising(count) => rising_keys(alloc, count),
+    }
 }
 
 pub fn has_bounds(range: &KeyRange, begin: &[u8], end: &[u8]) -> bool {

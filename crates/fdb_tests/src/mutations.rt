@@ -1,11 +1,43 @@
 // Mutations and plain maps with known answers.
 use crate::making::{
-    apply, ask, ask_mut, code_of, equals_copy, filled, has_bounds, made_of, same, text_of,
+    apply, ask, ask_both, code_of, equals_copy, filled, has_bounds, made_of, same, text_of,
 };
 use bytes::Bytes;
 use fdb_keys::{Items, Key, KeyRange, Refusal};
 use fdb_mutations::{Mutation, PlainMap};
 use std::alloc::Global;
+
+type Text = &'static [u8];
+
+// A mutation of the value of a.
+#[derive(Clone, Copy)]
+enum Kind {
+    Set,
+    Add,
+    And,
+    Or,
+    Xor,
+    Max,
+    Min,
+    ByteMax,
+    ByteMin,
+    CompareAndClear,
+}
+
+fn mutation_of(alloc: Global, kind: Kind, operand: &[u8]) -> Result<Mutation, Refusal> {
+    match kind {
+        Kind::Set => Mutation::set(alloc, b"a", operand),
+        Kind::Add => Mutation::add(alloc, b"a", operand),
+        Kind::And => Mutation::and(alloc, b"a", operand),
+        Kind::Or => Mutation::or(alloc, b"a", operand),
+        Kind::Xor => Mutation::xor(alloc, b"a", operand),
+        Kind::Max => Mutation::max(alloc, b"a", operand),
+        Kind::Min => Mutation::min(alloc, b"a", operand),
+        Kind::ByteMax => Mutation::byte_max(alloc, b"a", operand),
+        Kind::ByteMin => Mutation::byte_min(alloc, b"a", operand),
+        Kind::CompareAndClear => Mutation::compare_and_clear(alloc, b"a", operand),
+    }
+}
 
 // The code of the refusal, or 0 where the mutation is a legal one, and the size.
 fn code_and_size(mutation: Result<Mutation, Refusal>) -> Result<(u32, u64), u32> {
@@ -15,292 +47,31 @@ fn code_and_size(mutation: Result<Mutation, Refusal>) -> Result<(u32, u64), u32>
     )
 }
 
-// The same of an `Add` of as many bytes.
-fn of_add(alloc: Global, count: usize) -> Result<(u32, u64), u32> {
-    code_and_size(made_of(
-        text_of(alloc, 1, count),
-        |operand| Mutation::add(alloc, b"a", operand),
-    ))
-}
-
-// The same of a `Set` to as many bytes.
-fn of_set(alloc: Global, count: usize) -> Result<(u32, u64), u32> {
-    code_and_size(made_of(
-        text_of(alloc, b'v', count),
-        |value| Mutation::set(alloc, b"a", value),
-    ))
-}
-
-// What the mutation makes of the value.
-fn turned(
-    alloc: Global,
-    mutation: Result<Mutation, Refusal>,
-    value: &'static [u8],
-) -> Result<Option<Bytes>, Refusal> {
-    made_of(
-        mutation,
-        |mutation| mutation.apply_value(alloc, Some(&Bytes::from_static(value))),
-    )
-}
-
-// What the mutation makes of no value.
-fn made(alloc: Global, mutation: Result<Mutation, Refusal>) -> Result<Option<Bytes>, Refusal> {
-    made_of(mutation, |mutation| mutation.apply_value(alloc, None))
-}
-
-fn value(bytes: &'static [u8]) -> Result<Option<Bytes>, Refusal> {
-    Ok(Some(Bytes::from_static(bytes)))
-}
-
-// The pairs of the keys from a up to the end.
-fn pairs(
-    map: &PlainMap,
-    alloc: Global,
-    end: &[u8],
-    limit: u32,
-    reverse: bool,
-) -> Result<Items<(Key, Bytes)>, Refusal> {
-    made_of(
-        KeyRange::new(alloc, b"a", end),
-        |range| map.range(range, limit, reverse),
-    )
-}
-
-// Whether there is just this one pair.
-fn is_pair(pairs: &[(Key, Bytes)], key: &[u8], value: u8) -> bool {
-    match pairs {
-        [(found, there)] => found.bytes() == key && there.as_slice() == [value].as_slice(),
-        _ => false,
+// The same of one with as many bytes.
+fn of_long(alloc: Global, kind: Kind, count: usize) -> Result<(u32, u64), u32> {
+    match text_of(alloc, 1, count) {
+        Ok(operand) => code_and_size(mutation_of(alloc, kind, operand.as_slice())),
+        Err(why) => Err(why.code()),
     }
 }
 
-// Whether the call gave just this one pair.
-fn gave(answer: Result<Items<(Key, Bytes)>, Refusal>, key: &[u8], value: u8) -> bool {
-    ask(answer, |pairs| is_pair(pairs.as_slice(), key, value)) == Ok(true)
-}
+static LONG: [(Kind, usize, (u32, u64)); 6] = [
+    // Values have at most 100,000 bytes.
+    (Kind::Set, 100_000, (0, 100_001)),
+    (Kind::Set, 100_001, (2103, 100_002)),
+    // Added numbers have 1 to 16 bytes.
+    (Kind::Add, 0, (9008, 1)),
+    (Kind::Add, 16, (0, 17)),
+    (Kind::Add, 17, (9008, 18)),
+    (Kind::Add, 100_001, (2103, 100_002)),
+];
 
-// How many pairs before c a page has, and whether there is a further one.
-fn page_before_c(map: &PlainMap, alloc: Global, limit: u32) -> Result<(usize, bool), u32> {
-    let page = made_of(
-        KeyRange::new(alloc, b"", b"c"),
-        |range| map.page(range, limit, false),
-    );
-    ask(page, |page| (page.0.len(), page.1))
-}
-
-// Whether there is a clear of just these keys, or nothing where none are given.
-fn is_clear_of(mutation: Option<&Mutation>, bounds: Option<(&[u8], &[u8])>) -> bool {
-    match (mutation, bounds) {
-        (Some(Mutation::ClearRange { range }), Some((begin, end))) => has_bounds(range, begin, end),
-        (None, None) => true,
-        _ => false,
+#[test]
+fn values_and_operands_have_their_limits(rt: HostRuntime) {
+    let alloc = rt.alloc();
+    for (kind, count, wanted) in LONG.as_slice() {
+        same(&rt, of_long(alloc, *kind, *count), Ok(*wanted));
     }
-}
-
-// The mutation cut to the keys from m up to t.
-fn clipped(
-    alloc: Global,
-    mutation: Result<Mutation, Refusal>,
-) -> Result<Option<Mutation>, Refusal> {
-    made_of(mutation, |mutation| {
-        made_of(
-            KeyRange::new(alloc, b"m", b"t"),
-            |range| mutation.clip(range),
-        )
-    })
-}
-
-fn copied(mutation: &Mutation) -> Result<Mutation, Refusal> {
-    let copy = mutation.clone()?;
-    Ok(copy)
-}
-
-// Whether the mutation equals the other one.
-fn is_same(mutation: &Mutation, other: Result<Mutation, Refusal>) -> Result<bool, u32> {
-    ask(other, |other| mutation == other)
-}
-
-#[test]
-fn values_have_at_most_100_000_bytes(rt: HostRuntime) {
-    let alloc = rt.alloc();
-    same(&rt, of_set(alloc, 100_000), Ok((0, 100_001)));
-    same(&rt, of_set(alloc, 100_001), Ok((2103, 100_002)));
-}
-
-#[test]
-fn added_numbers_have_1_to_16_bytes(rt: HostRuntime) {
-    let alloc = rt.alloc();
-    same(&rt, of_add(alloc, 0), Ok((9008, 1)));
-    same(&rt, of_add(alloc, 16), Ok((0, 17)));
-    same(&rt, of_add(alloc, 17), Ok((9008, 18)));
-    same(&rt, of_add(alloc, 100_001), Ok((2103, 100_002)));
-}
-
-#[test]
-fn sums_have_the_length_of_the_operand(rt: HostRuntime) {
-    let alloc = rt.alloc();
-    same(
-        &rt,
-        turned(alloc, Mutation::add(alloc, b"a", &[1, 0]), &[0xff]),
-        value(&[0, 1]),
-    );
-    same(
-        &rt,
-        turned(alloc, Mutation::add(alloc, b"a", &[1]), &[0xff, 7]),
-        value(&[0]),
-    );
-    same(
-        &rt,
-        made(alloc, Mutation::add(alloc, b"a", &[5])),
-        value(&[5]),
-    );
-}
-
-#[test]
-fn bits_are_those_of_the_fitted_value(rt: HostRuntime) {
-    let alloc = rt.alloc();
-    same(
-        &rt,
-        turned(alloc, Mutation::and(alloc, b"a", &[0x0f, 0x0f]), &[0xff]),
-        value(&[0x0f, 0]),
-    );
-    same(
-        &rt,
-        turned(alloc, Mutation::or(alloc, b"a", &[]), &[7]),
-        value(&[]),
-    );
-    same(
-        &rt,
-        turned(alloc, Mutation::xor(alloc, b"a", &[0xff]), &[0x0f, 1]),
-        value(&[0xf0]),
-    );
-}
-
-#[test]
-fn operand_stands_where_no_value_did(rt: HostRuntime) {
-    let alloc = rt.alloc();
-    same(
-        &rt,
-        made(alloc, Mutation::and(alloc, b"a", &[0x0f])),
-        value(&[0x0f]),
-    );
-    same(
-        &rt,
-        made(alloc, Mutation::xor(alloc, b"a", &[0xff])),
-        value(&[0xff]),
-    );
-    same(
-        &rt,
-        made(alloc, Mutation::min(alloc, b"a", &[5])),
-        value(&[5]),
-    );
-    let at_key = made_of(Key::new(alloc, b"a"), |key| {
-        made_of(
-            Mutation::add(alloc, b"a", &[5]),
-            |mutation| mutation.value_after(alloc, key, None),
-        )
-    });
-    same(&rt, at_key, value(&[5]));
-}
-
-#[test]
-fn numbers_are_compared_from_the_last_byte(rt: HostRuntime) {
-    let alloc = rt.alloc();
-    same(
-        &rt,
-        turned(alloc, Mutation::max(alloc, b"a", &[1, 2]), &[0xff, 1]),
-        value(&[1, 2]),
-    );
-    same(
-        &rt,
-        turned(alloc, Mutation::min(alloc, b"a", &[1, 2]), &[0xff, 1]),
-        value(&[0xff, 1]),
-    );
-    same(
-        &rt,
-        turned(alloc, Mutation::min(alloc, b"a", &[5, 0]), &[9]),
-        value(&[5, 0]),
-    );
-}
-
-#[test]
-fn bytes_are_compared_from_the_first_one(rt: HostRuntime) {
-    let alloc = rt.alloc();
-    same(
-        &rt,
-        turned(alloc, Mutation::byte_max(alloc, b"a", &[1, 2]), &[0xff, 1]),
-        value(&[0xff, 1]),
-    );
-    same(
-        &rt,
-        turned(alloc, Mutation::byte_min(alloc, b"a", &[1, 2]), &[0xff, 1]),
-        value(&[1, 2]),
-    );
-}
-
-#[test]
-fn only_an_equal_value_is_cleared(rt: HostRuntime) {
-    let alloc = rt.alloc();
-    same(
-        &rt,
-        turned(alloc, Mutation::compare_and_clear(alloc, b"a", &[7]), &[7]),
-        Ok(None),
-    );
-    same(
-        &rt,
-        turned(alloc, Mutation::compare_and_clear(alloc, b"a", &[7]), &[8]),
-        value(&[8]),
-    );
-}
-
-#[test]
-fn ranges_are_read_in_both_orders(rt: HostRuntime) {
-    let alloc = rt.alloc();
-    let found = ask(filled(alloc), |map| {
-        [
-            gave(pairs(map, alloc, b"c", 1, false), b"a", 1),
-            gave(pairs(map, alloc, b"c", 1, true), b"b", 2),
-        ]
-    });
-    same(&rt, found, Ok([true, true]));
-}
-
-#[test]
-fn pages_tell_whether_there_is_more(rt: HostRuntime) {
-    let alloc = rt.alloc();
-    let found = ask(filled(alloc), |map| {
-        [1, 2, 0].map(|limit| page_before_c(map, alloc, limit))
-    });
-    same(
-        &rt,
-        found,
-        Ok([Ok((1, true)), Ok((2, false)), Ok((2, false))]),
-    );
-}
-
-#[test]
-fn other_keys_keep_their_values(rt: HostRuntime) {
-    let alloc = rt.alloc();
-    let found = ask_mut(filled(alloc), |map| {
-        apply(map, Mutation::clear_range(alloc, b"a", b"c")).is_ok()
-            && gave(pairs(map, alloc, b"z", 0, false), b"c", 3)
-    });
-    same(&rt, found, Ok(true));
-}
-
-#[test]
-fn mutations_are_cut(rt: HostRuntime) {
-    let alloc = rt.alloc();
-    let cleared = ask(
-        clipped(alloc, Mutation::clear_range(alloc, b"a", b"z")),
-        |cut| { is_clear_of(cut.as_ref(), Some((b"m", b"t"))) },
-    );
-    same(&rt, cleared, Ok(true));
-    let given = ask(
-        clipped(alloc, Mutation::set(alloc, b"b", b"one")),
-        |cut| cut.is_some(),
-    );
-    same(&rt, given, Ok(false));
     same(
         &rt,
         code_and_size(Mutation::set(alloc, b"b", b"one")),
@@ -308,16 +79,182 @@ fn mutations_are_cut(rt: HostRuntime) {
     );
 }
 
+// What the mutation makes of a value, or of no value.
+fn turned(
+    alloc: Global,
+    kind: Kind,
+    operand: Text,
+    value: Option<Text>,
+) -> Result<Option<Bytes>, Refusal> {
+    let value = value.map(Bytes::from_static);
+    made_of(
+        mutation_of(alloc, kind, operand),
+        |mutation| mutation.apply_value(alloc, value.as_ref()),
+    )
+}
+
+// A mutation with its operand, a value, and what it makes of that.
+static VALUES: [(Kind, Text, Option<Text>, Option<Text>); 17] = [
+    // Sums have the length of the operand.
+    (Kind::Add, &[1, 0], Some(&[0xff]), Some(&[0, 1])),
+    (Kind::Add, &[1], Some(&[0xff, 7]), Some(&[0])),
+    (Kind::Add, &[5], None, Some(&[5])),
+    // Bits are those of the fitted value.
+    (Kind::And, &[0x0f, 0x0f], Some(&[0xff]), Some(&[0x0f, 0])),
+    (Kind::Or, &[], Some(&[7]), Some(&[])),
+    (Kind::Xor, &[0xff], Some(&[0x0f, 1]), Some(&[0xf0])),
+    // The operand stands where no value did.
+    (Kind::And, &[0x0f], None, Some(&[0x0f])),
+    (Kind::Xor, &[0xff], None, Some(&[0xff])),
+    (Kind::Min, &[5], None, Some(&[5])),
+    // Numbers are compared from the last byte.
+    (Kind::Max, &[1, 2], Some(&[0xff, 1]), Some(&[1, 2])),
+    (Kind::Min, &[1, 2], Some(&[0xff, 1]), Some(&[0xff, 1])),
+    (Kind::Min, &[5, 0], Some(&[9]), Some(&[5, 0])),
+    // Bytes are compared from the first one.
+    (Kind::ByteMax, &[1, 2], Some(&[0xff, 1]), Some(&[0xff, 1])),
+    (Kind::ByteMin, &[1, 2], Some(&[0xff, 1]), Some(&[1, 2])),
+    // Only an equal value is cleared.
+    (Kind::CompareAndClear, &[7], Some(&[7]), None),
+    (Kind::CompareAndClear, &[7], Some(&[8]), Some(&[8])),
+    // A set gives its value.
+    (Kind::Set, &[1, 2], Some(&[3]), Some(&[1, 2])),
+];
+
+// What the mutation makes of a where that has no value.
+fn made_at_a(alloc: Global, mutation: &Mutation) -> Result<Option<Bytes>, Refusal> {
+    let key = Key::new(alloc, b"a")?;
+    mutation.value_after(alloc, &key, None)
+}
+
 #[test]
-fn copies_of_mutations_are_equal(rt: HostRuntime) {
+fn mutations_make_values_of_values(rt: HostRuntime) {
     let alloc = rt.alloc();
-    let found = ask(Mutation::set(alloc, b"a", b"one"), |mutation| {
-        [
-            is_same(mutation, copied(mutation)),
-            is_same(mutation, Mutation::clear(alloc, b"a")),
-        ]
-    });
-    same(&rt, found, Ok([Ok(true), Ok(false)]));
+    for (kind, operand, value, wanted) in VALUES.as_slice() {
+        same(
+            &rt,
+            turned(alloc, *kind, operand, *value),
+            Ok(wanted.map(Bytes::from_static)),
+        );
+    }
+    let added = made_of(
+        Mutation::add(alloc, b"a", &[5]),
+        |mutation| made_at_a(alloc, mutation),
+    );
+    same(&rt, added, Ok(Some(Bytes::from_static(&[5]))));
+}
+
+// The pairs of the keys from a up to the end.
+fn pairs(
+    map: &PlainMap,
+    alloc: Global,
+    end: Text,
+    limit: u32,
+    reverse: bool,
+) -> Result<Items<(Key, Bytes)>, Refusal> {
+    let range = KeyRange::new(alloc, b"a", end)?;
+    map.range(&range, limit, reverse)
+}
+
+// Whether there is just this one pair.
+fn is_pair(pairs: &[(Key, Bytes)], key: Text, value: u8) -> bool {
+    match pairs {
+        [(found, there)] => found.bytes() == key && there.as_slice() == [value].as_slice(),
+        _ => false,
+    }
+}
+
+// Whether the call gave just this one pair.
+fn gave(answer: Result<Items<(Key, Bytes)>, Refusal>, key: Text, value: u8) -> bool {
+    match answer {
+        Ok(pairs) => is_pair(pairs.as_slice(), key, value),
+        Err(_why) => false,
+    }
+}
+
+// How many pairs before c a page has, and whether there is a further one.
+fn page_before_c(map: &PlainMap, alloc: Global, limit: u32) -> Result<(usize, bool), Refusal> {
+    let range = KeyRange::new(alloc, b"", b"c")?;
+    let page = map.page(&range, limit, false)?;
+    Ok((page.0.len(), page.1))
+}
+
+// Whether the keys before c are read in both orders, and c alone is left when those are cleared.
+fn is_read(alloc: Global) -> Result<[bool; 3], Refusal> {
+    let mut map = filled(alloc)?;
+    let forward = gave(pairs(&map, alloc, b"c", 1, false), b"a", 1);
+    let backward = gave(pairs(&map, alloc, b"c", 1, true), b"b", 2);
+    let is_cleared = apply(&mut map, Mutation::clear_range(alloc, b"a", b"c")).is_ok();
+    let others = gave(pairs(&map, alloc, b"z", 0, false), b"c", 3);
+    Ok([forward, backward, is_cleared && others])
+}
+
+// Pages of at most 1, of at most 2 and of all pairs.
+fn pages(alloc: Global) -> Result<[Result<(usize, bool), Refusal>; 3], Refusal> {
+    let map = filled(alloc)?;
+    Ok([
+        page_before_c(&map, alloc, 1),
+        page_before_c(&map, alloc, 2),
+        page_before_c(&map, alloc, 0),
+    ])
+}
+
+#[test]
+fn maps_are_read_in_both_orders_and_by_pages(rt: HostRuntime) {
+    let alloc = rt.alloc();
+    same(&rt, is_read(alloc), Ok([true, true, true]));
+    same(
+        &rt,
+        pages(alloc),
+        Ok([Ok((1, true)), Ok((2, false)), Ok((2, false))]),
+    );
+}
+
+// The mutation cut to the keys from m up to t.
+fn clipped(alloc: Global, mutation: &Mutation) -> Result<Option<Mutation>, Refusal> {
+    let range = KeyRange::new(alloc, b"m", b"t")?;
+    mutation.clip(&range)
+}
+
+// Whether there is a clear of the keys from m up to t, if one is wanted, and else nothing.
+fn is_clear(mutation: Option<&Mutation>, is_wanted: bool) -> bool {
+    match mutation {
+        Some(Mutation::ClearRange { range }) => is_wanted && has_bounds(range, b"m", b"t"),
+        Some(_) => false,
+        None => !is_wanted,
+    }
+}
+
+// Whether the mutation is so cut.
+fn is_cut(
+    alloc: Global,
+    mutation: Result<Mutation, Refusal>,
+    is_wanted: bool,
+) -> Result<bool, u32> {
+    ask(
+        made_of(mutation, |mutation| clipped(alloc, mutation)),
+        |cut| is_clear(cut.as_ref(), is_wanted),
+    )
+}
+
+// Whether a set of a equals its copy, and a clear of a.
+fn are_equal(alloc: Global) -> Result<[bool; 2], u32> {
+    ask_both(
+        Mutation::set(alloc, b"a", b"one"),
+        Mutation::clear(alloc, b"a"),
+        |set, clear| [equals_copy(set, set.clone()), set == clear],
+    )
+}
+
+#[test]
+fn mutations_are_cut_and_copied(rt: HostRuntime) {
+    let alloc = rt.alloc();
+    let cut = [
+        is_cut(alloc, Mutation::clear_range(alloc, b"a", b"z"), true),
+        is_cut(alloc, Mutation::set(alloc, b"b", b"one"), false),
+    ];
+    same(&rt, cut, [Ok(true), Ok(true)]);
+    same(&rt, are_equal(alloc), Ok([true, false]));
     let bytes = Some(Bytes::from_static(b"one"));
     same(
         &rt,

@@ -1,26 +1,32 @@
 // Owners with known answers: of two resolvers, of which the second owns the keys from m on at first.
-ghost use Rattle.std.specs.Prelude.{◌≡◌, ◌<◌, ◌≤◌, length, All, IfOk};
+ghost use Rattle.std.specs.Prelude.{◌≡◌, ◌<◌, ◌≤◌, All, IfOk};
 ghost use Rattle.fdb_owners.specs.Ownership.{resolvers_of};
 
-use crate::making::{are_ranges, ask, ask_mut, code_of, made_of, same};
+use crate::making::{are_ranges, ask, ask_mut, code_of, keys_of, made_of, push, same};
 use fdb_keys::{Items, Key, KeyRange, Refusal};
 use fdb_owners::{Owned, Owners};
 use fdb_txn::Move;
 use std::alloc::Global;
 
-fn one_split(alloc: Global) -> Result<Items<Key>, Refusal>
-    ensures { IfOk result (λ splits. length splits ≡ 1) }
-{
-    let mut splits = Items::new(alloc);
-    splits.push(Key::new(alloc, b"m")?)?;
-    Ok(splits)
-}
+// A part of a resolver, of one range.
+type PartOf = (u32, &'static [u8], &'static [u8]);
+
+// The version below which all expired, and who owned the key p at some version above the next one and at most the last
+// one, while it went over at version 300.
+const READERS: &[(u64, u64, u64, &[PartOf])] = &[
+    // Reads from before the move are asked of both.
+    (0, 100, 300, &[(0, b"p", b"p\0"), (1, b"p", b"p\0")]),
+    (0, 299, 300, &[(0, b"p", b"p\0")]),
+    // Owners from an expired version on are kept.
+    (300, 300, 400, &[(0, b"p", b"p\0")]),
+];
 
 fn two_resolvers(alloc: Global) -> Result<Owners, Refusal>
     ensures resolvers { IfOk result (λ owners. resolvers_of owners ≡ 2) }
     ensures floor { IfOk result (λ owners. owners.floor ≡ 0) }
 {
-    let splits = one_split(alloc)?;
+    let mut splits = Items::new(alloc);
+    push(&mut splits, Key::new(alloc, b"m")?)?;
     let owners = Owners::new(alloc, splits.as_slice(), 2)?;
     Ok(owners)
 }
@@ -31,7 +37,7 @@ fn one_move(alloc: Global) -> Result<Items<Move>, Refusal>
 {
     let range = KeyRange::new(alloc, b"m", b"t")?;
     let mut moves = Items::new(alloc);
-    moves.push(Move { range, to: 0 })?;
+    push(&mut moves, Move { range, to: 0 })?;
     Ok(moves)
 }
 
@@ -46,21 +52,17 @@ fn moved(alloc: Global) -> Result<Owners, Refusal>
     Ok(owners)
 }
 
-// The same, of which what is below version 300 has expired.
-fn expired(alloc: Global) -> Result<Owners, Refusal>
-    ensures { IfOk result (λ owners. owners.floor ≤ 300) }
+// The same, of which what is below the version has expired.
+fn expired(alloc: Global, version: u64) -> Result<Owners, Refusal>
+    ensures { IfOk result (λ owners. owners.floor ≤ version) }
 {
     let mut owners = moved(alloc)?;
-    owners.expire(300);
+    owners.expire(version);
     Ok(owners)
 }
 
-fn owner_of(owners: &Owners, alloc: Global, key: &[u8]) -> Result<u32, u32> {
-    ask(Key::new(alloc, key), |key| owners.owner(key))
-}
-
-// Whether these are parts of just those resolvers, of one range each.
-fn are_parts(parts: &[Owned], wanted: &[(u32, &[u8], &[u8])]) -> bool {
+// Whether these are just those parts.
+fn are_parts(parts: &[Owned], wanted: &[PartOf]) -> bool {
     parts.len() == wanted.len()
         && parts.iter().zip(wanted).all(|(part, (resolver, begin, end))| {
             part.resolver == *resolver
@@ -69,17 +71,8 @@ fn are_parts(parts: &[Owned], wanted: &[(u32, &[u8], &[u8])]) -> bool {
 }
 
 // Whether the call gave just those parts.
-fn gave(answer: Result<Items<Owned>, Refusal>, wanted: &[(u32, &[u8], &[u8])]) -> bool {
-    ask(answer, |parts| are_parts(parts.as_slice(), wanted)) == Ok(true)
-}
-
-// Whether the first resolver owns the keys from a to t, and the second those from t to z.
-fn are_writers_to_z(owners: &Owners, alloc: Global) -> bool {
-    let parts = made_of(
-        KeyRange::new(alloc, b"a", b"z"),
-        |range| owners.writers(range),
-    );
-    gave(parts, &[(0, b"a", b"t"), (1, b"t", b"z")])
+fn gave(answer: Result<Items<Owned>, Refusal>, wanted: &[PartOf]) -> Result<bool, u32> {
+    ask(answer, |parts| are_parts(parts.as_slice(), wanted))
 }
 
 // Those who owned the key p at some version above `from` and at most `version`.
@@ -98,62 +91,55 @@ fn readers_of_p(
     }
 }
 
-// The same of owners that were made.
-fn readers_by(
-    owners: Result<Owners, Refusal>,
+// Whether they are just those parts, after what is below another version has expired.
+fn owned_p(
     alloc: Global,
+    below: u64,
     from: u64,
     version: u64,
-) -> Result<Items<Owned>, Refusal>
-    requires order { from < version }
-    requires floor { IfOk owners (λ owners. owners.floor ≤ from) }
-{
-    match owners {
-        Ok(owners) => readers_of_p(&owners, alloc, from, version),
-        Err(why) => Err(why),
+    wanted: &[PartOf],
+) -> Result<bool, u32> {
+    if from < below || version <= from {
+        return Ok(false);
     }
+    match expired(alloc, below) {
+        Ok(owners) => gave(readers_of_p(&owners, alloc, from, version), wanted),
+        Err(why) => Err(why.code()),
+    }
+}
+
+// Whether the first resolver owns the keys from a to t, and the second those from t to z.
+fn are_writers_to_z(owners: &Owners, alloc: Global) -> Result<bool, u32> {
+    let parts = made_of(
+        KeyRange::new(alloc, b"a", b"z"),
+        |range| owners.writers(range),
+    );
+    gave(parts, &[(0, b"a", b"t"), (1, b"t", b"z")])
 }
 
 #[test]
 fn moved_keys_belong_to_the_target(rt: HostRuntime) {
     let alloc = rt.alloc();
-    let found = ask(moved(alloc), |owners| {
+    let found = ask_mut(moved(alloc), |owners| {
         (
             owners.version(),
-            owner_of(owners, alloc, b"p"),
+            ask(Key::new(alloc, b"p"), |key| owners.owner(key)),
             are_writers_to_z(owners, alloc),
+            code_of(owners.learn(300, &[])),
         )
     });
-    same(&rt, found, Ok((300, Ok(0), true)));
-}
-
-#[test]
-fn reads_from_before_a_move_are_asked_of_both(rt: HostRuntime) {
-    let alloc = rt.alloc();
-    let before = readers_by(moved(alloc), alloc, 100, 300);
-    assert!(rt; gave(before, &[(0, b"p", b"p\0"), (1, b"p", b"p\0")]));
-    let since = readers_by(moved(alloc), alloc, 299, 300);
-    assert!(rt; gave(since, &[(0, b"p", b"p\0")]));
-}
-
-#[test]
-fn owners_from_an_expired_version_on_are_kept(rt: HostRuntime) {
-    let alloc = rt.alloc();
-    let readers = readers_by(expired(alloc), alloc, 300, 400);
-    assert!(rt; gave(readers, &[(0, b"p", b"p\0")]));
-}
-
-#[test]
-fn versions_are_learnt_once(rt: HostRuntime) {
-    let found = ask_mut(moved(rt.alloc()), |owners| code_of(owners.learn(300, &[])));
-    same(&rt, found, Ok(9003));
+    same(&rt, found, Ok((300, Ok(0), Ok(true), 9003)));
+    for (expired, from, version, wanted) in READERS {
+        let found = owned_p(alloc, *expired, *from, *version, wanted);
+        same(&rt, (*from, found), (*from, Ok(true)));
+    }
 }
 
 #[test]
 fn three_resolvers_need_two_splits(rt: HostRuntime) {
     let alloc = rt.alloc();
     let owners = made_of(
-        one_split(alloc),
+        keys_of(alloc, &[b"m"]),
         |splits| Owners::new(alloc, splits.as_slice(), 3),
     );
     same(&rt, code_of(owners), 9009);

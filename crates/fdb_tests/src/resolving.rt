@@ -1,187 +1,181 @@
 // Parts with known verdicts.
-ghost use Rattle.std.specs.Prelude.{◌≡◌, ◌<◌, true, [], ◌∷◌, IfOk};
-ghost use Rattle.fdb_resolver.specs.Parts.{IsPart};
+ghost use Rattle.std.specs.Prelude.{◌≡◌, true, IfOk};
+ghost use Rattle.std.specs.List.{AllByRecursion};
+ghost use Rattle.fdb_txn.specs.rules.Admission.{has_points};
+ghost use Rattle.fdb_resolver.specs.Parts.{AreRising, IsPart};
 
-use crate::making::{ask, one_key, refusal_of, same};
+use crate::making::{numbers_of, one_key, same};
 use fdb_keys::{Items, RangeSet, Refusal};
-use fdb_resolver::{Item, Part, ResolverCore, Verdict, Verdicts};
+use fdb_resolver::{Item, Part, ResolverCore, Verdict};
 use std::alloc::Global;
 
-// A place that reads the one key and writes the other.
-fn reader(alloc: Global, place: u32, read_version: u64, keys: [&[u8]; 2]) -> Result<Item, Refusal>
+// A place: its read version, the key that it reads, if there is one, and the key that it writes.
+type Place = (u64, Option<&'static [u8]>, &'static [u8]);
+
+// A part of the entry with index 7: the resolver, the version and the previous version, and the places. Then the
+// verdicts, and whether they are given, or the code of the refusal and the number that it names.
+type Row = (
+    u32,
+    [u64; 2],
+    &'static [Place],
+    &'static [(u32, Verdict)],
+    Result<bool, (u32, u64)>,
+);
+
+// Each list is taken by a new resolver 0.
+const CASES: &[&[Row]] = &[
+    // A later place conflicts with an earlier one.
+    &[(
+        0,
+        [100, 0],
+        &[(0, Some(b"a"), b"a"), (0, Some(b"a"), b"a")],
+        &[(0, Verdict::Yes), (1, Verdict::Conflict)],
+        Ok(true),
+    )],
+    // A read of what an earlier entry wrote conflicts.
+    &[
+        (
+            0,
+            [100, 0],
+            &[(0, Some(b"a"), b"z")],
+            &[(0, Verdict::Yes)],
+            Ok(true),
+        ),
+        (
+            0,
+            [200, 100],
+            &[(0, Some(b"z"), b"z")],
+            &[(0, Verdict::Conflict)],
+            Ok(true),
+        ),
+    ],
+    // Reads below the window are old.
+    &[
+        (0, [100, 0], &[], &[], Ok(true)),
+        (
+            0,
+            [5_000_100, 100],
+            &[(100, Some(b"a"), b"b")],
+            &[(0, Verdict::Yes)],
+            Ok(true),
+        ),
+        (
+            0,
+            [5_000_101, 5_000_100],
+            &[(100, Some(b"a"), b"c"), (100, None, b"d")],
+            &[(0, Verdict::Old), (1, Verdict::Yes)],
+            Ok(true),
+        ),
+    ],
+    // Parts out of turn are refused.
+    &[
+        (
+            0,
+            [100, 0],
+            &[(0, Some(b"a"), b"z")],
+            &[(0, Verdict::Yes)],
+            Ok(true),
+        ),
+        (0, [100, 0], &[(0, Some(b"a"), b"z")], &[], Err((9003, 0))),
+        (
+            0,
+            [200, 150],
+            &[(0, Some(b"z"), b"z")],
+            &[],
+            Err((9002, 150)),
+        ),
+    ],
+    // Refused parts change nothing.
+    &[
+        (1, [100, 0], &[(0, Some(b"a"), b"z")], &[], Err((9016, 0))),
+        (
+            0,
+            [100, 0],
+            &[(0, Some(b"z"), b"a")],
+            &[(0, Verdict::Yes)],
+            Ok(true),
+        ),
+    ],
+];
+
+fn item(alloc: Global, place: u32, of: &Place) -> Result<Item, Refusal>
     ensures place { IfOk result (λ item. item.place ≡ place) }
-    ensures reads { IfOk result (λ item. item.has_reads ≡ true) }
+    ensures reads { IfOk result (λ item. has_points item.reads ≡ true → item.has_reads ≡ true) }
 {
-    let reads = one_key(alloc, keys[0])?;
-    let writes = one_key(alloc, keys[1])?;
-    Ok(Item {
-        place,
-        read_version,
-        has_reads: true,
-        reads,
-        writes,
-    })
+    let (read_version, key, write) = *of;
+    let writes = one_key(alloc, write)?;
+    match key {
+        Some(key) => {
+            let reads = one_key(alloc, key)?;
+            Ok(Item {
+                place,
+                read_version,
+                has_reads: true,
+                reads,
+                writes,
+            })
+        }
+        None => Ok(Item {
+            place,
+            read_version,
+            has_reads: false,
+            reads: RangeSet::new(alloc),
+            writes,
+        }),
+    }
 }
 
-// A place that writes the key and reads nothing.
-fn writer(alloc: Global, place: u32, read_version: u64, key: &[u8]) -> Result<Item, Refusal>
-    ensures place { IfOk result (λ item. item.place ≡ place) }
-    ensures reads { IfOk result (λ item. item.reads ≡ []) }
-{
-    let writes = one_key(alloc, key)?;
-    Ok(Item {
-        place,
-        read_version,
-        has_reads: false,
-        reads: RangeSet::new(alloc),
-        writes,
-    })
-}
-
-fn list_of(alloc: Global, item: Item) -> Result<Items<Item>, Refusal>
-    ensures { IfOk result (λ items. items ≡ item ∷ []) }
+// At most two.
+fn items_of(alloc: Global, places: &[Place]) -> Result<Items<Item>, Refusal>
+    ensures rising { IfOk result (λ items. AreRising items) }
+    ensures reads { IfOk result (λ items.
+        AllByRecursion (λ (item : Item). has_points item.reads ≡ true → item.has_reads ≡ true) items) }
 {
     let mut items = Items::new(alloc);
-    items.push(item)?;
+    if let Some(first) = places.get(0) {
+        items.push(item(alloc, 0, first)?)?;
+        if let Some(second) = places.get(1) {
+            items.push(item(alloc, 1, second)?)?;
+        }
+    }
     Ok(items)
 }
 
-fn pair_of(alloc: Global, first: Item, second: Item) -> Result<Items<Item>, Refusal>
-    ensures { IfOk result (λ items. items ≡ first ∷ second ∷ []) }
+fn part(alloc: Global, row: &Row) -> Result<Part, Refusal>
+    ensures { IfOk result (λ part. IsPart part) }
 {
-    let mut items = list_of(alloc, first)?;
-    items.push(second)?;
-    Ok(items)
-}
-
-fn part_of(resolver: u32, version: u64, prev: u64, items: Items<Item>) -> Part
-    ensures { result ≡ record { resolver = resolver; index = 7; version = version; prev = prev; items = items } }
-{
-    Part {
+    let (resolver, [version, prev], places, _, _) = *row;
+    let items = items_of(alloc, places)?;
+    if prev >= version {
+        return Err(Refusal::Chain);
+    }
+    Ok(Part {
         resolver,
         index: 7,
         version,
         prev,
         items,
+    })
+}
+
+// Whether it gives the verdicts.
+fn take(core: &mut ResolverCore, alloc: Global, row: &Row) -> Result<bool, Refusal> {
+    let part = part(alloc, row)?;
+    let verdicts = core.take(&part)?;
+    let numbers = (verdicts.resolver, verdicts.index);
+    Ok(numbers == (0, 7) && verdicts.answers.as_slice() == row.3)
+}
+
+#[test]
+fn parts_have_verdicts(rt: HostRuntime) {
+    for rows in CASES {
+        let mut core = ResolverCore::new(rt.alloc(), 0);
+        for row in *rows {
+            let told = match take(&mut core, rt.alloc(), row) {
+                Ok(gives) => Ok(gives),
+                Err(why) => Err(numbers_of(why)),
+            };
+            same(&rt, told, row.4);
+        }
     }
-}
-
-// A part with one place, which reads the one key and writes the other.
-fn one_reader(
-    alloc: Global,
-    resolver: u32,
-    version: u64,
-    prev: u64,
-    read_version: u64,
-    keys: [&[u8]; 2],
-) -> Result<Part, Refusal>
-    requires { prev < version }
-    ensures { IfOk result (λ part. IsPart part) }
-{
-    let item = reader(alloc, 0, read_version, keys)?;
-    let items = list_of(alloc, item)?;
-    Ok(part_of(resolver, version, prev, items))
-}
-
-// Two places that read and write one key, at version 100.
-fn same_key_twice(alloc: Global) -> Result<Part, Refusal>
-    ensures { IfOk result (λ part. IsPart part) }
-{
-    let first = reader(alloc, 0, 0, [b"a", b"a"])?;
-    let second = reader(alloc, 1, 0, [b"a", b"a"])?;
-    let items = pair_of(alloc, first, second)?;
-    Ok(part_of(0, 100, 0, items))
-}
-
-// Two places of one read version, of which the second reads nothing.
-fn reader_and_writer(alloc: Global) -> Result<Part, Refusal>
-    ensures { IfOk result (λ part. IsPart part) }
-{
-    let first = reader(alloc, 0, 100, [b"a", b"c"])?;
-    let second = writer(alloc, 1, 100, b"d")?;
-    let items = pair_of(alloc, first, second)?;
-    Ok(part_of(0, 5_000_101, 5_000_100, items))
-}
-
-fn take(core: &mut ResolverCore, part: Result<Part, Refusal>) -> Result<Verdicts, Refusal>
-    requires { IfOk part (λ part. IsPart part) }
-{
-    match part {
-        Ok(part) => core.take(&part),
-        Err(why) => Err(why),
-    }
-}
-
-fn are_verdicts(verdicts: &Verdicts, wanted: &[(u32, Verdict)]) -> bool {
-    verdicts.resolver == 0 && verdicts.index == 7 && verdicts.answers.as_slice() == wanted
-}
-
-fn is_answered(answer: Result<Verdicts, Refusal>, wanted: &[(u32, Verdict)]) -> Result<bool, u32> {
-    ask(answer, |verdicts| are_verdicts(verdicts, wanted))
-}
-
-#[test]
-fn later_place_conflicts_with_an_earlier_one(rt: HostRuntime) {
-    let mut core = ResolverCore::new(rt.alloc(), 0);
-    let answer = take(&mut core, same_key_twice(rt.alloc()));
-    same(
-        &rt,
-        is_answered(answer, &[(0, Verdict::Yes), (1, Verdict::Conflict)]),
-        Ok(true),
-    );
-}
-
-#[test]
-fn read_of_what_an_earlier_entry_wrote_conflicts(rt: HostRuntime) {
-    let alloc = rt.alloc();
-    let mut core = ResolverCore::new(alloc, 0);
-    let answer = take(&mut core, one_reader(alloc, 0, 100, 0, 0, [b"a", b"z"]));
-    same(&rt, is_answered(answer, &[(0, Verdict::Yes)]), Ok(true));
-    let answer = take(&mut core, one_reader(alloc, 0, 200, 100, 0, [b"z", b"z"]));
-    same(
-        &rt,
-        is_answered(answer, &[(0, Verdict::Conflict)]),
-        Ok(true),
-    );
-}
-
-#[test]
-fn reads_below_the_window_are_old(rt: HostRuntime) {
-    let alloc = rt.alloc();
-    let mut core = ResolverCore::new(alloc, 0);
-    let answer = core.take(&part_of(0, 100, 0, Items::new(alloc)));
-    same(&rt, is_answered(answer, &[]), Ok(true));
-    let answer = take(
-        &mut core,
-        one_reader(alloc, 0, 5_000_100, 100, 100, [b"a", b"b"]),
-    );
-    same(&rt, is_answered(answer, &[(0, Verdict::Yes)]), Ok(true));
-    let answer = take(&mut core, reader_and_writer(alloc));
-    same(
-        &rt,
-        is_answered(answer, &[(0, Verdict::Old), (1, Verdict::Yes)]),
-        Ok(true),
-    );
-}
-
-#[test]
-fn parts_out_of_turn_are_refused(rt: HostRuntime) {
-    let alloc = rt.alloc();
-    let mut core = ResolverCore::new(alloc, 0);
-    let answer = take(&mut core, one_reader(alloc, 0, 100, 0, 0, [b"a", b"z"]));
-    same(&rt, is_answered(answer, &[(0, Verdict::Yes)]), Ok(true));
-    let again = take(&mut core, one_reader(alloc, 0, 100, 0, 0, [b"a", b"z"]));
-    same(&rt, refusal_of(again), Some(Refusal::Stale));
-    let later = take(&mut core, one_reader(alloc, 0, 200, 150, 0, [b"z", b"z"]));
-    same(&rt, refusal_of(later), Some(Refusal::NotYet(150)));
-}
-
-#[test]
-fn refused_parts_change_nothing(rt: HostRuntime) {
-    let alloc = rt.alloc();
-    let mut core = ResolverCore::new(alloc, 0);
-    let other = take(&mut core, one_reader(alloc, 1, 100, 0, 0, [b"a", b"z"]));
-    same(&rt, refusal_of(other), Some(Refusal::Unknown));
-    let own = take(&mut core, one_reader(alloc, 0, 100, 0, 0, [b"z", b"a"]));
-    same(&rt, is_answered(own, &[(0, Verdict::Yes)]), Ok(true));
 }

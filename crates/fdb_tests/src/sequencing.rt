@@ -1,28 +1,184 @@
 // Sequencers with known answers.
-use crate::making::{ask, ask_mut, code_of, has_bounds, same};
+use crate::making::{ask_mut, code_of, has_bounds, is_done, made_of, same};
 use fdb_keys::{Items, KeyRange, Refusal};
 use fdb_sequencer::{SequencerCore, Ticket};
 use fdb_txn::Move;
 use std::alloc::Global;
+use std::process::Abort;
 
 const GREATEST_VERSION: u64 = 4_611_686_018_427_387_904;
 
-fn new_code(alloc: Global, proxies: u32, resolvers: u32, last: u64) -> u32 {
-    code_of(SequencerCore::new(alloc, proxies, resolvers, last))
+// So many proxies and resolvers, the last version, and the code for them.
+const CONFIGURATIONS: &[(u32, u32, u64, u32)] = &[
+    (16, 64, GREATEST_VERSION, 0),
+    (0, 1, 0, 9009),
+    (17, 1, 0, 9009),
+    (1, 0, 0, 9009),
+    (1, 65, 0, 9009),
+    (1, 1, GREATEST_VERSION + 1, 9009),
+];
+
+// The proxy, the index, the version and the previous version of a ticket, and whether it tells a move.
+type Numbers = (u32, u32, u64, u64, bool);
+
+// What is asked of a sequencer, with what it is to give.
+enum Act {
+    // The numbers of the ticket that the proxy gets for the advance.
+    Plan(u32, u64, Numbers),
+    // Whether the ticket that proxy 0 gets for the advance equals the one that was planned before.
+    EqualsPlanned(u64),
+    // The ticket that the proxy gets for an advance of 100 tells it the moves of `[m, t)` to these resolvers at the
+    // version, and has those to these others pending.
+    Tells(u32, u64, &'static [u32], &'static [u32]),
+    // The ticket that was planned before.
+    Accept,
+    // The proxy's tickets for an advance of 100, so many one after another.
+    Take(u32, u32),
+    // Moves from m to the end to the resolver, so many one after another.
+    Move(&'static [u8], u32, u32),
+    Report(u64),
+    Committed(u64),
 }
 
-// The sequencer of two proxies and three resolvers.
-fn sequencer(alloc: Global, last: u64) -> Result<SequencerCore, Refusal> {
-    SequencerCore::new(alloc, 2, 3, last)
-}
+// Whether it gives what it is to give, or the code of the refusal.
+type Told = Result<bool, u32>;
 
-// The version that proxy 1 would get.
-fn version_for(core: &SequencerCore, advance: u64) -> Result<u64, u32> {
-    ask(core.plan(1, advance), |ticket| ticket.version)
-}
+const YES: Told = Ok(true);
 
-// The proxy, the index, the version and the previous version, and whether it tells a move.
-fn numbers_of(ticket: &Ticket) -> (u32, u32, u64, u64, bool) {
+// Each of a sequencer of two proxies and so many resolvers, from a last version on, after the proxy's ticket for the
+// advance was planned.
+const CASES: &[(u32, u64, (u32, u64), &[(Act, Told)])] = &[
+    // Advances are at least one and at most five million.
+    (
+        3,
+        0,
+        (0, 100),
+        &[
+            (Act::Plan(1, 0, (1, 0, 1, 0, false)), YES),
+            (Act::Plan(1, 9_000_000, (1, 0, 5_000_000, 0, false)), YES),
+            (Act::Plan(2, 1, (2, 0, 1, 0, false)), Err(9009)),
+        ],
+    ),
+    // Tickets follow on one another.
+    (
+        3,
+        0,
+        (0, 100),
+        &[
+            (Act::Plan(1, 100, (1, 0, 100, 0, false)), YES),
+            (Act::Take(1, 1), YES),
+            (Act::Plan(0, 50, (0, 1, 150, 100, false)), YES),
+        ],
+    ),
+    // They are accepted once.
+    (
+        3,
+        0,
+        (0, 100),
+        &[(Act::Accept, YES), (Act::Accept, Err(9003))],
+    ),
+    // One ticket of an index is accepted.
+    (
+        3,
+        0,
+        (1, 200),
+        &[(Act::Take(0, 1), YES), (Act::Accept, Err(9003))],
+    ),
+    // Versions end at the greatest.
+    (
+        3,
+        GREATEST_VERSION - 1,
+        (0, 1),
+        &[
+            (
+                Act::Plan(0, 1, (0, 0, GREATEST_VERSION, GREATEST_VERSION - 1, false)),
+                YES,
+            ),
+            (Act::Accept, YES),
+            (
+                Act::Plan(0, 1, (0, 1, GREATEST_VERSION, GREATEST_VERSION, false)),
+                Err(9005),
+            ),
+        ],
+    ),
+    // The greatest report is kept.
+    (
+        3,
+        300,
+        (0, 100),
+        &[
+            (Act::Committed(0), YES),
+            (Act::Report(200), YES),
+            (Act::Report(100), YES),
+            (Act::Report(301), Err(9009)),
+            (Act::Committed(200), YES),
+        ],
+    ),
+    // Tickets of one plan are equal.
+    (
+        3,
+        0,
+        (0, 100),
+        &[
+            (Act::EqualsPlanned(100), YES),
+            (Act::EqualsPlanned(101), Ok(false)),
+        ],
+    ),
+    // Moves go to resolvers that exist, and aren't empty.
+    (
+        2,
+        0,
+        (0, 100),
+        &[
+            (Act::Move(b"t", 2, 1), Err(9009)),
+            (Act::Move(b"m", 0, 1), Err(9009)),
+            (Act::Move(b"t", 1, 1), YES),
+        ],
+    ),
+    // Each proxy is told each move once, and a ticket from before a move is stale.
+    (
+        3,
+        0,
+        (0, 100),
+        &[
+            (Act::Move(b"t", 0, 1), YES),
+            (Act::Accept, Err(9003)),
+            (Act::Tells(0, 100, &[0], &[0]), YES),
+            (Act::Take(0, 1), YES),
+            (Act::Tells(1, 100, &[0], &[]), YES),
+            (Act::Take(1, 1), YES),
+            (Act::Tells(1, 0, &[], &[]), YES),
+            (Act::Tells(0, 0, &[], &[]), YES),
+        ],
+    ),
+    // Moves of one entry stay in order.
+    (
+        3,
+        0,
+        (0, 100),
+        &[
+            (Act::Move(b"t", 2, 1), YES),
+            (Act::Move(b"t", 1, 1), YES),
+            (Act::Tells(0, 100, &[2, 1], &[2, 1]), YES),
+            (Act::Take(1, 1), YES),
+            (Act::Tells(0, 100, &[2, 1], &[]), YES),
+        ],
+    ),
+    // Moves end at the most.
+    (
+        3,
+        0,
+        (0, 100),
+        &[
+            (Act::Move(b"t", 1, 65_536), YES),
+            (Act::Move(b"t", 1, 1), Err(9012)),
+            (Act::Take(0, 1_000), YES),
+            (Act::Take(1, 1_000), YES),
+        ],
+    ),
+];
+
+fn has_numbers(ticket: &Ticket, wanted: Numbers) -> bool {
     let tells_moves = !ticket.moves.is_empty() || !ticket.pending.is_empty();
     (
         ticket.proxy,
@@ -30,61 +186,31 @@ fn numbers_of(ticket: &Ticket) -> (u32, u32, u64, u64, bool) {
         ticket.version,
         ticket.prev,
         tells_moves,
-    )
+    ) == wanted
 }
 
-// The same of the ticket that the proxy would get.
-fn planned(
-    core: &SequencerCore,
-    proxy: u32,
-    advance: u64,
-) -> Result<(u32, u32, u64, u64, bool), u32> {
-    ask(core.plan(proxy, advance), |ticket| numbers_of(ticket))
-}
-
-// What the sequencer answers to a move of the range to the resolver.
-fn move_code(core: &mut SequencerCore, alloc: Global, end: &[u8], to: u32) -> u32 {
-    match KeyRange::new(alloc, b"m", end) {
-        Ok(range) => code_of(core.move_to(Move { range, to })),
-        Err(why) => why.code(),
-    }
-}
-
-// Moves `[m, t)` to the resolver.
-fn move_to(core: &mut SequencerCore, alloc: Global, to: u32) -> u32 {
-    move_code(core, alloc, b"t", to)
-}
-
-// Moves `[m, t)` to the resolver so many times, and answers whether each was made.
-fn makes_moves(core: &mut SequencerCore, alloc: Global, to: u32, count: u32) -> bool {
+// Makes so many moves from m to the end.
+fn make_moves(
+    core: &mut SequencerCore,
+    alloc: Global,
+    end: &[u8],
+    to: u32,
+    count: u32,
+) -> Result<bool, Refusal> {
     for _number in 0..count {
-        if move_to(core, alloc, to) != 0 {
-            return false;
-        }
+        let range = KeyRange::new(alloc, b"m", end)?;
+        core.move_to(Move { range, to })?;
     }
-    true
+    Ok(true)
 }
 
-fn accept(core: &mut SequencerCore, ticket: &Ticket) -> u32 {
-    code_of(core.accept(ticket))
-}
-
-// What the sequencer answers to the ticket that the proxy gets for an advance of 100.
-fn take(core: &mut SequencerCore, proxy: u32) -> u32 {
-    match core.plan(proxy, 100) {
-        Ok(ticket) => accept(core, &ticket),
-        Err(why) => why.code(),
-    }
-}
-
-// Takes so many tickets of the proxy, and answers whether each was accepted.
-fn takes_tickets(core: &mut SequencerCore, proxy: u32, count: u32) -> bool {
+// Takes so many tickets of the proxy.
+fn take_tickets(core: &mut SequencerCore, proxy: u32, count: u32) -> Result<bool, Refusal> {
     for _number in 0..count {
-        if take(core, proxy) != 0 {
-            return false;
-        }
+        let ticket = core.plan(proxy, 100)?;
+        core.accept(&ticket)?;
     }
-    true
+    Ok(true)
 }
 
 // Whether these are moves of `[m, t)` to the resolvers, in order.
@@ -103,166 +229,75 @@ fn are_at(dated: &[(u64, Items<Move>)], version: u64, targets: &[u32]) -> bool {
     }
 }
 
-// Whether the ticket that the proxy gets for an advance of 100 tells it these moves at the version, and has these
-// pending ones.
-fn tells(core: &SequencerCore, proxy: u32, version: u64, told: &[u32], pending: &[u32]) -> bool {
-    let holds = ask(core.plan(proxy, 100), |ticket| {
-        are_at(ticket.moves.as_slice(), version, told) && go_to(ticket.pending.as_slice(), pending)
-    });
-    holds == Ok(true)
+fn tells(ticket: &Ticket, version: u64, told: &[u32], pending: &[u32]) -> bool {
+    are_at(ticket.moves.as_slice(), version, told) && go_to(ticket.pending.as_slice(), pending)
+}
+
+// Whether the act gives what it is to give.
+fn act_on(
+    core: &mut SequencerCore,
+    alloc: Global,
+    planned: &Ticket,
+    act: &Act,
+) -> Result<bool, Refusal> {
+    match *act {
+        Act::Plan(proxy, advance, numbers) => {
+            made_of(
+                core.plan(proxy, advance),
+                |ticket| Ok(has_numbers(ticket, numbers)),
+            )
+        }
+        Act::EqualsPlanned(advance) => made_of(
+            core.plan(0, advance),
+            |ticket| Ok(ticket == planned),
+        ),
+        Act::Tells(proxy, version, told, pending) => {
+            made_of(
+                core.plan(proxy, 100),
+                |ticket| Ok(tells(ticket, version, told, pending)),
+            )
+        }
+        Act::Accept => is_done(core.accept(planned)),
+        Act::Take(proxy, count) => take_tickets(core, proxy, count),
+        Act::Move(end, to, count) => make_moves(core, alloc, end, to, count),
+        Act::Report(version) => is_done(core.report(version)),
+        Act::Committed(version) => Ok(core.committed() == version),
+    }
+}
+
+// Plans the proxy's ticket for the advance, and then goes through the acts.
+fn play(
+    rt: &impl Abort,
+    alloc: Global,
+    core: &mut SequencerCore,
+    plan: (u32, u64),
+    acts: &[(Act, Told)],
+) -> Result<(), Refusal> {
+    let planned = core.plan(plan.0, plan.1)?;
+    for (act, wanted) in acts {
+        let told = match act_on(core, alloc, &planned, act) {
+            Ok(gives) => Ok(gives),
+            Err(why) => Err(why.code()),
+        };
+        same(rt, told, *wanted);
+    }
+    Ok(())
+}
+
+#[test]
+fn sequencers_give_tickets(rt: HostRuntime) {
+    let alloc = rt.alloc();
+    for (resolvers, last, plan, acts) in CASES {
+        let core = SequencerCore::new(alloc, 2, *resolvers, *last);
+        let played = ask_mut(core, |core| play(&rt, alloc, core, *plan, acts).is_ok());
+        same(&rt, played, Ok(true));
+    }
 }
 
 #[test]
 fn configurations_are_within_their_limits(rt: HostRuntime) {
-    let alloc = rt.alloc();
-    same(&rt, new_code(alloc, 16, 64, GREATEST_VERSION), 0);
-    same(&rt, new_code(alloc, 0, 1, 0), 9009);
-    same(&rt, new_code(alloc, 17, 1, 0), 9009);
-    same(&rt, new_code(alloc, 1, 0, 0), 9009);
-    same(&rt, new_code(alloc, 1, 65, 0), 9009);
-    same(&rt, new_code(alloc, 1, 1, GREATEST_VERSION + 1), 9009);
-}
-
-#[test]
-fn advances_are_at_least_one_and_at_most_five_million(rt: HostRuntime) {
-    let found = ask(sequencer(rt.alloc(), 0), |core| {
-        (
-            version_for(core, 0),
-            version_for(core, 9_000_000),
-            code_of(core.plan(2, 1)),
-        )
-    });
-    same(&rt, found, Ok((Ok(1), Ok(5_000_000), 9009)));
-}
-
-#[test]
-fn tickets_follow_on_one_another(rt: HostRuntime) {
-    let found = ask_mut(sequencer(rt.alloc(), 0), |core| {
-        (planned(core, 1, 100), take(core, 1), planned(core, 0, 50))
-    });
-    let (first, second) = ((1, 0, 100, 0, false), (0, 1, 150, 100, false));
-    same(&rt, found, Ok((Ok(first), 0, Ok(second))));
-}
-
-#[test]
-fn tickets_are_accepted_once(rt: HostRuntime) {
-    let found = ask_mut(sequencer(rt.alloc(), 0), |core| {
-        ask(
-            core.plan(0, 100),
-            |ticket| [accept(core, ticket), accept(core, ticket)],
-        )
-    });
-    same(&rt, found, Ok(Ok([0, 9003])));
-}
-
-#[test]
-fn one_ticket_of_an_index_is_accepted(rt: HostRuntime) {
-    let found = ask_mut(sequencer(rt.alloc(), 0), |core| {
-        ask(
-            core.plan(1, 200),
-            |ticket| [take(core, 0), accept(core, ticket)],
-        )
-    });
-    same(&rt, found, Ok(Ok([0, 9003])));
-}
-
-#[test]
-fn versions_end_at_the_greatest(rt: HostRuntime) {
-    let found = ask_mut(sequencer(rt.alloc(), GREATEST_VERSION - 1), |core| {
-        ask(core.plan(0, 1), |ticket| {
-            (
-                ticket.version,
-                accept(core, ticket),
-                code_of(core.plan(0, 1)),
-            )
-        })
-    });
-    same(&rt, found, Ok(Ok((GREATEST_VERSION, 0, 9005))));
-}
-
-#[test]
-fn greatest_report_is_kept(rt: HostRuntime) {
-    let found = ask_mut(sequencer(rt.alloc(), 300), |core| {
-        let before = core.committed();
-        let codes = [200, 100, 301].map(|version| code_of(core.report(version)));
-        (before, codes, core.committed())
-    });
-    same(&rt, found, Ok((0, [0, 0, 9009], 200)));
-}
-
-#[test]
-fn tickets_of_one_plan_are_equal(rt: HostRuntime) {
-    let found = ask(sequencer(rt.alloc(), 0), |core| {
-        ask(core.plan(0, 100), |ticket| {
-            [100, 101].map(|advance| ask(core.plan(0, advance), |other| other == ticket))
-        })
-    });
-    same(&rt, found, Ok(Ok([Ok(true), Ok(false)])));
-}
-
-#[test]
-fn moves_go_to_resolvers_that_exist(rt: HostRuntime) {
-    let alloc = rt.alloc();
-    let found = ask_mut(SequencerCore::new(alloc, 2, 2, 0), |core| {
-        [
-            move_code(core, alloc, b"t", 2),
-            move_code(core, alloc, b"m", 0),
-            move_code(core, alloc, b"t", 1),
-        ]
-    });
-    same(&rt, found, Ok([9009, 9009, 0]));
-}
-
-#[test]
-fn each_proxy_is_told_each_move_once(rt: HostRuntime) {
-    let alloc = rt.alloc();
-    let found = ask_mut(sequencer(alloc, 0), |core| {
-        move_to(core, alloc, 0) == 0
-            && tells(core, 0, 100, &[0], &[0])
-            && take(core, 0) == 0
-            && tells(core, 1, 100, &[0], &[])
-            && take(core, 1) == 0
-            && tells(core, 1, 0, &[], &[])
-            && tells(core, 0, 0, &[], &[])
-    });
-    same(&rt, found, Ok(true));
-}
-
-#[test]
-fn moves_of_one_entry_stay_in_order(rt: HostRuntime) {
-    let alloc = rt.alloc();
-    let found = ask_mut(sequencer(alloc, 0), |core| {
-        move_to(core, alloc, 2) == 0
-            && move_to(core, alloc, 1) == 0
-            && tells(core, 0, 100, &[2, 1], &[2, 1])
-            && take(core, 1) == 0
-            && tells(core, 0, 100, &[2, 1], &[])
-    });
-    same(&rt, found, Ok(true));
-}
-
-#[test]
-fn tickets_from_before_a_move_are_stale(rt: HostRuntime) {
-    let alloc = rt.alloc();
-    let found = ask_mut(sequencer(alloc, 0), |core| {
-        ask(
-            core.plan(0, 100),
-            |ticket| [move_to(core, alloc, 0), accept(core, ticket)],
-        )
-    });
-    same(&rt, found, Ok(Ok([0, 9003])));
-}
-
-#[test]
-fn moves_end_at_the_most(rt: HostRuntime) {
-    let alloc = rt.alloc();
-    let found = ask_mut(sequencer(alloc, 0), |core| {
-        (
-            makes_moves(core, alloc, 1, 65_536),
-            move_to(core, alloc, 1),
-            takes_tickets(core, 0, 1_000),
-            takes_tickets(core, 1, 1_000),
-        )
-    });
-    same(&rt, found, Ok((true, 9012, true, true)));
+    for (proxies, resolvers, last, code) in CONFIGURATIONS {
+        let core = SequencerCore::new(rt.alloc(), *proxies, *resolvers, *last);
+        same(&rt, code_of(core), *code);
+    }
 }

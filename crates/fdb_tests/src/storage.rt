@@ -2,15 +2,15 @@
 ghost use Rattle.std.specs.Prelude.{IfOk};
 ghost use Rattle.fdb_log.specs.Peeks.{IsPeek};
 
-use crate::making::{
-    after, ask, ask_mut, code_of, has_bounds, keys_of, made_of, push, refusal_of, rising_keys, same,
-};
+use crate::making::{Splits, after, both, code_of, has_bounds, made_of, push, same, splits_of};
 use bytes::Bytes;
 use fdb_keys::{Items, Key, KeyRange, Refusal};
 use fdb_log::{Peek, TagMsg};
 use fdb_mutations::{Mutation, PlainMap};
-use fdb_storage::{Page, Shard, ShardMap, replay};
+use fdb_storage::{Shard, ShardMap, replay};
 use std::alloc::Global;
+
+type Text = &'static [u8];
 
 // The mutations of a message, by their places.
 type Body = Items<(u32, Mutation)>;
@@ -83,36 +83,19 @@ fn empty_peek(alloc: Global, tag: u32, version: u64) -> Peek
     }
 }
 
-fn apply(shard: &mut Shard, peek: Result<Peek, Refusal>) -> Result<(), Refusal>
-    requires { IfOk peek (λ peek. IsPeek peek) }
-{
-    match peek {
-        Ok(peek) => shard.apply(&peek),
-        Err(why) => Err(why),
-    }
-}
-
-// What the shard answers to the two messages.
 fn apply_two(shard: &mut Shard, alloc: Global) -> Result<(), Refusal> {
-    apply(shard, peek_of_two(alloc))
+    let peek = peek_of_two(alloc)?;
+    shard.apply(&peek)
 }
 
-fn apply_none(shard: &mut Shard, alloc: Global, tag: u32, version: u64) -> Option<Refusal> {
-    refusal_of(shard.apply(&empty_peek(alloc, tag, version)))
+fn apply_none(shard: &mut Shard, alloc: Global, tag: u32, version: u64) -> Result<(), Refusal> {
+    shard.apply(&empty_peek(alloc, tag, version))
 }
 
 // The shard of the keys from the begin up to the end, whose tag is 0.
 fn new_shard(alloc: Global, begin: &[u8], end: &[u8]) -> Result<Shard, Refusal> {
     let range = KeyRange::new(alloc, begin, end)?;
     Ok(Shard::new(alloc, 0, range))
-}
-
-// The same, which has applied the two messages.
-fn shard_of_two(alloc: Global, begin: &[u8], end: &[u8]) -> Result<Shard, Refusal> {
-    after(
-        new_shard(alloc, begin, end),
-        |shard| apply_two(shard, alloc),
-    )
 }
 
 // The value, which has one byte. There is none where there is another one.
@@ -123,244 +106,370 @@ fn only_byte(value: Option<&Bytes>) -> Option<u8> {
     }
 }
 
-fn get(shard: &Shard, alloc: Global, key: &[u8], version: u64) -> Result<Option<u8>, u32> {
-    let value = made_of(Key::new(alloc, key), |key| shard.get(key, version));
-    ask(value, |value| only_byte(value.as_ref()))
-}
-
-fn is_pair(pair: &(Key, Bytes), key: u8, value: u8) -> bool {
-    pair.0.bytes() == [key].as_slice() && pair.1.as_slice() == [value].as_slice()
+fn get(shard: &Shard, alloc: Global, key: &[u8], version: u64) -> Result<Option<u8>, Refusal> {
+    let key = Key::new(alloc, key)?;
+    let value = shard.get(&key, version)?;
+    Ok(only_byte(value.as_ref()))
 }
 
 fn are_pairs(pairs: &[(Key, Bytes)], wanted: &[(u8, u8)]) -> bool {
     pairs.len() == wanted.len()
-        && pairs
-            .iter()
-            .zip(wanted)
-            .all(|(pair, (key, value))| is_pair(pair, *key, *value))
+        && pairs.iter().zip(wanted).all(|(pair, (key, value))| {
+            pair.0.bytes() == [*key].as_slice() && pair.1.as_slice() == [*value].as_slice()
+        })
 }
 
-// The page of the keys below the end at the version.
-fn page(
-    shard: &Shard,
-    alloc: Global,
-    end: &[u8],
+// Which page of the keys from a on.
+#[derive(Clone, Copy)]
+struct Asked {
+    end: &'static [u8],
     version: u64,
     limit: u32,
     reverse: bool,
-) -> Result<Page, Refusal> {
-    made_of(
-        KeyRange::new(alloc, b"a", end),
-        |range| shard.page(range, version, limit, reverse),
-    )
 }
 
-// Whether the page has just these pairs, and whether the range has a further one.
-fn has(page: Result<Page, Refusal>, wanted: &[(u8, u8)]) -> Result<(bool, bool), u32> {
-    ask(
-        page,
-        |page| (are_pairs(page.pairs.as_slice(), wanted), page.more),
-    )
-}
-
-// The map that the peek leaves below m at the version.
-fn replay_peek(
+// Whether the range has a further pair, where the page has just these.
+fn has_more(
+    shard: &Shard,
     alloc: Global,
-    peek: Result<Peek, Refusal>,
-    version: u64,
-) -> Result<PlainMap, Refusal>
-    requires { IfOk peek (λ peek. IsPeek peek) }
-{
-    let peeks = [peek?];
-    let range = KeyRange::new(alloc, b"", b"m")?;
-    replay(alloc, &range, &peeks, version)
+    asked: Asked,
+    wanted: &[(u8, u8)],
+) -> Result<Option<bool>, Refusal> {
+    let keys = KeyRange::new(alloc, b"a", asked.end)?;
+    let page = shard.page(&keys, asked.version, asked.limit, asked.reverse)?;
+    if are_pairs(page.pairs.as_slice(), wanted) {
+        Ok(Some(page.more))
+    } else {
+        Ok(None)
+    }
 }
 
-fn value_in(map: &PlainMap, alloc: Global, key: &[u8]) -> Result<Option<u8>, u32> {
-    ask(Key::new(alloc, key), |key| only_byte(map.get(key)))
+// What is done with a shard, or asked of it.
+#[derive(Clone, Copy)]
+enum Line {
+    // It applies the two messages.
+    ApplyTwo,
+    // It applies a peek without messages of the tag, through the version.
+    ApplyNone(u32, u64),
+    Forget(u64),
+    Version,
+    Floor,
+    // Whether its range has the bounds.
+    Bounds(&'static [u8], &'static [u8]),
+    // The byte of the key's value at the version.
+    Get(&'static [u8], u64),
+    // Whether there is more after the page of the keys from a up to the end at the version, cut to the limit, in this
+    // or in the reverse order, which has just these pairs.
+    Page(Text, u64, u32, bool, &'static [(u8, u8)]),
+}
+
+// The number that is asked for, or 1 where something holds and 0 where it doesn't. There is none where something is
+// done, where a key has no value and where a page has other pairs.
+type Answer = Result<Option<u64>, Refusal>;
+
+const DONE: Answer = Ok(None);
+
+const NO_VALUE: Answer = Ok(None);
+
+const YES: Answer = Ok(Some(1));
+
+const NO: Answer = Ok(Some(0));
+
+fn answer(shard: &mut Shard, alloc: Global, line: Line) -> Answer {
+    match line {
+        Line::ApplyTwo => {
+            apply_two(shard, alloc)?;
+            DONE
+        }
+        Line::ApplyNone(tag, version) => {
+            apply_none(shard, alloc, tag, version)?;
+            DONE
+        }
+        Line::Forget(version) => {
+            shard.forget(version)?;
+            DONE
+        }
+        Line::Version => Ok(Some(shard.version())),
+        Line::Floor => Ok(Some(shard.floor())),
+        Line::Bounds(begin, end) => Ok(Some(u64::from(has_bounds(shard.range(), begin, end)))),
+        Line::Get(key, version) => Ok(get(shard, alloc, key, version)?.map(u64::from)),
+        Line::Page(end, version, limit, reverse, pairs) => {
+            let asked = Asked {
+                end,
+                version,
+                limit,
+                reverse,
+            };
+            Ok(has_more(shard, alloc, asked, pairs)?.map(u64::from))
+        }
+    }
+}
+
+// What a new shard of the keys from the begin up to the end answers.
+#[derive(Clone, Copy)]
+struct Case {
+    what: &'static str,
+    range: (&'static [u8], &'static [u8]),
+    lines: &'static [(Line, Answer)],
+}
+
+static CASES: [Case; 5] = [
+    Case {
+        what: "only the shard's own keys are read",
+        range: (b"", b"m"),
+        lines: &[
+            (Line::Bounds(b"", b"m"), YES),
+            (Line::Get(b"a", 0), NO_VALUE),
+            (Line::Get(b"z", 0), Err(Refusal::KeyOutsideLegalRange)),
+            (
+                Line::Page(b"z", 0, 0, false, &[]),
+                Err(Refusal::KeyOutsideLegalRange),
+            ),
+        ],
+    },
+    Case {
+        what: "messages out of turn are refused",
+        range: (b"", b"m"),
+        lines: &[
+            (Line::ApplyNone(1, 0), Err(Refusal::Unknown)),
+            (Line::ApplyNone(0, 100), Err(Refusal::NotYet(100))),
+            (Line::ApplyTwo, DONE),
+            (Line::Version, Ok(Some(200))),
+            (Line::ApplyTwo, Err(Refusal::Stale)),
+            (Line::ApplyNone(0, 200), DONE),
+            (Line::ApplyNone(0, 200), DONE),
+        ],
+    },
+    Case {
+        what: "each version has its own values",
+        range: (b"", b"m"),
+        lines: &[
+            (Line::ApplyTwo, DONE),
+            (Line::Get(b"a", 99), NO_VALUE),
+            (Line::Get(b"a", 100), Ok(Some(b'1' as u64))),
+            (Line::Get(b"a", 200), Ok(Some(b'3' as u64))),
+            (Line::Get(b"a", 201), Err(Refusal::FutureVersion)),
+            (Line::Get(b"l", 199), Ok(Some(b'7' as u64))),
+            (Line::Get(b"l", 200), NO_VALUE),
+        ],
+    },
+    Case {
+        what: "pages are cut to their limit",
+        range: (b"", b"m"),
+        lines: &[
+            (Line::ApplyTwo, DONE),
+            (
+                Line::Page(b"m", 100, 0, false, &[(b'a', b'1'), (b'l', b'7')]),
+                NO,
+            ),
+            (Line::Page(b"m", 100, 1, false, &[(b'a', b'1')]), YES),
+            (
+                Line::Page(b"m", 100, 2, true, &[(b'l', b'7'), (b'a', b'1')]),
+                NO,
+            ),
+            (Line::Page(b"l", 100, 1, true, &[(b'a', b'1')]), NO),
+            (Line::Page(b"m", 200, 1, false, &[(b'a', b'3')]), NO),
+        ],
+    },
+    Case {
+        what: "forgotten versions are no longer read",
+        range: (b"", b"m"),
+        lines: &[
+            (Line::ApplyTwo, DONE),
+            (Line::Forget(300), Err(Refusal::FutureVersion)),
+            (Line::Forget(200), DONE),
+            (Line::Forget(100), DONE),
+            (Line::Floor, Ok(Some(200))),
+            (Line::Get(b"a", 100), Err(Refusal::TransactionTooOld)),
+            (Line::Get(b"a", 200), Ok(Some(b'3' as u64))),
+        ],
+    },
+];
+
+// The first line that is answered otherwise than is wanted, by its place, and its answer.
+fn first_wrong(
+    shard: &mut Shard,
+    alloc: Global,
+    lines: &[(Line, Answer)],
+) -> Option<(usize, Answer)> {
+    for (place, (line, wanted)) in lines.iter().enumerate() {
+        let given = answer(shard, alloc, *line);
+        if given != *wanted {
+            return Some((place, given));
+        }
+    }
+    None
+}
+
+fn played(alloc: Global, case: Case) -> Result<Option<(usize, Answer)>, Refusal> {
+    let mut shard = new_shard(alloc, case.range.0, case.range.1)?;
+    Ok(first_wrong(&mut shard, alloc, case.lines))
+}
+
+#[test]
+fn shards_answer_each_line(rt: HostRuntime) {
+    for case in CASES.as_slice() {
+        same(
+            &rt,
+            (case.what, played(rt.alloc(), *case)),
+            (case.what, Ok(None)),
+        );
+    }
+}
+
+fn value_in(map: &PlainMap, alloc: Global, key: &[u8]) -> Result<Option<u8>, Refusal> {
+    let key = Key::new(alloc, key)?;
+    Ok(only_byte(map.get(&key)))
 }
 
 // The values of a and l in the map.
-fn two_values(map: &PlainMap, alloc: Global) -> [Result<Option<u8>, u32>; 2] {
+fn two_values(map: &PlainMap, alloc: Global) -> [Result<Option<u8>, Refusal>; 2] {
     [value_in(map, alloc, b"a"), value_in(map, alloc, b"l")]
 }
 
-// The code of the refusal, or 0, where the shard of the keys from the begin up to the end gives the map its part of
-// the keys from a up to m.
-fn copy_part(map: &mut PlainMap, alloc: Global, begin: &[u8], end: &[u8], version: u64) -> u32 {
-    code_of(made_of(shard_of_two(alloc, begin, end), |shard| {
-        made_of(
-            KeyRange::new(alloc, b"a", b"m"),
-            |range| shard.copy_into(map, range, version),
-        )
-    }))
-}
-
-fn shards(alloc: Global, splits: Result<Items<Key>, Refusal>) -> Result<ShardMap, Refusal> {
-    made_of(splits, |keys| ShardMap::new(alloc, keys.as_slice()))
-}
-
-// Whether the mutation has just these tags.
-fn has_tags(shards: &ShardMap, mutation: Result<Mutation, Refusal>, wanted: &[u32]) -> bool {
-    let tags = made_of(mutation, |mutation| shards.tags(mutation));
-    ask(tags, |tags| tags.as_slice() == wanted) == Ok(true)
-}
-
-fn shard_of(shards: &ShardMap, alloc: Global, key: &[u8]) -> Result<u32, u32> {
-    ask(Key::new(alloc, key), |key| shards.shard_of(key))
-}
-
-#[test]
-fn only_the_shards_own_keys_are_read(rt: HostRuntime) {
-    let alloc = rt.alloc();
-    let found = ask(new_shard(alloc, b"", b"m"), |shard| {
-        (
-            has_bounds(shard.range(), b"", b"m"),
-            get(shard, alloc, b"a", 0),
-            get(shard, alloc, b"z", 0),
-            code_of(page(shard, alloc, b"z", 0, 0, false)),
-        )
-    });
-    same(&rt, found, Ok((true, Ok(None), Err(2004), 2004)));
-}
-
-#[test]
-fn messages_out_of_turn_are_refused(rt: HostRuntime) {
-    let alloc = rt.alloc();
-    let found = ask_mut(new_shard(alloc, b"", b"m"), |shard| {
-        let before = [(1, 0), (0, 100)].map(|(tag, version)| apply_none(
-            shard, alloc, tag, version,
-        ));
-        let first = refusal_of(apply_two(shard, alloc));
-        let version = shard.version();
-        let again = refusal_of(apply_two(shard, alloc));
-        let later = [(0, 200), (0, 200)].map(|(tag, version)| apply_none(
-            shard, alloc, tag, version,
-        ));
-        (before, first, version, again, later)
-    });
-    let before = [Some(Refusal::Unknown), Some(Refusal::NotYet(100))];
-    same(
-        &rt,
-        found,
-        Ok((before, None, 200, Some(Refusal::Stale), [None, None])),
+// The shard of the keys from the begin up to the end, which has applied the two messages, gives the map its part of the
+// keys from a up to m.
+fn copy_part(
+    map: &mut PlainMap,
+    alloc: Global,
+    begin: &[u8],
+    end: &[u8],
+    version: u64,
+) -> Result<(), Refusal> {
+    let shard = after(
+        new_shard(alloc, begin, end),
+        |shard| apply_two(shard, alloc),
     );
+    let (keys, shard) = both(KeyRange::new(alloc, b"a", b"m"), shard)?;
+    shard.copy_into(map, &keys, version)
 }
 
-#[test]
-fn each_version_has_its_own_values(rt: HostRuntime) {
-    let alloc = rt.alloc();
-    let found = ask(shard_of_two(alloc, b"", b"m"), |shard| {
-        (
-            [99, 100, 200, 201].map(|version| get(shard, alloc, b"a", version)),
-            [199, 200].map(|version| get(shard, alloc, b"l", version)),
-        )
-    });
-    let of_a = [Ok(None), Ok(Some(b'1')), Ok(Some(b'3')), Err(1009)];
-    same(&rt, found, Ok((of_a, [Ok(Some(b'7')), Ok(None)])));
-}
-
-#[test]
-fn pages_are_cut_to_their_limit(rt: HostRuntime) {
-    let alloc = rt.alloc();
-    let (a, l) = ((b'a', b'1'), (b'l', b'7'));
-    let found = ask(shard_of_two(alloc, b"", b"m"), |shard| {
-        [
-            has(page(shard, alloc, b"m", 100, 0, false), &[a, l]),
-            has(page(shard, alloc, b"m", 100, 1, false), &[a]),
-            has(page(shard, alloc, b"m", 100, 2, true), &[l, a]),
-            has(page(shard, alloc, b"l", 100, 1, true), &[a]),
-            has(page(shard, alloc, b"m", 200, 1, false), &[(b'a', b'3')]),
-        ]
-    });
-    let (whole, cut) = (Ok((true, false)), Ok((true, true)));
-    same(&rt, found, Ok([whole, cut, whole, whole, whole]));
-}
-
-#[test]
-fn forgotten_versions_are_no_longer_read(rt: HostRuntime) {
-    let alloc = rt.alloc();
-    let found = ask_mut(shard_of_two(alloc, b"", b"m"), |shard| {
-        let refused = [300, 200, 100].map(|version| refusal_of(shard.forget(version)));
-        (
-            refused,
-            shard.floor(),
-            [100, 200].map(|version| get(shard, alloc, b"a", version)),
-        )
-    });
-    let refused = [Some(Refusal::FutureVersion), None, None];
-    same(&rt, found, Ok((refused, 200, [Err(1007), Ok(Some(b'3'))])));
-}
+// The shards that give one map their parts one after another, at the version: the codes of the refusals, or 0, and the
+// values of a and l in the map then.
+static PARTS: [(Text, Text, u64, u32, [Option<u8>; 2]); 4] = [
+    (b"", b"k", 100, 0, [Some(b'1'), None]),
+    (b"k", b"z", 100, 0, [Some(b'1'), Some(b'7')]),
+    (b"k", b"z", 201, 1009, [Some(b'1'), Some(b'7')]),
+    // It has no part of these keys.
+    (b"m", b"z", 201, 0, [Some(b'1'), Some(b'7')]),
+];
 
 #[test]
 fn shards_fill_one_map_each_with_its_part(rt: HostRuntime) {
     let alloc = rt.alloc();
     let mut map = PlainMap::new(alloc);
-    same(&rt, copy_part(&mut map, alloc, b"", b"k", 100), 0);
-    same(&rt, two_values(&map, alloc), [Ok(Some(b'1')), Ok(None)]);
-    same(&rt, copy_part(&mut map, alloc, b"k", b"z", 100), 0);
-    same(
-        &rt,
-        two_values(&map, alloc),
-        [Ok(Some(b'1')), Ok(Some(b'7'))],
-    );
-    same(&rt, copy_part(&mut map, alloc, b"k", b"z", 201), 1009);
-    same(&rt, copy_part(&mut map, alloc, b"m", b"z", 201), 0);
+    for (begin, end, version, code, values) in PARTS.as_slice() {
+        let [a, l] = *values;
+        let given = code_of(copy_part(&mut map, alloc, begin, end, *version));
+        same(
+            &rt,
+            (given, two_values(&map, alloc)),
+            (*code, [Ok(a), Ok(l)]),
+        );
+    }
+}
+
+// The map that the two messages leave below m at the version.
+fn replay_two(alloc: Global, version: u64) -> Result<PlainMap, Refusal> {
+    let peeks = [peek_of_two(alloc)?];
+    let range = KeyRange::new(alloc, b"", b"m")?;
+    replay(alloc, &range, &peeks, version)
+}
+
+// The values of a and l in that map.
+fn replayed(alloc: Global, version: u64) -> Result<[Result<Option<u8>, Refusal>; 2], Refusal> {
+    let map = replay_two(alloc, version)?;
+    Ok(two_values(&map, alloc))
 }
 
 #[test]
 fn peeks_are_replayed_through_what_they_cover(rt: HostRuntime) {
-    let alloc = rt.alloc();
-    let before = ask(
-        replay_peek(alloc, peek_of_two(alloc), 199),
-        |map| two_values(map, alloc),
-    );
-    same(&rt, before, Ok([Ok(Some(b'1')), Ok(Some(b'7'))]));
-    let at_last = ask(
-        replay_peek(alloc, peek_of_two(alloc), 200),
-        |map| two_values(map, alloc),
-    );
-    same(&rt, at_last, Ok([Ok(Some(b'3')), Ok(None)]));
-    let after = replay_peek(alloc, peek_of_two(alloc), 201);
-    same(&rt, refusal_of(after), Some(Refusal::NotYet(201)));
+    let found = [199, 200, 201].map(|version| replayed(rt.alloc(), version));
+    let wanted = [
+        Ok([Ok(Some(b'1')), Ok(Some(b'7'))]),
+        Ok([Ok(Some(b'3')), Ok(None)]),
+        Err(Refusal::NotYet(201)),
+    ];
+    same(&rt, found, wanted);
 }
 
-#[test]
-fn mutations_have_the_tags_of_the_shards_that_they_name(rt: HostRuntime) {
-    let alloc = rt.alloc();
-    let found = ask(shards(alloc, keys_of(alloc, &[b"m"])), |shards| {
-        [
-            has_tags(shards, Mutation::set(alloc, b"m", b"1"), &[1]),
-            has_tags(shards, Mutation::clear_range(alloc, b"l", b"m\0"), &[0, 1]),
-            has_tags(shards, Mutation::clear_range(alloc, b"l", b"m"), &[0]),
-            has_tags(shards, Mutation::clear_range(alloc, b"l", b"l"), &[]),
-        ]
-    });
-    same(&rt, found, Ok([true, true, true, true]));
+fn shards(alloc: Global, splits: Splits) -> Result<ShardMap, Refusal> {
+    let keys = splits_of(alloc, splits)?;
+    ShardMap::new(alloc, keys.as_slice())
 }
+
+// Whether the mutation has just these tags.
+fn has_tags(
+    shards: &ShardMap,
+    mutation: Result<Mutation, Refusal>,
+    wanted: &[u32],
+) -> Result<bool, Refusal> {
+    let tags = made_of(mutation, |mutation| shards.tags(mutation))?;
+    Ok(tags.as_slice() == wanted)
+}
+
+// Clears of the keys from the begin up to the end, and their tags.
+static CLEARS: [(Text, Text, &'static [u32]); 3] = [
+    (b"l", b"m\0", &[0, 1]),
+    (b"l", b"m", &[0]),
+    (b"l", b"l", &[]),
+];
+
+// Whether a set of m and each of these clears have the tags of the shards that they name.
+fn are_tagged(shards: &ShardMap, alloc: Global) -> bool {
+    for (begin, end, tags) in CLEARS.as_slice() {
+        if has_tags(shards, Mutation::clear_range(alloc, begin, end), tags) != Ok(true) {
+            return false;
+        }
+    }
+    has_tags(shards, Mutation::set(alloc, b"m", b"1"), &[1]) == Ok(true)
+}
+
+fn shard_of(shards: &ShardMap, alloc: Global, key: &[u8]) -> Result<u32, Refusal> {
+    let key = Key::new(alloc, key)?;
+    Ok(shards.shard_of(&key))
+}
+
+// Whether the shard has the keys from the begin up to the end.
+fn has_range(shards: &ShardMap, index: u32, begin: &[u8], end: &[u8]) -> Result<bool, Refusal> {
+    let range = shards.range(index)?;
+    Ok(has_bounds(&range, begin, end))
+}
+
+// The shards of l and m.
+type Parted = [Result<u32, Refusal>; 2];
+
+// Of the shards of the keys below m and of those from m on: whether mutations have their tags, the shards of l and m,
+// and what the ranges of the second shard and of one more are.
+fn parted(alloc: Global) -> Result<(bool, Parted, [Result<bool, Refusal>; 2]), Refusal> {
+    let shards = shards(alloc, Splits::Keys(&[b"m"]))?;
+    Ok((
+        are_tagged(&shards, alloc),
+        [
+            shard_of(&shards, alloc, b"l"),
+            shard_of(&shards, alloc, b"m"),
+        ],
+        [
+            has_range(&shards, 1, b"m", &[0xff]),
+            has_range(&shards, 2, b"m", &[0xff]),
+        ],
+    ))
+}
+
+// The code of why there are no shards with these splits, or 0.
+static SPLITS: [(Splits, u32); 4] = [
+    (Splits::Rising(63), 0),
+    (Splits::Rising(64), 9009),
+    (Splits::Keys(&[b"b", b"a"]), 9009),
+    (Splits::Keys(&[b""]), 9009),
+];
 
 #[test]
 fn shards_part_the_keys_at_splits(rt: HostRuntime) {
     let alloc = rt.alloc();
-    let found = ask(shards(alloc, keys_of(alloc, &[b"m"])), |shards| {
-        (
-            [shard_of(shards, alloc, b"l"), shard_of(shards, alloc, b"m")],
-            ask(shards.range(1), |range| has_bounds(range, b"m", &[0xff])),
-            code_of(shards.range(2)),
-        )
-    });
-    same(&rt, found, Ok(([Ok(0), Ok(1)], Ok(true), 9009)));
-}
-
-#[test]
-fn configurations_are_within_their_limits(rt: HostRuntime) {
-    let alloc = rt.alloc();
-    same(&rt, code_of(shards(alloc, rising_keys(alloc, 63))), 0);
-    same(&rt, code_of(shards(alloc, rising_keys(alloc, 64))), 9009);
-    same(
-        &rt,
-        code_of(shards(alloc, keys_of(alloc, &[b"b", b"a"]))),
-        9009,
-    );
-    same(&rt, code_of(shards(alloc, keys_of(alloc, &[b""]))), 9009);
+    let ranges = [Ok(true), Err(Refusal::BadConfig)];
+    same(&rt, parted(alloc), Ok((true, [Ok(0), Ok(1)], ranges)));
+    for (splits, code) in SPLITS.as_slice() {
+        same(&rt, code_of(shards(alloc, *splits)), *code);
+    }
 }

@@ -4,12 +4,53 @@ ghost use Rattle.fdb_mutations.specs.Mutations.{mutation_fault};
 
 use crate::making::{
     are_ranges, ask, ask_both, code_of, equals_copy, has_bounds, keys_of, legal_set, made_of,
-    one_set, same, seal, set_of, text_of,
+    one_set, push, same, seal, set_of, text_of,
 };
 use fdb_keys::{Items, Key, KeyRange, RangeSet, Refusal};
 use fdb_mutations::Mutation;
 use fdb_txn::{Batch, Entry, Move, PLACE_LIMIT, Room, Sealed, Splits, Spot, TxnId, check_turn};
 use std::alloc::Global;
+
+// The version of an entry and the resolver to which its move goes, and whether it equals that of version 50 whose move
+// goes to resolver 1.
+const ENTRIES: &[(u64, u32, bool)] = &[(50, 1, true), (51, 1, false), (50, 2, false)];
+
+const SPOTS: [Spot; 3] = [
+    Spot::Entry {
+        index: 0,
+        place: 0,
+        version: 50,
+    },
+    Spot::Entry {
+        index: 0,
+        place: 1,
+        version: 50,
+    },
+    Spot::ReadOnly { version: 50 },
+];
+
+// How many bytes the last of a hundred sets has, and the size of the transaction with them, or why it is refused with
+// how many mutations are back then: it has at most 10,000,000 bytes.
+const SIZES: &[(usize, Result<u64, (u32, usize)>)] = &[
+    (99_996, Ok(10_000_000)),
+    (99_997, Err((2101, 100))),
+];
+
+// Splits, of which there may be as many pieces, and the code of their refusal: they rise, and none is empty.
+const SPLITS: &[(&[&[u8]], usize, u32)] = &[
+    (&[b"b", b"m"], 3, 0),
+    (&[b"b", b"m"], 2, 9009),
+    (&[b"", b"m"], 3, 9009),
+    (&[b"m", b"b"], 3, 9009),
+    (&[b"m", b"m"], 3, 9009),
+];
+
+// The pieces that the splits at b and m make, by their numbers: a key in each, and the bounds.
+const PIECES: &[(usize, &[u8], [&[u8]; 2])] = &[
+    (0, b"a", [b"", b"b"]),
+    (1, b"b", [b"b", b"m"]),
+    (2, b"z", [b"m", &[0xff]]),
+];
 
 // A transaction that read the keys from b to c, and writes the key a and the keys from x to y.
 fn sealed(alloc: Global, number: u64) -> Result<Sealed, Refusal> {
@@ -20,46 +61,30 @@ fn sealed(alloc: Global, number: u64) -> Result<Sealed, Refusal> {
     seal(alloc, id, 40, reads, writes, mutations)
 }
 
-// The set of the key to as many bytes.
-fn long_set(alloc: Global, key: u8, count: usize) -> Result<Mutation, Refusal>
-    ensures { IfOk result (λ mutation. mutation_fault mutation ≡ None) }
-{
-    let value = text_of(alloc, b'v', count)?;
-    legal_set(alloc, &[key], value.as_slice())
-}
-
 // Sets of the keys `00` to `63` to 99,996 bytes each, but of the last one to as many.
 fn hundred_sets(alloc: Global, last: usize) -> Result<Items<Mutation>, Refusal>
     ensures { IfOk result (λ mutations. All (λ mutation. mutation_fault mutation ≡ None) mutations) }
 {
     let mut mutations = Items::new(alloc);
-    for key in 0..99u8 {
-        mutations.push(long_set(alloc, key, 99_996)?)?;
+    for key in 0..100u8 {
+        let count = if key < 99 { 99_996 } else { last };
+        let value = text_of(alloc, b'v', count)?;
+        push(&mut mutations, legal_set(alloc, &[key], value.as_slice())?)?;
     }
-    mutations.push(long_set(alloc, 99, last)?)?;
     Ok(mutations)
 }
 
-// The size of the transaction with these mutations alone, or why it is refused; then all its mutations are back.
-fn size_of(alloc: Global, mutations: Items<Mutation>) -> Result<u64, (u32, usize)>
-    requires { All (λ mutation. mutation_fault mutation ≡ None) mutations }
-{
+// The size of the transaction with those sets alone, or why it is refused; then all its mutations are back.
+fn size_of_hundred(alloc: Global, last: usize) -> Result<Result<u64, (u32, usize)>, Refusal> {
+    let mutations = hundred_sets(alloc, last)?;
     let id = TxnId {
         session: 0,
         number: 0,
     };
     let (reads, writes) = (RangeSet::new(alloc), RangeSet::new(alloc));
     match Sealed::new(alloc, id, 0, reads, writes, mutations) {
-        Ok(sealed) => Ok(sealed.size()),
-        Err(refused) => Err((refused.why.code(), refused.back.mutations.len())),
-    }
-}
-
-// The same of those sets.
-fn size_of_hundred(alloc: Global, last: usize) -> Result<u64, (u32, usize)> {
-    match hundred_sets(alloc, last) {
-        Ok(mutations) => size_of(alloc, mutations),
-        Err(why) => Err((why.code(), 0)),
+        Ok(sealed) => Ok(Ok(sealed.size())),
+        Err(refused) => Ok(Err((refused.why.code(), refused.back.mutations.len()))),
     }
 }
 
@@ -67,7 +92,7 @@ fn size_of_hundred(alloc: Global, last: usize) -> Result<u64, (u32, usize)> {
 fn two_places(alloc: Global) -> Result<Batch, Refusal> {
     let mut places = Items::new(alloc);
     for number in 0..2 {
-        places.push(sealed(alloc, number)?)?;
+        push(&mut places, sealed(alloc, number)?)?;
     }
     if places.len() > PLACE_LIMIT {
         return Err(Refusal::BookFull);
@@ -78,7 +103,7 @@ fn two_places(alloc: Global) -> Result<Batch, Refusal> {
 fn one_move(alloc: Global, to: u32) -> Result<Items<Move>, Refusal> {
     let range = KeyRange::new(alloc, b"m", b"n")?;
     let mut moves = Items::new(alloc);
-    moves.push(Move { range, to })?;
+    push(&mut moves, Move { range, to })?;
     Ok(moves)
 }
 
@@ -102,45 +127,57 @@ fn sets_a_to_one(mutations: &[Mutation]) -> bool {
     }
 }
 
-fn has_numbers(places: &[Sealed], numbers: &[u64]) -> bool {
-    match (places, numbers) {
-        ([a, b], [x, y]) => a.id().number == *x && b.id().number == *y,
+// What the transaction has.
+fn told_of(sealed: &Sealed) -> (TxnId, u64, [bool; 3]) {
+    let reads = are_ranges(sealed.reads().iter().as_slice(), &[(b"b", b"c")]);
+    let writes = are_ranges(
+        sealed.writes().iter().as_slice(),
+        &[(b"a", b"a\0"), (b"x", b"y")],
+    );
+    let has = [reads, writes, sets_a_to_one(sealed.mutations())];
+    (sealed.id(), sealed.read_version(), has)
+}
+
+fn are_in_order(places: &[Sealed]) -> bool {
+    match places {
+        [first, second] => [first.id().number, second.id().number] == [0, 1],
         _ => false,
     }
 }
 
-// The splits at the keys, of which there may be as many pieces.
-fn split_at(alloc: Global, texts: &[&[u8]], most: usize) -> Result<Splits, Refusal> {
-    made_of(
-        keys_of(alloc, texts),
-        |keys| Splits::new(alloc, keys.as_slice(), most),
-    )
+// The codes for the splits, where they are checked and where they are made.
+fn split_codes(alloc: Global, texts: &[&[u8]], most: usize) -> Result<[u32; 2], u32> {
+    ask(keys_of(alloc, texts), |keys| {
+        let check = code_of(Splits::check(keys.as_slice(), most));
+        [check, code_of(Splits::new(alloc, keys.as_slice(), most))]
+    })
 }
 
-// Whether there are splits at b and m, of which there may be as many pieces.
-fn may_split(alloc: Global, most: usize) -> Result<bool, u32> {
-    ask(
-        keys_of(alloc, &[b"b", b"m"]),
-        |keys| Splits::check(keys.as_slice(), most).is_ok(),
-    )
-}
-
-// The number of the piece of the key.
-fn piece_of(alloc: Global, splits: &Splits, key: &[u8]) -> Result<usize, u32> {
-    ask(Key::new(alloc, key), |key| splits.piece_of(key))
-}
-
-// Whether the piece goes from the one text up to the other.
-fn goes(
+// Whether the key lies in the piece of the number, which has the bounds.
+fn is_piece(
     alloc: Global,
     splits: &Splits,
-    piece: usize,
-    begin: &[u8],
-    end: &[u8],
+    number: usize,
+    key: &[u8],
+    bounds: [&[u8]; 2],
 ) -> Result<bool, u32> {
-    ask(
-        splits.piece(alloc, piece),
-        |range| has_bounds(range, begin, end),
+    ask_both(
+        Key::new(alloc, key),
+        splits.piece(alloc, number),
+        |key, range| { splits.piece_of(key) == number && has_bounds(range, bounds[0], bounds[1]) },
+    )
+}
+
+// The number of splits, whether each piece is the one, and the code for one more.
+fn told_of_splits(alloc: Global, splits: &Splits) -> (usize, bool, u32) {
+    let mut are_pieces = true;
+    for (number, key, bounds) in PIECES {
+        are_pieces = are_pieces && is_piece(alloc, splits, *number, key, *bounds) == Ok(true);
+    }
+    (
+        splits.as_slice().len(),
+        are_pieces,
+        code_of(splits.piece(alloc, PIECES.len())),
     )
 }
 
@@ -152,73 +189,46 @@ fn refused_item(room: &mut Room<u32>, prev: u64, item: u32) -> Option<(u32, u32)
     }
 }
 
+// The keys of the mutations join the writes.
 #[test]
-fn sealed_transaction_has_what_was_given(rt: HostRuntime) {
-    let found = ask(sealed(rt.alloc(), 7), |sealed| {
-        (
-            sealed.id(),
-            sealed.read_version(),
-            are_ranges(sealed.reads().iter().as_slice(), &[(b"b", b"c")]),
-            sets_a_to_one(sealed.mutations()),
-        )
-    });
+fn sealed_transactions_have_what_was_given(rt: HostRuntime) {
+    let alloc = rt.alloc();
+    let found = ask_both(
+        sealed(alloc, 7),
+        two_places(alloc),
+        |sealed, batch| (told_of(sealed), are_in_order(batch.as_slice())),
+    );
     let id = TxnId {
         session: 3,
         number: 7,
     };
-    same(&rt, found, Ok((id, 40, true, true)));
+    same(&rt, found, Ok(((id, 40, [true; 3]), true)));
 }
 
 #[test]
-fn keys_of_mutations_join_the_writes(rt: HostRuntime) {
-    let found = ask(sealed(rt.alloc(), 7), |sealed| {
-        are_ranges(
-            sealed.writes().iter().as_slice(),
-            &[(b"a", b"a\0"), (b"x", b"y")],
-        )
-    });
-    same(&rt, found, Ok(true));
-}
-
-#[test]
-fn places_of_a_batch_are_in_order(rt: HostRuntime) {
-    let found = ask(
-        two_places(rt.alloc()),
-        |batch| has_numbers(batch.as_slice(), &[0, 1]),
-    );
-    same(&rt, found, Ok(true));
-}
-
-#[test]
-fn copies_of_entries_are_equal(rt: HostRuntime) {
+fn entries_are_equal_by_versions_and_moves(rt: HostRuntime) {
     let alloc = rt.alloc();
-    let found = ask(entry(alloc, 50, 1), |entry| {
-        equals_copy(entry, entry.clone())
-            && equals_copy(&entry.moves, Move::copies(alloc, entry.moves.as_slice()))
-    });
-    same(&rt, found, Ok(true));
-}
-
-#[test]
-fn entries_of_other_versions_or_moves_differ(rt: HostRuntime) {
-    let alloc = rt.alloc();
-    let found = ask(entry(alloc, 50, 1), |first| {
+    let copies = ask(entry(alloc, 50, 1), |entry| {
+        let moves = Move::copies(alloc, entry.moves.as_slice());
         [
-            ask(entry(alloc, 51, 1), |later| first == later),
-            ask(entry(alloc, 50, 2), |moved| first == moved),
+            equals_copy(entry, entry.clone()),
+            equals_copy(&entry.moves, moves),
         ]
     });
-    same(&rt, found, Ok([Ok(false), Ok(false)]));
+    same(&rt, copies, Ok([true; 2]));
+    for (version, to, equal) in ENTRIES {
+        let found = ask_both(
+            entry(alloc, 50, 1),
+            entry(alloc, *version, *to),
+            |first, other| first == other,
+        );
+        same(&rt, (*version, *to, found), (*version, *to, Ok(*equal)));
+    }
 }
 
 #[test]
 fn spots_of_one_version_differ(rt: HostRuntime) {
-    let read_only = Spot::ReadOnly { version: 50 };
-    let [first, second] = [0, 1].map(|place| Spot::Entry {
-        index: 0,
-        place,
-        version: 50,
-    });
+    let [first, second, read_only] = SPOTS;
     same(
         &rt,
         [first == first, first == second, first == read_only],
@@ -228,58 +238,35 @@ fn spots_of_one_version_differ(rt: HostRuntime) {
 
 #[test]
 fn transactions_have_at_most_10_000_000_bytes(rt: HostRuntime) {
-    same(&rt, size_of_hundred(rt.alloc(), 99_996), Ok(10_000_000));
-    same(&rt, size_of_hundred(rt.alloc(), 99_997), Err((2101, 100)));
-}
-
-#[test]
-fn splits_rise_and_none_is_empty(rt: HostRuntime) {
-    let alloc = rt.alloc();
-    same(
-        &rt,
-        [may_split(alloc, 3), may_split(alloc, 2)],
-        [Ok(true), Ok(false)],
-    );
-    same(&rt, code_of(split_at(alloc, &[b"b", b"m"], 3)), 0);
-    same(&rt, code_of(split_at(alloc, &[b"b", b"m"], 2)), 9009);
-    same(&rt, code_of(split_at(alloc, &[b"", b"m"], 3)), 9009);
-    same(&rt, code_of(split_at(alloc, &[b"m", b"b"], 3)), 9009);
-    same(&rt, code_of(split_at(alloc, &[b"m", b"m"], 3)), 9009);
+    for (last, wanted) in SIZES {
+        same(&rt, size_of_hundred(rt.alloc(), *last), Ok(*wanted));
+    }
 }
 
 #[test]
 fn splits_part_the_keys(rt: HostRuntime) {
     let alloc = rt.alloc();
-    let found = ask(split_at(alloc, &[b"b", b"m"], 3), |splits| {
-        (
-            splits.as_slice().len(),
-            [b"a", b"b", b"z"].map(|key| piece_of(alloc, splits, key.as_slice())),
-            [
-                goes(alloc, splits, 0, b"", b"b"),
-                goes(alloc, splits, 1, b"b", b"m"),
-                goes(alloc, splits, 2, b"m", &[0xff]),
-                goes(alloc, splits, 3, b"m", &[0xff]),
-            ],
-        )
-    });
-    let pieces = [Ok(0), Ok(1), Ok(2)];
-    same(
-        &rt,
-        found,
-        Ok((2, pieces, [Ok(true), Ok(true), Ok(true), Err(9009)])),
+    for (texts, most, code) in SPLITS {
+        same(&rt, split_codes(alloc, texts, *most), Ok([*code; 2]));
+    }
+    let splits = made_of(
+        keys_of(alloc, &[b"b", b"m"]),
+        |keys| Splits::new(alloc, keys.as_slice(), 3),
     );
+    let found = ask(splits, |splits| told_of_splits(alloc, splits));
+    same(&rt, found, Ok((2, true, 9009)));
 }
 
 #[test]
 fn items_wait_for_the_one_before(rt: HostRuntime) {
     let mut room = Room::new(rt.alloc());
-    same(&rt, refused_item(&mut room, 100, 1), None);
-    same(&rt, refused_item(&mut room, 0, 2), None);
-    same(&rt, refused_item(&mut room, 0, 3), Some((9003, 3)));
-    same(&rt, code_of(check_turn(100, 100)), 0);
-    same(
-        &rt,
-        [room.ready(0), room.ready(0), room.ready(100)],
-        [Some(2), None, Some(1)],
-    );
+    let refused = [
+        refused_item(&mut room, 100, 1),
+        refused_item(&mut room, 0, 2),
+        refused_item(&mut room, 0, 3),
+    ];
+    let turn = code_of(check_turn(100, 100));
+    let ready = [room.ready(0), room.ready(0), room.ready(100)];
+    let wanted = ([None, None, Some((9003, 3))], 0, [Some(2), None, Some(1)]);
+    same(&rt, (refused, turn, ready), wanted);
 }

@@ -7,8 +7,8 @@ mod many;
 mod repeats;
 mod serial;
 
-use self::acts::{Act, is_taken};
-use crate::making::{ask, ask_mut, count_config, keys_of, made_of, refusal_of, same};
+use self::acts::{Act, take};
+use crate::making::{Splits, both, same, splits_of};
 use bytes::Bytes;
 use fdb_client::{Op, Reply, Transcript};
 use fdb_core::{Answered, Config, Step, World, is_answered_on, run};
@@ -17,38 +17,67 @@ use fdb_mutations::PlainMap;
 use fdb_txn::TxnId;
 use std::alloc::Global;
 
-// One of each role, and a book of eight entries.
-fn one_of_each(alloc: Global) -> Config {
-    count_config(alloc, 1, 1, 8)
+const NO_SPLITS: Splits = Splits::Keys(&[]);
+
+// How many there are of each role, and how many entries the book has room for.
+#[derive(Clone, Copy)]
+struct Sizes {
+    proxies: u32,
+    logs: u32,
+    resolver_splits: Splits,
+    shard_splits: Splits,
+    book: u32,
 }
 
-// A world with so many proxies of each kind, two logs, and a resolver and a shard more than splits.
-fn new_world(
-    alloc: Global,
-    proxies: u32,
-    resolver_splits: &[&[u8]],
-    shard_splits: &[&[u8]],
-) -> Result<World, Refusal> {
-    let resolver_splits = keys_of(alloc, resolver_splits)?;
-    let shard_splits = keys_of(alloc, shard_splits)?;
-    let config = Config {
-        proxies,
-        logs: 2,
+const ONE_OF_EACH: Sizes = Sizes {
+    proxies: 1,
+    logs: 1,
+    resolver_splits: NO_SPLITS,
+    shard_splits: NO_SPLITS,
+    book: 8,
+};
+
+const TWO_LOGS: Sizes = Sizes {
+    proxies: 1,
+    logs: 2,
+    resolver_splits: NO_SPLITS,
+    shard_splits: NO_SPLITS,
+    book: 4_096,
+};
+
+// With a second resolver for the keys from m on.
+const TWO_PROXIES: Sizes = Sizes {
+    proxies: 2,
+    logs: 2,
+    resolver_splits: Splits::Keys(&[b"m"]),
+    shard_splits: NO_SPLITS,
+    book: 4_096,
+};
+
+fn config_of(alloc: Global, sizes: Sizes) -> Result<Config, Refusal> {
+    let (resolver_splits, shard_splits) = both(
+        splits_of(alloc, sizes.resolver_splits),
+        splits_of(alloc, sizes.shard_splits),
+    )?;
+    Ok(Config {
+        proxies: sizes.proxies,
+        logs: sizes.logs,
         resolver_splits,
         shard_splits,
-        book: 4_096,
-    };
-    World::new(alloc, config)
+        book: sizes.book,
+    })
 }
 
-// Whether each of the steps is accepted.
-fn are_taken(world: &mut World, alloc: Global, acts: &[Act]) -> bool {
+fn new_world(alloc: Global, sizes: Sizes) -> Result<World, Refusal> {
+    World::new(alloc, config_of(alloc, sizes)?)
+}
+
+// Takes the steps up to the first that is refused.
+fn take_all(world: &mut World, alloc: Global, acts: &[Act]) -> Result<(), Refusal> {
     for act in acts {
-        if !is_taken(world, alloc, *act) {
-            return false;
-        }
+        take(world, alloc, *act)?;
     }
-    true
+    Ok(())
 }
 
 // A transaction that read the key a at the version, and was told the value.
@@ -70,25 +99,12 @@ fn reader_of(
     })
 }
 
-// Whether session 0 alone was served, with read version 0.
-fn is_first_grant(answer: &Result<Answered, Refusal>) -> bool {
-    match answer {
-        Ok(Answered::Granted(granted)) => granted.as_slice() == [(0, 0)].as_slice(),
-        _ => false,
-    }
-}
-
-fn is_done(answer: &Result<Answered, Refusal>) -> bool {
-    match answer {
-        Ok(Answered::Done) => true,
-        _ => false,
-    }
-}
-
-// Whether these are the answers to the first ask and the first grant of a world.
+// Whether these are the answers to the first ask and the first grant of a world: session 0 alone is served, with read
+// version 0.
 fn are_first(answers: &[Result<Answered, Refusal>]) -> bool {
     match answers {
-        [first, second] => is_done(first) && is_first_grant(second),
+        [Ok(Answered::Done), Ok(Answered::Granted(granted))] => granted.as_slice()
+            == [(0, 0)].as_slice(),
         _ => false,
     }
 }
@@ -101,70 +117,15 @@ const FIRST_STEPS: [Step; 2] = [
     Step::Grant { proxy: 0 },
 ];
 
+fn are_first_of_a_run(alloc: Global) -> Result<bool, Refusal> {
+    let config = config_of(alloc, ONE_OF_EACH)?;
+    let ran = run(alloc, config, FIRST_STEPS.as_slice())?;
+    Ok(are_first(ran.1.as_slice()))
+}
+
 #[test]
 fn first_grant_is_of_version_zero(rt: HostRuntime) {
-    let alloc = rt.alloc();
-    let ran = run(alloc, one_of_each(alloc), FIRST_STEPS.as_slice());
-    same(&rt, ask(ran, |ran| are_first(ran.1.as_slice())), Ok(true));
-}
-
-#[test]
-fn new_world_has_no_batch_and_no_transaction(rt: HostRuntime) {
-    let alloc = rt.alloc();
-    let found = ask(World::new(alloc, one_of_each(alloc)), |world| {
-        (
-            refusal_of(world.in_flight(0)),
-            refusal_of(world.in_flight(7)),
-            world.check() == Ok(0),
-        )
-    });
-    let (wrong, unknown) = (Some(Refusal::WrongState), Some(Refusal::Unknown));
-    same(&rt, found, Ok((wrong, unknown, true)));
-}
-
-// The steps of a first batch, in which nobody waited, and the first step of a second one.
-const BATCHES: [Act; 9] = [
-    Act::Seal(0, 100),
-    Act::Resolve(0, 0),
-    Act::Verdict(0, 0),
-    Act::Decide(0),
-    Act::Push(0, 0),
-    Act::Logged(0, 0),
-    Act::Report(0),
-    Act::Answer(0),
-    Act::Seal(0, 100),
-];
-
-// The entry of the batch that is in flight in the world, with how many resolvers and logs there are.
-fn in_flight(world: &World) -> Result<(u32, u32, u32), u32> {
-    ask(
-        world.in_flight(0),
-        |flight| (flight.entry, flight.resolvers, flight.logs),
-    )
-}
-
-// What is in flight after each of those steps.
-fn flights(world: &mut World, alloc: Global) -> [Result<(u32, u32, u32), u32>; 9] {
-    BATCHES.map(|act| {
-        if is_taken(world, alloc, act) {
-            in_flight(world)
-        } else {
-            Err(0)
-        }
-    })
-}
-
-#[test]
-fn batch_is_in_flight_from_its_seal_to_its_answer(rt: HostRuntime) {
-    let alloc = rt.alloc();
-    let found = ask_mut(
-        World::new(alloc, one_of_each(alloc)),
-        |world| flights(world, alloc),
-    );
-    let mut wanted = [Ok((0, 1, 1)); 9];
-    wanted[7] = Err(9014);
-    wanted[8] = Ok((1, 1, 1));
-    same(&rt, found, Ok(wanted));
+    same(&rt, are_first_of_a_run(rt.alloc()), Ok(true));
 }
 
 // Whether such a transaction was answered as on the empty map.
@@ -173,20 +134,21 @@ fn is_answered(
     told: Option<&'static [u8]>,
     snapshot: bool,
 ) -> Result<bool, Refusal> {
-    let map = PlainMap::new(alloc);
     let id = TxnId {
         session: 3,
         number: 5,
     };
-    made_of(reader_of(alloc, id, 0, told, snapshot), |transcript| {
-        is_answered_on(alloc, &map, transcript)
-    })
+    let transcript = reader_of(alloc, id, 0, told, snapshot)?;
+    is_answered_on(alloc, &PlainMap::new(alloc), &transcript)
 }
 
 #[test]
 fn ordinary_reads_are_compared_with_a_map(rt: HostRuntime) {
     let alloc = rt.alloc();
-    same(&rt, is_answered(alloc, None, false), Ok(true));
-    same(&rt, is_answered(alloc, Some(b"x"), false), Ok(false));
-    same(&rt, is_answered(alloc, Some(b"x"), true), Ok(true));
+    let found = [
+        is_answered(alloc, None, false),
+        is_answered(alloc, Some(b"x"), false),
+        is_answered(alloc, Some(b"x"), true),
+    ];
+    same(&rt, found, [Ok(true), Ok(false), Ok(true)]);
 }

@@ -6,37 +6,42 @@ use fdb_keys::{Key, KeyRange, Refusal};
 use fdb_mutations::PlainMap;
 
 // A plain map, read at a version, whose pages have no more pairs than the cut, or as many as asked for where it is 0.
+// Where there is a fault, each read is refused by it.
 #[derive(Clone, Copy)]
 pub(super) struct CutSnapshot<'a> {
     pub(super) version: u64,
     pub(super) map: &'a PlainMap,
     pub(super) cut: u32,
+    pub(super) fault: Option<Refusal>,
 }
 
 impl<'a> Snapshot for CutSnapshot<'a> {
-    ghost use Rattle.std.specs.Prelude.{None, refl};
-
     ghost at = { λ snapshot. snapshot.version };
 
     ghost map = { λ snapshot. snapshot.map.now };
 
-    ghost key_fault = { λ snapshot key. None };
+    ghost key_fault = { λ snapshot key. snapshot.fault };
 
-    ghost range_fault = { λ snapshot range. None };
+    ghost range_fault = { λ snapshot range. snapshot.fault };
 
-    ghost serves_parts = { λ snapshot part range inside served. refl };
+    ghost serves_parts = { λ snapshot part range inside served. served };
 
     fn version(&self) -> u64 {
         self.version
     }
 
     fn get(&self, key: &Key) -> Result<Option<Bytes>, Refusal> {
-        whole(self).get(key)
+        match self.fault {
+            Some(why) => Err(why),
+            None => whole(self).get(key),
+        }
     }
 
     fn page(&self, range: &KeyRange, limit: u32, reverse: bool) -> Result<Page, Refusal> {
-        let page = whole(self).page(range, lesser(limit, self.cut), reverse)?;
-        Ok(page)
+        match self.fault {
+            Some(why) => Err(why),
+            None => whole(self).page(range, lesser(limit, self.cut), reverse),
+        }
     }
 }
 

@@ -1,140 +1,97 @@
-// What a program decides, reads and writes, as a mark at each key.
+// What a program decides, reads and writes, as a bit for each key from a to j.
 use super::first_byte;
-use super::steps::{Ask, Change, Span};
+use super::steps::{Asked, Change, KEYS};
 use bytes::Bytes;
 use fdb_client::Txn;
-use fdb_keys::{Key, TreeRangeSet};
+use fdb_keys::{Key, Refusal};
 use std::alloc::Global;
-
-// One mark for each key from a to j.
-type Keys = [bool; 10];
 
 #[derive(Clone, Copy)]
 pub(super) struct Marks {
-    decided: Keys,
-    read: Keys,
-    written: Keys,
+    decided: u16,
+    read: u16,
+    written: u16,
 }
 
-fn place(key: u8) -> usize {
-    usize::from(key.wrapping_sub(b'a'))
+// The bit of the key.
+pub(super) fn only(key: &[u8]) -> u16 {
+    let place = first_byte(key).wrapping_sub(b'a');
+    1u16.wrapping_shl(u32::from(place))
 }
 
-fn has(keys: &Keys, key: u8) -> bool {
-    match keys.get(place(key)) {
-        Some(mark) => *mark,
-        None => false,
-    }
-}
-
-fn add(keys: &mut Keys, key: u8) {
-    if let Some(mark) = keys.get_mut(place(key)) {
-        *mark = true;
-    }
-}
-
-fn add_all(keys: &mut Keys, span: Span) {
-    for key in span.begin..span.end {
-        add(keys, key);
-    }
-}
-
-// The key alone.
-pub(super) fn only(key: u8) -> Span {
-    Span {
-        begin: key,
-        end: key.saturating_add(1),
-    }
+// The bits of the keys from the begin up to but not including the end.
+pub(super) fn span(begin: &[u8], end: &[u8]) -> u16 {
+    only(end).wrapping_sub(1) & !only(begin).wrapping_sub(1)
 }
 
 // What a read of a range scans that gives these pairs.
-fn scanned(ask: Ask, pairs: &[(Key, Bytes)]) -> Span {
-    let span = ask.span;
+fn scanned(asked: Asked, pairs: &[(Key, Bytes)]) -> u16 {
+    let whole = span(asked.begin, asked.end);
     match pairs.last() {
-        Some((key, _value)) if ask.limit != 0 && pairs.len() == usize::from(ask.limit) => {
-            let last = only(first_byte(key.bytes()));
-            if ask.reverse {
-                Span {
-                    begin: last.begin,
-                    end: span.end,
-                }
+        Some((key, _value)) if asked.limit != 0 && pairs.len() == asked.limit as usize => {
+            let last = only(key.bytes());
+            let before = last.wrapping_sub(1);
+            if asked.reverse {
+                whole & !before
             } else {
-                Span {
-                    begin: span.begin,
-                    end: last.end,
-                }
+                whole & (before | last)
             }
         }
-        _ => span,
-    }
-}
-
-// Whether the set has the key, if memory allows to tell.
-fn set_has(set: &TreeRangeSet, alloc: Global, key: u8) -> Option<bool> {
-    match Key::new(alloc, &[key]) {
-        Ok(key) => Some(set.contains(&key)),
-        Err(_why) => None,
+        _ => whole,
     }
 }
 
 impl Marks {
     pub(super) fn new() -> Self {
         Marks {
-            decided: [false; 10],
-            read: [false; 10],
-            written: [false; 10],
+            decided: 0,
+            read: 0,
+            written: 0,
         }
     }
 
     // An ordinary read of these keys reads those that aren't decided.
-    pub(super) fn read(&mut self, span: Span) {
-        for key in span.begin..span.end {
-            if !has(&self.decided, key) {
-                add(&mut self.read, key);
-            }
+    pub(super) fn read(&mut self, keys: u16, is_snapshot: bool) {
+        if !is_snapshot {
+            self.read |= keys & !self.decided;
         }
     }
 
-    pub(super) fn read_range(&mut self, ask: Ask, pairs: &[(Key, Bytes)]) {
-        if !ask.is_snapshot {
-            self.read(scanned(ask, pairs));
-        }
+    pub(super) fn read_range(&mut self, asked: Asked, pairs: &[(Key, Bytes)]) {
+        self.read(scanned(asked, pairs), asked.is_snapshot);
     }
 
-    pub(super) fn add_read(&mut self, span: Span) {
-        add_all(&mut self.read, span);
+    pub(super) fn add_read(&mut self, keys: u16) {
+        self.read |= keys;
     }
 
-    pub(super) fn add_write(&mut self, span: Span) {
-        add_all(&mut self.written, span);
-    }
-
-    fn decide(&mut self, span: Span) {
-        add_all(&mut self.decided, span);
-        self.add_write(span);
+    pub(super) fn add_write(&mut self, keys: u16) {
+        self.written |= keys;
     }
 
     // Every mutation writes what it names, and one that doesn't ask what stood there decides it.
     pub(super) fn change(&mut self, change: Change) {
-        match change {
-            Change::Set(key, _) | Change::Clear(key) => self.decide(only(key)),
-            Change::ClearRange(span) => self.decide(span),
-            Change::Add(key, _) | Change::CompareAndClear(key, _) => self.add_write(only(key)),
+        let (keys, decides) = match change {
+            Change::Set(key, _) | Change::Clear(key) => (only(key), true),
+            Change::ClearRange(begin, end) => (span(begin, end), true),
+            Change::Add(key, _) | Change::CompareAndClear(key, _) => (only(key), false),
+        };
+        self.written |= keys;
+        if decides {
+            self.decided |= keys;
         }
-    }
-
-    fn agree_at(&self, txn: &Txn, alloc: Global, key: u8) -> bool {
-        set_has(txn.read_conflicts(), alloc, key) == Some(has(&self.read, key))
-            && set_has(txn.write_conflicts(), alloc, key) == Some(has(&self.written, key))
     }
 
     // Whether the transaction reads and writes just the keys that are marked.
-    pub(super) fn agree(&self, txn: &Txn, alloc: Global) -> bool {
-        for key in b'a'..b'k' {
-            if !self.agree_at(txn, alloc, key) {
-                return false;
+    pub(super) fn agree(&self, txn: &Txn, alloc: Global) -> Result<bool, Refusal> {
+        for text in KEYS {
+            let key = Key::new(alloc, text)?;
+            if txn.read_conflicts().contains(&key) != (self.read & only(text) != 0)
+                || txn.write_conflicts().contains(&key) != (self.written & only(text) != 0)
+            {
+                return Ok(false);
             }
         }
-        true
+        Ok(true)
     }
 }

@@ -1,28 +1,25 @@
-// Programs that are made from a seed. A key is one byte, from a to j.
+// What is done with an open transaction, as plain data: in known programs, and in programs that are made from a seed.
 use crate::random::Random;
 
-// The keys from the begin up to but not including the end.
-#[derive(Clone, Copy)]
-pub(super) struct Span {
-    pub(super) begin: u8,
-    pub(super) end: u8,
-}
+pub(super) type Text = &'static [u8];
 
 // A mutation with a value or an operand of one byte.
 #[derive(Clone, Copy)]
 pub(super) enum Change {
-    Set(u8, u8),
-    Clear(u8),
-    ClearRange(Span),
-    Add(u8, u8),
-    CompareAndClear(u8, u8),
+    Set(Text, u8),
+    Clear(Text),
+    // From the first key up to but not including the second one.
+    ClearRange(Text, Text),
+    Add(Text, u8),
+    CompareAndClear(Text, u8),
 }
 
-// A read of a range.
+// A read of the keys from the begin up to but not including the end.
 #[derive(Clone, Copy)]
-pub(super) struct Ask {
-    pub(super) span: Span,
-    pub(super) limit: u8,
+pub(super) struct Asked {
+    pub(super) begin: Text,
+    pub(super) end: Text,
+    pub(super) limit: u32,
     pub(super) reverse: bool,
     pub(super) is_snapshot: bool,
 }
@@ -31,15 +28,29 @@ pub(super) struct Ask {
 #[derive(Clone, Copy)]
 pub(super) enum Step {
     Write(Change),
-    Get { key: u8, is_snapshot: bool },
-    Range(Ask),
-    AddRead(Span),
-    AddWrite(Span),
+    Get { key: Text, is_snapshot: bool },
+    Range(Asked),
+    AddRead(Text, Text),
+    AddWrite(Text, Text),
+}
+
+// The keys of a program from a seed, and the end of the last one.
+const TEXTS: [Text; 11] = [
+    b"a", b"b", b"c", b"d", b"e", b"f", b"g", b"h", b"i", b"j", b"k",
+];
+
+pub(super) const KEYS: [Text; 10] = [b"a", b"b", b"c", b"d", b"e", b"f", b"g", b"h", b"i", b"j"];
+
+fn text(number: u8) -> Text {
+    match TEXTS.get(usize::from(number)) {
+        Some(text) => *text,
+        None => b"",
+    }
 }
 
 impl Random {
-    fn key(&mut self) -> u8 {
-        b'a' + self.below(10)
+    fn key(&mut self) -> Text {
+        text(self.below(10))
     }
 
     // A value or an operand: one of three, so that compared values are often the same.
@@ -48,29 +59,30 @@ impl Random {
     }
 
     // It ends behind j at the furthest, and may be empty.
-    fn span(&mut self) -> Span {
-        let one = b'a' + self.below(11);
-        let other = b'a' + self.below(11);
-        Span {
-            begin: one.min(other),
-            end: one.max(other),
-        }
+    fn span(&mut self) -> (Text, Text) {
+        let (one, other) = (self.below(11), self.below(11));
+        (text(one.min(other)), text(one.max(other)))
     }
 
     fn change(&mut self) -> Change {
         match self.below(5) {
             0 => Change::Set(self.key(), self.value()),
             1 => Change::Clear(self.key()),
-            2 => Change::ClearRange(self.span()),
+            2 => {
+                let (begin, end) = self.span();
+                Change::ClearRange(begin, end)
+            }
             3 => Change::Add(self.key(), self.value()),
             _ => Change::CompareAndClear(self.key(), self.value()),
         }
     }
 
-    fn ask(&mut self) -> Ask {
-        Ask {
-            span: self.span(),
-            limit: self.below(4),
+    fn asked(&mut self) -> Asked {
+        let (begin, end) = self.span();
+        Asked {
+            begin,
+            end,
+            limit: u32::from(self.below(4)),
             reverse: self.coin(),
             is_snapshot: self.coin(),
         }
@@ -84,9 +96,15 @@ impl Random {
                 key: self.key(),
                 is_snapshot: self.coin(),
             },
-            6..=7 => Step::Range(self.ask()),
-            8 => Step::AddRead(self.span()),
-            _ => Step::AddWrite(self.span()),
+            6..=7 => Step::Range(self.asked()),
+            8 => {
+                let (begin, end) = self.span();
+                Step::AddRead(begin, end)
+            }
+            _ => {
+                let (begin, end) = self.span();
+                Step::AddWrite(begin, end)
+            }
         }
     }
 }

@@ -5,29 +5,139 @@ ghost use Rattle.fdb_txn.specs.book.Transactions.{Transaction};
 ghost use Rattle.fdb_proxy.specs.CommitProxies.{CommitProxy, IsTicketFor};
 
 use crate::making::{
-    are_ranges, ask, ask_mut, code_of, keys_of, one_key, one_set, placed, refusal_of, same, seal,
+    are_ranges, ask_mut, is_done, keys_of, numbers_of, one_key, one_set, placed, same, seal,
+    split_config,
 };
 use fdb_keys::{Items, RangeSet, Refusal};
 use fdb_log::{LogAck, LogMsg, Tagged};
 use fdb_mutations::Mutation;
-use fdb_proxy::{CommitCore, Config, Outcome};
+use fdb_proxy::{CommitCore, Outcome};
 use fdb_resolver::{Part, Verdict, Verdicts};
 use fdb_sequencer::Ticket;
 use fdb_txn::{Batch, Sealed, TxnId};
 use std::alloc::Global;
+use std::process::Abort;
+
+// The version and the place of a commit, or the code of why there is none.
+type Placed = Result<(u64, u32), u32>;
+
+// What is asked of a proxy, with what it is to give.
+enum Act {
+    Reserve,
+    // The first transaction of the session.
+    Submit(u32),
+    // The batch has the transactions of these sessions.
+    Seal(&'static [u32]),
+    Unseal,
+    IsIdle,
+    Fail,
+    // They are the transactions of these sessions.
+    RefuseAll(&'static [u32]),
+    // The first resolver is asked about the write of a, and the second one about the read of z.
+    Parts,
+    // The resolver's verdict on place 0 of the entry with the index.
+    Say(u32, u32, Verdict),
+    // What becomes of the one transaction.
+    Decide(Placed),
+    // How many mutations each log is sent, each of which gives a the value 1.
+    Messages([usize; 2]),
+    // The log has its message of the first entry.
+    Acknowledge(u32),
+    AllLogged,
+    // The session of the one transaction, and what became of it.
+    Done(u32, Placed),
+}
+
+// Whether it gives what it is to give, or the code of the refusal and the number that it names.
+type Told = Result<bool, (u32, u64)>;
+
+const YES: Told = Ok(true);
+
+// Each of a new proxy.
+const NEW: &[&[(Act, Told)]] = &[
+    // An idle proxy seals an empty batch.
+    &[
+        (Act::Decide(Err(0)), Err((9014, 0))),
+        (Act::Done(0, Err(0)), Err((9014, 0))),
+        (Act::Seal(&[]), YES),
+    ],
+    // An id waits once.
+    &[
+        (Act::Reserve, YES),
+        (Act::Submit(4), YES),
+        (Act::Submit(4), Err((9007, 0))),
+    ],
+    // Nothing is submitted after a failure.
+    &[(Act::Fail, YES), (Act::Submit(4), Err((9004, 0)))],
+    // A batch that was given up is sealed again.
+    &[
+        (Act::Submit(4), YES),
+        (Act::Submit(2), YES),
+        (Act::Seal(&[4, 2]), YES),
+        (Act::IsIdle, Ok(false)),
+        (Act::Unseal, YES),
+        (Act::IsIdle, YES),
+        (Act::Seal(&[4, 2]), YES),
+    ],
+    // All that wait are refused by id.
+    &[
+        (Act::Submit(4), YES),
+        (Act::Submit(2), YES),
+        (Act::RefuseAll(&[4, 2]), YES),
+    ],
+];
+
+// Each of a proxy whose batch, of the transaction of session 4 alone, waits for verdicts.
+const ASKING: &[&[(Act, Told)]] = &[
+    // Verdicts are taken once, and of their entry alone.
+    &[
+        (Act::Say(0, 1, Verdict::Yes), Err((9003, 0))),
+        (Act::Say(0, 0, Verdict::Yes), YES),
+        (Act::Say(0, 0, Verdict::Yes), Err((9003, 0))),
+    ],
+    // All that are asked are heard before a decision.
+    &[
+        (Act::Parts, YES),
+        (Act::Decide(Err(0)), Err((9002, 0))),
+        (Act::Say(0, 0, Verdict::Yes), YES),
+        (Act::Decide(Err(0)), Err((9002, 1))),
+    ],
+    // A conflict is sent to no log, and is answered once all logs have their message.
+    &[
+        (Act::Say(0, 0, Verdict::Yes), YES),
+        (Act::Say(1, 0, Verdict::Conflict), YES),
+        (Act::Decide(Err(1020)), YES),
+        (Act::Messages([0, 0]), YES),
+        (Act::Done(0, Err(0)), Err((9014, 0))),
+        (Act::AllLogged, Err((9002, 0))),
+        (Act::Acknowledge(0), YES),
+        (Act::Acknowledge(0), Err((9003, 0))),
+        (Act::Acknowledge(1), YES),
+        (Act::AllLogged, YES),
+        (Act::Done(4, Err(1020)), YES),
+        (Act::Done(0, Err(0)), Err((9014, 0))),
+    ],
+    // A commit is sent to the log of its shard.
+    &[
+        (Act::Say(0, 0, Verdict::Yes), YES),
+        (Act::Say(1, 0, Verdict::Yes), YES),
+        (Act::Decide(Ok((100, 0))), YES),
+        (Act::Messages([0, 1]), YES),
+    ],
+];
 
 fn new_core(alloc: Global) -> Result<CommitCore, Refusal>
     ensures batch { IfOk result (λ core. core.proxy.batch ≡ []) }
     ensures waiting { IfOk result (λ core. core.proxy.waiting ≡ []) }
 {
-    let config = Config {
-        proxies: 1,
-        logs: 2,
-        resolver_splits: keys_of(alloc, &[b"m"])?,
-        shard_splits: keys_of(alloc, &[b"a"])?,
-        book: 1,
-    };
-    CommitCore::new(alloc, 0, &config)
+    match split_config(keys_of(alloc, &[b"m"]), keys_of(alloc, &[b"a"])) {
+        Ok(mut config) => {
+            config.logs = 2;
+            let core = CommitCore::new(alloc, 0, &config)?;
+            Ok(core)
+        }
+        Err(why) => Err(why),
+    }
 }
 
 // The session's first transaction, which reads z at version 0 and gives a the value 1.
@@ -54,6 +164,7 @@ fn submit(core: &mut CommitCore, alloc: Global, session: u32) -> Result<(), Refu
 }
 
 // Seals the one transaction that waits.
+#[tactic(auto, using(std::proofs::lemmas::List::take_all))]
 fn seal_one(core: &mut CommitCore) -> Result<(), Refusal>
     requires { length core.old.proxy.waiting ≡ 1 }
     ensures { IfOk result (λ _. core.new.proxy.batch ≡ core.old.proxy.waiting) }
@@ -76,27 +187,42 @@ fn ticket(alloc: Global) -> Ticket
     }
 }
 
-// A proxy whose batch, of the transaction of session 4 alone, waits for verdicts.
+// The transaction of session 4 alone is the batch, which waits for verdicts then.
+fn learn_one(core: &mut CommitCore, alloc: Global) -> Result<(), Refusal>
+    requires { core.old.proxy.waiting ≡ [] }
+{
+    submit(core, alloc, 4)?;
+    seal_one(core)?;
+    core.learn(&ticket(alloc))
+}
+
 fn asking(alloc: Global) -> Result<CommitCore, Refusal> {
-    let mut core = new_core(alloc)?;
-    submit(&mut core, alloc, 4)?;
-    seal_one(&mut core)?;
-    core.learn(&ticket(alloc))?;
-    Ok(core)
+    match new_core(alloc) {
+        Ok(mut core) => match learn_one(&mut core, alloc) {
+            Ok(()) => Ok(core),
+            Err(why) => Err(why),
+        },
+        Err(why) => Err(why),
+    }
 }
 
-// Whether the transactions are those of the sessions.
-fn are_of_sessions(places: &[Sealed], sessions: &[u32]) -> bool {
-    places.len() == sessions.len()
-        && places
-            .iter()
-            .zip(sessions)
-            .all(|(place, session)| place.id().session == *session)
+fn is_of_sessions(batch: Result<Batch, Refusal>, sessions: &[u32]) -> Result<bool, Refusal> {
+    let batch = batch?;
+    match (batch.as_slice(), sessions) {
+        ([], []) => Ok(true),
+        ([first, second], [one, two]) => Ok(
+            [first.id().session, second.id().session] == [*one, *two],
+        ),
+        _ => Ok(false),
+    }
 }
 
-// Whether the batch has the transactions of these sessions.
-fn is_of_sessions(batch: Result<Batch, Refusal>, sessions: &[u32]) -> bool {
-    ask(batch, |batch| are_of_sessions(batch.as_slice(), sessions)) == Ok(true)
+fn are_of_sessions(ids: Items<TxnId>, sessions: &[u32]) -> bool {
+    match (ids.as_slice(), sessions) {
+        ([first, second], [one, two]) => [first.session, second.session] == [*one, *two]
+            && [first.number, second.number] == [0, 0],
+        _ => false,
+    }
 }
 
 // Whether the part is of one place, which reads and writes the ranges.
@@ -108,242 +234,140 @@ fn is_part(part: &Part, reads: &[(&[u8], &[u8])], writes: &[(&[u8], &[u8])]) -> 
     }
 }
 
-fn are_write_and_read(parts: &[Part]) -> bool {
-    match parts {
-        [first, second] => is_part(first, &[], &[(b"a", b"a\0")])
-            && is_part(second, &[(b"z", b"z\0")], &[]),
-        _ => false,
+fn are_write_and_read(parts: Result<Items<Part>, Refusal>) -> Result<bool, Refusal> {
+    let parts = parts?;
+    match parts.as_slice() {
+        [first, second] => Ok(
+            is_part(first, &[], &[(b"a", b"a\0")]) && is_part(second, &[(b"z", b"z\0")], &[]),
+        ),
+        _ => Ok(false),
     }
 }
 
-// The verdict on place 0 of the entry.
-fn verdicts(
+// Takes the resolver's verdict on place 0 of the entry.
+fn say(
+    core: &mut CommitCore,
     alloc: Global,
     resolver: u32,
     index: u32,
     verdict: Verdict,
-) -> Result<Verdicts, Refusal> {
+) -> Result<(), Refusal> {
     let answers = Items::from_vec(Vec::from_slice(alloc, &[(0, verdict)])?);
-    Ok(Verdicts {
+    core.verdict(Verdicts {
         resolver,
         index,
         answers,
     })
 }
 
-// The code for the resolver's verdict on place 0 of the entry.
-fn say(core: &mut CommitCore, alloc: Global, resolver: u32, index: u32, verdict: Verdict) -> u32 {
-    match verdicts(alloc, resolver, index, verdict) {
-        Ok(verdicts) => code_of(core.verdict(verdicts)),
-        Err(why) => why.code(),
+fn is_outcome(outcomes: Result<Items<Outcome>, Refusal>, wanted: Placed) -> Result<bool, Refusal> {
+    let outcomes = outcomes?;
+    match outcomes.as_slice() {
+        [outcome] => Ok(placed(*outcome) == wanted),
+        _ => Ok(false),
     }
 }
 
-// What becomes of the one transaction that there is.
-fn only_outcome(outcomes: &[Outcome]) -> Option<Result<(u64, u32), u32>> {
-    match outcomes {
-        [outcome] => Some(placed(*outcome)),
-        _ => None,
-    }
-}
-
-// The same, once the first resolver says yes, and the second one this.
-fn decided(
-    core: &mut CommitCore,
-    alloc: Global,
-    verdict: Verdict,
-) -> Option<Result<(u64, u32), u32>> {
-    let codes = [
-        say(core, alloc, 0, 0, Verdict::Yes),
-        say(core, alloc, 1, 0, verdict),
-    ];
-    match ask(core.decide(), |outcomes| only_outcome(outcomes.as_slice())) {
-        Ok(outcome) if codes == [0, 0] => outcome,
-        _ => None,
-    }
-}
-
-fn acknowledge(core: &mut CommitCore, log: u32) -> u32 {
-    code_of(core.logged(LogAck { log, index: 0 }))
-}
-
-// How many mutations each of the two logs is sent.
-fn counts(messages: &[LogMsg]) -> Option<[usize; 2]> {
-    match messages {
-        [first, second] => Some([first.body.len(), second.body.len()]),
-        _ => None,
-    }
-}
-
-// Whether it gives a the value 1.
-fn sets_a(mutation: &Mutation) -> bool {
-    match mutation {
-        Mutation::Set { key, value } => key.bytes() == b"a".as_slice()
+// Whether it gives a the value 1, at place 0 and for shard 1.
+fn is_sent(sent: &Tagged) -> bool {
+    match &sent.mutation {
+        Mutation::Set { key, value } => (sent.place, sent.tags.as_slice()) == (0, [1].as_slice())
+            && key.bytes() == b"a".as_slice()
             && value.as_slice() == b"1".as_slice(),
         _ => false,
     }
 }
 
-// Whether it does at place 0 and for shard 1.
-fn is_sent(sent: &Tagged) -> bool {
-    sent.place == 0 && sent.tags.as_slice() == [1].as_slice() && sets_a(&sent.mutation)
-}
-
-// Whether all that the log is sent is that, as of the first entry.
-fn is_of_first_entry(message: &LogMsg) -> bool {
-    let numbers = (message.index, message.version, message.prev);
-    numbers == (0, 100, 0) && message.body.as_slice().iter().all(|sent| is_sent(sent))
-}
-
-fn second_log_sets_a(messages: &[LogMsg]) -> bool {
-    match messages {
-        [_first, second] => is_of_first_entry(second),
-        _ => false,
-    }
-}
-
-// The session of the one transaction that is done, with what became of it.
-fn only_answer(answers: &[(TxnId, Outcome)]) -> Option<(u32, Result<(u64, u32), u32>)> {
-    match answers {
-        [(id, outcome)] => Some((id.session, placed(*outcome))),
-        _ => None,
-    }
-}
-
-#[test]
-fn an_idle_proxy_seals_an_empty_batch(rt: HostRuntime) {
-    let found = ask_mut(new_core(rt.alloc()), |core| {
-        (
-            code_of(core.decide()),
-            code_of(core.done()),
-            is_of_sessions(core.seal(), &[]),
-        )
-    });
-    same(&rt, found, Ok((9014, 9014, true)));
-}
-
-#[test]
-fn an_id_waits_once(rt: HostRuntime) {
-    let alloc = rt.alloc();
-    let found = ask_mut(new_core(alloc), |core| {
-        (
-            code_of(core.reserve()),
-            submit(core, alloc, 4),
-            submit(core, alloc, 4),
-        )
-    });
-    same(&rt, found, Ok((0, Ok(()), Err(Refusal::Repeated(0)))));
-}
-
-#[test]
-fn nothing_is_submitted_after_a_failure(rt: HostRuntime) {
-    let alloc = rt.alloc();
-    let found = ask_mut(new_core(alloc), |core| {
-        core.fail();
-        code_of(submit(core, alloc, 4))
-    });
-    same(&rt, found, Ok(9004));
-}
-
-#[test]
-fn batch_that_was_given_up_is_sealed_again(rt: HostRuntime) {
-    let alloc = rt.alloc();
-    let found = ask_mut(new_core(alloc), |core| {
-        let codes = [4, 2].map(|session| code_of(submit(core, alloc, session)));
-        let is_sealed = is_of_sessions(core.seal(), &[4, 2]);
-        let was_idle = core.is_idle();
-        core.unseal();
-        (
-            codes,
-            is_sealed,
-            was_idle,
-            core.is_idle(),
-            is_of_sessions(core.seal(), &[4, 2]),
-        )
-    });
-    same(&rt, found, Ok(([0, 0], true, false, true, true)));
-}
-
-#[test]
-fn all_that_wait_are_refused_by_id(rt: HostRuntime) {
-    let alloc = rt.alloc();
-    let found = ask_mut(new_core(alloc), |core| {
-        let codes = [4, 2].map(|session| code_of(submit(core, alloc, session)));
-        let ids = [4, 2].map(|session| TxnId { session, number: 0 });
-        (codes, core.refuse_all().as_slice() == ids.as_slice())
-    });
-    same(&rt, found, Ok(([0, 0], true)));
-}
-
-#[test]
-fn verdicts_are_taken_once_and_of_their_entry_alone(rt: HostRuntime) {
-    let alloc = rt.alloc();
-    let found = ask_mut(asking(alloc), |core| {
-        [1, 0, 0].map(|entry| say(core, alloc, 0, entry, Verdict::Yes))
-    });
-    same(&rt, found, Ok([9003, 0, 9003]));
-}
-
-#[test]
-fn all_that_are_asked_are_heard_before_a_decision(rt: HostRuntime) {
-    let alloc = rt.alloc();
-    let found = ask_mut(asking(alloc), |core| {
-        (
-            ask(core.parts(), |parts| are_write_and_read(parts.as_slice())),
-            refusal_of(core.decide()),
-            say(core, alloc, 0, 0, Verdict::Yes),
-            refusal_of(core.decide()),
-        )
-    });
-    let (first, second) = (Refusal::NotYet(0), Refusal::NotYet(1));
-    same(&rt, found, Ok((Ok(true), Some(first), 0, Some(second))));
-}
-
-#[test]
-fn a_conflict_is_sent_to_no_log(rt: HostRuntime) {
-    let alloc = rt.alloc();
-    let found = ask_mut(asking(alloc), |core| {
-        (
-            decided(core, alloc, Verdict::Conflict),
-            ask(core.messages(), |messages| counts(messages.as_slice())),
-        )
-    });
-    same(&rt, found, Ok((Some(Err(1020)), Ok(Some([0, 0])))));
-}
-
-#[test]
-fn a_conflict_is_answered_once_all_logs_have_their_message(rt: HostRuntime) {
-    let alloc = rt.alloc();
-    let found = ask_mut(asking(alloc), |core| {
-        let outcome = decided(core, alloc, Verdict::Conflict);
-        let early = (code_of(core.done()), refusal_of(core.all_logged()));
-        let codes = [0, 0, 1].map(|log| acknowledge(core, log));
-        let whole = code_of(core.all_logged());
-        let answer = ask(core.done(), |answers| only_answer(answers.as_slice()));
-        (outcome, early, codes, whole, answer, code_of(core.done()))
-    });
-    let early = (9014, Some(Refusal::NotYet(0)));
-    let answer = Ok(Some((4, Err(1020))));
-    let wanted = (Some(Err(1020)), early, [0, 9003, 0], 0, answer, 9014);
-    same(&rt, found, Ok(wanted));
-}
-
-#[test]
-fn a_commit_is_sent_to_the_log_of_its_shard(rt: HostRuntime) {
-    let alloc = rt.alloc();
-    let found = ask_mut(asking(alloc), |core| {
-        (
-            decided(core, alloc, Verdict::Yes),
-            ask(core.messages(), |messages| counts(messages.as_slice())),
-            ask(
-                core.messages(),
-                |messages| second_log_sets_a(messages.as_slice()),
-            ),
-        )
-    });
-    same(
-        &rt,
-        found,
-        Ok((Some(Ok((100, 0))), Ok(Some([0, 1])), Ok(true))),
+// Whether so many are sent that do, and as of the first entry.
+fn is_message(message: &LogMsg, count: usize) -> bool {
+    let numbers = (
+        message.index,
+        message.version,
+        message.prev,
+        message.body.len(),
     );
+    numbers == (0, 100, 0, count) && message.body.as_slice().iter().all(|sent| is_sent(sent))
+}
+
+fn are_messages(
+    messages: Result<Items<LogMsg>, Refusal>,
+    counts: [usize; 2],
+) -> Result<bool, Refusal> {
+    let messages = messages?;
+    match messages.as_slice() {
+        [first, second] => Ok(is_message(first, counts[0]) && is_message(second, counts[1])),
+        _ => Ok(false),
+    }
+}
+
+fn is_answer(
+    answers: Result<Items<(TxnId, Outcome)>, Refusal>,
+    session: u32,
+    wanted: Placed,
+) -> Result<bool, Refusal> {
+    let answers = answers?;
+    match answers.as_slice() {
+        [(id, outcome)] => Ok((id.session, placed(*outcome)) == (session, wanted)),
+        _ => Ok(false),
+    }
+}
+
+// The acts that give nothing.
+fn change(core: &mut CommitCore, alloc: Global, act: &Act) -> Result<(), Refusal> {
+    match *act {
+        Act::Reserve => core.reserve(),
+        Act::Submit(session) => submit(core, alloc, session),
+        Act::Say(resolver, index, verdict) => say(core, alloc, resolver, index, verdict),
+        Act::Acknowledge(log) => core.logged(LogAck { log, index: 0 }),
+        Act::AllLogged => core.all_logged(),
+        Act::Unseal => {
+            core.unseal();
+            Ok(())
+        }
+        Act::Fail => {
+            core.fail();
+            Ok(())
+        }
+        _ => Err(Refusal::Unknown),
+    }
+}
+
+// Whether the act gives what it is to give.
+fn act_on(core: &mut CommitCore, alloc: Global, act: &Act) -> Result<bool, Refusal> {
+    match *act {
+        Act::IsIdle => Ok(core.is_idle()),
+        Act::Seal(sessions) => is_of_sessions(core.seal(), sessions),
+        Act::RefuseAll(sessions) => Ok(are_of_sessions(core.refuse_all(), sessions)),
+        Act::Parts => are_write_and_read(core.parts()),
+        Act::Decide(wanted) => is_outcome(core.decide(), wanted),
+        Act::Messages(counts) => are_messages(core.messages(), counts),
+        Act::Done(session, wanted) => is_answer(core.done(), session, wanted),
+        _ => is_done(change(core, alloc, act)),
+    }
+}
+
+fn go_through(rt: &impl Abort, alloc: Global, core: &mut CommitCore, acts: &[(Act, Told)]) {
+    for (act, wanted) in acts {
+        let told = match act_on(core, alloc, act) {
+            Ok(gives) => Ok(gives),
+            Err(why) => Err(numbers_of(why)),
+        };
+        same(rt, told, *wanted);
+    }
+}
+
+fn play(rt: &impl Abort, alloc: Global, core: Result<CommitCore, Refusal>, acts: &[(Act, Told)]) {
+    let played = ask_mut(core, |core| go_through(rt, alloc, core, acts));
+    same(rt, played, Ok(()));
+}
+
+#[test]
+fn a_proxy_commits(rt: HostRuntime) {
+    let alloc = rt.alloc();
+    for acts in NEW {
+        play(&rt, alloc, new_core(alloc), acts);
+    }
+    for acts in ASKING {
+        play(&rt, alloc, asking(alloc), acts);
+    }
 }

@@ -1,5 +1,4 @@
 // Steps as plain data: their keys and values have one byte each.
-use crate::making::code_of;
 use fdb_core::{Answered, Step, World};
 use fdb_keys::{Key, KeyRange, Refusal};
 use fdb_mutations::Mutation;
@@ -162,9 +161,4 @@ pub fn take(world: &mut World, alloc: Global, act: Act) -> Result<Answered, Refu
         Act::Pop(shard) => world.step(Step::Pop { shard }),
         Act::Move(begin, end, to) => move_to(world, alloc, begin, end, to),
     }
-}
-
-/// Whether the step is accepted.
-pub fn is_taken(world: &mut World, alloc: Global, act: Act) -> bool {
-    code_of(take(world, alloc, act)) == 0
 }

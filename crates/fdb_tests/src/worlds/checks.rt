@@ -1,13 +1,14 @@
-// Transcripts that a world acknowledged, as they are and changed by hand, beside its book and beside that of another one.
-use crate::worlds::acts::{Act, Call, take};
-use crate::worlds::new_world;
+// Transcripts that a world acknowledged, as they are and changed by hand, beside its book and beside that of another
+// one.
+use super::acts::{Act, Call, take};
+use super::{TWO_LOGS, new_world, take_all};
+use crate::making::{ask_both, same};
 use fdb_client::{Op, Reply, Transcript};
 use fdb_core::{CheckFault, Placed, World, serial_check};
 use fdb_keys::Refusal;
 use fdb_mutations::Mutation;
 use fdb_txn::{Spot, TxnId};
 use std::alloc::Global;
-use std::test::Fail;
 
 // Session 0 asks, and is served.
 const BEFORE: [Act; 2] = [Act::Ask(0, 0), Act::Grant(0)];
@@ -32,13 +33,6 @@ const AFTER: [Act; 16] = [
     Act::Submit(1, 0),
 ];
 
-fn take_all(world: &mut World, alloc: Global, acts: &[Act]) -> Result<(), Refusal> {
-    for act in acts {
-        take(world, alloc, *act)?;
-    }
-    Ok(())
-}
-
 fn take_both(world: &mut World, alloc: Global, value: u8) -> Result<(), Refusal> {
     take_all(world, alloc, BEFORE.as_slice())?;
     take(world, alloc, Act::Call(0, Call::Set(b'a', value)))?;
@@ -47,13 +41,15 @@ fn take_both(world: &mut World, alloc: Global, value: u8) -> Result<(), Refusal>
 
 // A world in which session 0 set a to the value in the first entry, and session 1 read it after that.
 fn set_and_read(alloc: Global, value: u8) -> Result<World, Refusal> {
-    let mut world = new_world(alloc, 1, &[], &[])?;
+    let mut world = new_world(alloc, TWO_LOGS)?;
     take_both(&mut world, alloc, value)?;
     Ok(world)
 }
 
+type Found = Result<u64, CheckFault>;
+
 // What the check finds of the transcripts beside the world's book.
-fn found(alloc: Global, world: &World, placed: &[Placed]) -> Result<u64, CheckFault> {
+fn found(alloc: Global, world: &World, placed: &[Placed]) -> Found {
     match world.config() {
         Some(config) => serial_check(alloc, config, world.book(), placed),
         None => Err(CheckFault::NoMemory),
@@ -89,133 +85,146 @@ fn changed(alloc: Global, placed: &Placed, change: Change) -> Result<Placed, Ref
     Ok(Placed { spot, transcript })
 }
 
-// Copies of the transcripts, of which the one with the number is changed.
-fn copies(
-    alloc: Global,
-    placed: &[Placed],
-    number: usize,
-    change: Change,
-) -> Result<Vec<Placed>, Refusal> {
-    let mut list = Vec::new(alloc);
-    for (at, one) in placed.iter().enumerate() {
-        let change = if at == number {
-            change
-        } else {
-            Change::Nothing
-        };
-        list.push(changed(alloc, one, change)?)?;
-    }
-    Ok(list)
-}
-
-// What the check finds in a world where one of the transcripts is changed. Where memory runs out, it is that fault.
-fn found_with(alloc: Global, number: usize, change: Change) -> Result<u64, CheckFault> {
-    let Ok(world) = set_and_read(alloc, b'x') else {
-        return Err(CheckFault::NoMemory);
-    };
-    match copies(alloc, world.acknowledged(), number, change) {
-        Ok(placed) => found(alloc, &world, placed.as_slice()),
-        Err(_) => Err(CheckFault::NoMemory),
-    }
-}
-
-// The first transcript of a world, and the second one of another.
-fn of_both(alloc: Global, one: &World, other: &World) -> Result<Vec<Placed>, Refusal> {
-    let mut list = Vec::new(alloc);
-    for first in one.acknowledged().iter().take(1) {
-        list.push(changed(alloc, first, Change::Nothing)?)?;
-    }
-    for second in other.acknowledged().iter().skip(1) {
-        list.push(changed(alloc, second, Change::Nothing)?)?;
-    }
-    Ok(list)
-}
-
-// What the check finds of the transcripts of both, beside the book of the first.
-fn found_of_both(alloc: Global, one: &World, other: &World) -> Result<u64, CheckFault> {
-    match of_both(alloc, one, other) {
-        Ok(placed) => found(alloc, one, placed.as_slice()),
-        Err(_) => Err(CheckFault::NoMemory),
-    }
-}
-
-const FIRST: CheckFault = CheckFault::Txn(TxnId {
+const OWN: TxnId = TxnId {
     session: 0,
     number: 0,
-});
+};
+
+const FIRST: CheckFault = CheckFault::Txn(OWN);
 
 const SECOND: CheckFault = CheckFault::Txn(TxnId {
     session: 1,
     number: 0,
 });
 
-#[test]
-fn new_world_lends_no_entry(rt: HostRuntime) -> Result<(), Fail> {
-    let world = new_world(rt.alloc(), 1, &[], &[])?;
-    assert!(rt; world.config().is_some());
-    assert!(rt; world.book().is_empty());
-    assert!(rt; world.acknowledged().is_empty());
-    Ok(())
+// The first transcript of the one world and the second one of the other, of which the one with the number is changed.
+fn copies(
+    alloc: Global,
+    worlds: [&World; 2],
+    number: usize,
+    change: Change,
+) -> Result<Vec<Placed>, Refusal> {
+    let mut list = Vec::new(alloc);
+    for (at, world) in worlds.iter().enumerate() {
+        let change = if at == number {
+            change
+        } else {
+            Change::Nothing
+        };
+        if let Some(placed) = world.acknowledged().get(at) {
+            list.push(changed(alloc, placed, change)?)?;
+        }
+    }
+    Ok(list)
 }
 
-#[test]
-fn what_a_world_lends_is_serialized(rt: HostRuntime) -> Result<(), Fail> {
-    let world = set_and_read(rt.alloc(), b'x')?;
-    assert_eq!(rt; world.book().len(), 1);
-    assert!(rt; found(rt.alloc(), &world, world.acknowledged()) == Ok(2));
-    assert!(rt; world.check() == Ok(2));
-    Ok(())
-}
-
-#[test]
-fn transcripts_beside_another_world(rt: HostRuntime) -> Result<(), Fail> {
-    let world = set_and_read(rt.alloc(), b'x')?;
-    let other = set_and_read(rt.alloc(), b'y')?;
-    assert!(rt; found(rt.alloc(), &other, world.acknowledged()) == Err(FIRST));
-    assert!(rt; found_of_both(rt.alloc(), &world, &other) == Err(SECOND));
-    Ok(())
-}
-
-#[test]
-fn transcript_at_another_spot(rt: HostRuntime) {
-    let at_other_place = Spot::Entry {
-        index: 0,
-        place: 1,
-        version: 100,
-    };
-    let at_other_version = Spot::Entry {
-        index: 0,
-        place: 0,
-        version: 200,
-    };
-    let read_only = Spot::ReadOnly { version: 0 };
-    for spot in [at_other_place, at_other_version, read_only] {
-        assert!(rt; found_with(rt.alloc(), 0, Change::Spot(spot)) == Err(FIRST));
+// What the check finds of these beside the book of the one world.
+fn found_with(alloc: Global, worlds: [&World; 2], number: usize, change: Change) -> Found {
+    match copies(alloc, worlds, number, change) {
+        Ok(placed) => found(alloc, worlds[0], placed.as_slice()),
+        Err(_) => Err(CheckFault::NoMemory),
     }
 }
 
-#[test]
-fn transcript_under_another_id(rt: HostRuntime) {
-    let own = TxnId {
-        session: 0,
-        number: 0,
-    };
-    let other = TxnId {
-        session: 7,
-        number: 0,
-    };
-    assert!(rt; found_with(rt.alloc(), 0, Change::Id(own)) == Ok(2));
-    assert!(rt; found_with(rt.alloc(), 0, Change::Id(other)) == Err(CheckFault::Txn(other)));
+const SEVENTH: TxnId = TxnId {
+    session: 7,
+    number: 0,
+};
+
+// Which of the two transcripts is changed and how, and what the check finds.
+static CHANGES: [(usize, Change, Found); 9] = [
+    // At another place, at another version, and as one that only reads.
+    (
+        0,
+        Change::Spot(Spot::Entry {
+            index: 0,
+            place: 1,
+            version: 100,
+        }),
+        Err(FIRST),
+    ),
+    (
+        0,
+        Change::Spot(Spot::Entry {
+            index: 0,
+            place: 0,
+            version: 200,
+        }),
+        Err(FIRST),
+    ),
+    (0, Change::Spot(Spot::ReadOnly { version: 0 }), Err(FIRST)),
+    // Under its own id, and under another one.
+    (0, Change::Id(OWN), Ok(2)),
+    (0, Change::Id(SEVENTH), Err(CheckFault::Txn(SEVENTH))),
+    // With its own read version, and with another one.
+    (0, Change::ReadVersion(0), Ok(2)),
+    (0, Change::ReadVersion(1), Err(FIRST)),
+    // With one more mutation.
+    (0, Change::OneMoreWrite, Err(FIRST)),
+    (1, Change::OneMoreWrite, Err(SECOND)),
+];
+
+// The first change of which another thing is found, by its place.
+fn first_wrong(alloc: Global, world: &World) -> Option<(usize, Found)> {
+    for (place, (number, change, wanted)) in CHANGES.iter().enumerate() {
+        let given = found_with(alloc, [world, world], *number, *change);
+        if given != *wanted {
+            return Some((place, given));
+        }
+    }
+    None
+}
+
+// How many entries the world lends, and what is found of what it lends and by its own check.
+fn found_of_own(alloc: Global, world: &World) -> (usize, Found, Found) {
+    (
+        world.book().len(),
+        found(alloc, world, world.acknowledged()),
+        world.check(),
+    )
+}
+
+// What is found of the transcripts of the one world beside the book of the other, and of the first of the one and the
+// second of the other beside the book of the one.
+fn found_of_both(alloc: Global, world: &World, other: &World) -> [Found; 2] {
+    [
+        found(alloc, other, world.acknowledged()),
+        found_with(alloc, [world, other], 0, Change::Nothing),
+    ]
 }
 
 #[test]
-fn transcript_with_another_read_version(rt: HostRuntime) {
-    assert!(rt; found_with(rt.alloc(), 0, Change::ReadVersion(0)) == Ok(2));
-    assert!(rt; found_with(rt.alloc(), 0, Change::ReadVersion(1)) == Err(FIRST));
+fn transcripts_are_compared_with_the_book(rt: HostRuntime) {
+    let alloc = rt.alloc();
+    let found = ask_both(
+        set_and_read(alloc, b'x'),
+        set_and_read(alloc, b'y'),
+        |world, other| {
+            (
+                found_of_own(alloc, world),
+                first_wrong(alloc, world),
+                found_of_both(alloc, world, other),
+            )
+        },
+    );
+    same(
+        &rt,
+        found,
+        Ok(((1, Ok(2), Ok(2)), None, [Err(FIRST), Err(SECOND)])),
+    );
+}
+
+// Whether a new world lends a configuration, and how many entries and transcripts.
+fn lent(alloc: Global) -> Result<(bool, usize, usize), Refusal> {
+    let world = new_world(alloc, TWO_LOGS)?;
+    Ok((
+        world.config().is_some(),
+        world.book().len(),
+        world.acknowledged().len(),
+    ))
 }
 
 #[test]
-fn transcript_with_a_mutation_more(rt: HostRuntime) {
-    assert!(rt; found_with(rt.alloc(), 0, Change::OneMoreWrite) == Err(FIRST));
-    assert!(rt; found_with(rt.alloc(), 1, Change::OneMoreWrite) == Err(SECOND));
+fn new_world_lends_no_entry(rt: HostRuntime) {
+    same(&rt, lent(rt.alloc()), Ok((true, 0, 0)));
 }

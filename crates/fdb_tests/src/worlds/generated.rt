@@ -5,9 +5,10 @@ mod tally;
 use self::drawing::Drawing;
 use self::tally::Tally;
 use super::acts::{Act, take};
-use super::new_world;
-use crate::making::ask_mut;
+use super::{Sizes, new_world};
+use crate::making::Splits;
 use fdb_core::World;
+use fdb_keys::Refusal;
 use std::alloc::Global;
 
 // Takes the step, and notes what it answers.
@@ -34,19 +35,25 @@ fn take_steps(world: &mut World, alloc: Global, seed: u64, steps: u32) -> Tally 
     tally
 }
 
-// Whether the check finds no difference after steps of every outcome. The resolvers part the keys elsewhere than the
-// shards.
-fn agrees(alloc: Global, seed: u64) -> bool {
-    let holds = ask_mut(new_world(alloc, 3, &[b"d", b"g"], &[b"c", b"f"]), |world| {
-        let tally = take_steps(world, alloc, seed, 8_000);
-        tally.has_each() && world.check() == Ok(tally.acknowledged())
-    });
-    holds == Ok(true)
+// The resolvers part the keys elsewhere than the shards.
+const SIZES: Sizes = Sizes {
+    proxies: 3,
+    logs: 2,
+    resolver_splits: Splits::Keys(&[b"d", b"g"]),
+    shard_splits: Splits::Keys(&[b"c", b"f"]),
+    book: 4_096,
+};
+
+// Whether the check finds no difference after steps of every outcome.
+fn agrees(alloc: Global, seed: u64) -> Result<bool, Refusal> {
+    let mut world = new_world(alloc, SIZES)?;
+    let tally = take_steps(&mut world, alloc, seed, 8_000);
+    Ok(tally.has_each() && world.check() == Ok(tally.acknowledged()))
 }
 
 #[test]
 fn generated_steps_are_checked(rt: HostRuntime) {
     for seed in 0..3 {
-        assert!(rt; agrees(rt.alloc(), seed), "at {seed}");
+        assert!(rt; agrees(rt.alloc(), seed) == Ok(true), "at {seed}");
     }
 }

@@ -1,7 +1,8 @@
 // Which configurations a world, and a run of no steps, is made of.
-use crate::making::{code_of, count_config, keys_of, rising_keys, same, split_config};
-use fdb_core::{Config, World, run};
-use fdb_keys::{Items, Key, Refusal};
+use super::{NO_SPLITS, Sizes, config_of};
+use crate::making::{Splits, code_of, same};
+use fdb_core::{World, run};
+use fdb_keys::Refusal;
 use std::alloc::Global;
 
 // The codes of the refusals of the world and of the run, or 0.
@@ -11,84 +12,62 @@ const SERVED: Codes = (0, 0);
 
 const BAD: Codes = (9009, 9009);
 
-fn codes_of(alloc: Global, config: Config, again: Config) -> Codes {
-    (
+// As many proxies and logs, one resolver and one shard, and a book of so many entries.
+static COUNTS: [(u32, u32, u32, Codes); 8] = [
+    (1, 1, 1, SERVED),
+    (16, 16, 1_048_576, SERVED),
+    (0, 1, 1, BAD),
+    (17, 1, 1, BAD),
+    (1, 0, 1, BAD),
+    (1, 17, 1, BAD),
+    (1, 1, 0, BAD),
+    (1, 1, 1_048_577, BAD),
+];
+
+// The splits of the resolvers and those of the shards.
+static SPLITS: [(Splits, Splits, Codes); 9] = [
+    (Splits::Rising(63), Splits::Rising(63), SERVED),
+    (Splits::Rising(64), NO_SPLITS, BAD),
+    (NO_SPLITS, Splits::Rising(64), BAD),
+    // Those that fall, that are equal or that are empty.
+    (Splits::Keys(&[b"b", b"a"]), NO_SPLITS, BAD),
+    (NO_SPLITS, Splits::Keys(&[b"b", b"a"]), BAD),
+    (Splits::Keys(&[b"a", b"a"]), NO_SPLITS, BAD),
+    (NO_SPLITS, Splits::Keys(&[b"a", b"a"]), BAD),
+    (Splits::Keys(&[b"", b"a"]), NO_SPLITS, BAD),
+    (NO_SPLITS, Splits::Keys(&[b"", b"a"]), BAD),
+];
+
+// The world is made of the configuration, and the run of its copy.
+fn codes(alloc: Global, sizes: Sizes) -> Result<Codes, Refusal> {
+    let config = config_of(alloc, sizes)?;
+    let copy = config.clone()?;
+    Ok((
         code_of(World::new(alloc, config)),
-        code_of(run(alloc, again, &[])),
-    )
+        code_of(run(alloc, copy, &[])),
+    ))
 }
 
-fn with_counts(alloc: Global, proxies: u32, logs: u32, book: u32) -> Codes {
-    codes_of(
-        alloc,
-        count_config(alloc, proxies, logs, book),
-        count_config(alloc, proxies, logs, book),
-    )
-}
-
-// The same for a configuration and its copy.
-fn copied_codes(alloc: Global, config: Config) -> Codes {
-    match config.clone() {
-        Ok(copy) => codes_of(alloc, config, copy),
-        Err(_error) => (9001, 9001),
+#[test]
+fn configurations_within_their_limits_are_served(rt: HostRuntime) {
+    for (proxies, logs, book, wanted) in COUNTS.as_slice() {
+        let sizes = Sizes {
+            proxies: *proxies,
+            logs: *logs,
+            resolver_splits: NO_SPLITS,
+            shard_splits: NO_SPLITS,
+            book: *book,
+        };
+        same(&rt, codes(rt.alloc(), sizes), Ok(*wanted));
     }
-}
-
-fn with_splits(
-    alloc: Global,
-    resolver_splits: Result<Items<Key>, Refusal>,
-    shard_splits: Result<Items<Key>, Refusal>,
-) -> Codes {
-    match split_config(resolver_splits, shard_splits) {
-        Ok(config) => copied_codes(alloc, config),
-        Err(why) => (why.code(), why.code()),
-    }
-}
-
-#[test]
-fn counts_within_their_limits_are_served(rt: HostRuntime) {
-    let alloc = rt.alloc();
-    same(&rt, with_counts(alloc, 1, 1, 1), SERVED);
-    same(&rt, with_counts(alloc, 16, 16, 1_048_576), SERVED);
-    same(&rt, with_counts(alloc, 0, 1, 1), BAD);
-    same(&rt, with_counts(alloc, 17, 1, 1), BAD);
-    same(&rt, with_counts(alloc, 1, 0, 1), BAD);
-    same(&rt, with_counts(alloc, 1, 17, 1), BAD);
-    same(&rt, with_counts(alloc, 1, 1, 0), BAD);
-    same(&rt, with_counts(alloc, 1, 1, 1_048_577), BAD);
-}
-
-#[test]
-fn splits_that_rise_are_served(rt: HostRuntime) {
-    let alloc = rt.alloc();
-    same(
-        &rt,
-        with_splits(alloc, rising_keys(alloc, 63), rising_keys(alloc, 63)),
-        SERVED,
-    );
-    same(
-        &rt,
-        with_splits(alloc, rising_keys(alloc, 64), rising_keys(alloc, 0)),
-        BAD,
-    );
-    same(
-        &rt,
-        with_splits(alloc, rising_keys(alloc, 0), rising_keys(alloc, 64)),
-        BAD,
-    );
-}
-
-#[test]
-fn splits_that_fall_and_empty_ones_are_bad(rt: HostRuntime) {
-    let alloc = rt.alloc();
-    for texts in [[b"b".as_slice(), b"a"], [b"a", b"a"], [b"", b"a"]] {
-        let resolvers = keys_of(alloc, texts.as_slice());
-        same(
-            &rt,
-            with_splits(alloc, resolvers, rising_keys(alloc, 0)),
-            BAD,
-        );
-        let shards = keys_of(alloc, texts.as_slice());
-        same(&rt, with_splits(alloc, rising_keys(alloc, 0), shards), BAD);
+    for (resolver_splits, shard_splits, wanted) in SPLITS.as_slice() {
+        let sizes = Sizes {
+            proxies: 1,
+            logs: 1,
+            resolver_splits: *resolver_splits,
+            shard_splits: *shard_splits,
+            book: 1,
+        };
+        same(&rt, codes(rt.alloc(), sizes), Ok(*wanted));
     }
 }

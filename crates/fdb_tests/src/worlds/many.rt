@@ -1,55 +1,56 @@
-// What only worlds of several proxies and resolvers show, by their steps.
+// What worlds answer to steps. Most of it only worlds of several proxies and resolvers show.
 use super::acts::{Act, Call, take};
-use super::{are_taken, new_world};
-use crate::making::{ask, ask_mut, placed, refusal_of, same};
+use super::{NO_SPLITS, ONE_OF_EACH, Sizes, TWO_PROXIES, new_world, take_all};
+use crate::making::{Splits, made_of, placed, same};
 use fdb_core::{Answered, World};
 use fdb_keys::Refusal;
 use std::alloc::Global;
 
-// Why the step is refused, if it is.
-fn refused(world: &mut World, alloc: Global, act: Act) -> Option<Refusal> {
-    refusal_of(take(world, alloc, act))
+// What is done in a world, or asked of it.
+#[derive(Clone, Copy)]
+enum Line {
+    One(Act),
+    // Each of the steps is accepted.
+    All(&'static [Act]),
+    // The session reads the one key and writes the other one, and the proxy of its number seals it as a batch.
+    Sealed(u32, u8, u8),
+    // The entry of the batch that is in flight at the proxy, with how many resolvers and logs there are.
+    InFlight(u32),
+    // How many acknowledged transactions the check finds without a difference.
+    Check,
 }
 
-// The version and the place of the one transaction that is decided, or the code of why there is none.
-fn only_decided(answered: &Answered) -> Option<Result<(u64, u32), u32>> {
+// The version that a step tells, or the version and the place of the one transaction that is decided, and the code of
+// why that isn't committed. Else 0.
+type Told = Result<[u64; 3], Refusal>;
+
+const TAKEN: Told = Ok([0, 0, 0]);
+
+fn told(answered: &Answered) -> [u64; 3] {
     match answered {
+        Answered::Version(version) => [*version, 0, 0],
         Answered::Decided(outcomes) => match outcomes.as_slice() {
-            [outcome] => Some(placed(*outcome)),
-            _ => None,
+            [outcome] => match placed(*outcome) {
+                Ok((version, place)) => [version, u64::from(place), 0],
+                Err(code) => [0, 0, u64::from(code)],
+            },
+            _ => [0, 0, 0],
         },
-        _ => None,
+        _ => [0, 0, 0],
     }
 }
 
-// What becomes of the one transaction of the batch that the proxy decides.
-fn decided_by(world: &mut World, alloc: Global, proxy: u32) -> Option<Result<(u64, u32), u32>> {
-    match ask(
-        take(world, alloc, Act::Decide(proxy)),
-        |answered| only_decided(answered),
-    ) {
-        Ok(decided) => decided,
-        Err(_code) => None,
-    }
+fn take_one(world: &mut World, alloc: Global, act: Act) -> Told {
+    made_of(take(world, alloc, act), |answered| Ok(told(answered)))
 }
 
-fn version_of(answered: &Answered) -> u64 {
-    match answered {
-        Answered::Version(version) => *version,
-        _ => 0,
-    }
-}
-
-// The committed version after the proxy's report.
-fn reported_by(world: &mut World, alloc: Global, proxy: u32) -> Result<u64, u32> {
-    ask(
-        take(world, alloc, Act::Report(proxy)),
-        |answered| version_of(answered),
-    )
-}
-
-// The session reads one key and writes another one, and the proxy of its number seals it as a batch.
-fn is_sealed(world: &mut World, alloc: Global, session: u32, read: u8, written: u8) -> bool {
+fn seal_one(
+    world: &mut World,
+    alloc: Global,
+    session: u32,
+    read: u8,
+    written: u8,
+) -> Result<(), Refusal> {
     let acts = [
         Act::Ask(session, session),
         Act::Grant(session),
@@ -58,119 +59,83 @@ fn is_sealed(world: &mut World, alloc: Global, session: u32, read: u8, written: 
         Act::Submit(session, session),
         Act::Seal(session, 100),
     ];
-    are_taken(world, alloc, acts.as_slice())
+    take_all(world, alloc, acts.as_slice())
 }
 
-// The resolver takes the entry, and the proxy hears its verdicts.
-fn is_judged(world: &mut World, alloc: Global, entry: u32, resolver: u32) -> bool {
-    let acts = [Act::Resolve(entry, resolver), Act::Verdict(entry, resolver)];
-    are_taken(world, alloc, acts.as_slice())
+fn answer(world: &mut World, alloc: Global, line: Line) -> Told {
+    match line {
+        Line::One(act) => take_one(world, alloc, act),
+        Line::All(acts) => {
+            take_all(world, alloc, acts)?;
+            TAKEN
+        }
+        Line::Sealed(session, read, written) => {
+            seal_one(world, alloc, session, read, written)?;
+            TAKEN
+        }
+        Line::InFlight(proxy) => {
+            let flight = world.in_flight(proxy)?;
+            Ok([flight.entry, flight.resolvers, flight.logs].map(u64::from))
+        }
+        Line::Check => match world.check() {
+            Ok(count) => Ok([count, 0, 0]),
+            Err(_fault) => Ok([u64::MAX, 0, 0]),
+        },
+    }
 }
 
-// Both logs take the entry, and the proxy hears of it.
-fn is_logged(world: &mut World, alloc: Global, entry: u32) -> bool {
-    let acts = [
-        Act::Push(entry, 0),
-        Act::Push(entry, 1),
-        Act::Logged(entry, 0),
-        Act::Logged(entry, 1),
-    ];
-    are_taken(world, alloc, acts.as_slice())
+// The first line that is answered otherwise than is wanted, by its place, and what is told.
+fn first_wrong(world: &mut World, alloc: Global, lines: &[(Line, Told)]) -> Option<(usize, Told)> {
+    for (place, (line, wanted)) in lines.iter().enumerate() {
+        let given = answer(world, alloc, *line);
+        if given != *wanted {
+            return Some((place, given));
+        }
+    }
+    None
 }
 
-// Two proxies, and a second resolver for the keys from m on.
-fn two_proxies(alloc: Global) -> Result<World, Refusal> {
-    new_world(alloc, 2, &[b"m"], &[])
+// What a new world answers.
+#[derive(Clone, Copy)]
+struct Case {
+    what: &'static str,
+    sizes: Sizes,
+    lines: &'static [(Line, Told)],
 }
 
-// The same with a second resolver for the keys from g on and a third one for those from p on.
-fn three_resolvers(alloc: Global) -> Result<World, Refusal> {
-    new_world(alloc, 2, &[b"g", b"p"], &[])
-}
-
-#[test]
-fn a_decision_waits_for_the_least_resolver_that_is_asked(rt: HostRuntime) {
-    let alloc = rt.alloc();
-    let found = ask_mut(three_resolvers(alloc), |world| {
-        (
-            is_sealed(world, alloc, 0, b'h', b'q'),
-            refused(world, alloc, Act::Decide(0)),
-            is_judged(world, alloc, 0, 2),
-            refused(world, alloc, Act::Decide(0)),
-            refused(world, alloc, Act::Verdict(0, 1)),
-            is_judged(world, alloc, 0, 1),
-            decided_by(world, alloc, 0),
-        )
-    });
-    let waits = Some(Refusal::NotYet(1));
-    let decided = Some(Ok((100, 0)));
-    let unknown = Some(Refusal::Unknown);
-    same(
-        &rt,
-        found,
-        Ok((true, waits, true, waits, unknown, true, decided)),
-    );
-}
-
-// The resolver that isn't asked takes its empty part all the same, and its verdicts are taken.
-#[test]
-fn verdicts_on_nothing_are_taken(rt: HostRuntime) {
-    let alloc = rt.alloc();
-    let found = ask_mut(three_resolvers(alloc), |world| {
-        (
-            is_sealed(world, alloc, 0, b'h', b'q'),
-            is_judged(world, alloc, 0, 0),
-            refused(world, alloc, Act::Verdict(0, 0)),
-            refused(world, alloc, Act::Decide(0)),
-        )
-    });
-    let (stale, waits) = (Some(Refusal::Stale), Some(Refusal::NotYet(1)));
-    same(&rt, found, Ok((true, true, stale, waits)));
-}
-
-// Two batches are in flight. The later one reads what the earlier one writes, and is decided first.
-#[test]
-fn batches_are_decided_in_the_other_order(rt: HostRuntime) {
-    let alloc = rt.alloc();
-    let found = ask_mut(two_proxies(alloc), |world| {
-        let acts = [Act::Resolve(0, 0), Act::Resolve(1, 0), Act::Verdict(1, 0)];
-        (
-            is_sealed(world, alloc, 0, b'c', b'a') && is_sealed(world, alloc, 1, b'a', b'b'),
-            are_taken(world, alloc, acts.as_slice()),
-            decided_by(world, alloc, 1),
-            refused(world, alloc, Act::Push(1, 0)),
-            refused(world, alloc, Act::Decide(0)),
-            are_taken(world, alloc, &[Act::Verdict(0, 0)]),
-            decided_by(world, alloc, 0),
-        )
-    });
-    let (early, later) = (Some(Ok((100, 0))), Some(Err(1020)));
-    let (pushed, waits) = (Some(Refusal::NotYet(100)), Some(Refusal::NotYet(0)));
-    same(
-        &rt,
-        found,
-        Ok((true, true, later, pushed, waits, true, early)),
-    );
-}
+// The second resolver has the keys from g on and the third one those from p on.
+const THREE_RESOLVERS: Sizes = Sizes {
+    proxies: 2,
+    logs: 2,
+    resolver_splits: Splits::Keys(&[b"g", b"p"]),
+    shard_splits: NO_SPLITS,
+    book: 4_096,
+};
 
 // Entries 0 and 1 of two proxies are decided.
-fn are_two_decided(world: &mut World, alloc: Global) -> bool {
-    let judged = [
-        Act::Resolve(0, 0),
-        Act::Resolve(1, 0),
-        Act::Verdict(0, 0),
-        Act::Verdict(1, 0),
-        Act::Decide(0),
-        Act::Decide(1),
-    ];
-    is_sealed(world, alloc, 0, b'c', b'a')
-        && is_sealed(world, alloc, 1, b'c', b'b')
-        && are_taken(world, alloc, judged.as_slice())
-}
+const TWO_DECIDED: [Act; 6] = [
+    Act::Resolve(0, 0),
+    Act::Resolve(1, 0),
+    Act::Verdict(0, 0),
+    Act::Verdict(1, 0),
+    Act::Decide(0),
+    Act::Decide(1),
+];
 
-fn are_both_logged(world: &mut World, alloc: Global) -> bool {
-    is_logged(world, alloc, 0) && is_logged(world, alloc, 1)
-}
+// Both logs take the entry, and the proxy hears of it.
+const FIRST_LOGGED: [Act; 4] = [
+    Act::Push(0, 0),
+    Act::Push(0, 1),
+    Act::Logged(0, 0),
+    Act::Logged(0, 1),
+];
+
+const SECOND_LOGGED: [Act; 4] = [
+    Act::Push(1, 0),
+    Act::Push(1, 1),
+    Act::Logged(1, 0),
+    Act::Logged(1, 1),
+];
 
 // Session 2 reads the keys from a to c at the committed version.
 const READS: [Act; 5] = [
@@ -181,80 +146,154 @@ const READS: [Act; 5] = [
     Act::Submit(2, 0),
 ];
 
-// The committed version is the greatest that was reported. Who reads at it reads what both batches wrote.
-#[test]
-fn versions_are_reported_in_the_other_order(rt: HostRuntime) {
-    let alloc = rt.alloc();
-    let found = ask_mut(two_proxies(alloc), |world| {
-        (
-            are_two_decided(world, alloc) && are_both_logged(world, alloc),
-            reported_by(world, alloc, 1),
-            are_taken(world, alloc, READS.as_slice()),
-            reported_by(world, alloc, 0),
-            are_taken(world, alloc, &[Act::Answer(0), Act::Answer(1)]),
-            world.check() == Ok(3),
-        )
-    });
-    same(&rt, found, Ok((true, Ok(200), true, Ok(200), true, true)));
+static CASES: [Case; 8] = [
+    Case {
+        what: "a new world has no batch and no transaction",
+        sizes: ONE_OF_EACH,
+        lines: &[
+            (Line::InFlight(0), Err(Refusal::WrongState)),
+            (Line::InFlight(7), Err(Refusal::Unknown)),
+            (Line::Check, Ok([0, 0, 0])),
+        ],
+    },
+    // Nobody waited in the first batch.
+    Case {
+        what: "a batch is in flight from its seal to its answer",
+        sizes: ONE_OF_EACH,
+        lines: &[
+            (Line::One(Act::Seal(0, 100)), TAKEN),
+            (Line::InFlight(0), Ok([0, 1, 1])),
+            (Line::One(Act::Resolve(0, 0)), TAKEN),
+            (Line::InFlight(0), Ok([0, 1, 1])),
+            (Line::One(Act::Verdict(0, 0)), TAKEN),
+            (Line::InFlight(0), Ok([0, 1, 1])),
+            (Line::One(Act::Decide(0)), TAKEN),
+            (Line::InFlight(0), Ok([0, 1, 1])),
+            (Line::One(Act::Push(0, 0)), TAKEN),
+            (Line::InFlight(0), Ok([0, 1, 1])),
+            (Line::One(Act::Logged(0, 0)), TAKEN),
+            (Line::InFlight(0), Ok([0, 1, 1])),
+            (Line::One(Act::Report(0)), Ok([100, 0, 0])),
+            (Line::InFlight(0), Ok([0, 1, 1])),
+            (Line::One(Act::Answer(0)), TAKEN),
+            (Line::InFlight(0), Err(Refusal::WrongState)),
+            (Line::One(Act::Seal(0, 100)), TAKEN),
+            (Line::InFlight(0), Ok([1, 1, 1])),
+        ],
+    },
+    Case {
+        what: "a decision waits for the least resolver that is asked",
+        sizes: THREE_RESOLVERS,
+        lines: &[
+            (Line::Sealed(0, b'h', b'q'), TAKEN),
+            (Line::One(Act::Decide(0)), Err(Refusal::NotYet(1))),
+            (Line::All(&[Act::Resolve(0, 2), Act::Verdict(0, 2)]), TAKEN),
+            (Line::One(Act::Decide(0)), Err(Refusal::NotYet(1))),
+            (Line::One(Act::Verdict(0, 1)), Err(Refusal::Unknown)),
+            (Line::All(&[Act::Resolve(0, 1), Act::Verdict(0, 1)]), TAKEN),
+            (Line::One(Act::Decide(0)), Ok([100, 0, 0])),
+        ],
+    },
+    // The resolver that isn't asked takes its empty part all the same, and its verdicts are taken.
+    Case {
+        what: "verdicts on nothing are taken",
+        sizes: THREE_RESOLVERS,
+        lines: &[
+            (Line::Sealed(0, b'h', b'q'), TAKEN),
+            (Line::All(&[Act::Resolve(0, 0), Act::Verdict(0, 0)]), TAKEN),
+            (Line::One(Act::Verdict(0, 0)), Err(Refusal::Stale)),
+            (Line::One(Act::Decide(0)), Err(Refusal::NotYet(1))),
+        ],
+    },
+    // Two batches are in flight. The later one reads what the earlier one writes, and is decided first.
+    Case {
+        what: "batches are decided in the other order",
+        sizes: TWO_PROXIES,
+        lines: &[
+            (Line::Sealed(0, b'c', b'a'), TAKEN),
+            (Line::Sealed(1, b'a', b'b'), TAKEN),
+            (
+                Line::All(&[Act::Resolve(0, 0), Act::Resolve(1, 0), Act::Verdict(1, 0)]),
+                TAKEN,
+            ),
+            (Line::One(Act::Decide(1)), Ok([0, 0, 1020])),
+            (Line::One(Act::Push(1, 0)), Err(Refusal::NotYet(100))),
+            (Line::One(Act::Decide(0)), Err(Refusal::NotYet(0))),
+            (Line::One(Act::Verdict(0, 0)), TAKEN),
+            (Line::One(Act::Decide(0)), Ok([100, 0, 0])),
+        ],
+    },
+    // The committed version is the greatest that was reported. Who reads at it reads what both batches wrote.
+    Case {
+        what: "versions are reported in the other order",
+        sizes: TWO_PROXIES,
+        lines: &[
+            (Line::Sealed(0, b'c', b'a'), TAKEN),
+            (Line::Sealed(1, b'c', b'b'), TAKEN),
+            (Line::All(&TWO_DECIDED), TAKEN),
+            (Line::All(&FIRST_LOGGED), TAKEN),
+            (Line::All(&SECOND_LOGGED), TAKEN),
+            (Line::One(Act::Report(1)), Ok([200, 0, 0])),
+            (Line::All(&READS), TAKEN),
+            (Line::One(Act::Report(0)), Ok([200, 0, 0])),
+            (Line::All(&[Act::Answer(0), Act::Answer(1)]), TAKEN),
+            (Line::Check, Ok([3, 0, 0])),
+        ],
+    },
+    // What the logs say of the other proxy's entry doesn't count.
+    Case {
+        what: "a report waits for each log",
+        sizes: TWO_PROXIES,
+        lines: &[
+            (Line::Sealed(0, b'c', b'a'), TAKEN),
+            (Line::Sealed(1, b'c', b'b'), TAKEN),
+            (Line::All(&TWO_DECIDED), TAKEN),
+            (
+                Line::All(&[Act::Push(0, 0), Act::Push(0, 1), Act::Logged(0, 1)]),
+                TAKEN,
+            ),
+            (Line::All(&SECOND_LOGGED), TAKEN),
+            (Line::One(Act::Report(0)), Err(Refusal::NotYet(0))),
+            (Line::One(Act::Report(1)), Ok([200, 0, 0])),
+            (Line::One(Act::Logged(0, 0)), TAKEN),
+            (Line::One(Act::Logged(0, 0)), Err(Refusal::Stale)),
+            (Line::One(Act::Report(0)), Ok([200, 0, 0])),
+            (Line::One(Act::Report(0)), Err(Refusal::WrongState)),
+        ],
+    },
+    // The proxy of entry 1 waits with its clients for the report of version 200, whatever the other proxy has reported.
+    Case {
+        what: "clients are answered after the report",
+        sizes: TWO_PROXIES,
+        lines: &[
+            (Line::Sealed(0, b'c', b'a'), TAKEN),
+            (Line::Sealed(1, b'c', b'b'), TAKEN),
+            (Line::All(&TWO_DECIDED), TAKEN),
+            (Line::One(Act::Answer(1)), Err(Refusal::NotYet(200))),
+            (Line::All(&FIRST_LOGGED), TAKEN),
+            (Line::All(&SECOND_LOGGED), TAKEN),
+            (Line::One(Act::Report(0)), Ok([100, 0, 0])),
+            (Line::One(Act::Answer(1)), Err(Refusal::NotYet(200))),
+            (Line::One(Act::Report(1)), Ok([200, 0, 0])),
+            (Line::One(Act::Answer(1)), TAKEN),
+            (Line::One(Act::Answer(1)), Err(Refusal::WrongState)),
+            (Line::Check, Ok([1, 0, 0])),
+        ],
+    },
+];
+
+fn played(alloc: Global, case: Case) -> Result<Option<(usize, Told)>, Refusal> {
+    let mut world = new_world(alloc, case.sizes)?;
+    Ok(first_wrong(&mut world, alloc, case.lines))
 }
 
-// What the logs say of the other proxy's entry doesn't count.
 #[test]
-fn a_report_waits_for_each_log(rt: HostRuntime) {
-    let alloc = rt.alloc();
-    let found = ask_mut(two_proxies(alloc), |world| {
-        let acts = [Act::Push(0, 0), Act::Push(0, 1), Act::Logged(0, 1)];
-        (
-            are_two_decided(world, alloc) && are_taken(world, alloc, acts.as_slice()),
-            is_logged(world, alloc, 1),
-            refused(world, alloc, Act::Report(0)),
-            reported_by(world, alloc, 1),
-            are_taken(world, alloc, &[Act::Logged(0, 0)]),
-            refused(world, alloc, Act::Logged(0, 0)),
-            reported_by(world, alloc, 0),
-            refused(world, alloc, Act::Report(0)),
-        )
-    });
-    let waits = Some(Refusal::NotYet(0));
-    let (stale, wrong) = (Some(Refusal::Stale), Some(Refusal::WrongState));
-    same(
-        &rt,
-        found,
-        Ok((true, true, waits, Ok(200), true, stale, Ok(200), wrong)),
-    );
-}
-
-// The proxy of entry 1 waits with its clients for the report of version 200, whatever the other proxy has reported.
-#[test]
-fn clients_are_answered_after_the_report(rt: HostRuntime) {
-    let alloc = rt.alloc();
-    let found = ask_mut(two_proxies(alloc), |world| {
-        (
-            are_two_decided(world, alloc),
-            refused(world, alloc, Act::Answer(1)),
-            are_both_logged(world, alloc),
-            reported_by(world, alloc, 0),
-            refused(world, alloc, Act::Answer(1)),
-            reported_by(world, alloc, 1),
-            are_taken(world, alloc, &[Act::Answer(1)]),
-            refused(world, alloc, Act::Answer(1)),
-            world.check() == Ok(1),
-        )
-    });
-    let (waits, wrong) = (Some(Refusal::NotYet(200)), Some(Refusal::WrongState));
-    same(
-        &rt,
-        found,
-        Ok((
-            true,
-            waits,
-            true,
-            Ok(100),
-            waits,
-            Ok(200),
-            true,
-            wrong,
-            true,
-        )),
-    );
+fn worlds_answer_each_step(rt: HostRuntime) {
+    for case in CASES.as_slice() {
+        same(
+            &rt,
+            (case.what, played(rt.alloc(), *case)),
+            (case.what, Ok(None)),
+        );
+    }
 }

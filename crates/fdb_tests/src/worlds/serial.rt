@@ -2,57 +2,62 @@
 use super::reader_of;
 use crate::making::{count_config, same};
 use fdb_core::{CheckFault, Placed, serial_check};
+use fdb_keys::Refusal;
 use fdb_txn::{Spot, TxnId};
 use std::alloc::Global;
 
-// What tells that memory ran out.
-const LACKS: u64 = 999;
+const READER: TxnId = TxnId {
+    session: 1,
+    number: 0,
+};
 
-// What the check finds beside a book without entries: how many there are, or 100 and the session that it names.
-fn found(alloc: Global, placed: &[Placed]) -> u64 {
+type Found = Result<u64, CheckFault>;
+
+// What is found beside a book without entries.
+fn found(alloc: Global, placed: &[Placed]) -> Found {
     let config = count_config(alloc, 1, 1, 10);
-    let answer = serial_check(alloc, &config, &[], placed);
-    drop(config);
-    match answer {
-        Ok(count) => count,
-        Err(CheckFault::Txn(id)) => u64::from(id.session).saturating_add(100),
-        Err(_) => LACKS,
-    }
+    serial_check(alloc, &config, &[], placed)
 }
 
 // The same of one that read at the spot, and found nothing or a value.
-fn checked(alloc: Global, spot: Spot, version: u64, told: Option<&'static [u8]>) -> u64 {
-    let id = TxnId {
-        session: 1,
-        number: 0,
-    };
-    match reader_of(alloc, id, version, told, false) {
-        Ok(transcript) => {
-            let placed = [Placed { spot, transcript }];
-            let count = found(alloc, &placed);
-            drop(placed);
-            count
-        }
-        Err(_why) => LACKS,
-    }
+fn checked(
+    alloc: Global,
+    spot: Spot,
+    version: u64,
+    told: Option<&'static [u8]>,
+) -> Result<Found, Refusal> {
+    let transcript = reader_of(alloc, READER, version, told, false)?;
+    Ok(found(alloc, &[Placed { spot, transcript }]))
 }
+
+const AT_START: Spot = Spot::ReadOnly { version: 0 };
+
+const LATER: Spot = Spot::ReadOnly { version: 1 };
+
+const NOWHERE: Spot = Spot::Entry {
+    index: 0,
+    place: 0,
+    version: 0,
+};
+
+const WRONG: Found = Err(CheckFault::Txn(READER));
+
+// Where a transcript stands, its read version, what it was told, and what is found.
+static ROWS: [(Spot, u64, Option<&'static [u8]>, Found); 6] = [
+    (AT_START, 0, None, Ok(1)),
+    (AT_START, 0, Some(b"x"), WRONG),
+    (AT_START, 1, None, WRONG),
+    // A version to which no entry has come is after all of them.
+    (LATER, 1, None, Ok(1)),
+    (LATER, 1, Some(b"x"), WRONG),
+    (NOWHERE, 0, None, WRONG),
+];
 
 #[test]
 fn transcripts_beside_a_book_without_entries(rt: HostRuntime) {
     let alloc = rt.alloc();
-    let at_start = Spot::ReadOnly { version: 0 };
-    let later = Spot::ReadOnly { version: 1 };
-    let nowhere = Spot::Entry {
-        index: 0,
-        place: 0,
-        version: 0,
-    };
-    same(&rt, found(alloc, &[]), 0);
-    same(&rt, checked(alloc, at_start, 0, None), 1);
-    same(&rt, checked(alloc, at_start, 0, Some(b"x")), 101);
-    same(&rt, checked(alloc, at_start, 1, None), 101);
-    // A version to which no entry has come is after all of them.
-    same(&rt, checked(alloc, later, 1, None), 1);
-    same(&rt, checked(alloc, later, 1, Some(b"x")), 101);
-    same(&rt, checked(alloc, nowhere, 0, None), 101);
+    same(&rt, Ok(found(alloc, &[])), Ok::<Found, Refusal>(Ok(0)));
+    for (spot, version, told, wanted) in ROWS.as_slice() {
+        same(&rt, checked(alloc, *spot, *version, *told), Ok(*wanted));
+    }
 }

@@ -10,12 +10,6 @@ IsLegal mutation = mutation_fault mutation ≡ None
 
 pub loop-key-preserved : goal.loop-key-preserved
 loop-key-preserved c =
-    rw c.in_ok-push.ensures.ok
-    (All-push IsLegal c.loop-key.mutations c.in_ok-long_set.field-0 c.loop-key.invariant
-    c.in_ok-long_set.ensures)
-
-pub returns : goal.returns
-returns c =
-    rw c.in_ok-push-2.ensures.ok
-    (All-push IsLegal c.loop-key.mutations c.in_ok-long_set-2.field-0
-    c.loop-key.invariant c.in_ok-long_set-2.ensures)
+    rw c.in_ok-push.ensures
+    (All-push IsLegal c.loop-key.mutations c.in_ok-legal_set.field-0 c.loop-key.invariant
+    c.in_ok-legal_set.ensures)

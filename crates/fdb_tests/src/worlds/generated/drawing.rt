@@ -70,10 +70,6 @@ impl Drawing {
         }
     }
 
-    fn session(&mut self) -> u32 {
-        u32::from(self.random.below(8))
-    }
-
     fn key(&mut self) -> u8 {
         b'a' + self.random.below(9)
     }
@@ -125,57 +121,30 @@ impl Drawing {
         }
     }
 
-    // A step of a session without a transaction, or of those who serve it. Some are refused.
-    fn begin_act(&mut self, session: u32) -> Act {
-        match self.random.below(8) {
-            0..=2 => Act::Ask(session, self.role(PROXIES)),
-            3..=5 => Act::Grant(self.role(PROXIES)),
-            6 => Act::Call(session, self.call()),
-            _ => Act::Submit(session, self.role(PROXIES)),
-        }
-    }
-
-    // A step of a session with an open transaction, which it drops at times.
-    fn open_act(&mut self, session: u32) -> Act {
-        match self.random.below(16) {
-            0 => Act::Ask(session, self.role(PROXIES)),
-            1..=3 => Act::Submit(session, self.role(PROXIES)),
+    // A step of a session, or of those who serve it. One with an open transaction drops it at times, and some of the
+    // steps of one without are refused.
+    fn client_act(&mut self, world: &World) -> Act {
+        let session = u32::from(self.random.below(8));
+        let is_open = world.txn(session).is_some();
+        let kind = self.random.below(if is_open { 16 } else { 8 });
+        match (is_open, kind) {
+            (true, 0) | (false, 0..=2) => Act::Ask(session, self.role(PROXIES)),
+            (true, 1..=3) | (false, 7) => Act::Submit(session, self.role(PROXIES)),
+            (false, 3..=5) => Act::Grant(self.role(PROXIES)),
             _ => Act::Call(session, self.call()),
         }
     }
 
-    fn client_act(&mut self, world: &World) -> Act {
-        let session = self.session();
-        match world.txn(session) {
-            None => self.begin_act(session),
-            Some(_) => self.open_act(session),
-        }
-    }
-
-    // A step of a commit proxy without a batch in flight.
-    fn idle_act(&mut self, proxy: u32) -> Act {
-        match self.random.below(8) {
-            0 => Act::Decide(proxy),
-            1 => Act::Answer(proxy),
-            _ => Act::Seal(proxy, self.advance()),
-        }
-    }
-
-    // A step of a commit proxy that has a batch in flight.
-    fn busy_act(&mut self, proxy: u32) -> Act {
-        match self.random.below(10) {
-            0 => Act::Seal(proxy, self.advance()),
-            1..=3 => Act::Decide(proxy),
-            4..=6 => Act::Report(proxy),
-            _ => Act::Answer(proxy),
-        }
-    }
-
+    // A step of a commit proxy, which has a batch in flight or has none.
     fn proxy_act(&mut self, world: &World) -> Act {
         let proxy = self.role(PROXIES);
-        match world.in_flight(proxy) {
-            Ok(_flight) => self.busy_act(proxy),
-            Err(_why) => self.idle_act(proxy),
+        let is_busy = world.in_flight(proxy).is_ok();
+        let kind = self.random.below(if is_busy { 10 } else { 8 });
+        match (is_busy, kind) {
+            (true, 1..=3) | (false, 0) => Act::Decide(proxy),
+            (true, 4..=6) => Act::Report(proxy),
+            (true, 7..) | (false, 1) => Act::Answer(proxy),
+            _ => Act::Seal(proxy, self.advance()),
         }
     }
 
@@ -213,15 +182,14 @@ impl Drawing {
         }
     }
 
-    // At times an empty or an inverted range.
-    fn move_act(&mut self) -> Act {
-        let (begin, end) = (self.key(), self.key());
-        Act::Move(begin, end, self.role(RESOLVERS))
-    }
-
     pub(super) fn act(&mut self, world: &World) -> Act {
         match self.random.below(20) {
-            _ if self.random.below(40) == 0 => self.move_act(),
+            // At times an empty or an inverted range.
+            _ if self.random.below(40) == 0 => Act::Move(
+                self.key(),
+                self.key(),
+                self.role(RESOLVERS),
+            ),
             0..=6 => self.client_act(world),
             7..=10 => self.proxy_act(world),
             11..=15 => self.resolver_act(world),
