@@ -1,7 +1,9 @@
 -- What is known of a book's first cells.
-use Rattle.std.proofs.Common.{◌≡◌, ◌∙◌, sym, ap, refl, subst, ℕ, zero, suc, ◌<◌, ◌≤◌, ◌+◌, List, [], ◌∷◌, ◌++◌, map, fold, take, drop, length, get_or, slice_get, Some, arith, rules}
+use Rattle.std.proofs.Common.{◌≡◌, ◌∙◌, sym, ap, refl, subst, ℕ, zero, suc, ◌<◌, ◌≤◌, ◌+◌, List, [], ◌∷◌, ◌++◌, map}
+use Rattle.std.proofs.Common.{fold, take, drop, length, get_or, slice_get, Some, arith, rules}
 use Rattle.std.specs.declared.alloc.Global.{Global}
-use Rattle.std.proofs.lemmas.List.{get_or-map, get_or-take, length-map, length-append, length-take-le, map-append, take-map, take-append-drop}
+use Rattle.std.proofs.lemmas.List.{get_or-map, get_or-take, length-map, length-append, length-take-le, map-append}
+use Rattle.std.proofs.lemmas.List.{take-map, take-append-drop}
 use Rattle.std.proofs.lemmas.Option.{slice_get-get_or}
 use Rattle.std.proofs.Math.Seq.{take-suc}
 use Rattle.once_cell.specs.Once.{cell_name}
@@ -56,7 +58,8 @@ cell-at : (cells : List (Global × ℕ)) (known : Known) (i : ℕ) (cell : Globa
     → slice_get known i ≡ Some it → it.0 ≡ cell_name cell
 cell-at cells known i cell it first within is_cell found =
     let inside : i < length cells = search (arith, within, within-cells cells known first) in
-    let is : it ≡ get_or known i it = some-same it (get_or known i it) (sym found ∙ slice_get-get_or known i it within) in
+    let is : it ≡ get_or known i it = some-same it (get_or known i it)
+    (sym found ∙ slice_get-get_or known i it within) in
     ap cell_of is ∙ sym (get_or-map cell_of known i it 0 within)
     ∙ ap (λ (names : List ℕ). get_or names i 0) first.first
     ∙ get_or-take (length known) (map cell_name cells) i 0 within

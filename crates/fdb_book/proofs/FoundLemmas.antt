@@ -1,5 +1,6 @@
 -- What an append that finds another entry answers.
-use Rattle.std.proofs.Common.{◌≡◌, ◌≢◌, ◌∙◌, sym, refl, ap, subst, ◌⊎◌, ℕ, ◌<◌, ◌≤◌, Bool, true, false, List, [], ◌∷◌, ◌++◌, length, ◌+◌, ◌==◌, Option, Some, None, Ok, Err, if◌then◌else◌, rules, arith}
+use Rattle.std.proofs.Common.{◌≡◌, ◌≢◌, ◌∙◌, sym, refl, ap, subst, ◌⊎◌, ℕ, ◌<◌, ◌≤◌, Bool, true, false, List, [], ◌∷◌}
+use Rattle.std.proofs.Common.{◌++◌, length, ◌+◌, ◌==◌, Option, Some, None, Ok, Err, if◌then◌else◌, rules, arith}
 use mathlib.Core.Logic.{inl, inr}
 use Rattle.std.specs.Bool.{Decides}
 use Rattle.std.specs.Option.{MatchOption}
@@ -29,7 +30,7 @@ goes-memory : (goes : Bool) (repeated : Option ℕ) (is_full : Bool)
 goes-memory true repeated is_full same = ids-memory repeated is_full same
 goes-memory false repeated is_full same = search rules
 
--- no fault of an entry is want of memory
+-- no fault of an entry is that memory ran out
 fault-memory : (capacity : ℕ) (book : List Entry) (entry : Entry) → append_fault capacity book entry ≡ Some NoMemory
     → ⊥
 fault-memory capacity book entry same =

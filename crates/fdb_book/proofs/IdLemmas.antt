@@ -1,11 +1,14 @@
 -- The ids of a batch, place by place, and the greatest numbers known of their sessions.
-use Rattle.std.proofs.Common.{◌≡◌, ◌∙◌, sym, ap, subst, ⊎_elim, ℕ, suc, add-one, ◌<◌, ◌≤◌, ◌+◌, Bool, true, false, cond, List, [], ◌∷◌, ◌++◌, take, drop, length, get_or, slice_get, Option, Some, None, nat_lt, arith}
+use Rattle.std.proofs.Common.{◌≡◌, ◌∙◌, sym, ap, subst, ⊎_elim, ℕ, suc, add-one, ◌<◌, ◌≤◌, ◌+◌, Bool, true, false, cond}
+use Rattle.std.proofs.Common.{List, [], ◌∷◌, ◌++◌, take, drop, length, get_or, slice_get, Option, Some, None, nat_lt}
+use Rattle.std.proofs.Common.{arith}
 use Rattle.std.specs.Prelude.{◌==◌, IfSome}
 use Rattle.std.specs.BTreeMap.{get, is_at}
 use Rattle.std.specs.Cmp.{unsigned_tied}
 use Rattle.std.specs.Ordering.{nat_cmp}
 use Rattle.std.proofs.Math.Seq.{drop-cons, take-suc}
-use Rattle.std.proofs.lemmas.Bool.{cases_Bool, cond-true, cond-false, eqb-true, ne_eqb, and_left, and_right, lt-ltb, ltb-true, ltb-false, le-ltb}
+use Rattle.std.proofs.lemmas.Bool.{cases_Bool, cond-true, cond-false, eqb-true, ne_eqb, and_left, and_right, lt-ltb}
+use Rattle.std.proofs.lemmas.Bool.{ltb-true, ltb-false, le-ltb}
 use Rattle.std.proofs.lemmas.List.Sums.{sum_by-cons, count_by_more_no}
 use Rattle.std.proofs.lemmas.Option.{IfSome_then, slice_get_within, get_or_from_slice_get}
 use Rattle.fdb_txn.specs.declared.entry.Entry.{Entry}
@@ -75,14 +78,16 @@ among-book id book earlier named =
     let some = ltb-true 0 (times_in_book id book) named in
     lt-ltb 0 (times_in_book id book + times_with_id id earlier) (omega arith)
 
-pub among-batch : (id : TxnId) (book : List Entry) (earlier : List Transaction) → nat_lt 0 (times_with_id id earlier) ≡ true
+pub among-batch : (id : TxnId) (book : List Entry) (earlier : List Transaction) → nat_lt 0 (times_with_id id earlier)
+    ≡ true
     → is_among id book earlier ≡ true
 among-batch id book earlier named =
     let some = ltb-true 0 (times_with_id id earlier) named in
     lt-ltb 0 (times_in_book id book + times_with_id id earlier) (omega arith)
 
 -- or it isn't
-pub among-none : (id : TxnId) (book : List Entry) (earlier : List Transaction) → nat_lt 0 (times_in_book id book) ≡ false
+pub among-none : (id : TxnId) (book : List Entry) (earlier : List Transaction) → nat_lt 0 (times_in_book id book)
+    ≡ false
     → nat_lt 0 (times_with_id id earlier) ≡ false → is_among id book earlier ≡ false
 among-none id book earlier not_in_book not_in_batch =
     let in_book = ltb-false 0 (times_in_book id book) not_in_book in

@@ -29,7 +29,8 @@ use std::sync::Arc;
 ///   in the batch;
 /// - as `BookFull` where the front has an entry in each cell;
 /// - as `NoMemory` where memory runs out;
-/// - as `Taken` where another entry stands in the cell. Then the front one longer by that entry is handed out wherever that
+/// - as `Taken` where another entry stands in the cell. Then the front one longer by that entry is handed out wherever
+/// that
 ///   entry could be appended. Where all entries were put there by `append` it could be, but no clause says so, since
 ///   what is found is known by itself alone.
 ///
@@ -120,8 +121,8 @@ impl<B: BookName> Front<B> {
         }
     }
 
-    // Fills the next cell, or reads what it holds. Gives what is known with it, and the entry that was found there where
-    // it isn't equal to the given one.
+    // Fills the next cell, or reads what it holds. Gives what is known with it, and the entry that was found there
+    // where it isn't equal to the given one.
     fn fill_next(&self, entry: Box<Entry>) -> (Facts<Entry>, Option<&Entry>)
         requires { length self.now < length B.cells }
         ensures first { AreOfFirst B.cells result.0.known }
@@ -143,7 +144,7 @@ impl<B: BookName> Front<B> {
     }
 }
 
-// Why the entry that stands in its place isn't handed out: for want of memory, or because it may not be appended.
+// Why the entry that stands in its place isn't handed out: because memory ran out, or because it may not be appended.
 fn why_taken(why: Refusal) -> Refusal
     ensures memory { why ≡ NoMemory → result ≡ NoMemory }
     ensures taken { why ≢ NoMemory → result ≡ Taken }

@@ -37,7 +37,8 @@ impl<B: BookName> Model for Front<B> {
 
     ghost view = { λ front. shown front.facts.known };
 
-    ghost invariant = { λ front. IsFront B.cells (map cell_name (arc_value front.cells).items) front.facts.known front.len (arc_value front.latest) };
+    ghost invariant = { λ front. IsFront B.cells (map cell_name (arc_value front.cells).items) front.facts.known
+        front.len (arc_value front.latest) };
 }
 
 /// The front of no entries. Refused as `NoMemory` where memory runs out.

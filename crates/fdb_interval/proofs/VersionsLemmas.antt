@@ -1,7 +1,9 @@
 -- What one mark more, the marks that meet a range and the marks that are left say of the versions at points.
-use Rattle.std.proofs.Common.{◌≡◌, ◌∙◌, sym, ap, refl, ℕ, ◌<◌, ◌≤◌, max, Bool, true, false, ◌&&◌, nat_lt, filter, List, [], ◌∷◌, ◌++◌, if◌then◌else◌, ⊎_elim, arith}
+use Rattle.std.proofs.Common.{◌≡◌, ◌∙◌, sym, ap, refl, ℕ, ◌<◌, ◌≤◌, max, Bool, true, false, ◌&&◌, nat_lt, filter, List}
+use Rattle.std.proofs.Common.{[], ◌∷◌, ◌++◌, if◌then◌else◌, ⊎_elim, arith}
 use Rattle.std.specs.List.{list_any}
-use Rattle.std.proofs.lemmas.Bool.{cases_Bool, cases_lt, both_ways, and_parts, and_from, or_cases, or_left, or_right, ltb-true, lt-ltb, le-ltb, cond-true, cond-false, cond_both}
+use Rattle.std.proofs.lemmas.Bool.{cases_Bool, cases_lt, both_ways, and_parts, and_from, or_cases, or_left, or_right}
+use Rattle.std.proofs.lemmas.Bool.{ltb-true, lt-ltb, le-ltb, cond-true, cond-false, cond_both}
 use Rattle.fdb_keys.specs.Points.{Point}
 use Rattle.fdb_keys.specs.Ranges.{Range, in_range, is_empty_range, ranges_meet}
 use Rattle.fdb_keys.proofs.InsertionLemmas.{in_range-empty}

@@ -2,14 +2,16 @@
 use Rattle.std.proofs.Common.{◌≡◌, ◌∙◌, sym, ap, refl, Bool, true, false, not, ◌&&◌, ◌||◌, List, [], ◌∷◌, ⊎_elim}
 use Rattle.std.specs.Cmp.{both_ways as same_tests}
 use Rattle.std.specs.List.{AllByRecursion}
-use Rattle.std.proofs.lemmas.Bool.{cases_Bool, and_left, and_right, or_left, or_right, or_cases, or_from, both_ways, cond-true, cond-false, not-false, not_from_true, false_from_ne_true}
+use Rattle.std.proofs.lemmas.Bool.{cases_Bool, and_left, and_right, or_left, or_right, or_cases, or_from, both_ways}
+use Rattle.std.proofs.lemmas.Bool.{cond-true, cond-false, not-false, not_from_true, false_from_ne_true}
 use Rattle.std.proofs.Math.Bool.{or_assoc, or_comm}
 use Rattle.fdb_keys.specs.Insertion.{with_range, with_ranges}
 use Rattle.fdb_keys.specs.Points.{Point, point_lt}
 use Rattle.fdb_keys.specs.Ranges.{Range, in_range, in_set, is_empty_range, begins_after, is_apart}
 use Rattle.fdb_keys.proofs.PointOrder.{lt-itself, lt_one_way, lt_chain, le_lt_chain, same_point}
 use Rattle.fdb_keys.proofs.RangesLemmas.{in_range_parts, in_range_from}
-use Rattle.fdb_keys.proofs.InsertionLemmas.{apart_parts, begins_after-sooner, in_range-empty, in_inserted, apart-inserted}
+use Rattle.fdb_keys.proofs.InsertionLemmas.{apart_parts, begins_after-sooner, in_range-empty, in_inserted}
+use Rattle.fdb_keys.proofs.InsertionLemmas.{apart-inserted}
 
 -- where the first range begins after a point, each one does
 pub all_after : (x : Point) (ranges : List Range) → is_apart ranges ≡ true → begins_after x ranges ≡ true

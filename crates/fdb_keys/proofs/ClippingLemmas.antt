@@ -1,7 +1,8 @@
 -- The points that two ranges have in common are those of one range.
 use Rattle.std.proofs.Common.{◌≡◌, ◌∙◌, sym, ap, true, false, not, ◌&&◌, ⊎_elim}
 use Rattle.std.specs.Prelude.{Some, None}
-use Rattle.std.proofs.lemmas.Bool.{cases_Bool, and_parts, and_from, not_from_false, both_ways, cond-true, cond-false, false_from_ne_true}
+use Rattle.std.proofs.lemmas.Bool.{cases_Bool, and_parts, and_from, not_from_false, both_ways, cond-true, cond-false}
+use Rattle.std.proofs.lemmas.Bool.{false_from_ne_true}
 use Rattle.std.proofs.lemmas.Bool.Decides.{same_from_decides}
 use Rattle.fdb_keys.specs.Points.{Point, point_lt}
 use Rattle.fdb_keys.specs.Ranges.{Range, in_range, ranges_meet}
@@ -10,7 +11,8 @@ use Rattle.fdb_keys.specs.Insertion.{lesser_point, greater_point}
 use Rattle.fdb_keys.specs.Clipping.{common_range, clipped_range, in_clipped}
 use Rattle.fdb_keys.proofs.PointOrder.{lt_one_way, le_chain, lt_le_chain}
 use Rattle.fdb_keys.proofs.RangesLemmas.{in_range_parts, in_range_from, meet_from_common}
-use Rattle.fdb_keys.proofs.InsertionLemmas.{HasLegalBounds, lesser-left, lesser-right, greater-left, greater-right, below_lesser, greater_below, is_bound-lesser, is_bound-greater}
+use Rattle.fdb_keys.proofs.InsertionLemmas.{HasLegalBounds, lesser-left, lesser-right, greater-left, greater-right}
+use Rattle.fdb_keys.proofs.InsertionLemmas.{below_lesser, greater_below, is_bound-lesser, is_bound-greater}
 
 -- the greater of two points is no later than what both are no later than
 pub greater_by : (x y z : Point) → point_lt z x ≡ false → point_lt z y ≡ false → point_lt z (greater_point x y) ≡ false

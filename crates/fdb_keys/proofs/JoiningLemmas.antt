@@ -1,5 +1,6 @@
 -- Ranges that are joined with those of a sorted list that they touch, and with one another, and put there at once.
-use Rattle.std.proofs.Common.{◌≡◌, ◌∙◌, sym, ap, refl, subst, Bool, true, false, not, ◌||◌, inl, inr, ⊎_elim, List, [], ◌∷◌, ◌++◌, Less, Equal, Greater}
+use Rattle.std.proofs.Common.{◌≡◌, ◌∙◌, sym, ap, refl, subst, Bool, true, false, not, ◌||◌, inl, inr, ⊎_elim, List, []}
+use Rattle.std.proofs.Common.{◌∷◌, ◌++◌, Less, Equal, Greater}
 use Rattle.std.specs.BTreeMap.{is_at}
 use Rattle.std.specs.Cmp.Lexicographic.{slice_cmp}
 use Rattle.std.specs.FinMap.{nat_cmp-IsAntisymmetric, slice_cmp-IsAntisymmetric}
@@ -8,7 +9,8 @@ use Rattle.std.specs.Map.{keys_of, values_of, remove_entry}
 use Rattle.std.specs.Ordering.{nat_cmp, is_eq, is_lt}
 use Rattle.std.specs.declared.cmp.Ordering.{Ordering}
 use Rattle.std.proofs.Math.Bool.{or_assoc, or_comm}
-use Rattle.std.proofs.lemmas.Bool.{cases_Bool, and_left, and_parts, both_ways, cond-true, cond-false, not-true, not_from_true}
+use Rattle.std.proofs.lemmas.Bool.{cases_Bool, and_left, and_parts, both_ways, cond-true, cond-false, not-true}
+use Rattle.std.proofs.lemmas.Bool.{not_from_true}
 use Rattle.fdb_keys.specs.Insertion.{joined_range, inserted, with_range, with_ranges}
 use Rattle.fdb_keys.specs.Joining.{all_joined, begins_within_all, with_all}
 use Rattle.fdb_keys.specs.Points.{Point, point_lt}
@@ -16,8 +18,11 @@ use Rattle.fdb_keys.specs.RangeMaps.{Entries, AreUnderBegins, begins_within, wit
 use Rattle.fdb_keys.specs.Ranges.{Range, in_range, in_set, is_empty_range, is_apart}
 use Rattle.fdb_keys.specs.Touching.{joined_with_touched}
 use Rattle.fdb_keys.proofs.PointOrder.{lt_one_way, lt_chain, le_chain, le_lt_chain, cmp_less}
-use Rattle.fdb_keys.proofs.InsertionLemmas.{lesser-left, lesser-right, greater-left, greater-right, below_lesser, greater_below, inserted-before, inserted-after, inserted-joined, in_inserted, apart_parts, apart-inserted}
-use Rattle.fdb_keys.proofs.ApartLemmas.{all_after, same_list, apart-with_range, in_with_range, apart-with_ranges, in_with_ranges}
+use Rattle.fdb_keys.proofs.InsertionLemmas.{lesser-left, lesser-right, greater-left, greater-right, below_lesser}
+use Rattle.fdb_keys.proofs.InsertionLemmas.{greater_below, inserted-before, inserted-after, inserted-joined}
+use Rattle.fdb_keys.proofs.InsertionLemmas.{in_inserted, apart_parts, apart-inserted}
+use Rattle.fdb_keys.proofs.ApartLemmas.{all_after, same_list, apart-with_range, in_with_range, apart-with_ranges}
+use Rattle.fdb_keys.proofs.ApartLemmas.{in_with_ranges}
 use Rattle.fdb_keys.proofs.LastLemmas.{all_from}
 use Rattle.fdb_keys.proofs.SwallowedLemmas.{is_within}
 use Rattle.fdb_keys.proofs.TouchedLemmas.{Fits, touched_fits, inserted-touched}

@@ -1,10 +1,12 @@
 -- The last range that begins at a point or before it: no other range lies between it and the point.
-use Rattle.std.proofs.Common.{◌≡◌, ◌∙◌, sym, ap, refl, subst, Bool, true, false, not, ◌⊎◌, inl, inr, ⊎_elim, Option, Some, None, List, [], ◌∷◌}
+use Rattle.std.proofs.Common.{◌≡◌, ◌∙◌, sym, ap, refl, subst, Bool, true, false, not, ◌⊎◌, inl, inr, ⊎_elim, Option}
+use Rattle.std.proofs.Common.{Some, None, List, [], ◌∷◌}
 use Rattle.std.specs.Prelude.{MatchOption}
 use Rattle.std.specs.Cmp.{both_ways as same_tests}
 use Rattle.std.specs.List.{AllByRecursion, filter, last_or}
 use Rattle.std.specs.Option.{option_or}
-use Rattle.std.proofs.lemmas.Bool.{cases_Bool, or_cases, or_parts, both_ways, cond-true, cond-false, not_from_true, not_from_false, not-true, true_from_ne_false}
+use Rattle.std.proofs.lemmas.Bool.{cases_Bool, or_cases, or_parts, both_ways, cond-true, cond-false, not_from_true}
+use Rattle.std.proofs.lemmas.Bool.{not_from_false, not-true, true_from_ne_false}
 use Rattle.fdb_keys.specs.Touching.{last_by}
 use Rattle.fdb_keys.specs.Points.{Point, point_lt}
 use Rattle.fdb_keys.specs.Ranges.{Range, in_range, in_set, is_apart}

@@ -1,10 +1,13 @@
 -- What of a range lies in none of the ranges of a sorted list: what is left as each of them is taken out, and what a
 -- walk over those that begin within the range finds between them.
-use Rattle.std.proofs.Common.{◌≡◌, ◌∙◌, sym, ap, refl, subst, Bool, true, false, not, ◌&&◌, ◌||◌, ◌⊎◌, inl, inr, ⊎_elim, Option, Some, None, List, [], ◌∷◌, ◌++◌}
+use Rattle.std.proofs.Common.{◌≡◌, ◌∙◌, sym, ap, refl, subst, Bool, true, false, not, ◌&&◌, ◌||◌, ◌⊎◌, inl, inr, ⊎_elim}
+use Rattle.std.proofs.Common.{Option, Some, None, List, [], ◌∷◌, ◌++◌}
 use Rattle.std.specs.Cmp.{both_ways as same_tests}
 use Rattle.std.specs.List.{AllByRecursion, fold, filter}
 use Rattle.std.proofs.Math.Bool.{and-true}
-use Rattle.std.proofs.lemmas.Bool.{cases_Bool, and_left, and_right, and_parts, and_from, or_cases, or_parts, or_left, or_right, or_from, both_ways, cond-true, cond-false, not-true, not_from_false, false_from_ne_true}
+use Rattle.std.proofs.lemmas.Bool.{cases_Bool, and_left, and_right, and_parts, and_from, or_cases, or_parts, or_left}
+use Rattle.std.proofs.lemmas.Bool.{or_right, or_from, both_ways, cond-true, cond-false, not-true, not_from_false}
+use Rattle.std.proofs.lemmas.Bool.{false_from_ne_true}
 use Rattle.std.proofs.lemmas.List.{append-nil}
 use Rattle.std.proofs.lemmas.List.Folds.{list_any-append}
 use Rattle.fdb_keys.specs.Insertion.{greater_point}
@@ -14,7 +17,8 @@ use Rattle.fdb_keys.specs.Removal.{range_between, without_range, outside}
 use Rattle.fdb_keys.specs.Touching.{last_by, begin_past}
 use Rattle.fdb_keys.proofs.PointOrder.{lt_one_way, lt_chain, le_chain, le_lt_chain}
 use Rattle.fdb_keys.proofs.RangesLemmas.{in_range_parts, in_range_from}
-use Rattle.fdb_keys.proofs.InsertionLemmas.{apart_parts, apart_from, in_range-empty, greater-left, greater-right, greater_below}
+use Rattle.fdb_keys.proofs.InsertionLemmas.{apart_parts, apart_from, in_range-empty, greater-left, greater-right}
+use Rattle.fdb_keys.proofs.InsertionLemmas.{greater_below}
 use Rattle.fdb_keys.proofs.ApartLemmas.{all_after, in_set-before, same_list}
 use Rattle.fdb_keys.proofs.ClippingLemmas.{greater_by}
 use Rattle.fdb_keys.proofs.LastLemmas.{all_from, IsElsewhere, AnswersLast, last_by-is, in_set-found, is_in_found}
@@ -75,7 +79,8 @@ begins_after-gaps x begin end (held ∷ ranges) first apart later =
     (begins_after-gaps x held.end end ranges
     (lt_chain x begin held.end first (lt_chain begin held.begin held.end later parts.0)) parts.2 parts.1)
 
-apart-gaps : (begin end : Point) (ranges : List Range) → is_apart ranges ≡ true → is_apart (gaps begin end ranges) ≡ true
+apart-gaps : (begin end : Point) (ranges : List Range) → is_apart ranges ≡ true → is_apart (gaps begin end ranges)
+    ≡ true
 apart-gaps begin end [] apart = alone begin end
 apart-gaps begin end (held ∷ ranges) apart =
     let parts = apart_parts held ranges apart in

@@ -1,5 +1,6 @@
 -- A range that is inserted into a sorted list goes in the place of the ranges that it touches.
-use Rattle.std.proofs.Common.{◌≡◌, ◌∙◌, sym, ap, refl, ℕ, zero, suc, ◌+◌, ◌≤◌, ◌<◌, Bool, true, false, not, List, [], ◌∷◌, ◌++◌, take, drop, length, get_or, subst, ⊎_elim, arith}
+use Rattle.std.proofs.Common.{◌≡◌, ◌∙◌, sym, ap, refl, ℕ, zero, suc, ◌+◌, ◌≤◌, ◌<◌, Bool, true, false, not, List, []}
+use Rattle.std.proofs.Common.{◌∷◌, ◌++◌, take, drop, length, get_or, subst, ⊎_elim, arith}
 use Rattle.std.specs.Bool.{⊤}
 use Rattle.std.specs.List.{fold, prefix_len}
 use Rattle.std.specs.List.Sorted.{IsPartitionedBy, IsPartitionPoint}
@@ -10,7 +11,8 @@ use Rattle.fdb_keys.specs.Points.{Point, point_lt}
 use Rattle.fdb_keys.specs.Ranges.{Range, begins_after, is_apart}
 use Rattle.fdb_keys.specs.Insertion.{lesser_point, greater_point, joined_range, inserted}
 use Rattle.fdb_keys.proofs.PointOrder.{lt-itself, lt_one_way, lt_chain, le_chain, lt_le_chain, le_lt_chain}
-use Rattle.fdb_keys.proofs.InsertionLemmas.{lesser-right, inserted-before, inserted-after, inserted-joined, apart_parts, begins_after-sooner}
+use Rattle.fdb_keys.proofs.InsertionLemmas.{lesser-right, inserted-before, inserted-after, inserted-joined, apart_parts}
+use Rattle.fdb_keys.proofs.InsertionLemmas.{begins_after-sooner}
 
 -- the range ends before the point
 abbrev pub ends_before : Point → Range → Bool

@@ -1,5 +1,6 @@
 -- What was under the begins of a map, put back in the other order, is what there was before.
-use Rattle.std.proofs.Common.{◌≡◌, ◌∙◌, sym, ap, refl, true, ⊎_elim, Option, Some, None, is_some, List, [], ◌∷◌, ◌++◌, Less, Equal, Greater}
+use Rattle.std.proofs.Common.{◌≡◌, ◌∙◌, sym, ap, refl, true, ⊎_elim, Option, Some, None, is_some, List, [], ◌∷◌, ◌++◌}
+use Rattle.std.proofs.Common.{Less, Equal, Greater}
 use Rattle.std.specs.BTreeMap.{insert_entry, is_at}
 use Rattle.std.specs.Cmp.Lexicographic.{slice_cmp}
 use Rattle.std.specs.List.{AllByRecursion}

@@ -2,7 +2,8 @@
 use Rattle.std.proofs.Common.{◌≡◌, ◌∙◌, sym, ap, refl, Bool, true, false, not, ◌&&◌, ◌||◌, List, [], ◌∷◌, ◌++◌, ⊎_elim}
 use Rattle.std.specs.Cmp.{both_ways as same_tests}
 use Rattle.std.proofs.Math.Bool.{or-false, and-or_distrib_right}
-use Rattle.std.proofs.lemmas.Bool.{cases_Bool, and_left, and_right, and_parts, and_from, or_cases, or_left, or_right, both_ways, cond-true, cond-false, not-true, not_from_false, false_from_ne_true}
+use Rattle.std.proofs.lemmas.Bool.{cases_Bool, and_left, and_right, and_parts, and_from, or_cases, or_left, or_right}
+use Rattle.std.proofs.lemmas.Bool.{both_ways, cond-true, cond-false, not-true, not_from_false, false_from_ne_true}
 use Rattle.std.proofs.lemmas.List.{append_assoc, append-nil}
 use Rattle.std.proofs.lemmas.List.Folds.{list_any-append}
 use Rattle.fdb_keys.specs.Points.{Point, point_lt}
@@ -11,7 +12,8 @@ use Rattle.fdb_keys.specs.Removal.{range_between, range_minus, without_range}
 use Rattle.fdb_keys.specs.Texts.{is_bound}
 use Rattle.fdb_keys.proofs.PointOrder.{lt_one_way, lt_chain, le_chain}
 use Rattle.fdb_keys.proofs.RangesLemmas.{in_range_parts, in_range_from, meet_from_common}
-use Rattle.fdb_keys.proofs.InsertionLemmas.{apart_parts, apart_from, begins_after-sooner, in_range-empty, HasLegalBounds}
+use Rattle.fdb_keys.proofs.InsertionLemmas.{apart_parts, apart_from, begins_after-sooner, in_range-empty}
+use Rattle.fdb_keys.proofs.InsertionLemmas.{HasLegalBounds}
 
 -- ---- one range, or none
 pub in_between : (begin end x : Point)

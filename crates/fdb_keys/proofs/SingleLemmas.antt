@@ -1,10 +1,12 @@
 -- The range of a key holds that key alone, so its end comes right after the key.
-use Rattle.std.proofs.Common.{◌≡◌, ◌∙◌, sym, ap, refl, ℕ, zero, suc, ◌<◌, true, false, not, ◌&&◌, nat_eq, List, [], ◌∷◌, ◌++◌, Less, Greater, ⊎_elim, subst, arith}
+use Rattle.std.proofs.Common.{◌≡◌, ◌∙◌, sym, ap, refl, ℕ, zero, suc, ◌<◌, true, false, not, ◌&&◌, nat_eq, List, [], ◌∷◌}
+use Rattle.std.proofs.Common.{◌++◌, Less, Greater, ⊎_elim, subst, arith}
 use Rattle.std.specs.Ordering.{nat_cmp, is_lt, ordering_then}
 use Rattle.std.specs.Cmp.Lexicographic.{slice_cmp, pointwise, bytes_decides}
 use Rattle.std.specs.Cmp.{nat_cmp_is, both_ways as same_tests}
 use Rattle.std.proofs.lemmas.Cmp.{nat_cmp_total, tied_itself}
-use Rattle.std.proofs.lemmas.Bool.{cases_Bool, cases_order, both_ways, eq-eqb, ne_eqb, and_right, not-true, not_from_false}
+use Rattle.std.proofs.lemmas.Bool.{cases_Bool, cases_order, both_ways, eq-eqb, ne_eqb, and_right, not-true}
+use Rattle.std.proofs.lemmas.Bool.{not_from_false}
 use Rattle.fdb_keys.specs.Points.{Point, point_lt, point_eq}
 use Rattle.fdb_keys.specs.Ranges.{single_range, in_range}
 use Rattle.fdb_keys.proofs.PointOrder.{lt-itself, lt_one_way, le_lt_chain}

@@ -1,5 +1,6 @@
 -- A key, and the text right after it, are legal bounds.
-use Rattle.std.proofs.Common.{◌≡◌, ap, sym, refl, ℕ, ◌≤◌, true, false, not, nat_le, List, [], ◌∷◌, ◌++◌, length, Greater, Less, arith}
+use Rattle.std.proofs.Common.{◌≡◌, ap, sym, refl, ℕ, ◌≤◌, true, false, not, nat_le, List, [], ◌∷◌, ◌++◌, length}
+use Rattle.std.proofs.Common.{Greater, Less, arith}
 use Rattle.std.specs.Ordering.{nat_cmp, is_lt, ordering_then}
 use Rattle.std.specs.Cmp.{nat_cmp_is}
 use Rattle.std.specs.Cmp.Lexicographic.{slice_cmp}

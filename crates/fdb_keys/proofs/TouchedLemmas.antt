@@ -1,16 +1,19 @@
 -- A range joined with those of a sorted list that it touches: no other range of the list touches the joined one.
-use Rattle.std.proofs.Common.{◌≡◌, ◌∙◌, sym, ap, refl, subst, Bool, true, false, not, ◌||◌, ◌⊎◌, inl, inr, ⊎_elim, Option, Some, None, List}
+use Rattle.std.proofs.Common.{◌≡◌, ◌∙◌, sym, ap, refl, subst, Bool, true, false, not, ◌||◌, ◌⊎◌, inl, inr, ⊎_elim}
+use Rattle.std.proofs.Common.{Option, Some, None, List}
 use Rattle.std.specs.Cmp.{both_ways as same_tests}
 use Rattle.std.specs.List.{AllByRecursion}
 use Rattle.std.proofs.Math.Bool.{or_assoc}
-use Rattle.std.proofs.lemmas.Bool.{cases_Bool, or_cases, or_left, or_right, both_ways, cond-true, cond-false, not-true, not_from_false}
+use Rattle.std.proofs.lemmas.Bool.{cases_Bool, or_cases, or_left, or_right, both_ways, cond-true, cond-false, not-true}
+use Rattle.std.proofs.lemmas.Bool.{not_from_false}
 use Rattle.fdb_keys.specs.Insertion.{lesser_point, greater_point, joined_range, inserted}
 use Rattle.fdb_keys.specs.Touching.{ends_by, last_by, joined_where_touching, joined_with_touched}
 use Rattle.fdb_keys.specs.Points.{Point, point_lt}
 use Rattle.fdb_keys.specs.Ranges.{Range, in_range, in_set, is_apart}
 use Rattle.fdb_keys.proofs.PointOrder.{lt-itself, lt_one_way, le_chain, lt_le_chain}
 use Rattle.fdb_keys.proofs.RangesLemmas.{in_range_parts, in_range_from}
-use Rattle.fdb_keys.proofs.InsertionLemmas.{lesser-right, greater-left, greater-right, below_lesser, greater_below, in_joined, some_joined, in_inserted, apart-inserted}
+use Rattle.fdb_keys.proofs.InsertionLemmas.{lesser-right, greater-left, greater-right, below_lesser, greater_below}
+use Rattle.fdb_keys.proofs.InsertionLemmas.{in_joined, some_joined, in_inserted, apart-inserted}
 use Rattle.fdb_keys.proofs.ApartLemmas.{same_list}
 use Rattle.fdb_keys.proofs.LastLemmas.{all_from, IsElsewhere, AnswersLast, last_by-is, in_set-found}
 

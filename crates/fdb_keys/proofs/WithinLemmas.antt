@@ -1,6 +1,7 @@
 -- Ranges that lie in others.
 use Rattle.std.proofs.Common.{◌≡◌, true, not, ⊎_elim, ◌↔◌}
-use Rattle.std.proofs.lemmas.Bool.{cases_Bool, both_ways, and_parts, and_from, or_left, or_right, or_cases, not-true, not_from_false}
+use Rattle.std.proofs.lemmas.Bool.{cases_Bool, both_ways, and_parts, and_from, or_left, or_right, or_cases, not-true}
+use Rattle.std.proofs.lemmas.Bool.{not_from_false}
 use Rattle.fdb_keys.specs.Points.{Point, point_lt}
 use Rattle.fdb_keys.specs.Ranges.{Range, in_range, is_empty_range, is_within}
 use Rattle.fdb_keys.proofs.PointOrder.{lt-itself, lt_one_way, le_chain, lt_le_chain}

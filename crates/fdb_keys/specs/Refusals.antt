@@ -1,7 +1,13 @@
 -- The refusals' numbers and names.
 use Rattle.std.specs.Prelude.{ℕ, List, codes}
 use Rattle.fdb_keys.specs.declared.refusal.Refusal.{Refusal}
-use Rattle.fdb_keys.specs.declared.refusal.Refusal.TheVariants.{TransactionTooOld, FutureVersion, NotCommitted, CommitUnknownResult, KeyOutsideLegalRange, InvertedRange, TransactionTooLarge, KeyTooLarge, ValueTooLarge, NoMemory, NotYet, Stale, Failed, Exhausted, BookFull, Repeated, BadOperand, BadConfig, Chain, Taken, MovesFull, Closed, WrongState, NoTransaction, Unknown}
+use Rattle.fdb_keys.specs.declared.refusal.Refusal.TheVariants.{TransactionTooOld, FutureVersion, NotCommitted}
+use Rattle.fdb_keys.specs.declared.refusal.Refusal.TheVariants.{CommitUnknownResult, KeyOutsideLegalRange}
+use Rattle.fdb_keys.specs.declared.refusal.Refusal.TheVariants.{InvertedRange, TransactionTooLarge, KeyTooLarge}
+use Rattle.fdb_keys.specs.declared.refusal.Refusal.TheVariants.{ValueTooLarge, NoMemory, NotYet, Stale, Failed}
+use Rattle.fdb_keys.specs.declared.refusal.Refusal.TheVariants.{Exhausted, BookFull, Repeated, BadOperand, BadConfig}
+use Rattle.fdb_keys.specs.declared.refusal.Refusal.TheVariants.{Chain, Taken, MovesFull, Closed, WrongState}
+use Rattle.fdb_keys.specs.declared.refusal.Refusal.TheVariants.{NoTransaction, Unknown}
 
 -- the number of a refusal
 abbrev pub code_of : Refusal → ℕ

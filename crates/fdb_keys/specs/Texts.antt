@@ -1,5 +1,6 @@
 -- Which texts are keys and bounds, and why others are refused.
-use Rattle.std.specs.Prelude.{ℕ, Bool, false, not, ◌&&◌, ◌||◌, nat_lt, nat_le, List, [], ◌∷◌, length, Option, Some, None, if◌then◌else◌}
+use Rattle.std.specs.Prelude.{ℕ, Bool, false, not, ◌&&◌, ◌||◌, nat_lt, nat_le, List, [], ◌∷◌, length, Option, Some}
+use Rattle.std.specs.Prelude.{None, if◌then◌else◌}
 use Rattle.fdb_keys.specs.Limits.{key_limit, bound_limit}
 use Rattle.fdb_keys.specs.Points.{point_lt}
 use Rattle.fdb_keys.specs.declared.refusal.Refusal.{Refusal}

@@ -34,7 +34,8 @@ impl Model for KeyRange {
 
     ghost view = { λ range. record { begin = range.begin; end = range.end } };
 
-    ghost invariant = { λ range. IsTrue (is_bound range.begin && is_bound range.end && not (point_lt range.end range.begin)) };
+    ghost invariant = { λ range. IsTrue (is_bound range.begin && is_bound range.end
+        && not (point_lt range.end range.begin)) };
 
     ghost inverse = { λ range. record { begin = range.begin; end = range.end } };
 }
@@ -47,7 +48,8 @@ impl KeyRange {
     ghost use Rattle.fdb_keys.specs.Cutting.{range_through, range_behind};
     ghost use Rattle.fdb_keys.specs.Insertion.{joined_range};
     ghost use Rattle.fdb_keys.specs.Points.{Point, point_eq, point_lt};
-    ghost use Rattle.fdb_keys.specs.Ranges.{in_range, in_set, single_range, is_apart, is_empty_range, is_within, ranges_meet};
+    ghost use Rattle.fdb_keys.specs.Ranges.{in_range, in_set, single_range, is_apart, is_empty_range, is_within};
+    ghost use Rattle.fdb_keys.specs.Ranges.{ranges_meet};
     ghost use Rattle.fdb_keys.specs.Removal.{range_between, range_minus};
     ghost use Rattle.fdb_keys.specs.Texts.{is_bound, range_fault};
     ghost use Rattle.fdb_keys.specs.Touching.{begin_past};

@@ -64,7 +64,8 @@ impl RangeSet {
     /// Adds the keys of the range. An empty range adds nothing. Refused only as `NoMemory`, and then
     /// nothing changes.
     pub fn add(&mut self, range: &KeyRange) -> Result<(), Refusal>
-        ensures answers { Answers result None (λ _. (x : Point) → in_set self.new x ≡ (in_range range.now x || in_set self.old x)) }
+        ensures answers { Answers result None (λ _. (x : Point) → in_set self.new x
+            ≡ (in_range range.now x || in_set self.old x)) }
         ensures list { OnOk result (self.new ≡ with_range range.now self.old) }
         ensures err { OnErr result (self.new ≡ self.old) }
     {

@@ -1,6 +1,7 @@
 -- Refusals of a log, computed.
 use Rattle.std.specs.Prelude.{◌≡◌, ℕ, Bool, true, false, [], ◌∷◌, Some, None}
-use Rattle.fdb_keys.specs.declared.refusal.Refusal.TheVariants.{NotYet, Stale, Failed, Unknown, BadConfig, TransactionTooOld}
+use Rattle.fdb_keys.specs.declared.refusal.Refusal.TheVariants.{NotYet, Stale, Failed, Unknown, BadConfig}
+use Rattle.fdb_keys.specs.declared.refusal.Refusal.TheVariants.{TransactionTooOld}
 use Rattle.fdb_log.specs.declared.message.LogMsg.{LogMsg}
 use Rattle.fdb_log.specs.Logs.{Log, config_fault, push_fault, tag_fault, peek_fault}
 

@@ -9,7 +9,7 @@ impl Tagged {
     ghost use Rattle.std.specs.Prelude.{◌≡◌, IfOk};
 
     /// A copy of the mutation with its place and its tags: the tags lie in memory of the allocator, and the mutation's
-    /// bytes are shared. Refused only for want of memory.
+    /// bytes are shared. Refused only where memory runs out.
     pub fn copy(&self, alloc: Global) -> Result<Tagged, AllocError>
         ensures { IfOk result (λ copy. copy ≡ self.now) }
     {

@@ -53,7 +53,8 @@ impl Model for LogCore {
 impl LogCore {
     ghost use Rattle.std.specs.Prelude.{◌≡◌, ◌<◌, ◌≤◌, ⊤, false, IsSome, IsNone, IfOk, OnErr};
     ghost use Rattle.fdb_keys.specs.Answers.{Answers, AnswersExactly};
-    ghost use Rattle.fdb_log.specs.Logs.{IsNewLog, config_fault, push_fault, tag_fault, peek_fault, peek_of, HasTaken, HasFailed, HasPopped, popped_through, given_after};
+    ghost use Rattle.fdb_log.specs.Logs.{IsNewLog, config_fault, push_fault, tag_fault, peek_fault, peek_of, HasTaken};
+    ghost use Rattle.fdb_log.specs.Logs.{HasFailed, HasPopped, popped_through, given_after};
     ghost use Rattle.fdb_log.specs.Peeks.{IsPeek};
 
     /// The log with this number of so many logs, which has taken nothing yet. Of so many tags it keeps those whose

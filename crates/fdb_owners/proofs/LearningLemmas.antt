@@ -1,5 +1,6 @@
 -- Owners that learnt one step more.
-use Rattle.std.proofs.Common.{◌≡◌, ◌∙◌, sym, ap, subst, refl, ℕ, suc, ◌<◌, ◌≤◌, List, [], ◌∷◌, ◌++◌, length, arith, All, nat_le, Option, Some, None, Ok}
+use Rattle.std.proofs.Common.{◌≡◌, ◌∙◌, sym, ap, subst, refl, ℕ, suc, ◌<◌, ◌≤◌, List, [], ◌∷◌, ◌++◌, length, arith, All}
+use Rattle.std.proofs.Common.{nat_le, Option, Some, None, Ok}
 use Rattle.std.specs.List.{AllByRecursion}
 use Rattle.std.proofs.lemmas.List.Elements.{recursion_from_All}
 use Rattle.std.proofs.lemmas.List.Sums.{fold-append}
@@ -88,7 +89,8 @@ module _ (splits : List Point) (floor : ℕ) (steps new : List Learnt) (last ver
 
   -- and so the call answers, of owners that are seen as those before
   pub learn_answers : (self : Ownership) → with_steps splits floor steps last ≡ self → (x : Unit {0})
-      → Answers (Ok x) (learn_fault self version) (λ _. HasLearnt self version moves (with_steps splits floor new version))
+      → Answers (Ok x) (learn_fault self version) (λ _. HasLearnt self version moves
+      (with_steps splits floor new version))
   learn_answers self seen x =
       subst
       (λ (owners : Ownership).

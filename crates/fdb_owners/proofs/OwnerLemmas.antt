@@ -1,5 +1,6 @@
 -- Owners of a point before and after the moves of one version.
-use Rattle.std.proofs.Common.{◌≡◌, ◌∙◌, sym, ap, refl, ℕ, ◌<◌, ◌≤◌, Bool, true, false, ◌&&◌, nat_le, if◌then◌else◌, List, [], ◌∷◌, arith}
+use Rattle.std.proofs.Common.{◌≡◌, ◌∙◌, sym, ap, refl, ℕ, ◌<◌, ◌≤◌, Bool, true, false, ◌&&◌, nat_le, if◌then◌else◌}
+use Rattle.std.proofs.Common.{List, [], ◌∷◌, arith}
 use Rattle.std.specs.List.{AllByRecursion}
 use Rattle.std.proofs.lemmas.Bool.{cond-true, cond-false, le-leb, lt-leb}
 use Rattle.fdb_keys.specs.Points.{Point}
@@ -30,7 +31,8 @@ owner-add_moves splits version [] older x v = same_either_way (nat_le version v)
     same_either_way true i = refl
     same_either_way false i = refl
 owner-add_moves splits version (move ∷ moves) older x v =
-    owner-add_moves splits version moves (record { version = version; range = move.range; target = move.to } ∷ older) x v
+    owner-add_moves splits version moves (record { version = version; range = move.range; target = move.to } ∷ older)
+    x v
     ∙ reached-move (nat_le version v) (in_range move.range x) moves x move.to (owner splits older x v)
 
 -- from the version on, the moves change the owner

@@ -1,8 +1,11 @@
 -- Parts of a range after moves, and the list of the parts of all resolvers.
-use Rattle.std.proofs.Common.{◌≡◌, ◌∙◌, sym, ap, ap₂, subst, refl, ℕ, suc, ◌<◌, ◌≤◌, Bool, true, false, ◌&&◌, ◌||◌, ◌==◌, nat_lt, if◌then◌else◌, List, [], ◌∷◌, ◌++◌, length, ⊎_elim, Ordering, Less, Equal, Greater, nat_cmp, is_lt, is_ge, arith}
+use Rattle.std.proofs.Common.{◌≡◌, ◌∙◌, sym, ap, ap₂, subst, refl, ℕ, suc, ◌<◌, ◌≤◌, Bool, true, false, ◌&&◌, ◌||◌}
+use Rattle.std.proofs.Common.{◌==◌, nat_lt, if◌then◌else◌, List, [], ◌∷◌, ◌++◌, length, ⊎_elim, Ordering, Less, Equal}
+use Rattle.std.proofs.Common.{Greater, nat_cmp, is_lt, is_ge, arith}
 use Rattle.std.specs.Cmp.Lexicographic.{slice_cmp}
 use Rattle.std.specs.List.{AllByRecursion}
-use Rattle.std.proofs.lemmas.Bool.{cases_Bool, or_left, cases_lt, both_ways, and_parts, cond-true, cond-false, eqb-true, eq-eqb, ltb-true, lt-ltb, le-ltb, ltb-false, false_from_ne_true, not-true}
+use Rattle.std.proofs.lemmas.Bool.{cases_Bool, or_left, cases_lt, both_ways, and_parts, cond-true, cond-false, eqb-true}
+use Rattle.std.proofs.lemmas.Bool.{eq-eqb, ltb-true, lt-ltb, le-ltb, ltb-false, false_from_ne_true, not-true}
 use Rattle.fdb_keys.specs.Points.{Point, point_lt}
 use Rattle.fdb_keys.specs.Ranges.{Range, in_range, in_set, is_apart}
 use Rattle.fdb_keys.specs.Texts.{is_bound, is_after_ff}
@@ -39,7 +42,8 @@ first-part splits i range part rising exists legal is x = is x ∙ ⊎_elim
     lt_le_chain x range.end end_of_keys (in_range_parts range x inside).1 (not-true _ (and_parts _ _ legal).1) in
     ap₂ (λ (of_piece of_range : Bool). of_piece && of_range || false)
     (pieces_part_the_keys splits i x rising exists below) inside
-    ∙ to_right (first_owner splits x == i) ∙ ap (λ (of_range : Bool). of_range && (first_owner splits x == i)) (sym inside))
+    ∙ to_right (first_owner splits x == i) ∙ ap (λ (of_range : Bool). of_range && (first_owner splits x == i))
+    (sym inside))
     (λ (outside : in_range range x ≡ false).
     ap (λ (of_range : Bool). in_range (piece splits i) x && of_range || false) outside
     ∙ to_false (in_range (piece splits i) x)
@@ -74,7 +78,8 @@ ranges_of-before : (parts : List Owned) (i : ℕ) (last : Owned) → (last.resol
     → ranges_of (parts ++ last ∷ []) i ≡ ranges_of parts i
 ranges_of-before [] i last other = cond-false (last.resolver == i) last.ranges [] other
 ranges_of-before (part ∷ parts) i last other =
-    ap (λ (ranges : List Range). if part.resolver == i then part.ranges else ranges) (ranges_of-before parts i last other)
+    ap (λ (ranges : List Range). if part.resolver == i then part.ranges else ranges)
+    (ranges_of-before parts i last other)
 
 -- the part of the next resolver comes after the others
 rising-push : (k : ℕ) (parts : List Owned) (last : Owned) → AreRising parts
@@ -125,7 +130,8 @@ parts-push k held parts last first is some points =
       points = next-points k held parts (parts ++ last ∷ []) first.points
           (λ i other x. ap (λ (ranges : List Range). in_set ranges x)
           (ranges_of-before parts i last (ap (λ (j : ℕ). j == i) is ∙ other)))
-          (λ x. ap (λ (ranges : List Range). in_set ranges x) (ranges_of-others parts k first.within last is) ∙ points x);
+          (λ x. ap (λ (ranges : List Range). in_set ranges x) (ranges_of-others parts k first.within last is)
+          ∙ points x);
     }
 
 -- the next resolver has none
@@ -141,13 +147,15 @@ parts-skip k held parts first none =
     }
 
 -- a list of ranges that are apart is empty, or has points
-pub some-apart : (ranges : List Range) → is_apart ranges ≡ true → (length ranges == 0) ≡ false → has_points ranges ≡ true
+pub some-apart : (ranges : List Range) → is_apart ranges ≡ true → (length ranges == 0) ≡ false → has_points ranges
+    ≡ true
 some-apart [] apart some = cc
 some-apart (range ∷ ranges) apart some = or_left _ _ (apart_parts range ranges apart).0
 
 pub none-empty : (ranges : List Range) → (length ranges == 0) ≡ true → (x : Point) → in_set ranges x ≡ false
 none-empty [] none x = refl
-none-empty (range ∷ ranges) none x = absurd (let empty = eqb-true (length (range ∷ ranges)) 0 none in omega (arith, empty))
+none-empty (range ∷ ranges) none x = absurd (let empty = eqb-true (length (range ∷ ranges)) 0 none in
+    omega (arith, empty))
 
 -- where only the first so many resolvers hold points, their parts are all
 pub parts-are_all : (n : ℕ) (first all : ℕ → Point → Bool) (parts : List Owned) → AreFirstParts n first parts

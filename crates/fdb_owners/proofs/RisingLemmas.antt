@@ -1,5 +1,6 @@
 -- Steps whose versions rise, parted at a version and with one more at the end.
-use Rattle.std.proofs.Common.{◌≡◌, ℕ, zero, suc, ◌<◌, ◌≤◌, Bool, true, false, nat_le, List, [], ◌∷◌, ◌++◌, take, drop, length, get_or, arith}
+use Rattle.std.proofs.Common.{◌≡◌, ℕ, zero, suc, ◌<◌, ◌≤◌, Bool, true, false, nat_le, List, [], ◌∷◌, ◌++◌, take, drop}
+use Rattle.std.proofs.Common.{length, get_or, arith}
 use Rattle.std.specs.List.{AllByRecursion}
 use Rattle.std.specs.List.Sorted.{IsNonDecreasingBy, IsPartitionedBy, IsPartitionPoint}
 use Rattle.std.proofs.lemmas.Bool.{leb-true, leb-false}
@@ -53,7 +54,8 @@ versions-rise (first ∷ steps) rising (suc i) zero d order within = absurd (ome
 versions-rise (first ∷ steps) rising (suc i) (suc j) d order within =
     versions-rise steps rising.1 i j d (omega arith) (omega arith)
 
-pub parted-by_version : (version : ℕ) (steps : List Learnt) → AreRising steps → IsPartitionedBy (is_through version) steps
+pub parted-by_version : (version : ℕ) (steps : List Learnt) → AreRising steps
+    → IsPartitionedBy (is_through version) steps
 parted-by_version version steps rising =
     IsPartitionedBy-leb (λ (step : Learnt). step.version) steps version (versions-rise steps rising)
 

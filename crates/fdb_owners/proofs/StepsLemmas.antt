@@ -1,5 +1,6 @@
 -- Owners of a point along what was learnt.
-use Rattle.std.proofs.Common.{◌≡◌, ◌∙◌, sym, ap, refl, ℕ, suc, ◌<◌, ◌≤◌, ◌↔◌, Bool, true, false, ◌||◌, ◌==◌, List, [], ◌∷◌, ◌++◌, ⊎_elim, arith}
+use Rattle.std.proofs.Common.{◌≡◌, ◌∙◌, sym, ap, refl, ℕ, suc, ◌<◌, ◌≤◌, ◌↔◌, Bool, true, false, ◌||◌, ◌==◌, List, []}
+use Rattle.std.proofs.Common.{◌∷◌, ◌++◌, ⊎_elim, arith}
 use Rattle.std.proofs.lemmas.Bool.{cases_lt, or_left, or_right, or_cases, eqb-true, eq-eqb}
 use Rattle.std.proofs.lemmas.List.Sums.{fold-append}
 use Rattle.fdb_keys.specs.Points.{Point}
@@ -10,7 +11,8 @@ use Rattle.fdb_txn.proofs.book.HistoryLemmas.{all-weaken}
 use Rattle.fdb_owners.specs.declared.learnt.Learnt.{Learnt}
 use Rattle.fdb_owners.specs.Learnt.{moves_after, AreRising, AreUpTo, AreAbove, owner_after, owns_along}
 use Rattle.fdb_owners.specs.Ownership.{target_after}
-use Rattle.fdb_owners.proofs.OwnerLemmas.{owner-since, owner-before, AreMovesUpTo, owner-stays, all-add_moves, all-of_any}
+use Rattle.fdb_owners.proofs.OwnerLemmas.{owner-since, owner-before, AreMovesUpTo, owner-stays, all-add_moves}
+use Rattle.fdb_owners.proofs.OwnerLemmas.{all-of_any}
 
 -- tests that follow from one another are the same
 pub same_test : (a b : Bool) → (a ≡ true → b ≡ true) → (b ≡ true → a ≡ true) → a ≡ b
@@ -123,7 +125,8 @@ owned-along splits before steps later i x from first version is order known risi
     ∙ along-owned_from splits (moves_after [] before) steps i x first some.0 older_known rising above
     (omega (arith, some.1)) (sym (in_span some.0 some.2) ∙ some.3))
     (λ held.
-    let some = owned_from-along splits (moves_after [] before) steps i x first version older_known rising above through order
+    let some = owned_from-along splits (moves_after [] before) steps i x first version older_known rising above
+    through order
     (ap (λ (j : ℕ). owns_along steps i x j) at_first ∙ held) in
     spans.1 (some.0, omega (arith, some.1), some.2, in_span some.0 some.2 ∙ some.3))
   where

@@ -1,5 +1,6 @@
 //! What owners have to do with the moves of a book, for the proofs of the crates that use them.
-ghost use Rattle.fdb_owners.specs.OwnersLaws.{OwnedAtSomeVersion, NewGoesOn, LearningGoesOn, ExpiringGoesOn, OwnedByTheBook};
+ghost use Rattle.fdb_owners.specs.OwnersLaws.{OwnedAtSomeVersion, NewGoesOn, LearningGoesOn, ExpiringGoesOn};
+ghost use Rattle.fdb_owners.specs.OwnersLaws.{OwnedByTheBook};
 
 /// A resolver owned a point between two versions exactly where it was the owner at one of them.
 pub fn points_are_owned_exactly_where_at_some_version()

@@ -34,7 +34,8 @@ impl Owners {
     ghost use Rattle.fdb_keys.specs.Answers.{Answers};
     ghost use Rattle.fdb_keys.specs.Points.{Point};
     ghost use Rattle.fdb_keys.specs.Ranges.{in_range};
-    ghost use Rattle.fdb_owners.specs.Ownership.{owner_at, resolvers_of, owned_between, owners_fault, learn_fault, IsNew, HasLearnt, HasExpired};
+    ghost use Rattle.fdb_owners.specs.Ownership.{owner_at, resolvers_of, owned_between, owners_fault, learn_fault};
+    ghost use Rattle.fdb_owners.specs.Ownership.{IsNew, HasLearnt, HasExpired};
     ghost use Rattle.fdb_owners.specs.Parts.{ArePartsOf};
 
     /// The owners at first, of so many resolvers: the first one owns the keys before the first split, and each

@@ -1,5 +1,6 @@
 // Parts of a range, by who owns its keys.
-ghost use Rattle.std.specs.Prelude.{◌≡◌, ◌≤◌, ◌<◌, ◌&&◌, ◌||◌, ◌==◌, ℕ, suc, Bool, length, IsTrue, None, OnErr, if◌then◌else◌};
+ghost use Rattle.std.specs.Prelude.{◌≡◌, ◌≤◌, ◌<◌, ◌&&◌, ◌||◌, ◌==◌, ℕ, suc, Bool, length, IsTrue, None, OnErr};
+ghost use Rattle.std.specs.Prelude.{if◌then◌else◌};
 ghost use Rattle.fdb_keys.specs.Answers.{Answers};
 ghost use Rattle.fdb_keys.specs.Points.{Point};
 ghost use Rattle.fdb_keys.specs.Ranges.{in_range, in_set};
@@ -31,9 +32,9 @@ impl Owned {
     ghost use Rattle.fdb_keys.specs.Ranges.{in_set};
     ghost use Rattle.fdb_owners.specs.Parts.{HasSomeOf};
 
-    /// Adds the keys of the part to the set, in O(m (m + n)) time for m ranges of the part and n of the set. Refused only
-    /// as `NoMemory`. Then the set is half changed: it has all keys that it had, and may have any of the part's. Which
-    /// ones isn't said, so whoever wants the set from before, or the whole one, has to make it anew.
+    /// Adds the keys of the part to the set, in O(m (m + n)) time for m ranges of the part and n of the set. Refused
+    /// only as `NoMemory`. Then the set is half changed: it has all keys that it had, and may have any of the part's.
+    /// Which ones isn't said, so whoever wants the set from before, or the whole one, has to make it anew.
     pub fn add_to(&self, set: &mut RangeSet) -> Result<(), Refusal>
         ensures answers { Answers result None
             (λ _. (x : Point) → in_set set.new x ≡ (in_set self.now.ranges x || in_set set.old x)) }
@@ -81,7 +82,8 @@ fn take_move(
     one_move: &Move,
 ) -> Result<(), Refusal>
     ensures { Answers result None (λ _. (owner_of : Point → ℕ) → IsPartBy owner_of resolver range.now part.old
-        → IsPartBy (λ x. if in_range one_move.now.range x then one_move.now.to else owner_of x) resolver range.now part.new) }
+        → IsPartBy (λ x. if in_range one_move.now.range x then one_move.now.to else owner_of x) resolver range.now
+        part.new) }
 {
     if one_move.to != resolver {
         return part.remove(&one_move.range);
@@ -197,7 +199,8 @@ pub(crate) fn parts_along(
     requires rising { IsTrue (are_splits splits.now) }
     requires few { length splits.now < resolver_limit }
     ensures { Answers result None (AreFirstParts (suc (length splits.now))
-        (λ i x. in_range range.now x && owns_along steps.now i x (owner_after before.now x (first_owner splits.now x)))) }
+        (λ i x. in_range range.now x && owns_along steps.now i x
+        (owner_after before.now x (first_owner splits.now x)))) }
 {
     let resolvers = splits.as_slice().len() as u32 + 1;
     let mut parts = Items::new(alloc);

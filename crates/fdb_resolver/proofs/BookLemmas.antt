@@ -1,5 +1,6 @@
 -- The rule over versions says what the rule over the book says.
-use Rattle.std.proofs.Common.{◌≡◌, ◌∙◌, ◌↔◌, sym, ap, ap₂, refl, ℕ, ◌+◌, Bool, true, false, not, ◌&&◌, nat_lt, List, if◌then◌else◌, arith}
+use Rattle.std.proofs.Common.{◌≡◌, ◌∙◌, ◌↔◌, sym, ap, ap₂, refl, ℕ, ◌+◌, Bool, true, false, not, ◌&&◌, nat_lt, List}
+use Rattle.std.proofs.Common.{if◌then◌else◌, arith}
 use Rattle.std.proofs.lemmas.Bool.{both_ways, not_from_true, not_from_false, false_from_ne_true, cond-true, cond-false}
 use Rattle.fdb_keys.specs.Points.{Point}
 use Rattle.fdb_txn.specs.book.Book.{Place}

@@ -72,7 +72,8 @@ pub(crate) fn judge_items(
     items: &[Item],
 ) -> Result<Items<(u32, Verdict)>, Refusal>
     requires { (x : Point) → version_at versions.old x ≤ version }
-    ensures verdicts { Answers result None (λ answers. AreVerdicts version (version_at versions.old) items.now answers) }
+    ensures verdicts { Answers result None (λ answers. AreVerdicts version (version_at versions.old) items.now
+        answers) }
     ensures versions { IfOk result
         (λ answers. (x : Point)
         → version_at versions.new x ≡ versions_after version (version_at versions.old) items.now answers x) }

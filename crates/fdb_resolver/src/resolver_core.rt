@@ -25,7 +25,13 @@ impl Model for ResolverCore {
 
     ghost Value = { Resolver };
 
-    ghost view = { λ core. record { index = core.index; last = core.last; is_failed = core.is_failed; versions = core.versions } };
+    ghost view = { λ core. record {
+      index = core.index;
+      last = core.last;
+      is_failed = core.is_failed;
+      versions =
+          core.versions;
+    } };
 
     ghost invariant = { λ core. core.is_failed ≡ false → (x : Point) → version_at core.versions x ≤ core.last };
 }
@@ -60,7 +66,8 @@ impl ResolverCore {
     /// point with such a version has 0 from then on, and every greater version is kept.
     pub fn take(&mut self, part: &Part) -> Result<Verdicts, Refusal>
         requires { IsPart part.now }
-        ensures answers { Answers result (part_fault self.old part.now) (λ verdicts. IsAnswer self.old part.now verdicts) }
+        ensures answers { Answers result (part_fault self.old part.now)
+            (λ verdicts. IsAnswer self.old part.now verdicts) }
         ensures taken { IfOk result (λ verdicts. HasTaken self.old part.now verdicts self.new) }
         ensures refused { IsSome (part_fault self.old part.now) → self.new ≡ self.old }
         ensures failed { IsNone (part_fault self.old part.now) → OnErr result (HasFailed self.old self.new) }

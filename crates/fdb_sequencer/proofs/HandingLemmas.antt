@@ -1,5 +1,7 @@
 -- Each proxy gets each move once, by tickets that it may learn.
-use Rattle.std.proofs.Common.{◌≡◌, ◌∙◌, refl, sym, ap, subst, map, arith, ⊎_elim, ℕ, zero, suc, ◌<◌, ◌≤◌, true, false, ◌==◌, List, [], ◌∷◌, ◌++◌, fold, length, slice_get, slice_set, unwrap_or, replicate, None, if◌then◌else◌}
+use Rattle.std.proofs.Common.{◌≡◌, ◌∙◌, refl, sym, ap, subst, map, arith, ⊎_elim, ℕ, zero, suc, ◌<◌, ◌≤◌, true, false}
+use Rattle.std.proofs.Common.{◌==◌, List, [], ◌∷◌, ◌++◌, fold, length, slice_get, slice_set, unwrap_or, replicate, None}
+use Rattle.std.proofs.Common.{if◌then◌else◌}
 use Rattle.std.specs.Prelude.{flat_map}
 use Rattle.std.specs.List.{AllByRecursion}
 use Rattle.std.proofs.lemmas.Bool.{cases_Bool, eqb-true, eqb-false}
@@ -8,8 +10,11 @@ use Rattle.fdb_txn.specs.declared.entry.Move.{Move}
 use Rattle.fdb_txn.proofs.book.HistoryLemmas.{all-append}
 use Rattle.fdb_sequencer.specs.declared.ticket.Ticket.{Ticket}
 use Rattle.fdb_sequencer.specs.Moves.{Dated, dated}
-use Rattle.fdb_sequencer.specs.Sequencer.{Sequencer, fresh, unlearnt_by, next_version, planned, accept_fault, accepting, move_fault, moving}
-use Rattle.fdb_sequencer.specs.TicketLaws.{Act, Moves, Takes, after, AreTaken, tickets_in, moves_made, taking_effect, told, last_of, AreRisingUpTo, GoToResolvers, MayBeLearnt, EachMoveTakesEffectOnce, EachProxyGetsEachMoveOnce, PlannedMayBeLearnt}
+use Rattle.fdb_sequencer.specs.Sequencer.{Sequencer, fresh, unlearnt_by, next_version, planned, accept_fault, accepting}
+use Rattle.fdb_sequencer.specs.Sequencer.{move_fault, moving}
+use Rattle.fdb_sequencer.specs.TicketLaws.{Act, Moves, Takes, after, AreTaken, tickets_in, moves_made, taking_effect}
+use Rattle.fdb_sequencer.specs.TicketLaws.{told, last_of, AreRisingUpTo, GoToResolvers, MayBeLearnt}
+use Rattle.fdb_sequencer.specs.TicketLaws.{EachMoveTakesEffectOnce, EachProxyGetsEachMoveOnce, PlannedMayBeLearnt}
 use Rattle.fdb_sequencer.proofs.TicketLemmas.{Exist, accepted_is_now, is_granted, next_version-above, pending_exist}
 
 pub each_move_takes_effect_once : EachMoveTakesEffectOnce
@@ -20,7 +25,8 @@ each_move_takes_effect_once s (Takes ticket ∷ acts) taken =
     let effects = flat_map (λ (one : Ticket). one.pending) (tickets_in acts) in
     let left = (fold after (accepting s ticket) acts).pending in
     append_assoc ticket.pending effects left
-    ∙ (λ i. (accepted_is_now s ticket taken.0).pending i ++ each_move_takes_effect_once (accepting s ticket) acts taken.1 i)
+    ∙ (λ i. (accepted_is_now s ticket taken.0).pending i
+    ++ each_move_takes_effect_once (accepting s ticket) acts taken.1 i)
 
 -- each list with these after it
 abbrev with_more : List Dated → List (List Dated) → List (List Dated)
@@ -42,7 +48,8 @@ with_more-at (moves ∷ lists) more zero within = refl
 with_more-at (moves ∷ lists) more (suc k) within = with_more-at lists more k (omega (arith, within))
 
 -- and at another one the list stays
-handed-other : (lists : List (List Dated)) (k other : ℕ) → (k ≡ other → ⊥) → at (slice_set lists k []) other ≡ at lists other
+handed-other : (lists : List (List Dated)) (k other : ℕ) → (k ≡ other → ⊥) → at (slice_set lists k []) other
+    ≡ at lists other
 handed-other [] k other differ = refl
 handed-other (moves ∷ lists) zero zero differ = absurd (differ refl)
 handed-other (moves ∷ lists) zero (suc other) differ = refl
@@ -245,7 +252,8 @@ ready-at-first proxies resolvers last proxy within =
       within = rw many within;
       through = omega arith;
       learn =
-          none-to-learn resolvers 0 last (unlearnt_by (fresh proxies resolvers last) proxy) (none-at-first proxies proxy);
+          none-to-learn resolvers 0 last (unlearnt_by (fresh proxies resolvers last) proxy)
+          (none-at-first proxies proxy);
       pending = tt;
     }
 

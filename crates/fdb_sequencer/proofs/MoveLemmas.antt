@@ -1,5 +1,6 @@
 -- What a proxy hasn't had comes after the moves that it has had, among those that took effect.
-use Rattle.std.proofs.Common.{◌≡◌, ◌∙◌, sym, ap, refl, ℕ, zero, suc, ◌≤◌, Bool, true, false, ◌&&◌, ◌==◌, List, [], ◌∷◌, ◌++◌, map, length, take, drop, replicate, slice_set, arith}
+use Rattle.std.proofs.Common.{◌≡◌, ◌∙◌, sym, ap, refl, ℕ, zero, suc, ◌≤◌, Bool, true, false, ◌&&◌, ◌==◌, List, [], ◌∷◌}
+use Rattle.std.proofs.Common.{◌++◌, map, length, take, drop, replicate, slice_set, arith}
 use Rattle.std.specs.List.{AllByRecursion}
 use Rattle.std.specs.Cmp.Lexicographic.{pointwise}
 use Rattle.std.proofs.Math.Bool.{and_assoc}
@@ -31,7 +32,8 @@ pub issued_at : (issued new : List Dated) (taken pending : List Move) (had : Lis
     ≡ map (λ (moves : List Dated). moves ++ dated version pending) (map (λ (count : ℕ). drop count issued) had)
 issued_at issued new taken [] had version within put took some = absurd (let same : true ≡ false = some in cc)
 issued_at issued new taken (move ∷ pending) had version within put took some =
-    (λ i. map (λ (count : ℕ). drop count ((put ∙ ap (λ (moves : List Move). issued ++ (version, moves) ∷ []) took) i)) had)
+    (λ i. map (λ (count : ℕ). drop count ((put ∙ ap (λ (moves : List Move). issued ++ (version, moves) ∷ []) took) i))
+    had)
     ∙ issued_more issued ((version, move ∷ pending) ∷ []) had within
 
 -- where there are none, nothing changes

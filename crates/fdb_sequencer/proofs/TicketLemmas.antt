@@ -1,7 +1,9 @@
 -- What is accepted was planned, is accepted once, and makes a book.
-use Rattle.std.proofs.Common.{◌≡◌, ◌∙◌, refl, sym, ap, subst, map, arith, ⊎_elim, ℕ, zero, suc, ◌+◌, ◌-◌, ◌<◌, ◌≤◌, true, List, [], ◌∷◌, fold, Some, None}
+use Rattle.std.proofs.Common.{◌≡◌, ◌∙◌, refl, sym, ap, subst, map, arith, ⊎_elim, ℕ, zero, suc, ◌+◌, ◌-◌, ◌<◌, ◌≤◌}
+use Rattle.std.proofs.Common.{true, List, [], ◌∷◌, fold, Some, None}
 use Rattle.std.specs.List.{AllByRecursion}
-use Rattle.std.proofs.lemmas.Bool.{and_parts, and_from, cases_Bool, ltb-true, leb-true, eqb-true, lt-ltb, le-leb, eq-eqb}
+use Rattle.std.proofs.lemmas.Bool.{and_parts, and_from, cases_Bool, ltb-true, leb-true, eqb-true, lt-ltb, le-leb}
+use Rattle.std.proofs.lemmas.Bool.{eq-eqb}
 use Rattle.std.proofs.lemmas.Grind.{common_steps}
 use Rattle.fdb_keys.specs.declared.refusal.Refusal.TheVariants.{Stale}
 use Rattle.fdb_keys.specs.Equality.{items_eq_decides}
@@ -13,8 +15,11 @@ use Rattle.fdb_sequencer.specs.declared.ticket.Ticket.{Ticket}
 use Rattle.fdb_sequencer.specs.Equality.{dated_eq, dated_eq_decides}
 use Rattle.fdb_txn.specs.Limits.{ticket_limit, version_limit, greatest_advance}
 use Rattle.fdb_sequencer.specs.Moves.{moves_at}
-use Rattle.fdb_sequencer.specs.Sequencer.{Sequencer, moves_in, next_version, planned, plan_fault, is_planned, accept_fault, accepting, move_fault, moving}
-use Rattle.fdb_sequencer.specs.TicketLaws.{Act, Moves, Takes, after, tickets_in, PlannedAreAccepted, AcceptedArePlanned, AcceptedOnce, IndicesCountUp, Issued, ReadsBelow, AreIssued, TicketsMakeABook, FirstTicketsAreABook, entry_of}
+use Rattle.fdb_sequencer.specs.Sequencer.{Sequencer, moves_in, next_version, planned, plan_fault, is_planned}
+use Rattle.fdb_sequencer.specs.Sequencer.{accept_fault, accepting, move_fault, moving}
+use Rattle.fdb_sequencer.specs.TicketLaws.{Act, Moves, Takes, after, tickets_in, PlannedAreAccepted, AcceptedArePlanned}
+use Rattle.fdb_sequencer.specs.TicketLaws.{AcceptedOnce, IndicesCountUp, Issued, ReadsBelow, AreIssued}
+use Rattle.fdb_sequencer.specs.TicketLaws.{TicketsMakeABook, FirstTicketsAreABook, entry_of}
 
 -- what the test of a ticket says
 pub record IsNow (s : Sequencer) (ticket : Ticket) : Type 0 where
@@ -93,8 +98,8 @@ planned_are_accepted s proxy advance granted =
     let same : is_planned s (planned s proxy advance) ≡ true =
     and_from _ _
     (and_from _ _
-    (and_from _ _ (and_from _ _ (and_from _ _ (lt-ltb _ _ is.is_proxy) (eq-eqb _ _ refl)) (lt-ltb _ _ is.accepted)) (eq-eqb _ _ refl))
-    (and_from _ _ (and_from _ _ (lt-ltb _ _ above.0) (le-leb _ _ above.1)) (le-leb _ _ is.version)))
+    (and_from _ _ (and_from _ _ (and_from _ _ (lt-ltb _ _ is.is_proxy) (eq-eqb _ _ refl)) (lt-ltb _ _ is.accepted))
+    (eq-eqb _ _ refl)) (and_from _ _ (and_from _ _ (lt-ltb _ _ above.0) (le-leb _ _ above.1)) (le-leb _ _ is.version)))
     (and_from _ _ ((items_eq_decides dated_eq dated_eq_decides moves moves).1 refl)
     ((items_eq_decides move_eq move_eq_decides s.pending s.pending).1 refl)) in
     rw same refl

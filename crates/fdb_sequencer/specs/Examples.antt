@@ -2,7 +2,8 @@
 use Rattle.std.specs.Prelude.{◌≡◌, ℕ, [], ◌∷◌, Some, None}
 use Rattle.fdb_keys.specs.declared.refusal.Refusal.TheVariants.{Stale, Exhausted, BadConfig, MovesFull}
 use Rattle.fdb_txn.specs.declared.entry.Move.{Move}
-use Rattle.fdb_sequencer.specs.Sequencer.{Sequencer, new_fault, next_version, planned, plan_fault, accept_fault, accepting, move_fault, report_fault}
+use Rattle.fdb_sequencer.specs.Sequencer.{Sequencer, new_fault, next_version, planned, plan_fault, accept_fault}
+use Rattle.fdb_sequencer.specs.Sequencer.{accepting, move_fault, report_fault}
 
 -- a sequencer of two proxies and two resolvers, by its accepted tickets, its last version and the moves made
 abbrev pub sequencer : ℕ → ℕ → ℕ → Sequencer

@@ -1,5 +1,6 @@
 -- Which tickets are accepted, that they make a book, and which moves they tell their proxies.
-use Rattle.std.specs.Prelude.{◌≡◌, ◌+◌, ◌<◌, ◌≤◌, ◌++◌, ◌==◌, ⊤, ℕ, List, [], ◌∷◌, map, filter, flat_map, fold, length, slice_get, Some, None, if◌then◌else◌}
+use Rattle.std.specs.Prelude.{◌≡◌, ◌+◌, ◌<◌, ◌≤◌, ◌++◌, ◌==◌, ⊤, ℕ, List, [], ◌∷◌, map, filter, flat_map, fold, length}
+use Rattle.std.specs.Prelude.{slice_get, Some, None, if◌then◌else◌}
 use Rattle.std.specs.List.{AllByRecursion}
 use Rattle.fdb_keys.specs.declared.refusal.Refusal.TheVariants.{Stale}
 use Rattle.fdb_txn.specs.declared.entry.Entry.{Entry}
@@ -10,7 +11,8 @@ use Rattle.fdb_txn.specs.book.History.{AreEntries, IsBook}
 use Rattle.fdb_sequencer.specs.declared.ticket.Ticket.{Ticket}
 use Rattle.fdb_txn.specs.Limits.{greatest_advance}
 use Rattle.fdb_sequencer.specs.Moves.{Dated, dated}
-use Rattle.fdb_sequencer.specs.Sequencer.{Sequencer, IsSequencer, fresh, unlearnt_by, planned, plan_fault, accept_fault, accepting, move_fault, moving}
+use Rattle.fdb_sequencer.specs.Sequencer.{Sequencer, IsSequencer, fresh, unlearnt_by, planned, plan_fault, accept_fault}
+use Rattle.fdb_sequencer.specs.Sequencer.{accepting, move_fault, moving}
 
 -- what changes which tickets may come: a move is made, or a ticket is accepted
 pub data Act : Type 0 where
@@ -112,8 +114,8 @@ EachMoveTakesEffectOnce =
     → flat_map (λ (ticket : Ticket). ticket.pending) (tickets_in acts) ++ (fold after s acts).pending
     ≡ s.pending ++ moves_made acts
 
--- What a proxy's tickets tell it, and then what it hasn't had yet, is what it hadn't had before, and then all moves that
--- took effect since: so it gets each of them once, in order, and none before it takes effect.
+-- What a proxy's tickets tell it, and then what it hasn't had yet, is what it hadn't had before, and then all moves
+-- that took effect since: so it gets each of them once, in order, and none before it takes effect.
 abbrev pub EachProxyGetsEachMoveOnce : Type 0
 EachProxyGetsEachMoveOnce =
     (s : Sequencer) (acts : List Act) (proxy : ℕ) → length s.unlearnt ≡ s.proxies → proxy < s.proxies → AreTaken s acts

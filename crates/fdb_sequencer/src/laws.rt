@@ -1,9 +1,13 @@
-//! What `==` says of tickets, which tickets are accepted, that they make a book, and which moves they tell their proxies.
+//! What `==` says of tickets, which tickets are accepted, that they make a book, and which moves they tell their
+//! proxies.
 ghost use Rattle.std.specs.Prelude.{◌≡◌};
 ghost use Rattle.std.specs.Bool.{Decides};
 ghost use Rattle.fdb_sequencer.specs.Equality.{ticket_eq};
-ghost use Rattle.fdb_sequencer.specs.Examples.{WorkedVersions, WorkedPlans, WorkedTickets, WorkedMoves, WorkedReports, WorkedNumbers};
-ghost use Rattle.fdb_sequencer.specs.TicketLaws.{PlannedAreAccepted, AcceptedArePlanned, AcceptedOnce, IndicesCountUp, TicketsMakeABook, FirstTicketsAreABook, EachMoveTakesEffectOnce, EachProxyGetsEachMoveOnce, PlannedMayBeLearnt};
+ghost use Rattle.fdb_sequencer.specs.Examples.{WorkedVersions, WorkedPlans, WorkedTickets, WorkedMoves, WorkedReports};
+ghost use Rattle.fdb_sequencer.specs.Examples.{WorkedNumbers};
+ghost use Rattle.fdb_sequencer.specs.TicketLaws.{PlannedAreAccepted, AcceptedArePlanned, AcceptedOnce, IndicesCountUp};
+ghost use Rattle.fdb_sequencer.specs.TicketLaws.{TicketsMakeABook, FirstTicketsAreABook, EachMoveTakesEffectOnce};
+ghost use Rattle.fdb_sequencer.specs.TicketLaws.{EachProxyGetsEachMoveOnce, PlannedMayBeLearnt};
 
 use crate::ticket::Ticket;
 

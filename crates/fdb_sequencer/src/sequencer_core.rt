@@ -40,7 +40,9 @@ impl Model for SequencerCore {
 impl SequencerCore {
     ghost use Rattle.std.specs.Prelude.{◌≡◌, OnErr};
     ghost use Rattle.fdb_keys.specs.Answers.{Answers, AnswersExactly};
-    ghost use Rattle.fdb_sequencer.specs.Sequencer.{IsSequencer, new_fault, fresh, plan_fault, planned, is_planned, accept_fault, accepting, move_fault, moving, report_fault, reporting};
+    ghost use Rattle.fdb_sequencer.specs.Sequencer.{IsSequencer, new_fault, fresh, plan_fault, planned, is_planned};
+    ghost use Rattle.fdb_sequencer.specs.Sequencer.{accept_fault, accepting, move_fault, moving, report_fault};
+    ghost use Rattle.fdb_sequencer.specs.Sequencer.{reporting};
 
     /// The sequencer of a database whose last version is `last`, which is 0 at first. No ticket was accepted,
     /// no version reported and no move made yet.
@@ -102,7 +104,8 @@ impl SequencerCore {
     /// Refused as `Stale` unless the ticket is what `plan` answers now for some proxy and advance, and then
     /// nothing changes.
     pub fn accept(&mut self, ticket: &Ticket) -> Result<(), Refusal>
-        ensures answers { AnswersExactly result (accept_fault self.old ticket.now) (λ _. self.new ≡ accepting self.old ticket.now) }
+        ensures answers { AnswersExactly result (accept_fault self.old ticket.now)
+            (λ _. self.new ≡ accepting self.old ticket.now) }
         ensures err { OnErr result (self.new ≡ self.old) }
     {
         if !self.is_planned(ticket) {
@@ -155,7 +158,8 @@ impl SequencerCore {
     ///
     /// Refused as `BadConfig` where the version is above the last one that was issued, and then nothing changes.
     pub fn report(&mut self, version: u64) -> Result<(), Refusal>
-        ensures answers { AnswersExactly result (report_fault self.old version) (λ _. self.new ≡ reporting self.old version) }
+        ensures answers { AnswersExactly result (report_fault self.old version)
+            (λ _. self.new ≡ reporting self.old version) }
         ensures err { OnErr result (self.new ≡ self.old) }
     {
         if version > self.last {

@@ -2,7 +2,8 @@
 use Rattle.std.proofs.Common.{◌≡◌, ◌∙◌, sym, ap, refl, ℕ, cond, List, [], ◌∷◌, Option, Some, None}
 use Rattle.std.specs.Ordering.{nat_cmp}
 use Rattle.std.specs.Cmp.{eq_by_cmp_equiv}
-use Rattle.std.specs.FinMap.{FinMap, get, insert, remove, from_entries, find, same_map, get-insert, get-remove, get-from_entries, nat_cmp-IsAntisymmetric}
+use Rattle.std.specs.FinMap.{FinMap, get, insert, remove, from_entries, find, same_map, get-insert, get-remove}
+use Rattle.std.specs.FinMap.{get-from_entries, nat_cmp-IsAntisymmetric}
 use Rattle.std.specs.BTreeMap.{is_at}
 use Rattle.std.specs.Map.{lookup}
 use Rattle.std.proofs.lemmas.Cmp.{nat_cmp_total}
@@ -18,7 +19,8 @@ module _ {X : Type 0} where
       ap (cond (is_at (nat_cmp number) pair.0) (Some pair.1)) (found-at_number pairs number)
 
   -- what the map that the pairs make has there
-  pub get-pairs : (pairs : List (ℕ × X)) (number : ℕ) → get (from_entries {R = nat_cmp} pairs) number ≡ at_number pairs number
+  pub get-pairs : (pairs : List (ℕ × X)) (number : ℕ) → get (from_entries {R = nat_cmp} pairs) number
+      ≡ at_number pairs number
   get-pairs pairs number = get-from_entries nat_cmp_total pairs number ∙ found-at_number pairs number
 
   -- maps that have the same at each number are one

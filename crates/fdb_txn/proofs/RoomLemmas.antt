@@ -9,7 +9,8 @@ use Rattle.fdb_txn.specs.Room.{room_fault}
 module _ {X : Type 0} where
   -- where one waits, an item is refused as stale
   pub refused_where_one_waits : (waiting : Option X) (item : X) (P : Unit {0} → Type 0) → is_some waiting ≡ true
-      → AnswersOrHandsBack {T = Unit {0}} {B = X} (Err (record { why = Stale; back = item })) item (room_fault waiting) P
+      → AnswersOrHandsBack {T = Unit {0}} {B = X} (Err (record { why = Stale; back = item })) item
+      (room_fault waiting) P
   refused_where_one_waits None item P waits = cc
   refused_where_one_waits (Some other) item P waits = (refl, refl)
 
@@ -19,7 +20,7 @@ module _ {X : Type 0} where
   let_wait None result item P none is holds = subst (λ r. AnswersOrHandsBack r item None P) (sym is) holds
   let_wait (Some other) result item P none is holds = cc
 
-  -- or refused for want of memory
+  -- or refused because memory ran out
   pub refused_for_memory : (waiting : Option X) (result : Result (Unit {0}) (Refused X)) (item back : X)
       (P : Unit {0} → Type 0) → is_some waiting ≡ false → result ≡ Err (record { why = NoMemory; back = back })
       → back ≡ item → AnswersOrHandsBack result item (room_fault waiting) P

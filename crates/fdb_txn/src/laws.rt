@@ -6,12 +6,18 @@ ghost use Rattle.fdb_txn.specs.Equality.{txn_id_eq, spot_eq, move_eq, entry_eq, 
 ghost use Rattle.fdb_txn.specs.declared.limits.TheConstants.{PLACE_LIMIT, RESOLVER_LIMIT, WINDOW};
 ghost use Rattle.fdb_txn.specs.Limits.{place_limit, resolver_limit};
 ghost use Rattle.fdb_txn.specs.rules.Owners.{window};
-ghost use Rattle.fdb_txn.specs.laws.Examples.{Sizes, OneBatch, WriteSkew, FalseConflict, FormerOwner, ThereAndBack, EqualIsNotNewer, Window, OldReading, TwoMoves, Spans, AtBounds, ShardMessages, Entries, Books};
-ghost use Rattle.fdb_txn.specs.laws.AdmissionLaws.{OverlapsAtSomePoint, AskedAtSomePoint, OwnedAtSomeVersion, AdmitsWithoutConflict, CommittedByTheAsked, OldIsAsked};
-ghost use Rattle.fdb_txn.specs.laws.ResolverLaws.{AskedWhereItHasAPart, LastVersionsDecide, OnePlaceMore, StateDecides, StateTakesPlace, StateForgets, ForgottenAgree};
+ghost use Rattle.fdb_txn.specs.laws.Examples.{Sizes, OneBatch, WriteSkew, FalseConflict, FormerOwner, ThereAndBack};
+ghost use Rattle.fdb_txn.specs.laws.Examples.{EqualIsNotNewer, Window, OldReading, TwoMoves, Spans, AtBounds};
+ghost use Rattle.fdb_txn.specs.laws.Examples.{ShardMessages, Entries, Books};
+ghost use Rattle.fdb_txn.specs.laws.AdmissionLaws.{OverlapsAtSomePoint, AskedAtSomePoint, OwnedAtSomeVersion};
+ghost use Rattle.fdb_txn.specs.laws.AdmissionLaws.{AdmitsWithoutConflict, CommittedByTheAsked, OldIsAsked};
+ghost use Rattle.fdb_txn.specs.laws.ResolverLaws.{AskedWhereItHasAPart, LastVersionsDecide, OnePlaceMore, StateDecides};
+ghost use Rattle.fdb_txn.specs.laws.ResolverLaws.{StateTakesPlace, StateForgets, ForgottenAgree};
 ghost use Rattle.fdb_txn.specs.rules.Splits.{PiecesPartTheKeys};
-ghost use Rattle.fdb_txn.specs.rules.Messages.{MeetsAtSomePoint, MessagesAreForTheRange, ShardsHoldTheRun, MessagesGoOn, ShardsGoOn};
-ghost use Rattle.fdb_txn.specs.laws.SerialMapLaws.{BooksAreEntries, PlacesAreHistory, PlacesAreFoundInTheBook, ReadsStand, EarlierPlacesStay, EarlierMapsStay, EntriesGoOn};
+ghost use Rattle.fdb_txn.specs.rules.Messages.{MeetsAtSomePoint, MessagesAreForTheRange, ShardsHoldTheRun};
+ghost use Rattle.fdb_txn.specs.rules.Messages.{MessagesGoOn, ShardsGoOn};
+ghost use Rattle.fdb_txn.specs.laws.SerialMapLaws.{BooksAreEntries, PlacesAreHistory, PlacesAreFoundInTheBook};
+ghost use Rattle.fdb_txn.specs.laws.SerialMapLaws.{ReadsStand, EarlierPlacesStay, EarlierMapsStay, EntriesGoOn};
 
 use crate::batch::Batch;
 use crate::entry::{Entry, Move};

@@ -36,11 +36,32 @@ impl Model for Sealed {
 
     ghost Value = { Transaction };
 
-    ghost view = { λ sealed. record { id = sealed.id; read = sealed.read_version; reads = sealed.reads; writes = sealed.writes; mutations = sealed.mutations } };
+    ghost view = { λ sealed. record {
+      id = sealed.id;
+      read = sealed.read_version;
+      reads = sealed.reads;
+      writes =
+          sealed.writes;
+      mutations = sealed.mutations;
+    } };
 
-    ghost invariant = { λ sealed. MaySeal (record { id = sealed.id; read = sealed.read_version; reads = sealed.reads; writes = sealed.writes; mutations = sealed.mutations }) };
+    ghost invariant = { λ sealed. MaySeal (record {
+      id = sealed.id;
+      read = sealed.read_version;
+      reads =
+          sealed.reads;
+      writes = sealed.writes;
+      mutations = sealed.mutations;
+    }) };
 
-    ghost inverse = { λ t. record { id = t.id; read_version = t.read; reads = t.reads; writes = t.writes; mutations = t.mutations } };
+    ghost inverse = { λ t. record {
+      id = t.id;
+      read_version = t.read;
+      reads = t.reads;
+      writes = t.writes;
+      mutations =
+          t.mutations;
+    } };
 }
 
 // The refusal that hands back what was given.

@@ -25,7 +25,8 @@ pub(crate) fn joined(
     mutations: &[Mutation],
 ) -> Result<RangeSet, Refusal>
     ensures answers { Answers result None (λ set. set ≡ with_named writes.now mutations.now) }
-    ensures points { IfOk result (λ set. (x : Point) → in_set set x ≡ (some_names mutations.now x || in_set writes.now x)) }
+    ensures points { IfOk result (λ set. (x : Point) → in_set set x
+        ≡ (some_names mutations.now x || in_set writes.now x)) }
 {
     let mut set = writes.clone()?;
     for mutation in mutations {

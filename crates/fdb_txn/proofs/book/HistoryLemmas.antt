@@ -1,5 +1,6 @@
 -- The places of a book, and one entry more.
-use Rattle.std.proofs.Common.{◌≡◌, ◌∙◌, sym, ap, refl, ℕ, zero, suc, ◌<◌, ◌≤◌, le_refl, le_trans, le_of_lt, subst, append_assoc, List, [], ◌∷◌, ◌++◌, take, drop, fold, slice_get, Some, None, arith}
+use Rattle.std.proofs.Common.{◌≡◌, ◌∙◌, sym, ap, refl, ℕ, zero, suc, ◌<◌, ◌≤◌, le_refl, le_trans, le_of_lt, subst}
+use Rattle.std.proofs.Common.{append_assoc, List, [], ◌∷◌, ◌++◌, take, drop, fold, slice_get, Some, None, arith}
 use Rattle.std.specs.List.{AllByRecursion}
 use Rattle.std.proofs.lemmas.Bool.{cond-true, cond-false, le-leb, lt-leb}
 use Rattle.std.proofs.lemmas.List.Sums.{fold-append}
@@ -10,7 +11,8 @@ use Rattle.fdb_txn.specs.book.Book.{Stamped, Place, Seen, nothing, add_moves, pl
 use Rattle.fdb_txn.specs.book.Places.{place_in, place_of}
 use Rattle.fdb_txn.specs.book.History.{AreLinked, ReadsBelow, MovesExist, IsSealed, IsBook, IsHistory, AreEntries}
 use Rattle.fdb_txn.specs.rules.SerialMap.{serial_map, up_to}
-use Rattle.fdb_txn.specs.laws.SerialMapLaws.{BooksAreEntries, PlacesAreHistory, PlacesAreFoundInTheBook, EarlierPlacesStay, EarlierMapsStay, EntriesGoOn}
+use Rattle.fdb_txn.specs.laws.SerialMapLaws.{BooksAreEntries, PlacesAreHistory, PlacesAreFoundInTheBook}
+use Rattle.fdb_txn.specs.laws.SerialMapLaws.{EarlierPlacesStay, EarlierMapsStay, EntriesGoOn}
 
 -- what holds of each item of two lists holds of each of both together
 pub all-append : {A : Type 0} (P : A → Type 0) (xs ys : List A) → AllByRecursion P xs → AllByRecursion P ys

@@ -1,6 +1,8 @@
 -- A resolver admits a place exactly where the place is not old and has no conflict there.
-use Rattle.std.proofs.Common.{◌≡◌, ap, subst, refl, ⊎_elim, ℕ, Bool, true, false, not, ◌&&◌, nat_lt, List, [], ◌∷◌, ◌++◌}
-use Rattle.std.proofs.lemmas.Bool.{both_ways, true_from_ne_false, and_parts, and_cases, and_from, not-true, not-false, ltb-true, lt-ltb}
+use Rattle.std.proofs.Common.{◌≡◌, ap, subst, refl, ⊎_elim, ℕ, Bool, true, false, not, ◌&&◌, nat_lt, List, [], ◌∷◌}
+use Rattle.std.proofs.Common.{◌++◌}
+use Rattle.std.proofs.lemmas.Bool.{both_ways, true_from_ne_false, and_parts, and_cases, and_from, not-true, not-false}
+use Rattle.std.proofs.lemmas.Bool.{ltb-true, lt-ltb}
 use Rattle.fdb_keys.specs.Points.{Point}
 use Rattle.fdb_txn.specs.book.Book.{Place}
 use Rattle.fdb_txn.specs.rules.Admission.{is_fresh, overlaps, no_conflict, admits}

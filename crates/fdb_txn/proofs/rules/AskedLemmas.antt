@@ -1,7 +1,9 @@
 -- The resolvers that are asked about a place tell whether it is committed.
-use Rattle.std.proofs.Common.{◌≡◌, ◌<◌, ◌≤◌, ◌+◌, ◌-◌, ◌∙◌, ap, subst, refl, arith, ⊎_elim, ℕ, suc, max, Bool, true, ◌&&◌, ◌==◌, nat_lt, nat_le, List, [], ◌∷◌, ◌++◌, length, Decides}
+use Rattle.std.proofs.Common.{◌≡◌, ◌<◌, ◌≤◌, ◌+◌, ◌-◌, ◌∙◌, ap, subst, refl, arith, ⊎_elim, ℕ, suc, max, Bool, true}
+use Rattle.std.proofs.Common.{◌&&◌, ◌==◌, nat_lt, nat_le, List, [], ◌∷◌, ◌++◌, length, Decides}
 use Rattle.std.specs.List.{AllByRecursion}
-use Rattle.std.proofs.lemmas.Bool.{cases_Bool, both_ways, or_left, or_right, or_cases, and_left, and_parts, and_cases, and_from, not-true, not-false, ltb-false, lt-leb, eqb-true, cond-false, cond_both}
+use Rattle.std.proofs.lemmas.Bool.{cases_Bool, both_ways, or_left, or_right, or_cases, and_left, and_parts, and_cases}
+use Rattle.std.proofs.lemmas.Bool.{and_from, not-true, not-false, ltb-false, lt-leb, eqb-true, cond-false, cond_both}
 use Rattle.std.proofs.lemmas.Bool.Decides.{Decides-below_and, Decides-like}
 use Rattle.fdb_keys.specs.Points.{Point, point_lt}
 use Rattle.fdb_keys.specs.Ranges.{Range, in_range, in_set}

@@ -1,11 +1,14 @@
 -- The examples compute.
-use Rattle.std.proofs.Common.{◌≡◌, ◌<◌, ◌≤◌, ◌+◌, ◌==◌, ◌∙◌, sym, ap, refl, arith, ⊎_elim, ℕ, Bool, true, false, if◌then◌else◌}
+use Rattle.std.proofs.Common.{◌≡◌, ◌<◌, ◌≤◌, ◌+◌, ◌==◌, ◌∙◌, sym, ap, refl, arith, ⊎_elim, ℕ, Bool, true, false}
+use Rattle.std.proofs.Common.{if◌then◌else◌}
 use Rattle.std.specs.Prelude.{codes}
 use Rattle.std.proofs.lemmas.Bool.{cases_Bool, and_parts, eqb-true}
 use Rattle.fdb_keys.specs.Points.{point_lt}
 use Rattle.fdb_txn.specs.declared.txn_id.TxnId.{TxnId}
 use Rattle.fdb_txn.specs.book.Once.{same_id, times_in_book}
-use Rattle.fdb_txn.specs.laws.Examples.{OneBatch, WriteSkew, FalseConflict, FormerOwner, ThereAndBack, EqualIsNotNewer, Window, OldReading, TwoMoves, Spans, AtBounds, ShardMessages, Entries, of_three_ids, Books}
+use Rattle.fdb_txn.specs.laws.Examples.{OneBatch, WriteSkew, FalseConflict, FormerOwner, ThereAndBack, EqualIsNotNewer}
+use Rattle.fdb_txn.specs.laws.Examples.{Window, OldReading, TwoMoves, Spans, AtBounds, ShardMessages, Entries}
+use Rattle.fdb_txn.specs.laws.Examples.{of_three_ids, Books}
 
 pub one_batch_computes : OneBatch
 unfolding point_lt

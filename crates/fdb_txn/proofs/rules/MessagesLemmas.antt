@@ -1,10 +1,12 @@
 -- A shard's messages, and the run.
-use Rattle.std.proofs.Common.{◌≡◌, ◌∙◌, sym, ap, refl, ℕ, suc, ◌≤◌, le_trans, le_of_lt, subst, Bool, true, false, if◌then◌else◌, nat_le, List, [], ◌∷◌, ◌++◌, map, fold, Option, ⊎_elim, arith}
+use Rattle.std.proofs.Common.{◌≡◌, ◌∙◌, sym, ap, refl, ℕ, suc, ◌≤◌, le_trans, le_of_lt, subst, Bool, true, false}
+use Rattle.std.proofs.Common.{if◌then◌else◌, nat_le, List, [], ◌∷◌, ◌++◌, map, fold, Option, ⊎_elim, arith}
 use Rattle.std.specs.List.{AllByRecursion, filter}
 use Rattle.std.specs.Ordering.{nat_cmp}
 use Rattle.std.specs.Cmp.Lexicographic.{slice_cmp}
 use Rattle.std.specs.FinMap.{get, get-empty}
-use Rattle.std.proofs.lemmas.Bool.{cases_Bool, both_ways, cond-true, cond-false, leb-true, leb-false, false_from_ne_true}
+use Rattle.std.proofs.lemmas.Bool.{cases_Bool, both_ways, cond-true, cond-false, leb-true, leb-false}
+use Rattle.std.proofs.lemmas.Bool.{false_from_ne_true}
 use Rattle.std.proofs.lemmas.List.{map-append}
 use Rattle.std.proofs.lemmas.List.Sums.{fold-append}
 use Rattle.fdb_keys.specs.Points.{Point}
@@ -16,10 +18,13 @@ use Rattle.fdb_mutations.specs.Mutations.{names, named_range, new_value, effect,
 use Rattle.fdb_mutations.proofs.Effects.{at_every_point, in_named_range}
 use Rattle.fdb_txn.specs.declared.entry.Entry.{Entry}
 use Rattle.fdb_txn.specs.book.Transactions.{Transaction}
-use Rattle.fdb_txn.specs.book.Book.{Stamped, Place, Seen, nothing, add_moves, placed, add_places, add_entry, seen_of, last_version}
+use Rattle.fdb_txn.specs.book.Book.{Stamped, Place, Seen, nothing, add_moves, placed, add_places, add_entry, seen_of}
+use Rattle.fdb_txn.specs.book.Book.{last_version}
 use Rattle.fdb_txn.specs.rules.Admission.{committed}
 use Rattle.fdb_txn.specs.book.History.{AreEntries}
-use Rattle.fdb_txn.specs.rules.Messages.{meets_range, Body, mutations_in, at_place, committed_from, committed_in, message_for, messages_after, value_with, MeetsAtSomePoint, IsForRange, MessagesAreForTheRange, ShardsHoldTheRun, MessagesGoOn, ShardsGoOn}
+use Rattle.fdb_txn.specs.rules.Messages.{meets_range, Body, mutations_in, at_place, committed_from, committed_in}
+use Rattle.fdb_txn.specs.rules.Messages.{message_for, messages_after, value_with, MeetsAtSomePoint, IsForRange}
+use Rattle.fdb_txn.specs.rules.Messages.{MessagesAreForTheRange, ShardsHoldTheRun, MessagesGoOn, ShardsGoOn}
 use Rattle.fdb_txn.specs.rules.SerialMap.{serial_map, up_to, serial_map_at}
 use Rattle.fdb_txn.specs.laws.SerialMapLaws.{version_after}
 use Rattle.fdb_txn.specs.declared.tag_msg.TagMsg.{TagMsg}
@@ -223,7 +228,7 @@ value-messages splits range v x inside resolvers last seen (entry ∷ book) at_m
     (at_most-add_places entry.version (add_moves entry.version entry.moves seen.moves) entry.batch seen.places here)
     entries.4
 
--- a shard's messages leave at each point of its range what stands there on the run's map
+-- a shard's messages leave at each point of its range what stands there on the serial map
 pub shards_hold_the_run : ShardsHoldTheRun
 shards_hold_the_run resolvers splits range book entries v x inside =
     ap (λ (value : Option (List ℕ)). fold (value_with v x) value (messages_after splits range nothing book))
@@ -259,7 +264,7 @@ at_most-entries resolvers last seen (entry ∷ book) at_most entries =
     (at_most-add_places entry.version (add_moves entry.version entry.moves seen.moves) entry.batch seen.places
     (at_most-more last entry.version seen.places (le_of_lt entries.0) at_most)) entries.4
 
--- a shard goes on from the run's map at its version
+-- a shard goes on from the serial map at its version
 pub shards_go_on : ShardsGoOn
 shards_go_on resolvers splits range before more entries v x inside later =
     ap (λ (places : List Place). fold (value_with v x) (get (serial_map splits places) x)

@@ -1,7 +1,10 @@
 -- What one resolver says of a place, by the last versions at which it admitted writes.
-use Rattle.std.proofs.Common.{◌≡◌, ◌∙◌, ◌↔◌, sym, ap, refl, ℕ, ◌<◌, ◌≤◌, max, Bool, true, false, not, ◌&&◌, ◌==◌, nat_lt, List, [], ◌∷◌, if◌then◌else◌, ⊎_elim, arith}
+use Rattle.std.proofs.Common.{◌≡◌, ◌∙◌, ◌↔◌, sym, ap, refl, ℕ, ◌<◌, ◌≤◌, max, Bool, true, false, not, ◌&&◌, ◌==◌}
+use Rattle.std.proofs.Common.{nat_lt, List, [], ◌∷◌, if◌then◌else◌, ⊎_elim, arith}
 use Rattle.std.specs.List.{AllByRecursion}
-use Rattle.std.proofs.lemmas.Bool.{cases_lt, and_parts, and_from, both_ways, not-true, not_from_false, false_from_ne_true, ltb-true, ltb-false, lt-ltb, le-ltb, eqb-true, cond-true, cond_both}
+use Rattle.std.proofs.lemmas.Bool.{cases_lt, and_parts, and_from, both_ways, not-true, not_from_false}
+use Rattle.std.proofs.lemmas.Bool.{false_from_ne_true, ltb-true, ltb-false, lt-ltb, le-ltb, eqb-true, cond-true}
+use Rattle.std.proofs.lemmas.Bool.{cond_both}
 use Rattle.fdb_keys.specs.Points.{Point}
 use Rattle.fdb_keys.specs.Ranges.{in_set}
 use Rattle.fdb_txn.specs.book.Book.{Place}
@@ -9,7 +12,8 @@ use Rattle.fdb_txn.specs.rules.Owners.{owner, span_begin}
 use Rattle.fdb_txn.specs.rules.Admission.{is_fresh, overlaps, no_conflict, admits}
 use Rattle.fdb_txn.specs.book.History.{Follows}
 use Rattle.fdb_txn.specs.rules.Resolvers.{part_writes, part_reads, last_commit_version, IsAdmittedBy}
-use Rattle.fdb_txn.specs.laws.ResolverLaws.{LastVersionsDecide, OnePlaceMore, StateDecides, StateTakesPlace, StateForgets, ForgottenAgree}
+use Rattle.fdb_txn.specs.laws.ResolverLaws.{LastVersionsDecide, OnePlaceMore, StateDecides, StateTakesPlace}
+use Rattle.fdb_txn.specs.laws.ResolverLaws.{StateForgets, ForgottenAgree}
 use Rattle.fdb_txn.proofs.rules.AskedLemmas.{one_owner_where_follows, fresh-within}
 use Rattle.fdb_txn.proofs.rules.CornersLemmas.{overlaps_at_some_point, owned_at_some_version}
 

@@ -1,8 +1,10 @@
 -- The run, at points that committed transactions write and read.
-use Rattle.std.proofs.Common.{◌≡◌, ◌∙◌, sym, ap, refl, ℕ, suc, ◌<◌, ◌≤◌, le_trans, Bool, true, false, not, ◌&&◌, nat_lt, nat_le, List, [], ◌∷◌, length, ⊎_elim}
+use Rattle.std.proofs.Common.{◌≡◌, ◌∙◌, sym, ap, refl, ℕ, suc, ◌<◌, ◌≤◌, le_trans, Bool, true, false, not, ◌&&◌, nat_lt}
+use Rattle.std.proofs.Common.{nat_le, List, [], ◌∷◌, length, ⊎_elim}
 use Rattle.std.specs.List.{AllByRecursion}
 use Rattle.std.specs.FinMap.{get}
-use Rattle.std.proofs.lemmas.Bool.{cases_Bool, cond-false, leb-true, leb-false, lt-leb, lt-ltb, eq-eqb, and_parts, and_from, or_parts, both_ways, cond_both, false_from_ne_true}
+use Rattle.std.proofs.lemmas.Bool.{cases_Bool, cond-false, leb-true, leb-false, lt-leb, lt-ltb, eq-eqb, and_parts}
+use Rattle.std.proofs.lemmas.Bool.{and_from, or_parts, both_ways, cond_both, false_from_ne_true}
 use Rattle.fdb_keys.specs.Points.{Point}
 use Rattle.fdb_keys.specs.Ranges.{in_set}
 use Rattle.fdb_mutations.specs.declared.mutation.Mutation.{Mutation}

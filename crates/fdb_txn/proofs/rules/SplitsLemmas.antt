@@ -1,8 +1,11 @@
 -- Pieces of the keys between splits.
-use Rattle.std.proofs.Common.{◌≡◌, ◌∙◌, sym, refl, ap₂, ℕ, zero, suc, ◌-◌, ◌<◌, ◌≤◌, ◌==◌, arith, Bool, true, false, ◌||◌, not, nat_le, nat_lt, if◌then◌else◌, None, List, [], ◌∷◌, take, drop, get_or, length, ⊎_elim}
+use Rattle.std.proofs.Common.{◌≡◌, ◌∙◌, sym, refl, ap₂, ℕ, zero, suc, ◌-◌, ◌<◌, ◌≤◌, ◌==◌, arith, Bool, true, false}
+use Rattle.std.proofs.Common.{◌||◌, not, nat_le, nat_lt, if◌then◌else◌, None, List, [], ◌∷◌, take, drop, get_or, length}
+use Rattle.std.proofs.Common.{⊎_elim}
 use Rattle.std.proofs.Math.Dec.{eqb-suc-zero, eqb-zero-suc, eqb-suc-suc}
 use Rattle.std.proofs.lemmas.List.{take_all}
-use Rattle.std.proofs.lemmas.Bool.{cases_Bool, both_ways, and_parts, cond-false, false_from_ne_true, not-true, leb-true, ltb-true}
+use Rattle.std.proofs.lemmas.Bool.{cases_Bool, both_ways, and_parts, cond-false, false_from_ne_true, not-true, leb-true}
+use Rattle.std.proofs.lemmas.Bool.{ltb-true}
 use Rattle.fdb_keys.specs.Points.{Point, point_lt}
 use Rattle.fdb_keys.specs.Ranges.{in_range}
 use Rattle.fdb_keys.specs.Limits.{bound_limit}
@@ -17,7 +20,8 @@ use Rattle.fdb_txn.specs.rules.Splits.{rise_after, end_of_keys, piece_after, Pie
 before-none : (begin : Point) (splits : List Point) (i : ℕ) (x : Point) → rise_after begin splits ≡ true
     → point_lt x begin ≡ true → in_range (piece_after begin splits i) x ≡ false
 before-none begin [] i x rising before =
-    false_from_ne_true _ (λ inside. both_ways (point_lt x begin) (in_range_parts (piece_after begin [] i) x inside).0 before)
+    false_from_ne_true _ (λ inside. both_ways (point_lt x begin) (in_range_parts (piece_after begin [] i) x inside).0
+    before)
 before-none begin (split ∷ splits) zero x rising before =
     false_from_ne_true _ (λ inside. both_ways (point_lt x begin)
     (in_range_parts (piece_after begin (split ∷ splits) zero) x inside).0 before)

@@ -1,5 +1,6 @@
 -- Small books, and what the rules say of each place in them.
-use Rattle.std.specs.Prelude.{◌≡◌, ℕ, zero, suc, Bool, true, false, List, [], ◌∷◌, ◌++◌, map, length, Option, Some, None, codes, if◌then◌else◌}
+use Rattle.std.specs.Prelude.{◌≡◌, ℕ, zero, suc, Bool, true, false, List, [], ◌∷◌, ◌++◌, map, length, Option, Some}
+use Rattle.std.specs.Prelude.{None, codes, if◌then◌else◌}
 use Rattle.std.specs.FinMap.{empty}
 use Rattle.fdb_keys.specs.Points.{Point}
 use Rattle.fdb_keys.specs.Ranges.{single_range}
@@ -71,7 +72,7 @@ ruled splits (Some found) =
 abbrev pub ruling : List Point → List Entry → ℕ → ℕ → Option Ruling
 ruling splits book n p = ruled splits (place_at book n p)
 
--- the run's map at a version of a book
+-- the serial map at a version of a book
 abbrev pub run_at : List Point → List Entry → ℕ → Map
 run_at splits book version = serial_map_at splits version (seen_of book).places
 

@@ -5,7 +5,8 @@ use Rattle.fdb_txn.specs.book.Book.{Place}
 use Rattle.fdb_txn.specs.rules.Owners.{window, is_asked}
 use Rattle.fdb_txn.specs.rules.Admission.{admits}
 use Rattle.fdb_txn.specs.book.History.{IsHistory}
-use Rattle.fdb_txn.specs.rules.Resolvers.{part_writes, part_reads, last_commit_version, IsAdmittedBy, with_place, AgreeFrom, IsStateOf}
+use Rattle.fdb_txn.specs.rules.Resolvers.{part_writes, part_reads, last_commit_version, IsAdmittedBy, with_place}
+use Rattle.fdb_txn.specs.rules.Resolvers.{AgreeFrom, IsStateOf}
 
 -- One version for each point decides: a resolver admits a place exactly where the place is fresh and no point
 -- of the resolver's part of its read set has a last version above its read version.

@@ -1,5 +1,6 @@
 -- What logs send a shard of each entry, and what the messages leave at a point.
-use Rattle.std.specs.Prelude.{◌≡◌, ◌≤◌, ◌↔◌, ℕ, suc, Bool, true, nat_le, List, [], ◌∷◌, ◌++◌, fold, filter, map, Option, None, if◌then◌else◌}
+use Rattle.std.specs.Prelude.{◌≡◌, ◌≤◌, ◌↔◌, ℕ, suc, Bool, true, nat_le, List, [], ◌∷◌, ◌++◌, fold, filter, map, Option}
+use Rattle.std.specs.Prelude.{None, if◌then◌else◌}
 use Rattle.std.specs.List.{AllByRecursion}
 use Rattle.std.specs.FinMap.{get}
 use Rattle.fdb_keys.specs.Points.{Point}
@@ -91,7 +92,7 @@ MessagesAreForTheRange =
     → AllByRecursion (IsForRange range) (messages_for splits range book)
 
 -- A shard holds the run: at each point of its range and each version, its messages leave what stands there on
--- the run's map at that version.
+-- the serial map at that version.
 abbrev pub ShardsHoldTheRun : Type 0
 ShardsHoldTheRun =
     (resolvers : ℕ) (splits : List Point) (range : Range) (book : List Entry) → AreEntries resolvers 0 book
@@ -105,8 +106,8 @@ MessagesGoOn =
     → messages_for splits range (before ++ more)
     ≡ messages_for splits range before ++ messages_after splits range (seen_of before) more
 
--- And so a shard goes on: what stands on the run's map at the version of the last of some entries, changed by the
--- messages of the entries after these, is what stands there on the run's map of all of them at any later version.
+-- And so a shard goes on: what stands on the serial map at the version of the last of some entries, changed by the
+-- messages of the entries after these, is what stands there on the serial map of all of them at any later version.
 abbrev pub ShardsGoOn : Type 0
 ShardsGoOn =
     (resolvers : ℕ) (splits : List Point) (range : Range) (before more : List Entry)

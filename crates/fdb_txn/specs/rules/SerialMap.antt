@@ -19,6 +19,6 @@ abbrev pub up_to : ℕ → List Place → List Place
 up_to v [] = []
 up_to v (place ∷ earlier) = if nat_le place.version v then place ∷ up_to v earlier else up_to v earlier
 
--- the run's map at a version
+-- the serial map at a version
 abbrev pub serial_map_at : List Point → ℕ → List Place → Map
 serial_map_at splits v places = serial_map splits (up_to v places)

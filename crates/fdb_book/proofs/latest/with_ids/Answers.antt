@@ -2,7 +2,8 @@ use Rattle.std.proofs.Common.{◌≡◌, ◌∙◌, sym, subst, true, false}
 use Rattle.fdb_book.specs.Ids.{Latest, IsLater}
 use Rattle.fdb_book.proofs.IdLemmas.{later-put, later-apart, later-known, later-unknown, taken-more, new-more}
 use Rattle.fdb_book.proofs.latest.with_ids.Goals as goal
-use Rattle.fdb_book.proofs.latest.with_ids.Goals.{in-Some, in_default+in_ok-insert-in_default, in_default-via-in-Some+else-id-known, in_default-via-in_default}
+use Rattle.fdb_book.proofs.latest.with_ids.Goals.{in-Some, in_default+in_ok-insert-in_default}
+use Rattle.fdb_book.proofs.latest.with_ids.Goals.{in_default-via-in-Some+else-id-known, in_default-via-in_default}
 
 pub loop-sealed-preserved : goal.loop-sealed-preserved
 loop-sealed-preserved c =

@@ -25,7 +25,7 @@ returns-clause-second c =
     let entries = c.args.second.now.entries in
     let others : c.as_slice-2.result.now ≡ begins_within joined entries =
     c.as_slice-2.ensures.value ∙ found.ensures.others in
-    added-is c.args.range.now joined entries c.replace_in_both.new.second.entries c.requires.some c.requires.second_keyed
-    c.requires.second_apart found.ensures.joined
+    added-is c.args.range.now joined entries c.replace_in_both.new.second.entries c.requires.some
+    c.requires.second_keyed c.requires.second_apart found.ensures.joined
     (c.in_ok-replace_in_both.ensures.second
     ∙ ap (λ keys. without keys (insert_entry (slice_cmp nat_cmp) entries joined.begin joined)) others)

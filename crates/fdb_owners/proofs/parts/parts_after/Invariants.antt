@@ -7,4 +7,5 @@ use Rattle.fdb_owners.proofs.parts.parts_after.Given as goal
 
 abbrev pub invariant-loop-resolver : goal.invariant-loop-resolver
 invariant-loop-resolver l =
-    AreFirstParts l.resolver (λ i x. in_range l.range x && (owner_after l.steps x (first_owner l.splits x) == i)) l.parts
+    AreFirstParts l.resolver (λ i x. in_range l.range x && (owner_after l.steps x (first_owner l.splits x) == i))
+    l.parts

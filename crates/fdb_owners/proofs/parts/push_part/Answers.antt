@@ -10,7 +10,8 @@ returns-in_ok-push c held first points =
     let apart : is_apart c.args.ranges ≡ true =
     subst (λ (ranges : List Range). is_apart ranges ≡ true) c.ranges-2.view_is c.ranges-2.invariant in
     subst (λ (parts : List Owned). AreFirstParts (suc c.args.resolver) held parts) (sym c.in_ok-push.ensures.ok)
-    (parts-push c.args.resolver held c.args.parts.now _ first refl (some-apart c.args.ranges apart (search rules)) points)
+    (parts-push c.args.resolver held c.args.parts.now _ first refl (some-apart c.args.ranges apart (search rules))
+    points)
 
 pub returns-else-not-is_empty : goal.returns-else-not-is_empty
 returns-else-not-is_empty c held first points =

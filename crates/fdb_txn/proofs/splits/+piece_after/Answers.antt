@@ -1,4 +1,5 @@
-use Rattle.std.proofs.Common.{◌≡◌, ◌∙◌, sym, ap, ap₂, subst, ℕ, ◌-◌, true, false, None, Option, Result, List, [], ◌∷◌, take, drop, length, rules}
+use Rattle.std.proofs.Common.{◌≡◌, ◌∙◌, sym, ap, ap₂, subst, ℕ, ◌-◌, true, false, None, Option, Result, List, [], ◌∷◌}
+use Rattle.std.proofs.Common.{take, drop, length, rules}
 use Rattle.std.proofs.lemmas.Bool.{and_parts, not-true}
 use Rattle.fdb_keys.specs.Answers.{Answers}
 use Rattle.fdb_keys.specs.declared.refusal.Refusal.{Refusal}
@@ -43,8 +44,8 @@ piece_after-requires t c =
         is_bound-key c.bytes-else-number-eq0.result.now
             (subst (λ (text : Point). is_key text ≡ true) (sym c.bytes-else-number-eq0.ensures.value)
             c.bytes-else-number-eq0.ensures.legal),
-        subst (λ (text : Point). rise_after text (take (length c.args.splits.now - 1) (drop 1 c.args.splits.now)) ≡ true)
-            (sym c.bytes-else-number-eq0.ensures.value) given.2,
+        subst (λ (text : Point). rise_after text (take (length c.args.splits.now - 1) (drop 1 c.args.splits.now))
+            ≡ true) (sym c.bytes-else-number-eq0.ensures.value) given.2,
       ),
     )
 

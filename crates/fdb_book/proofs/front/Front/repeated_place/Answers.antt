@@ -3,7 +3,8 @@ use Rattle.fdb_txn.specs.declared.txn_id.TxnId.{TxnId}
 use Rattle.fdb_book.specs.Ids.{is_among}
 use Rattle.fdb_book.proofs.IdLemmas.{among-book, among-batch, among-none, repeated-here, repeated-past}
 use Rattle.fdb_book.proofs.front.Front.repeated_place.Goals as goal
-use Rattle.fdb_book.proofs.front.Front.repeated_place.Goals.{then-has_txn-via-then-has_txn, then-has_txn-via-else-has_txn+then-has_id}
+use Rattle.fdb_book.proofs.front.Front.repeated_place.Goals.{then-has_txn-via-then-has_txn}
+use Rattle.fdb_book.proofs.front.Front.repeated_place.Goals.{then-has_txn-via-else-has_txn+then-has_id}
 
 pub returns-then-has_txn : goal.returns-then-has_txn
 returns-then-has_txn g c =

@@ -7,7 +7,8 @@ use Rattle.fdb_book.specs.Fronts.{IsLinkedBook}
 use Rattle.fdb_book.specs.Appending.{append_fault}
 use Rattle.fdb_book.specs.Ids.{Latest, Covers}
 use Rattle.fdb_book.proofs.FactLemmas.{counted-view}
-use Rattle.fdb_book.proofs.FoundLemmas.{found-handed, found-refused, front-next, room-left, match-none, match-some, given-fits, given-has}
+use Rattle.fdb_book.proofs.FoundLemmas.{found-handed, found-refused, front-next, room-left, match-none, match-some}
+use Rattle.fdb_book.proofs.FoundLemmas.{given-fits, given-has}
 use Rattle.fdb_book.proofs.front.Front.set_next.Goals as goal
 
 abbrev Prepared : Type 0

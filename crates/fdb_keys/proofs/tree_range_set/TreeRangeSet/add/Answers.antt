@@ -12,7 +12,8 @@ use Rattle.fdb_keys.proofs.ApartLemmas.{in_with_range, with_range-held}
 use Rattle.fdb_keys.proofs.RangeMapLemmas.{added-is}
 use Rattle.fdb_keys.proofs.TouchedLemmas.{some_touched, held_by_last}
 use Rattle.fdb_keys.proofs.tree_range_set.TreeRangeSet.add.Goals as goal
-use Rattle.fdb_keys.proofs.tree_range_set.TreeRangeSet.add.Goals.{After-drop-others-2, then-is_empty-via-then-is_empty, then-is_empty-via-else-is_empty+then-is_held}
+use Rattle.fdb_keys.proofs.tree_range_set.TreeRangeSet.add.Goals.{After-drop-others-2, then-is_empty-via-then-is_empty}
+use Rattle.fdb_keys.proofs.tree_range_set.TreeRangeSet.add.Goals.{then-is_empty-via-else-is_empty+then-is_held}
 
 pub returns-then-is_empty-clause-list : goal.returns-then-is_empty-clause-list
 returns-then-is_empty-clause-list c =

@@ -10,7 +10,8 @@ use Rattle.fdb_owners.proofs.owners.Owners.owner.Goals.{After-owner_after}
 value-of : (c : After-owner_after) → c.owner_after.result ≡ owner_at c.args.self.now c.args.key.now c.args.self.now.last
 value-of c =
     let folded : c.owner_after.result
-    ≡ owner_after c.self.inside.learnt c.args.key.now (first_owner c.self.inside.splits c.args.key.now) = search rules in
+    ≡ owner_after c.self.inside.learnt c.args.key.now (first_owner c.self.inside.splits c.args.key.now) = search rules
+    in
     subst (λ (owners : Ownership). c.owner_after.result ≡ owner_at owners c.args.key.now owners.last) c.self.view_is
     (folded ∙ sym (owner-through c.self.inside.splits [] c.self.inside.learnt c.args.key.now c.self.inside.last
     c.self.invariant.1.through))

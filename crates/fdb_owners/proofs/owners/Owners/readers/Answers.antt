@@ -30,6 +30,6 @@ returns c =
     let above = (all-parts (λ (step : Learnt). c.args.from + 1 < step.version) span later
     (subst (AreAbove (c.args.from + 1)) c.split_by-2.ensures.parts c.split_by.ensures.above)).0 in
     answers-span c.self.inside.splits c.self.inside.floor c.self.inside.last c.self.inside.learnt c.args.range.now
-    c.self.invariant.0 c.parts_along.result c.args.self.now before span later c.args.from (c.args.from + 1) c.args.version
-    c.self.view_is parted next order c.split_by.ensures.through rising above c.split_by-2.ensures.through
+    c.self.invariant.0 c.parts_along.result c.args.self.now before span later c.args.from (c.args.from + 1)
+    c.args.version c.self.view_is parted next order c.split_by.ensures.through rising above c.split_by-2.ensures.through
     c.split_by-2.ensures.above c.parts_along.ensures

@@ -27,7 +27,8 @@ pub returns : goal.returns
 returns c =
     let issued = c.self.inside.issued in
     let had = c.self.inside.had.items in
-    let within = subst (λ (len : ℕ). AllByRecursion (λ (count : ℕ). count ≤ len) had) issued.ok.0 c.self.invariant.had in
+    let within = subst (λ (len : ℕ). AllByRecursion (λ (count : ℕ). count ≤ len) had) issued.ok.0 c.self.invariant.had
+    in
     let pending = c.replace-moves.ensures.after ∙ c.new-none.ensures in
     let unlearnt =
     issued_at issued.items c.push_reserved.new.self.items c.replace-moves.result c.self.inside.pending had

@@ -14,7 +14,8 @@ module _ (splits : List Point) (key : Point) (number : ℕ) (rising : are_splits
     (below : point_lt key (255 ∷ []) ≡ true) (is : number ≡ first_owner splits key) (within : number ≤ length splits)
   where
     in-piece : in_range (piece splits number) key ≡ true
-    in-piece = pieces_part_the_keys splits number key rising within below ∙ eq-eqb (first_owner splits key) number (sym is)
+    in-piece = pieces_part_the_keys splits number key rising within below
+        ∙ eq-eqb (first_owner splits key) number (sym is)
 
     only-piece : (other : ℕ) → other ≤ length splits → in_range (piece splits other) key ≡ true → other ≡ number
     only-piece other few inside =
