@@ -26,7 +26,7 @@ abbrev pub read_limit : ℕ
 read_limit = 4294967296
 
 -- After so many reads the reader's own read answered the error, as long as there are fewer than the limit; from the
--- limit on none is asked for, and the error says that the input did not end.
+-- limit on the error says that the input did not end.
 abbrev pub IsLimitedErrorAfter : ℕ → (Error → Type 0) → Error → Type 0
 IsLimitedErrorAfter reads read_errors error =
     ((reads < read_limit) × read_errors error) ⊎ ((read_limit ≤ reads) × (error_kind error ≡ Other))

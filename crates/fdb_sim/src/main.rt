@@ -23,7 +23,14 @@ use std::{env, io};
 const FAULT: u8 = 2;
 
 fn main(rt: HostRuntime) -> ExitCode {
-    let ended = run(&rt);
+    run_process(&rt)
+}
+
+// Runs the process's words, and says on the standard error what it failed on.
+fn run_process(rt: &HostRuntime) -> ExitCode
+    ensures { exit_status result ≤ 2 }
+{
+    let ended = run(rt);
     if let Err(error) = &ended {
         let _ = eprintln!(rt; "fdb_sim: {error}");
     }

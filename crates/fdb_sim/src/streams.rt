@@ -1,6 +1,6 @@
 //! Readers and writers with the errors that their calls may answer. Code that is proved for each of them can't
 //! make up an error of its own, so that those that it answers are theirs.
-ghost use Rattle.std.specs.Prelude.{◌≡◌, ℕ, List, Option, ⊤, None, Some, IfSome, IfErr, OnOk};
+ghost use Rattle.std.specs.Prelude.{◌≡◌, ◌<◌, ◌≤◌, ◌+◌, ℕ, List, Option, ⊤, None, Some, IfSome, IfErr, IfOk, OnOk};
 ghost use Rattle.std.specs.Io.{ReadsAtMost};
 ghost use Rattle.std.specs.Io.KnownBytes.{Appends, ReadConsumes};
 ghost use Rattle.std.specs.declared.io.Error.{Error};
@@ -64,19 +64,23 @@ pub struct Limited<R> {
 impl<R> Limited<R> {
     /// Limits what the reader gives from here on.
     pub fn new(reader: R) -> Limited<R>
-        ensures { result.reader ≡ reader }
+        ensures { result ≡ record { reader = reader; reads = 0 } }
     {
         Limited { reader, reads: 0 }
     }
 }
 
 impl<R: Source> Limited<R> {
-    ghost use Rattle.fdb_sim.specs.Streams.{IsLimitedErrorAfter};
+    ghost use Rattle.fdb_sim.specs.Streams.{IsLimitedErrorAfter, read_limit};
 
-    // Reads as the reader does, and is refused exactly after as many reads as the limit.
+    // Reads as the reader does and counts the read, as long as there were fewer than the limit; from then on each is
+    // refused, and nothing changes.
     fn read_within(&mut self, buffer: &mut [u8]) -> io::Result<usize>
         ensures bound { ReadsAtMost result buffer.new }
         ensures bytes { ReadConsumes (R.remaining self.old.reader) (R.remaining self.new.reader) result buffer.new }
+        ensures counted { self.old.reads < read_limit → self.new.reads ≡ 1 + self.old.reads }
+        ensures given_up { read_limit ≤ self.old.reads → self.new ≡ self.old }
+        ensures answered { IfOk result (λ _. self.old.reads < read_limit) }
         ensures errors { IfErr result (IsLimitedErrorAfter self.old.reads R.errors) }
     {
         if self.reads >= READ_LIMIT {
