@@ -31,8 +31,8 @@ goes-memory true repeated is_full same = ids-memory repeated is_full same
 goes-memory false repeated is_full same = search rules
 
 -- no fault of an entry is that memory ran out
-fault-memory : (capacity : ℕ) (book : List Entry) (entry : Entry) → append_fault capacity book entry ≡ Some NoMemory
-    → ⊥
+fault-memory : (capacity : ℕ) (book : List Entry) (entry : Entry)
+    → append_fault capacity book entry ≡ Some NoMemory → ⊥
 fault-memory capacity book entry same =
     goes-memory (goes_on (last_version book) entry) (repeated_place book entry.batch) (length book == capacity) same
 
@@ -68,8 +68,8 @@ found-refused {T = T} capacity book entry found why told P fits other answers me
           (found, other, rw is refl),
         )
 
-pub match-none : {X : Type 0} (P : Type 0) (Q : X → Type 0) (given : Option X) → given ≡ None → MatchOption given P Q
-    → P
+pub match-none : {X : Type 0} (P : Type 0) (Q : X → Type 0) (given : Option X)
+    → given ≡ None → MatchOption given P Q → P
 match-none P Q given is holds = subst (λ (it : Option _). MatchOption it P Q) is holds
 
 pub match-some : {X : Type 0} (P : Type 0) (Q : X → Type 0) (given : Option X) (x : X) → given ≡ Some x
@@ -99,12 +99,12 @@ front-next names cells next len latest capacity book entry same first counted mo
 }
 
 -- what a call gives says that there is no fault, and what it gives
-pub given-fits : {T : Type 0} (given : T) (fault : Option Refusal) (P : T → Type 0) → Answers (Ok given) fault P
-    → fault ≡ None
+pub given-fits : {T : Type 0} (given : T) (fault : Option Refusal) (P : T → Type 0)
+    → Answers (Ok given) fault P → fault ≡ None
 given-fits given None P answers = refl
 given-fits given (Some fault) P answers = absurd answers
 
-pub given-has : {T : Type 0} (given : T) (fault : Option Refusal) (P : T → Type 0) → Answers (Ok given) fault P
-    → P given
+pub given-has : {T : Type 0} (given : T) (fault : Option Refusal) (P : T → Type 0)
+    → Answers (Ok given) fault P → P given
 given-has given None P answers = answers
 given-has given (Some fault) P answers = absurd answers

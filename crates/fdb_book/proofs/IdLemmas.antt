@@ -78,16 +78,16 @@ among-book id book earlier named =
     let some = ltb-true 0 (times_in_book id book) named in
     lt-ltb 0 (times_in_book id book + times_with_id id earlier) (omega arith)
 
-pub among-batch : (id : TxnId) (book : List Entry) (earlier : List Transaction) → nat_lt 0 (times_with_id id earlier)
-    ≡ true
+pub among-batch : (id : TxnId) (book : List Entry) (earlier : List Transaction)
+    → nat_lt 0 (times_with_id id earlier) ≡ true
     → is_among id book earlier ≡ true
 among-batch id book earlier named =
     let some = ltb-true 0 (times_with_id id earlier) named in
     lt-ltb 0 (times_in_book id book + times_with_id id earlier) (omega arith)
 
 -- or it isn't
-pub among-none : (id : TxnId) (book : List Entry) (earlier : List Transaction) → nat_lt 0 (times_in_book id book)
-    ≡ false
+pub among-none : (id : TxnId) (book : List Entry) (earlier : List Transaction)
+    → nat_lt 0 (times_in_book id book) ≡ false
     → nat_lt 0 (times_with_id id earlier) ≡ false → is_among id book earlier ≡ false
 among-none id book earlier not_in_book not_in_batch =
     let in_book = ltb-false 0 (times_in_book id book) not_in_book in

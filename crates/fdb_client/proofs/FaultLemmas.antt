@@ -28,8 +28,8 @@ checked why None P Q answered = absurd answered
 checked why (Some other) P Q answered = answered
 
 -- and one that isn't has none
-pub faultless : {T : Type 0} (x : T) (fault : Option Refusal) (P : T → Type 0) → AnswersExactly (Ok x) fault P
-    → fault ≡ None
+pub faultless : {T : Type 0} (x : T) (fault : Option Refusal) (P : T → Type 0)
+    → AnswersExactly (Ok x) fault P → fault ≡ None
 faultless x None P answered = refl
 faultless x (Some why) P answered = absurd answered
 

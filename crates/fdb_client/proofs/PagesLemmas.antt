@@ -37,8 +37,8 @@ pub record PageSoFar (map copy : Map) (is_reverse : Bool) (count : ℕ) (before 
   pub goes_on : GoesOn copy is_reverse before range given left
   pub rest : pairs_in map left is_reverse ≡ drop count (pairs_in map range is_reverse)
 
-abbrev pub PagesSoFar : OwnWrites → Page → Bool → ℕ → ℕ → List (Point × List ℕ) → Range → List (Point × List ℕ) → Range
-    → Type 0
+abbrev pub PagesSoFar : OwnWrites → Page → Bool → ℕ → ℕ
+    → List (Point × List ℕ) → Range → List (Point × List ℕ) → Range → Type 0
 PagesSoFar own page is_reverse limit count before range given left =
     IsWithin limit given
     × ((map copy : Map) → IsCopyOf (left_at own) map copy → HasFirst map range is_reverse page
@@ -137,8 +137,8 @@ module _ (own : OwnWrites) (page : Page) (is_reverse : Bool) (limit : ℕ)
       → TookOwn map copy is_reverse limit None given left since part
       → TookPage map copy is_reverse limit (length page.pairs) page.more before range since part
   page-last since part took = record {
-    goes_on = goes_on-both copy is_reverse before given since range left part (so_far.1 map copy is_copy first).goes_on
-        took.goes_on;
+    goes_on = goes_on-both copy is_reverse before given since range left
+        part (so_far.1 map copy is_copy first).goes_on took.goes_on;
     rest = λ _. took.same ∙ (so_far.1 map copy is_copy first).rest;
     ended = λ room _. took.ahead room;
   }

@@ -23,8 +23,8 @@ by_decided true key ranges false same = cc
 by_decided false key ranges true same = cc
 
 -- it adds nothing where they do, and else the key
-pub reads-key : (earlier : List Op) (op : Op) (key : Point) (reply : Reply) (decided_now ranges : List Range)
-    (held : Bool)
+pub reads-key : (earlier : List Op) (op : Op) (key : Point)
+    (reply : Reply) (decided_now ranges : List Range) (held : Bool)
     → op ≡ Get key false → decided_now ≡ decided_ranges earlier → held ≡ in_set decided_now key
     → add_reads earlier op reply ranges ≡ (if held then ranges else with_range (single_range key) ranges)
 reads-key earlier op key reply decided_now ranges held is same contains =

@@ -79,8 +79,8 @@ begins_after-gaps x begin end (held ∷ ranges) first apart later =
     (begins_after-gaps x held.end end ranges
     (lt_chain x begin held.end first (lt_chain begin held.begin held.end later parts.0)) parts.2 parts.1)
 
-apart-gaps : (begin end : Point) (ranges : List Range) → is_apart ranges ≡ true → is_apart (gaps begin end ranges)
-    ≡ true
+apart-gaps : (begin end : Point) (ranges : List Range)
+    → is_apart ranges ≡ true → is_apart (gaps begin end ranges) ≡ true
 apart-gaps begin end [] apart = alone begin end
 apart-gaps begin end (held ∷ ranges) apart =
     let parts = apart_parts held ranges apart in

@@ -27,8 +27,8 @@ AnswersExactly (Err why) None P = ⊥
 AnswersExactly (Err why) (Some fault) P = why ≡ fault
 
 -- The same where a refusal hands back what the call was given.
-abbrev pub AnswersExactlyOrHandsBack : {T B : Type 0} → Result T (Refused B) → B → Option Refusal → (T → Type 0)
-    → Type 0
+abbrev pub AnswersExactlyOrHandsBack : {T B : Type 0}
+    → Result T (Refused B) → B → Option Refusal → (T → Type 0) → Type 0
 AnswersExactlyOrHandsBack (Ok given) back None P = P given
 AnswersExactlyOrHandsBack (Ok given) back (Some fault) P = ⊥
 AnswersExactlyOrHandsBack (Err refused) back None P = ⊥

@@ -215,8 +215,8 @@ pairs_from_a_key_on map range is_reverse key inside =
     let before : Range = record { begin = range.begin; end = key } in
     elim is_reverse as (λ way. pairs_in map (range_behind range (not way) key) way ≡ []
     → pairs_in map range way ≡ pair ++ pairs_in map (range_behind range way key) way) [
-      | false ↦ λ none. cut.0 ∙ ap (λ pairs. pairs ++ pairs_in map (record { begin = key; end = range.end }) false) none
-          ∙ from.0
+      | false ↦ λ none. cut.0 ∙ ap (λ pairs. pairs ++ pairs_in map
+          (record { begin = key; end = range.end }) false) none ∙ from.0
       | true ↦ λ none. cut.1
           ∙ ap (λ pairs. pairs ++ pairs_in map before true) (from.1 ∙ ap (λ pairs. pairs ++ pair) none)
     ]

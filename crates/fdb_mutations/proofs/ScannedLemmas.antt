@@ -55,8 +55,8 @@ before_chain false x y z first second = lt_chain x y z first second
 -- ---- a part that was read
 -- The part has the points of the range that pass a test, which none passes behind one that fails. The pairs at such
 -- points are those that were given, and are enough for the limit, if others follow.
-record IsRead (range : Range) (is_reverse : Bool) (limit : ℕ) (pairs given : List (Point × List ℕ)) (part : Range)
-    : Type 0 where
+record IsRead (range : Range) (is_reverse : Bool) (limit : ℕ)
+    (pairs given : List (Point × List ℕ)) (part : Range) : Type 0 where
   test : Point → Bool
   inside : (x : Point) → in_range part x ≡ (in_range range x && test x)
   falls : (x y : Point) → comes_before is_reverse x y ≡ true → test x ≡ false → test y ≡ false

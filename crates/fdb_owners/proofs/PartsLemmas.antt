@@ -147,8 +147,8 @@ parts-skip k held parts first none =
     }
 
 -- a list of ranges that are apart is empty, or has points
-pub some-apart : (ranges : List Range) → is_apart ranges ≡ true → (length ranges == 0) ≡ false → has_points ranges
-    ≡ true
+pub some-apart : (ranges : List Range) → is_apart ranges ≡ true
+    → (length ranges == 0) ≡ false → has_points ranges ≡ true
 some-apart [] apart some = cc
 some-apart (range ∷ ranges) apart some = or_left _ _ (apart_parts range ranges apart).0
 

@@ -82,8 +82,8 @@ owned_from-along splits older (step ∷ steps) i x first last known rising above
     (or_cases (owner splits older x first == i) _ held)
 
 -- And the other way round.
-along-owned_from : (splits : List Point) (older : List Stamped) (steps : List Learnt) (i : ℕ) (x : Point)
-    (first v : ℕ)
+along-owned_from : (splits : List Point) (older : List Stamped)
+    (steps : List Learnt) (i : ℕ) (x : Point) (first v : ℕ)
     → AreMovesUpTo first older → AreRising steps → AreAbove first steps → first ≤ v
     → owner splits (moves_after older steps) x v ≡ i
     → owns_along steps i x (owner splits older x first) ≡ true
@@ -117,8 +117,8 @@ pub owned-along : (splits : List Point) (before steps later : List Learnt) (i : 
     → AreUpTo version steps → AreAbove version later
     → owned splits i (moves_after [] (before ++ (steps ++ later))) x from version
     ≡ owns_along steps i x (owner_after before x (first_owner splits x))
-owned-along splits before steps later i x from first version is order known rising above through after =
-    same_test _ _
+owned-along splits before steps later i x from first version
+    is order known rising above through after = same_test _ _
     (λ held.
     let some = spans.0 held in
     ap (λ (j : ℕ). owns_along steps i x j) (sym at_first)

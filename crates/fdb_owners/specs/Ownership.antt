@@ -52,8 +52,8 @@ learn_fault owners version = if nat_le version owners.last then Some Stale else 
 pub record IsOwnership (owners : Ownership) : Type 0 where
   pub few : resolvers_of owners ≤ resolver_limit
   pub rising : are_splits owners.splits ≡ true
-  pub moves : AllByRecursion (λ (move : Stamped). (move.version ≤ owners.last) × (move.target < resolvers_of owners))
-      owners.moves
+  pub moves : AllByRecursion (λ (move : Stamped). (move.version ≤ owners.last)
+      × (move.target < resolvers_of owners)) owners.moves
 
 -- nothing was learnt: each point has its first owner at every version
 pub record IsNew (splits : List Point) (owners : Ownership) : Type 0 where

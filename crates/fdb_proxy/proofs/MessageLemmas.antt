@@ -31,8 +31,8 @@ commit-at splits earlier place p =
     by_cases true true true = refl
 
 -- the same as `body-committed`, from place p on
-body-from : (splits : List Point) (version : ℕ) (moves : List Stamped) (batch : List Transaction) (earlier : List Place)
-    (p : ℕ)
+body-from : (splits : List Point) (version : ℕ) (moves : List Stamped)
+    (batch : List Transaction) (earlier : List Place) (p : ℕ)
     → body_by p batch (answers_by batch (outcomes_from splits version moves batch earlier p))
     ≡ committed_from splits version moves p batch earlier
 body-from splits version moves [] earlier p = refl

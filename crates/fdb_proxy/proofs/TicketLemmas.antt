@@ -69,14 +69,14 @@ agrees-next dated i of learnt first old new there same has before moves agrees =
     (subst (λ (ms : List Move). HasLearnt old of.0 ms new) same has))
 
 -- a call that gave something left what it says
-pub given-leaves : {T : Type 0} (fault : Option Refusal) (given : T) (P : T → Type 0) → Answers (Ok given) fault P
-    → P given
+pub given-leaves : {T : Type 0} (fault : Option Refusal) (given : T) (P : T → Type 0)
+    → Answers (Ok given) fault P → P given
 given-leaves None given P answers = answers
 given-leaves (Some why) given P answers = absurd answers
 
 -- one that takes no memory and gave something had no fault
-pub given-none : {T : Type 0} (fault : Option Refusal) (given : T) (P : T → Type 0) → AnswersExactly (Ok given) fault P
-    → fault ≡ None
+pub given-none : {T : Type 0} (fault : Option Refusal) (given : T) (P : T → Type 0)
+    → AnswersExactly (Ok given) fault P → fault ≡ None
 given-none None given P answers = refl
 given-none (Some why) given P answers = absurd answers
 

@@ -21,8 +21,8 @@ module _ (splits : List Point) (moves : List Stamped) (i version : ℕ) where
       ⊎ ((is_asked splits i (placed version moves t) ≡ false) × AreItems (suc p) ts items)
 
 -- the part of resolver i of the batch at a position
-pub record IsPartOf (splits : List Point) (moves : List Stamped) (position : Position) (batch : List Transaction)
-    (i : ℕ)
+pub record IsPartOf (splits : List Point) (moves : List Stamped)
+    (position : Position) (batch : List Transaction) (i : ℕ)
     (part : Part) : Type 0 where
   pub resolver : part.resolver ≡ i
   pub index : part.index ≡ position.index

@@ -59,8 +59,8 @@ with-below version f item Conflict below x = below x
 with-below version f item Old below x = below x
 
 -- The places were judged by the versions f, and left the versions g.
-pub record AreJudged (version : ℕ) (f : Point → ℕ) (items : List Item) (answers : List (ℕ × Verdict)) (g : Point → ℕ) :
-    Type 0 where
+pub record AreJudged (version : ℕ) (f : Point → ℕ) (items : List Item)
+    (answers : List (ℕ × Verdict)) (g : Point → ℕ) : Type 0 where
   pub verdicts : AreVerdicts version f items answers
   pub versions : (x : Point) → g x ≡ versions_after version f items answers x
   pub below : (x : Point) → g x ≤ version

@@ -29,8 +29,7 @@ impl Model for ResolverCore {
       index = core.index;
       last = core.last;
       is_failed = core.is_failed;
-      versions =
-          core.versions;
+      versions = core.versions;
     } };
 
     ghost invariant = { λ core. core.is_failed ≡ false → (x : Point) → version_at core.versions x ≤ core.last };

@@ -9,8 +9,8 @@ use Rattle.fdb_log.specs.declared.peek.Peek.{Peek}
 use Rattle.fdb_storage.specs.Shards.{Shard, apply_fault}
 
 -- what passed a test of its own fault has none
-pub none-of : {T : Type 0} (x : T) (fault : Option Refusal) (P : T → Type 0) → AnswersExactly (Ok x) fault P
-    → fault ≡ None
+pub none-of : {T : Type 0} (x : T) (fault : Option Refusal) (P : T → Type 0)
+    → AnswersExactly (Ok x) fault P → fault ≡ None
 none-of x None P passed = refl
 none-of x (Some why) P passed = absurd passed
 

@@ -40,16 +40,14 @@ impl Model for Sealed {
       id = sealed.id;
       read = sealed.read_version;
       reads = sealed.reads;
-      writes =
-          sealed.writes;
+      writes = sealed.writes;
       mutations = sealed.mutations;
     } };
 
     ghost invariant = { λ sealed. MaySeal (record {
       id = sealed.id;
       read = sealed.read_version;
-      reads =
-          sealed.reads;
+      reads = sealed.reads;
       writes = sealed.writes;
       mutations = sealed.mutations;
     }) };
@@ -59,8 +57,7 @@ impl Model for Sealed {
       read_version = t.read;
       reads = t.reads;
       writes = t.writes;
-      mutations =
-          t.mutations;
+      mutations = t.mutations;
     } };
 }
 

@@ -96,8 +96,8 @@ pub learns : {T : Type 0} (result : Result T Refusal) (old new : Ownership) (ver
     → Answers result (learn_fault old version) (λ _. HasLearnt old version moves new)
     → Answers result None (λ _. (older : List Stamped) → AgreesWith old older
     → AgreesWith new (add_moves version moves older))
-learns (Ok done) old new version moves above answers = λ older agrees. learning_goes_on old new older version moves
-    agrees
+learns (Ok done) old new version moves above answers = λ older agrees.
+    learning_goes_on old new older version moves agrees
     (subst (λ (fault : Option Refusal). Answers (Ok done) fault (λ _. HasLearnt old version moves new))
     (may-learn old version above) answers)
 learns {T} (Err why) old new version moves above answers =

@@ -158,12 +158,12 @@ module _ (splits : List Point) (book : List Entry) (n p version : ℕ) (transcri
         where
           run_is : serial_map splits here.1
               ≡ map_after (serial_map splits before.places) entry.batch (outcomes_on splits before entry) p
-          run_is = place-map splits entry.version (moves_through before entry) entry.batch before.places 0 p here
-              found.1
+          run_is = place-map splits entry.version (moves_through before entry)
+              entry.batch before.places 0 p here found.1
 
 -- and of one that wrote nothing, by the run that has come to its version
-pub reads-there : (splits : List Point) (book : List Entry) (v n : ℕ) (transcript : Transcript) (run : Run)
-    (same : Bool)
+pub reads-there : (splits : List Point) (book : List Entry)
+    (v n : ℕ) (transcript : Transcript) (run : Run) (same : Bool)
     → AreEntries (suc (length splits)) 0 book → n ≡ entries_through book v → HasComeTo splits book n 0 run
     → v ≡ transcript.read_version
     → (same ≡ true) ↔ (WroteNothing transcript × AnsweredOn run.map transcript)

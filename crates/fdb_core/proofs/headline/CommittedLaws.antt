@@ -113,8 +113,8 @@ newer-later resolvers (first ∷ newer) place earlier history = (
   newer-later resolvers newer place earlier history.2,
 )
 
-entry-of : (before : Seen) (p : ℕ) (next : Option Entry) (there : Place × List Place) → place_of before p next
-    ≡ Some there
+entry-of : (before : Seen) (p : ℕ) (next : Option Entry) (there : Place × List Place)
+    → place_of before p next ≡ Some there
     → (entry : Entry) × (next ≡ Some entry)
 entry-of before p None there is = cc
 entry-of before p (Some entry) there is = (entry, refl)

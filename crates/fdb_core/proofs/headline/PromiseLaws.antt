@@ -231,8 +231,8 @@ module _ (m : Machine) (version : ℕ) (range : Range) where
     (λ each. by_fault each (range_fault m version range) refl),
   )
     where
-      by_fault : AtEachPoint range (Serves m version) → (fault : Option Refusal) → range_fault m version range ≡ fault
-          → fault ≡ None
+      by_fault : AtEachPoint range (Serves m version) → (fault : Option Refusal)
+          → range_fault m version range ≡ fault → fault ≡ None
       by_fault each None is = refl
       by_fault each (Some why) is =
           let one = faulty-point why is in

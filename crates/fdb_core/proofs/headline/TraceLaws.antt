@@ -35,8 +35,8 @@ pub after_steps-parts : (n : ℕ) (m : Machine) (steps : List Step) (given : Lis
 after_steps-parts zero m steps given = refl
 after_steps-parts (suc n) m [] given = refl
 after_steps-parts (suc n) m (taken ∷ steps) [] = after_steps-unanswered m (drop n steps)
-after_steps-parts (suc n) m (taken ∷ steps) (answer ∷ given) = after_steps-parts n (after_step m taken answer) steps
-    given
+after_steps-parts (suc n) m (taken ∷ steps) (answer ∷ given) =
+    after_steps-parts n (after_step m taken answer) steps given
 
 -- with the machine's own answer a step takes the machine on
 pub after_step-answered : (m : Machine) (taken : Step) (transition : Result Transition Refusal)

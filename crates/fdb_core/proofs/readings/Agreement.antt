@@ -34,8 +34,8 @@ use Rattle.fdb_core.proofs.readings.GrantLemmas.{NumbersBegun}
 use Rattle.fdb_core.proofs.readings.SessionLists.{OpenTold, item-after-set}
 
 -- A commit proxy has those who are told to wait there, and unless it has none the batch of its last Seal.
-pub record AtProxy (book : List Entry) (waiting : List Transcript) (sealed : SealedBatch) (commit_proxy : CommitProxy) :
-    Type 0 where
+pub record AtProxy (book : List Entry) (waiting : List Transcript)
+    (sealed : SealedBatch) (commit_proxy : CommitProxy) : Type 0 where
   pub waiting_told : waiting ≡ commit_proxy.waiting
   pub batch_told : is_idle commit_proxy.stage ≡ false
       → (entry : Entry) × (slice_get book commit_proxy.entry ≡ Some entry) × (sealed ≡ record
@@ -186,8 +186,8 @@ pub one-changes : (book : List Entry) (waiting new_waiting : ℕ → List Transc
     → ((other : ℕ) → other ≢ proxy → (waiting other ≡ new_waiting other) × (sealed other ≡ new_sealed other))
     → AtProxy book (new_waiting proxy) (new_sealed proxy) new
     → AtProxies book new_waiting new_sealed (slice_set commit_proxies proxy new)
-one-changes book waiting new_waiting sealed new_sealed commit_proxies proxy new at others has other commit_proxy there =
-    ⊎_elim
+one-changes book waiting new_waiting sealed new_sealed commit_proxies
+    proxy new at others has other commit_proxy there = ⊎_elim
     (λ (here : (other ≡ proxy) × (new ≡ commit_proxy)).
     subst (λ (n : ℕ). AtProxy book (new_waiting n) (new_sealed n) commit_proxy) (sym here.0)
     (subst (AtProxy book (new_waiting proxy) (new_sealed proxy)) here.1 has))
@@ -254,6 +254,8 @@ module _ (book : List Entry) (answered : List ℕ) (commit_proxies : List Commit
         where
           below : (test : Bool) → nat_lt entry count ≡ test → count ≢ entry
               → cond {A = ℕ} (nat_lt entry count) 1 0 + 0 ≤ cond {A = ℕ} (nat_lt entry (suc count)) 1 0
-          below true is differs = rw (is, lt-ltb entry (suc count) (omega (arith, ltb-true entry count is)))
-              (omega arith)
+          below true is differs = rw (
+            is,
+            lt-ltb entry (suc count) (omega (arith, ltb-true entry count is)),
+          ) (omega arith)
           below false is differs = rw is (omega arith)

@@ -15,8 +15,8 @@ use Rattle.fdb_core.proofs.readings.Agreement.{changed-there, changed-elsewhere}
 use Rattle.fdb_core.proofs.readings.SessionLists.{item-after-set}
 
 -- a commit proxy waits for what it is told to wait for, and has of that what came
-abbrev pub StageTold : Progress → (resolvers logs proxy : ℕ) → Stage → ℕ → (verdicts acknowledgements : List Bool)
-    → Type 0
+abbrev pub StageTold : Progress → (resolvers logs proxy : ℕ)
+    → Stage → ℕ → (verdicts acknowledgements : List Bool) → Type 0
 StageTold p resolvers logs proxy Idle entry verdicts acknowledgements =
     (p.resolving proxy ≡ None) × (p.logging proxy ≡ None)
 StageTold p resolvers logs proxy Resolving entry verdicts acknowledgements =

@@ -355,10 +355,10 @@ module _ (m : Machine) (r : Readings) (has : HasRoles m) (sound : Invariant m) (
       decided-by-rule own proxy answer commit_proxy stage decided verdicts acknowledgements at went
   proxy-answered (step.Logged i log) answer proxy commit_proxy stage decided verdicts acknowledgements at went =
       acknowledgement-due i log proxy answer commit_proxy stage decided verdicts acknowledgements at went
-  proxy-answered (step.Ask session own) answer proxy commit_proxy stage decided verdicts acknowledgements at went =
-      absurd went
-  proxy-answered (step.Grant own) answer proxy commit_proxy stage decided verdicts acknowledgements at went =
-      absurd went
+  proxy-answered (step.Ask session own) answer proxy commit_proxy
+      stage decided verdicts acknowledgements at went = absurd went
+  proxy-answered (step.Grant own) answer proxy commit_proxy stage
+      decided verdicts acknowledgements at went = absurd went
   proxy-answered (step.Get session key snapshot) answer proxy commit_proxy stage decided verdicts acknowledgements at
       went =
       absurd went
@@ -374,23 +374,23 @@ module _ (m : Machine) (r : Readings) (has : HasRoles m) (sound : Invariant m) (
   proxy-answered (step.AddWrite session range) answer proxy commit_proxy stage decided verdicts acknowledgements at
       went =
       absurd went
-  proxy-answered (step.Submit session own) answer proxy commit_proxy stage decided verdicts acknowledgements at went =
-      absurd went
-  proxy-answered (step.Seal own advance) answer proxy commit_proxy stage decided verdicts acknowledgements at went =
-      absurd went
-  proxy-answered (step.Resolve i resolver) answer proxy commit_proxy stage decided verdicts acknowledgements at went =
-      absurd went
-  proxy-answered (step.Push i log) answer proxy commit_proxy stage decided verdicts acknowledgements at went =
-      absurd went
-  proxy-answered (step.Report own) answer proxy commit_proxy stage decided verdicts acknowledgements at went =
-      absurd went
-  proxy-answered (step.Answer own) answer proxy commit_proxy stage decided verdicts acknowledgements at went =
-      absurd went
-  proxy-answered (step.Pull shard limit) answer proxy commit_proxy stage decided verdicts acknowledgements at went =
-      absurd went
-  proxy-answered (step.Forget shard version) answer proxy commit_proxy stage decided verdicts acknowledgements at went =
-      absurd went
-  proxy-answered (step.Pop shard) answer proxy commit_proxy stage decided verdicts acknowledgements at went =
-      absurd went
-  proxy-answered (step.Move range to) answer proxy commit_proxy stage decided verdicts acknowledgements at went =
-      absurd went
+  proxy-answered (step.Submit session own) answer proxy commit_proxy
+      stage decided verdicts acknowledgements at went = absurd went
+  proxy-answered (step.Seal own advance) answer proxy commit_proxy
+      stage decided verdicts acknowledgements at went = absurd went
+  proxy-answered (step.Resolve i resolver) answer proxy commit_proxy
+      stage decided verdicts acknowledgements at went = absurd went
+  proxy-answered (step.Push i log) answer proxy commit_proxy stage
+      decided verdicts acknowledgements at went = absurd went
+  proxy-answered (step.Report own) answer proxy commit_proxy stage
+      decided verdicts acknowledgements at went = absurd went
+  proxy-answered (step.Answer own) answer proxy commit_proxy stage
+      decided verdicts acknowledgements at went = absurd went
+  proxy-answered (step.Pull shard limit) answer proxy commit_proxy
+      stage decided verdicts acknowledgements at went = absurd went
+  proxy-answered (step.Forget shard version) answer proxy commit_proxy
+      stage decided verdicts acknowledgements at went = absurd went
+  proxy-answered (step.Pop shard) answer proxy commit_proxy stage
+      decided verdicts acknowledgements at went = absurd went
+  proxy-answered (step.Move range to) answer proxy commit_proxy
+      stage decided verdicts acknowledgements at went = absurd went

@@ -261,8 +261,8 @@ roles-tell m (step.Pop shard) answer resolvers logs shards r went told =
 roles-tell m (step.Ask session proxy) answer resolvers logs shards r went told = absurd went
 roles-tell m (step.Grant proxy) answer resolvers logs shards r went told = absurd went
 roles-tell m (step.Get session key snapshot) answer resolvers logs shards r went told = absurd went
-roles-tell m (step.GetRange session range limit is_reverse snapshot) answer resolvers logs shards r went told =
-    absurd went
+roles-tell m (step.GetRange session range limit is_reverse snapshot)
+    answer resolvers logs shards r went told = absurd went
 roles-tell m (step.Write session mutation) answer resolvers logs shards r went told = absurd went
 roles-tell m (step.AddRead session range) answer resolvers logs shards r went told = absurd went
 roles-tell m (step.AddWrite session range) answer resolvers logs shards r went told = absurd went
@@ -278,8 +278,8 @@ roles-tell m (step.Move range to) answer resolvers logs shards r went told = abs
 -- ---- commit proxies
 
 -- what it means that a proxy waits for verdicts, and for an acknowledgement
-pub awaits-verdicts : (commit_proxy : CommitProxy) (i resolver : ℕ) → awaits commit_proxy i (FromResolver resolver)
-    ≡ true
+pub awaits-verdicts : (commit_proxy : CommitProxy) (i resolver : ℕ)
+    → awaits commit_proxy i (FromResolver resolver) ≡ true
     → (commit_proxy.stage ≡ Resolving) × (commit_proxy.entry ≡ i)
     × (is_set commit_proxy.verdicts_received resolver ≡ false)
 awaits-verdicts commit_proxy i resolver awaited =
@@ -571,10 +571,10 @@ proxies-tell m (step.Decide own) answer proxy commit_proxy stage decided verdict
 proxies-tell m (step.Logged i log) answer proxy commit_proxy stage decided verdicts acknowledgements r went at told =
     acknowledgement-told m i log answer proxy commit_proxy stage decided verdicts acknowledgements r.progress went at
     told
-proxies-tell m (step.Ask session own) answer proxy commit_proxy stage decided verdicts acknowledgements r went at told =
-    absurd went
-proxies-tell m (step.Grant own) answer proxy commit_proxy stage decided verdicts acknowledgements r went at told =
-    absurd went
+proxies-tell m (step.Ask session own) answer proxy commit_proxy stage
+    decided verdicts acknowledgements r went at told = absurd went
+proxies-tell m (step.Grant own) answer proxy commit_proxy stage
+    decided verdicts acknowledgements r went at told = absurd went
 proxies-tell m (step.Get session key snapshot) answer proxy commit_proxy stage decided verdicts acknowledgements r
     went at told =
     absurd went
@@ -599,22 +599,22 @@ proxies-tell m (step.Seal own advance) answer proxy commit_proxy stage decided v
 proxies-tell m (step.Resolve i resolver) answer proxy commit_proxy stage decided verdicts acknowledgements r went at
     told =
     absurd went
-proxies-tell m (step.Push i log) answer proxy commit_proxy stage decided verdicts acknowledgements r went at told =
-    absurd went
-proxies-tell m (step.Report own) answer proxy commit_proxy stage decided verdicts acknowledgements r went at told =
-    absurd went
-proxies-tell m (step.Answer own) answer proxy commit_proxy stage decided verdicts acknowledgements r went at told =
-    absurd went
+proxies-tell m (step.Push i log) answer proxy commit_proxy stage
+    decided verdicts acknowledgements r went at told = absurd went
+proxies-tell m (step.Report own) answer proxy commit_proxy stage
+    decided verdicts acknowledgements r went at told = absurd went
+proxies-tell m (step.Answer own) answer proxy commit_proxy stage
+    decided verdicts acknowledgements r went at told = absurd went
 proxies-tell m (step.Pull shard limit) answer proxy commit_proxy stage decided verdicts acknowledgements r went at
     told =
     absurd went
 proxies-tell m (step.Forget shard version) answer proxy commit_proxy stage decided verdicts acknowledgements r went at
     told =
     absurd went
-proxies-tell m (step.Pop shard) answer proxy commit_proxy stage decided verdicts acknowledgements r went at told =
-    absurd went
-proxies-tell m (step.Move range to) answer proxy commit_proxy stage decided verdicts acknowledgements r went at told =
-    absurd went
+proxies-tell m (step.Pop shard) answer proxy commit_proxy stage
+    decided verdicts acknowledgements r went at told = absurd went
+proxies-tell m (step.Move range to) answer proxy commit_proxy stage
+    decided verdicts acknowledgements r went at told = absurd went
 
 -- a proxy seals its batch
 sealed-tells : (m : Machine) (proxy advance version : ℕ) (commit_proxy : CommitProxy) (p : Progress)

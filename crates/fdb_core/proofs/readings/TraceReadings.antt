@@ -196,8 +196,8 @@ config-after m taken = kept-next (λ n. n.config ≡ m.config) (config_steps m.c
 
 pub config-kept : (config : Config) (steps : List Step) (given : List (Result Answered Refusal))
     → (machine_of_trace config steps given).config ≡ config
-config-kept config steps given = kept-by_trace (λ m. m.config ≡ config) (config_steps config) (start config) steps given
-    refl
+config-kept config steps given = kept-by_trace (λ m. m.config ≡ config)
+    (config_steps config) (start config) steps given refl
 
 -- the committed version is the greatest one that was reported
 pub committed_is_greatest_reported : CommittedIsGreatestReported
@@ -214,8 +214,8 @@ worlds_show_what_is_told config steps given m stands =
       book = sym tells.book_told;
       pending = sym tells.moves_told;
       opened = tells.opened_told;
-      begun = λ session. ap next_number (tells.begun_told session) ∙ next-begun (times_begun session (readings_of steps
-          given).begun);
+      begun = λ session. ap next_number (tells.begun_told session)
+          ∙ next-begun (times_begun session (readings_of steps given).begun);
       waiting = λ proxy commit_proxy at. sym (tells.proxies_told proxy commit_proxy at).waiting_told;
       in_flight = λ proxy commit_proxy at busy.
           let batch = ((tells.proxies_told proxy commit_proxy at).batch_told busy).2 in

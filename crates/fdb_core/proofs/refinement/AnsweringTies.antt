@@ -181,8 +181,8 @@ module _ (k : Cluster) (before : Refines k) (proxy : ℕ) (role : CommitProxyRol
               ∙ ap (slice_set (map seen_as k.commit_proxies.items) proxy) done.machine)
 
       -- so it is answered by what the call gave of the proxy that was read
-      pub finished : (result : Result (List Transcript × List (TxnId × Outcome)) Refusal) (read : CommitProxyRole)
-          → read ≡ role
+      pub finished : (result : Result (List Transcript × List (TxnId × Outcome)) Refusal)
+          (read : CommitProxyRole) → read ≡ role
           → ((config : Config) (book : List Entry) (known : Known) (entry : Entry)
           → CommitProxyRefines config book known read → is_reported (seen_as read).stage ≡ true
           → slice_get book read.entry ≡ Some entry

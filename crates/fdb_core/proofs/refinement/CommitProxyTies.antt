@@ -39,8 +39,8 @@ commit_proxies-set config book later known raised roles i next ok tied goes_on =
 }
 
 -- in the place of another, where nothing else changes
-pub commit_proxies-put : (config : Config) (book : List Entry) (known : ℕ → Known) (roles : List CommitProxyRole)
-    (i : ℕ)
+pub commit_proxies-put : (config : Config) (book : List Entry)
+    (known : ℕ → Known) (roles : List CommitProxyRole) (i : ℕ)
     (next : CommitProxyRole) → CommitProxiesRefine config book known roles
     → CommitProxyRefines config book (known i) next → CommitProxiesRefine config book known (slice_set roles i next)
 commit_proxies-put config book known roles i next ok tied =

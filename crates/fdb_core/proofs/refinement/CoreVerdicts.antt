@@ -250,8 +250,8 @@ none-missing n (first ∷ parts) (of ∷ verdicts) zero part none silent there =
     let quiet : of ≡ None = cc in
     by_test (asks part) (rw (same, quiet) at none)
   where
-    by_test : (b : Bool) → (if b && true then Some n else resolving.first_missing (suc n) parts verdicts) ≡ None
-        → b ≡ false
+    by_test : (b : Bool) → (if b && true then Some n else
+        resolving.first_missing (suc n) parts verdicts) ≡ None → b ≡ false
     by_test true is = cc
     by_test false is = refl
 none-missing n (first ∷ parts) (of ∷ verdicts) (suc i) part none silent there =

@@ -452,8 +452,8 @@ pub tags-popped : (logs : List LogRole) (shards : List ShardRole) (s : ℕ) (old
     → ((other : ℕ) → (other == s) ≡ false → popped_through popped.core other ≡ popped_through log.core other)
     → Each (TagRefines logs) shards
     → Each (TagRefines (slice_set logs (log_of (length logs) s) popped)) (slice_set shards s new)
-tags-popped logs shards s old new log popped there at applied taken own others before t shard found its-log its =
-    ⊎_elim
+tags-popped logs shards s old new log popped there at applied
+    taken own others before t shard found its-log its = ⊎_elim
     (λ is. own-tag is.0 is.1)
     (λ other. other-tag other.0 other.1)
     (set-cases shards s new t shard found)
@@ -492,8 +492,8 @@ tags-popped logs shards s old new log popped there at applied taken own others b
         (set-cases logs (log_of (length logs) s) popped (log_of (length logs) t) its-log number)
 
 -- one of as many numbers has its place in what is made of them
-pub made-at : {A : Type 0} (f : ℕ → A) (n i : ℕ) (x : A) → slice_get (map f (range_with_len 0 n)) i ≡ Some x
-    → x ≡ f i
+pub made-at : {A : Type 0} (f : ℕ → A) (n i : ℕ) (x : A)
+    → slice_get (map f (range_with_len 0 n)) i ≡ Some x → x ≡ f i
 made-at {A} f n i x there =
     let within : i < n = subst (λ (count : ℕ). i < count) (length-map-range_with_len f 0 n)
     (slice_get_within (map f (range_with_len 0 n)) i x there) in

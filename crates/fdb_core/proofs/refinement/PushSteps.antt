@@ -185,8 +185,8 @@ module _ (k : Cluster) (before : Refines k) (i l : ℕ) (entry : Entry) (role : 
       book = before.book;
       parts = before.parts;
       resolvers = before.resolvers;
-      logs = subst (λ (logs : List LogRole). LogsRefine k.config k.book.items logs k.shards.items) (sym put-same)
-          before.logs;
+      logs = subst (λ (logs : List LogRole). LogsRefine k.config k.book.items logs k.shards.items)
+          (sym put-same) before.logs;
       shard_map = before.shard_map;
       commit_proxies = before.commit_proxies;
       grv_proxies = before.grv_proxies;

@@ -148,8 +148,8 @@ proxy-same k refines proxy role later there same =
     (subst (CommitProxyRefines k.config k.book.items (known_to k.sequencer proxy)) (sym same)
     (refines.commit_proxies.each proxy role there)) in (
       set.0 ∙ (λ i. record (machine_of k) {
-        commit_proxies = (ap (λ (r : CommitProxyRole). slice_set (map seen_as k.commit_proxies.items) proxy (seen_as r))
-            same
+        commit_proxies = (ap (λ (r : CommitProxyRole). slice_set
+            (map seen_as k.commit_proxies.items) proxy (seen_as r)) same
             ∙ set-there (map seen_as k.commit_proxies.items) proxy (seen_as role)
             (map-at seen_as k.commit_proxies.items proxy role there)) i;
       }),

@@ -104,8 +104,8 @@ pub entries-after : (resolvers last : ℕ) (before : List Entry) (entry : Entry)
     → AreEntries resolvers last (before ++ entry ∷ [])
     → AreEntries resolvers (version_after last before) (entry ∷ [])
 entries-after resolvers last [] entry entries = entries
-entries-after resolvers last (first ∷ before) entry entries = entries-after resolvers first.version before entry
-    entries.4
+entries-after resolvers last (first ∷ before) entry entries =
+    entries-after resolvers first.version before entry entries.4
 
 -- The next entry of a book after these.
 module _ (splits : List Point) (before : List Entry) (entry : Entry)

@@ -65,8 +65,8 @@ module _ (k : Cluster) (refines : Refines k) (proxy advance : ℕ) (role : Commi
     index = ap (λ (t : Ticket). t.index) given;
     prev = ap (λ (t : Ticket). t.prev) given;
     later = above;
-    moves = subst (λ (t : Ticket). t.moves ≡ unlearnt_by k.sequencer proxy ++ dated t.version t.pending) (sym given)
-        refl;
+    moves = subst (λ (t : Ticket). t.moves ≡ unlearnt_by k.sequencer
+        proxy ++ dated t.version t.pending) (sym given) refl;
     targets = subst (AllByRecursion (λ (move : Move). move.to < suc (length k.config.resolver_splits)))
         (sym pending-is)
         (subst (λ (n : ℕ). AllByRecursion (λ (move : Move). move.to < n) k.sequencer.pending)

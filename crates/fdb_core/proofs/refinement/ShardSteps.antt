@@ -123,8 +123,8 @@ module _ (k : Cluster) (before : Refines k) (s : ℕ) (role : ShardRole)
 
   module _ (version : ℕ) (faultless : forget_fault role.core version ≡ None) where
     reached : nat_lt (version_of_shard k.book.items (progress_of role)) version ≡ false
-    reached = by_test (nat_lt (version_of_shard k.book.items (progress_of role)) version) (sym (forget_fault-is version)
-        ∙ faultless)
+    reached = by_test (nat_lt (version_of_shard k.book.items (progress_of role)) version)
+        (sym (forget_fault-is version) ∙ faultless)
       where
         by_test : (late : Bool) → (if late then Some FutureVersion else None) ≡ None → late ≡ false
         by_test true is = cc

@@ -56,8 +56,8 @@ pub record HasSaid (old : Resolver) (part : Part) (new : Resolver) (said : Optio
   pub taken : HasTaken old part verdicts new
 
 -- the first n resolvers did so, each with its part
-pub record HaveSaid (n : ℕ) (old : List Resolver) (parts : List Part) (new : List Resolver) (said : List (Option Said))
-    : Type 0 where
+pub record HaveSaid (n : ℕ) (old : List Resolver) (parts : List Part)
+    (new : List Resolver) (said : List (Option Said)) : Type 0 where
   pub count : length new ≡ length old
   pub as_many : length said ≡ n
   pub each : (i : ℕ) (resolver : Resolver) (part : Part) → i < n

@@ -107,8 +107,8 @@ pub record SequencerRefines (config : Config) (book : List Entry) (sequencer : S
   pub made : sequencer.made ≡ moves_in book + length sequencer.pending
 
 -- the commit proxies, of which there are as many as the configuration says
-pub record CommitProxiesRefine (config : Config) (book : List Entry) (known : ℕ → Known) (roles : List CommitProxyRole)
-    : Type 0 where
+pub record CommitProxiesRefine (config : Config) (book : List Entry)
+    (known : ℕ → Known) (roles : List CommitProxyRole) : Type 0 where
   pub count : length roles ≡ config.proxies
   pub each : (i : ℕ) (role : CommitProxyRole) → slice_get roles i ≡ Some role
       → CommitProxyRefines config book (known i) role

@@ -70,8 +70,8 @@ seen_as role =
     }
 
 -- the batch is that of entry i, which is at its position in the book
-pub record IsBatchOf (book : List Entry) (i : ℕ) (batch : List Transaction) (position : Position) (entry : Entry)
-    : Type 0 where
+pub record IsBatchOf (book : List Entry) (i : ℕ) (batch : List Transaction)
+    (position : Position) (entry : Entry) : Type 0 where
   pub there : slice_get book i ≡ Some entry
   pub index : position.index ≡ i
   pub version : position.version ≡ entry.version
@@ -144,8 +144,8 @@ pub record CommitProxyRefines (config : Config) (book : List Entry) (known : Kno
     pub learnt : List Dated
     pub all_moves : learnt ++ known.unlearnt ≡ dated_moves book
     pub owners : AgreesWith role.core.proxy.owners (moves_with learnt [])
-    pub unlearnt : AreUnlearnt (suc (length config.resolver_splits)) role.core.proxy.last (last_version book)
-        known.unlearnt
+    pub unlearnt : AreUnlearnt (suc (length config.resolver_splits))
+        role.core.proxy.last (last_version book) known.unlearnt
     pub last : role.core.proxy.last ≤ last_version book
     pub waiting : role.core.proxy.waiting ≡ map commit_request_of role.waiting
     pub in_flight : role.core.proxy.batch ≡ map commit_request_of role.in_flight

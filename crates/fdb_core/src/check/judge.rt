@@ -45,8 +45,7 @@ impl Model for Judge {
     ghost invariant = { λ judge. IsJudge (record {
       owners = judge.owners;
       last = judge.last;
-      resolvers =
-          judge.resolvers.items;
+      resolvers = judge.resolvers.items;
     }) };
 }
 

@@ -28,8 +28,8 @@ refused-at (Some fault) config why P number lines is answers = inr (inl (fault, 
 pub refused_world : {T : Type 0} (config : Config) (why : Refusal) (P : T → Type 0)
     → Answers (Err why) (config_fault config) P → (number : ℕ) (lines : List (List ℕ))
     → PlaysFrom number config lines (refused_line why) 2
-refused_world config why P answers number lines = refused-at (config_fault config) config why P number lines refl
-    answers
+refused_world config why P answers number lines = refused-at
+    (config_fault config) config why P number lines refl answers
 
 pub reaches_itself : (known : Option (List ℕ)) (P : List (List ℕ) → List ℕ → ℕ → Type 0) → Reaches known known [] P P
 reaches_itself None P = tt
@@ -251,8 +251,8 @@ pub steps_silent : (old mid new writer written : Option (List ℕ)) (line : List
 steps_silent old mid new writer written line first number next before now reached takes is_next silent = (
   reached.0,
   reached.1,
-  reaches_silently old mid new line reached.0 (PlaysOn first before) (PlaysOn number now) (PlaysOn next now) reached.2
-      takes
+  reaches_silently old mid new line reached.0 (PlaysOn first before)
+      (PlaysOn number now) (PlaysOn next now) reached.2 takes
       (λ lines more status plays. inl (silent, subst (λ n. PlaysOn n now lines more status) is_next plays)),
 )
 
@@ -404,8 +404,8 @@ run_ended input writer written closed stopped status says (last, text, appends) 
     )
 
 -- the same where printing it answers the status
-pub run_answered : {E : Type 0} (result : Result ℕ E) (input writer written closed : Option (List ℕ)) (stopped : Stop)
-    → Says stopped
+pub run_answered : {E : Type 0} (result : Result ℕ E)
+    (input writer written closed : Option (List ℕ)) (stopped : Stop) → Says stopped
     (λ last. Printed writer written (λ printed. Knows input (λ lines. Plays 0 lines (printed ++ last) 2)))
     → IfOk result (λ status. status ≡ 2)
     → OnOk result ((last : List ℕ) × (stop_text stopped ≡ Some last) × Appends written closed last)

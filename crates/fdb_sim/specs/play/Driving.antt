@@ -52,12 +52,12 @@ abbrev pub DrivesWhole : ℕ → InFlight → Option Machine → Result Answered
 DrivesWhole proxy flight old (Ok said) new =
     (mid : Option Machine) × AreAccepted old (steps_before_answer proxy flight) mid
     × IsStep mid (Answer proxy) (Ok said) new
-DrivesWhole proxy flight old (Err why) new = AreRefused old (steps_before_answer proxy flight ++ (Answer proxy ∷ []))
-    why new
+DrivesWhole proxy flight old (Err why) new = AreRefused old
+    (steps_before_answer proxy flight ++ (Answer proxy ∷ [])) why new
 
 -- a batch that is there is driven, and else nothing is done
-abbrev pub DrivesFlight : ℕ → Result InFlight Refusal → Option Machine → Result Answered Refusal → Option Machine
-    → Type 0
+abbrev pub DrivesFlight : ℕ → Result InFlight Refusal → Option Machine
+    → Result Answered Refusal → Option Machine → Type 0
 DrivesFlight proxy (Ok flight) old result new = DrivesWhole proxy flight old result new
 DrivesFlight proxy (Err why) old result new = (result ≡ Err why) × (new ≡ old)
 

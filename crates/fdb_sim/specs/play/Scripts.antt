@@ -64,8 +64,8 @@ TxnDiffers printed status =
 
 -- the check found a shard that holds another map
 abbrev pub ShardDiffers : List ℕ → ℕ → Type 0
-ShardDiffers printed status = (shard : ℕ) × (printed ≡ printed_line (codes "failed shard " ++ decimal shard))
-    × (status ≡ 1)
+ShardDiffers printed status = (shard : ℕ)
+    × (printed ≡ printed_line (codes "failed shard " ++ decimal shard)) × (status ≡ 1)
 
 -- the check found a difference, which it does at most where memory ran out in a step
 abbrev pub Differs : Option Machine → List ℕ → ℕ → Type 0

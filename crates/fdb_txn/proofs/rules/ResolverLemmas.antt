@@ -32,8 +32,8 @@ part_reads-earlier splits i place u x follows fresh above is_read owner_is =
 
 -- u, after the places us, keeps resolver i from admitting the place
 abbrev is_against : List Point → ℕ → Place → List Place → Place → Bool
-is_against splits i place us u = nat_lt place.transaction.read u.version && overlaps splits i u place && admits splits i
-    us u
+is_against splits i place us u = nat_lt place.transaction.read
+    u.version && overlaps splits i u place && admits splits i us u
 
 module _ (splits : List Point) (i : ℕ) where
   -- one place more lowers no last version

@@ -38,8 +38,8 @@ no_conflict-unnamed : (splits : List Point) (others : List Place) (earlier later
     → committed splits others earlier ≡ true → later.transaction.read < earlier.version
     → ((i : ℕ) → i < suc (length splits) → no_conflict splits i (earlier ∷ others) later ≡ true)
     → (x : Point) → in_set later.transaction.reads x ≡ true → some_names earlier.transaction.mutations x ≡ false
-no_conflict-unnamed splits others earlier later history commits above none x is_read = false_from_ne_true _ (λ named.
-    both_ways
+no_conflict-unnamed splits others earlier later history commits
+    above none x is_read = false_from_ne_true _ (λ named. both_ways
     (no_conflict splits i (earlier ∷ others) later)
     (ap (λ (conflict : Bool). not conflict && no_conflict splits i others later) (conflicts named))
     (none i exists))

@@ -12,8 +12,8 @@ part_writes splits i place x = in_set place.transaction.writes x && (owner split
 
 -- what resolver i is sent of the read set: the points that it owned at some version of the span
 abbrev pub part_reads : List Point → ℕ → Place → Point → Bool
-part_reads splits i place x = in_set place.transaction.reads x && owned splits i place.moves x (span_begin place)
-    place.version
+part_reads splits i place x = in_set place.transaction.reads x &&
+    owned splits i place.moves x (span_begin place) place.version
 
 -- The greatest version of a place that resolver i admits and that wrote the point where i owned it, 0 where
 -- there is none. The newest place is the first.

@@ -61,6 +61,6 @@ returns-clause-outcomes c before agrees at entries =
           ∙ ap (λ (of : List (Option Said)). outcomes_by entry.version of (length entry.batch)) c.as_slice-2.ensures
           ∙ decided splits before entry entries 0 old c.as_slice.result.now c.requires.count at parts new
           said have,
-      all-at-next splits before entry entries 0 old c.as_slice.result.now c.requires.count at parts new
-          said have,
+      all-at-next splits before entry entries 0 old
+          c.as_slice.result.now c.requires.count at parts new said have,
     )

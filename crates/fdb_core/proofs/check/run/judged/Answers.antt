@@ -17,6 +17,6 @@ returns-in-Ok-clause-ok c splits entries at =
     let took = c.in-Ok.ensures.outcomes splits (take index book) at
     (entries-front splits book entries index entry there) in (
       took.0 ∙ ap (outcomes_of splits (seen_before book index)) (sym there),
-      subst (λ (front : List Entry). IsJudgeAt splits front c.take.new.self) (sym (take-next book index entry there))
-          took.1,
+      subst (λ (front : List Entry). IsJudgeAt splits front c.take.new.self)
+          (sym (take-next book index entry there)) took.1,
     )

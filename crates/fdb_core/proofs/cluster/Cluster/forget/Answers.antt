@@ -71,8 +71,8 @@ goes_on : (c : After-self-2-1) → forgets (machine_of c.args.self.now) c.args.s
         { floor = max c.index_mut-role.result.now.core.floor c.args.version });
   };
 })
-goes_on c = forget-accepted c.args.self.now c.requires c.args.shard c.index_mut-role.result.now (at c) c.args.version
-    (faultless c)
+goes_on c = forget-accepted c.args.self.now c.requires c.args.shard
+    c.index_mut-role.result.now (at c) c.args.version (faultless c)
 
 pub returns-clause-answer : goal.returns-clause-answer
 returns-clause-answer c =
