@@ -54,7 +54,7 @@ impl LogCore {
     ghost use Rattle.std.specs.Prelude.{◌≡◌, ◌<◌, ◌≤◌, ⊤, false, IsSome, IsNone, IfOk, OnErr};
     ghost use Rattle.fdb_keys.specs.Answers.{Answers, AnswersExactly};
     ghost use Rattle.fdb_log.specs.Logs.{IsNewLog, config_fault, push_fault, tag_fault, peek_fault, peek_of, HasTaken};
-    ghost use Rattle.fdb_log.specs.Logs.{HasFailed, HasPopped, popped_through, given_after};
+    ghost use Rattle.fdb_log.specs.Logs.{HasFailed, HasPopped, IsLog, popped_through, given_after};
     ghost use Rattle.fdb_log.specs.Peeks.{IsPeek};
 
     /// The log with this number of so many logs, which has taken nothing yet. Of so many tags it keeps those whose
@@ -142,6 +142,23 @@ impl LogCore {
         let popped = &mut self.popped[tag as usize];
         *popped = (*popped).max(through);
         Ok(())
+    }
+
+    /// The version of the last entry taken, 0 at first. No tag was popped above it unless memory ran out in `push`. It
+    /// takes no memory, and O(1) time.
+    pub fn version(&self) -> u64
+        ensures value { result ≡ self.now.last }
+        ensures legal { IsLog self.now }
+    {
+        self.last
+    }
+
+    /// Whether memory ran out in `push`: then every call that may be refused is, as `Failed`, but a `push` of another
+    /// log's message. It takes no memory, and O(1) time.
+    pub fn is_failed(&self) -> bool
+        ensures { result ≡ self.now.is_failed }
+    {
+        self.is_failed
     }
 
     // The first `limit` of the tag's messages after a version that isn't below the one through which it was popped.

@@ -180,6 +180,14 @@ impl Shard {
         self.floor
     }
 
+    /// Whether memory ran out in `apply`: then every call that may be refused is, as `Failed`, but an `apply` of another
+    /// tag's messages. It takes no memory, and O(1) time.
+    pub fn is_failed(&self) -> bool
+        ensures { result ≡ self.now.is_failed }
+    {
+        self.is_failed
+    }
+
     fn check_peek(&self, peek: &Peek) -> Result<(), Refusal>
         ensures { AnswersExactly result (apply_fault self.now peek.now) (λ _. ⊤) }
     {
