@@ -48,10 +48,11 @@ impl Model for CommitCore {
 }
 
 impl CommitCore {
-    ghost use Rattle.std.specs.Prelude.{◌≡◌, ◌≤◌, ⊤, true, [], take, IsSome, IsNone, OnErr, map};
+    ghost use Rattle.std.specs.Prelude.{◌≡◌, ◌==◌, ◌≤◌, ⊤, true, not, [], take, length, IsSome, IsNone, OnErr, map};
     ghost use Rattle.fdb_keys.specs.Answers.{Answers, AnswersExactly, AnswersOrHandsBack, AnswersExactlyOrHandsBack};
     ghost use Rattle.fdb_txn.specs.Limits.{place_limit};
     ghost use Rattle.fdb_txn.specs.book.Transactions.{Transaction};
+    ghost use Rattle.fdb_owners.specs.Ownership.{resolvers_of};
     ghost use Rattle.fdb_proxy.specs.CommitProxies.{new_fault, IsNewProxy, is_idle, failed_fault, id_fault};
     ghost use Rattle.fdb_proxy.specs.CommitProxies.{submit_fault, submitting, seal_fault, sealing, unsealing};
     ghost use Rattle.fdb_proxy.specs.CommitProxies.{IsTicketFor, learn_fault, HasLearntTicket, HasFailed, parts_fault};
@@ -90,6 +91,38 @@ impl CommitCore {
         ensures { result ≡ is_idle self.now.proxy.stage }
     {
         matches!(self.stage, Stage::Idle)
+    }
+
+    /// The transactions of the batch that is sealed or in flight, by place, 4,096 at most: from `seal` on, until it is
+    /// given up or done, and none where no batch is. It takes no memory, and O(1) time.
+    pub fn batch(&self) -> &[Sealed]
+        ensures value { result.now ≡ self.now.proxy.batch }
+        ensures within { length self.now.proxy.batch ≤ place_limit }
+    {
+        self.requests.batch()
+    }
+
+    /// Whether a request waits for a batch. It takes no memory, and O(1) time.
+    pub fn waits(&self) -> bool
+        ensures { result ≡ not (length self.now.proxy.waiting == 0) }
+    {
+        !self.requests.nobody_waits()
+    }
+
+    /// How many resolvers the proxy asks, one more than the configuration has splits between them. It takes no memory,
+    /// and O(1) time.
+    pub fn resolvers(&self) -> u32
+        ensures { result ≡ resolvers_of self.now.proxy.owners }
+    {
+        self.owners.resolvers()
+    }
+
+    /// Whether the proxy has failed: then every call that may be refused is, as `Failed`. It takes no memory, and O(1)
+    /// time.
+    pub fn is_failed(&self) -> bool
+        ensures { result ≡ self.now.proxy.is_failed }
+    {
+        self.is_failed
     }
 
     /// Makes room for one more request, so that a `submit` that comes next takes no memory. It is promised of that one
