@@ -145,6 +145,21 @@ impl Txn {
         self.state.add_write(range)
     }
 
+    /// Whether the transaction's own writes decide the key: then a read of the key asks no snapshot. It takes no memory,
+    /// and O(log n) time for n keys and ranges that they hold.
+    pub fn decides(&self, key: &Key) -> bool
+        ensures { result ≡ decided (program self.now.ops) key.now }
+    {
+        self.state.decides(key)
+    }
+
+    /// The version that the transaction reads at. It takes no memory, and O(1) time.
+    pub fn read_version(&self) -> u64
+        ensures { result ≡ self.now.read_version }
+    {
+        self.state.transcript.read_version
+    }
+
     /// The id, the read version, and the operations so far with their replies.
     pub fn transcript(&self) -> &Transcript
         ensures { result.now ≡ self.now }

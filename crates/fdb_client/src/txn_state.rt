@@ -118,12 +118,20 @@ impl TxnState {
         Ok(())
     }
 
+    // Whether its own writes decide the key.
+    pub(crate) fn decides(&self, key: &Key) -> bool
+        requires { AreKept self.now }
+        ensures { result ≡ decided (program self.now.transcript.ops) key.now }
+    {
+        self.own.decides(key)
+    }
+
     // Whether a read of the key adds it to the read set.
     fn is_read(&self, key: &Key, is_snapshot: bool) -> bool
         requires { AreKept self.now }
         ensures { result ≡ (not is_snapshot && not (decided (program self.now.transcript.ops) key.now)) }
     {
-        !is_snapshot && !self.own.decides(key)
+        !is_snapshot && !self.decides(key)
     }
 
     // Notes what the key was read as. Where memory runs out, nothing changes.

@@ -1,0 +1,9 @@
+use Rattle.std.proofs.Common.{◌∙◌}
+use Rattle.fdb_client.proofs.TxnStateLemmas.{left_at-decides}
+use Rattle.fdb_client.proofs.txn_state.TxnState.decides.Goals as goal
+
+pub returns : goal.returns
+returns c =
+    let now = c.args.self.now in
+    c.decides.ensures ∙ left_at-decides now.transcript.ops now.own now.reads now.writes now.mutations c.requires
+    c.args.key.now
