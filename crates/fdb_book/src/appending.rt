@@ -4,7 +4,7 @@ ghost use Rattle.std.specs.Option.{MatchOption};
 ghost use Rattle.std.specs.List.{list_all};
 ghost use Rattle.fdb_keys.specs.Answers.{Answers};
 ghost use Rattle.fdb_keys.specs.declared.refusal.Refusal.TheVariants.{NoMemory, Taken};
-ghost use Rattle.fdb_book.specs.Appending.{goes_on, append_fault, Appends};
+ghost use Rattle.fdb_book.specs.Appending.{goes_on, append_fault, Appends, AppendsAndShares};
 ghost use Rattle.fdb_book.specs.Fronts.{AreOfFirst, shown};
 ghost use Rattle.fdb_book.specs.Ids.{Covers};
 
@@ -47,6 +47,24 @@ pub fn append<B: BookName>(
     let _ = &book.cells;
     match front.prepare(alloc, &entry) {
         Ok(latest) => front.set_next(alloc, entry, latest),
+        Err(why) => Err(Refused { why, back: None }),
+    }
+}
+
+/// Appends as `append` does, and gives the longer front twice, once to keep and once to hand on. It makes the share
+/// before it sets the cell: so the entry doesn't come to stand where memory runs out for the share. Refused as `append`
+/// is, in the same order, and a refusal hands out what one of `append` does.
+pub fn append_and_share<B: BookName>(
+    alloc: Global,
+    book: &Book<B>,
+    front: &Front<B>,
+    entry: Entry,
+) -> Result<(Front<B>, Front<B>), Refused<Option<Front<B>>>>
+    ensures { AppendsAndShares (length B.cells) front.now entry result }
+{
+    let _ = &book.cells;
+    match front.prepare(alloc, &entry) {
+        Ok(latest) => front.set_next_and_share(alloc, entry, latest),
         Err(why) => Err(Refused { why, back: None }),
     }
 }
@@ -121,6 +139,32 @@ impl<B: BookName> Front<B> {
         }
     }
 
+    // The same, and a share of the longer front, whose parts are made before the cell is set.
+    fn set_next_and_share(
+        &self,
+        alloc: Global,
+        entry: Entry,
+        latest: Arc<BTreeMap<u32, u64>>,
+    ) -> Result<(Self, Self), Refused<Option<Self>>>
+        requires fits { append_fault (length B.cells) self.now entry ≡ None }
+        requires ids { Covers (arc_value latest) (self.now ++ entry ∷ []) }
+        ensures { AppendsAndShares (length B.cells) self.now entry result }
+    {
+        let Ok((cells, ids)) = shares_of(&self.cells, &latest) else {
+            return Err(Refused {
+                why: Refusal::NoMemory,
+                back: None,
+            });
+        };
+        match self.set_next(alloc, entry, latest) {
+            Ok(longer) => {
+                let share = longer.share_with(cells, ids);
+                Ok((longer, share))
+            }
+            Err(refused) => Err(refused),
+        }
+    }
+
     // Fills the next cell, or reads what it holds. Gives what is known with it, and the entry that was found there
     // where it isn't equal to the given one.
     fn fill_next(&self, entry: Box<Entry>) -> (Facts<Entry>, Option<&Entry>)
@@ -172,6 +216,18 @@ fn reads_below(batch: &[Sealed], version: u64) -> bool
         }
     }
     true
+}
+
+// A share of the cells, and one of the greatest numbers.
+fn shares_of(
+    cells: &Arc<Vec<OnceBox<Entry>>>,
+    latest: &Arc<BTreeMap<u32, u64>>,
+) -> Result<(Arc<Vec<OnceBox<Entry>>>, Arc<BTreeMap<u32, u64>>), AllocError>
+    ensures { IfOk result
+        (λ made. (arc_value made.0 ≡ arc_value cells.now) × (arc_value made.1 ≡ arc_value latest.now)) }
+{
+    let shared = Arc::try_clone(cells)?;
+    Ok((shared, Arc::try_clone(latest)?))
 }
 
 // A share of the cells, and the entry in a box.

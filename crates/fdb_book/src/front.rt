@@ -1,8 +1,11 @@
-ghost use Rattle.std.specs.Prelude.{◌≡◌, ◌<◌, ◌≤◌, [], take, length, slice_get, Some, None};
+ghost use Rattle.std.specs.Prelude.{◌≡◌, ◌<◌, ◌≤◌, [], map, take, length, slice_get, Some, None};
+ghost use Rattle.std.specs.Arc.{arc_value};
 ghost use Rattle.std.specs.Option.{option_copied};
+ghost use Rattle.once_cell.specs.Once.{cell_name};
 ghost use Rattle.fdb_keys.specs.Answers.{Answers};
 ghost use Rattle.fdb_txn.specs.book.Book.{last_version};
 ghost use Rattle.fdb_book.specs.Fronts.{IsLinkedBook};
+ghost use Rattle.fdb_book.specs.Ids.{Covers};
 
 use crate::book::Book;
 use crate::facts::Facts;
@@ -117,6 +120,25 @@ impl<B: BookName> Front<B> {
         ensures { Answers result None (λ front. front ≡ self.now) }
     {
         self.cut(self.len)
+    }
+
+    // The same front over these shares of the book's cells and of numbers that cover its ids. It takes no memory.
+    pub(crate) fn share_with(
+        &self,
+        cells: Arc<Vec<OnceBox<Entry>>>,
+        latest: Arc<BTreeMap<u32, u64>>,
+    ) -> Self
+        requires cells { map cell_name (arc_value cells).items ≡ B.cells }
+        requires ids { Covers (arc_value latest) self.now }
+        ensures { result ≡ self.now }
+    {
+        Front {
+            cells,
+            facts: self.facts.first(self.len),
+            len: self.len,
+            latest,
+            name: PhantomData,
+        }
     }
 
     // The entry of this number.

@@ -14,7 +14,7 @@ mod name;
 mod repeated;
 
 pub use agreeing::agree;
-pub use appending::append;
+pub use appending::{append, append_and_share};
 pub use blank::Blank;
 pub use book::Book;
 pub use front::{Front, empty};
