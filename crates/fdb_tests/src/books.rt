@@ -3,7 +3,7 @@ ghost use Rattle.std.specs.Prelude.{◌≡◌};
 
 use crate::making::{ask, ask_both, ask_mut, code_of, numbers_of, push, same, seal};
 use fdb_book::laws::fronts_are_books;
-use fdb_book::{Blank, Book, BookName, Front, agree, append, empty};
+use fdb_book::{Blank, Book, BookName, Front, agree, append, append_and_share, empty};
 use fdb_keys::{Items, RangeSet, Refusal, Refused};
 use fdb_txn::{Batch, Entry, PLACE_LIMIT, TxnId};
 use std::alloc::Global;
@@ -106,15 +106,38 @@ fn handed_out<B: BookName>(
     }
 }
 
-// Appends to the row's front, and adds the front that is handed out to the others.
+// Appends and gives the share, where it shows as many entries as the longer front.
+fn share_of<B: BookName>(
+    alloc: Global,
+    book: &Book<B>,
+    front: &Front<B>,
+    entry: Entry,
+) -> Result<Front<B>, Refused<Option<Front<B>>>> {
+    let (longer, share) = match append_and_share(alloc, book, front, entry) {
+        Ok(fronts) => fronts,
+        Err(refused) => return Err(refused),
+    };
+    match agree(&longer, &share) {
+        Ordering::Equal => Ok(share),
+        _ => Err(Refused {
+            why: Refusal::Unknown,
+            back: Some(longer),
+        }),
+    }
+}
+
+// Appends to the row's front, also with a share, and adds the front that is handed out to the others.
 fn append_to<B: BookName>(
     alloc: Global,
     book: &Book<B>,
     fronts: &mut Items<Front<B>>,
     row: &Append,
+    shares: bool,
 ) -> Result<Told, Refusal> {
+    let entry = entry_of(alloc, row.1, row.2)?;
     let ((code, number), longer) = match fronts.as_slice().get(row.0) {
-        Some(front) => handed_out(append(alloc, book, front, entry_of(alloc, row.1, row.2)?)),
+        Some(front) if shares => handed_out(share_of(alloc, book, front, entry)),
+        Some(front) => handed_out(append(alloc, book, front, entry)),
         None => return Err(Refusal::Unknown),
     };
     match longer {
@@ -181,10 +204,11 @@ fn play<B: BookName>(
     book: &Book<B>,
     fronts: &mut Items<Front<B>>,
     of: (&[Append], &[Shown]),
+    shares: bool,
 ) {
     let (rows, shown) = of;
     for row in rows {
-        same(rt, append_to(alloc, book, fronts, row), Ok(row.3));
+        same(rt, append_to(alloc, book, fronts, row, shares), Ok(row.3));
     }
     for row in shown {
         let count = row.2.len();
@@ -205,13 +229,19 @@ fn first_front<B: BookName>(alloc: Global, book: &Book<B>) -> Result<Items<Front
     Ok(fronts)
 }
 
-fn fill_book<B: BookName>(rt: &impl Abort, alloc: Global, blank: Blank, of: (&[Append], &[Shown]))
+fn fill_book<B: BookName>(
+    rt: &impl Abort,
+    alloc: Global,
+    blank: Blank,
+    of: (&[Append], &[Shown]),
+    shares: bool,
+)
     requires { blank ≡ B.cells }
 {
     let book = Book::<B>::open(blank);
     let played = ask_mut(
         first_front(alloc, &book),
-        |fronts| play(rt, alloc, &book, fronts, of),
+        |fronts| play(rt, alloc, &book, fronts, of, shares),
     );
     same(rt, played, Ok(()));
 }
@@ -220,7 +250,8 @@ fn fill_book<B: BookName>(rt: &impl Abort, alloc: Global, blank: Blank, of: (&[A
 fn entries_are_appended_to_books_of_two(rt: HostRuntime) -> Result<(), Fail> {
     let alloc = rt.alloc();
     for of in BOOKS {
-        fill_book::<Brand>(&rt, alloc, Blank::new(alloc, 2)?, *of);
+        fill_book::<Brand>(&rt, alloc, Blank::new(alloc, 2)?, *of, false);
+        fill_book::<Brand>(&rt, alloc, Blank::new(alloc, 2)?, *of, true);
     }
     Ok(())
 }

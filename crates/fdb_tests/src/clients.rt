@@ -99,6 +99,9 @@ enum Line {
     Writes(&'static [(Text, Text)]),
     // How many operations are noted.
     Ops,
+    // Whether the own writes decide the key.
+    Decides(Text),
+    ReadVersion,
 }
 
 // The one byte of a value, if there is one, the number that is asked for, 1 where something is done or holds, or the
@@ -108,6 +111,8 @@ type Answer = Result<Option<usize>, u32>;
 const DONE: Answer = Ok(Some(1));
 
 const YES: Answer = Ok(Some(1));
+
+const NO: Answer = Ok(Some(0));
 
 const NO_VALUE: Answer = Ok(None);
 
@@ -157,6 +162,11 @@ fn has(set: &TreeRangeSet, alloc: Global, bounds: &[(Text, Text)]) -> Result<boo
     Ok(are_ranges(set.iter().as_slice(), bounds))
 }
 
+fn decides(txn: &Txn, alloc: Global, key: Text) -> Result<bool, Refusal> {
+    let key = Key::new(alloc, key)?;
+    Ok(txn.decides(&key))
+}
+
 fn add_long(txn: &mut Txn, alloc: Global, count: usize) -> Result<(), Refusal> {
     let operand = text_of(alloc, 1, count)?;
     write(txn, Mutation::add(alloc, b"a", operand.as_slice()))
@@ -196,6 +206,8 @@ fn answer(txn: &mut Txn, base: CutSnapshot<'_>, alloc: Global, line: Line) -> An
         Line::Reads(bounds) => held(has(txn.read_conflicts(), alloc, bounds)),
         Line::Writes(bounds) => held(has(txn.write_conflicts(), alloc, bounds)),
         Line::Ops => Ok(Some(txn.transcript().ops.len())),
+        Line::Decides(key) => held(decides(txn, alloc, key)),
+        Line::ReadVersion => Ok(Some(txn.read_version() as usize)),
     }
 }
 
@@ -352,6 +364,7 @@ static CASES: [Case; 21] = [
         lines: &[
             (Line::Write(Change::CompareAndClear(b"a", 1)), DONE),
             (Line::Write(Change::CompareAndClear(b"b", 9)), DONE),
+            (Line::Decides(b"a"), NO),
             (Line::Get(b"a", ORDINARY), NO_VALUE),
             (Line::Get(b"b", ORDINARY), Ok(Some(2))),
             (Line::Reads(&[(b"a", b"a\0"), (b"b", b"b\0")]), YES),
@@ -364,10 +377,12 @@ static CASES: [Case; 21] = [
         fault: None,
         lines: &[
             (Line::Write(Change::Add(b"a", 5)), DONE),
+            (Line::Decides(b"a"), NO),
             (Line::Get(b"a", ORDINARY), Ok(Some(6))),
             (Line::Write(Change::Set(b"a", 7)), DONE),
             (Line::Get(b"a", ORDINARY), Ok(Some(7))),
             (Line::Write(Change::Add(b"a", 5)), DONE),
+            (Line::Decides(b"a"), YES),
             (Line::Get(b"a", ORDINARY), Ok(Some(12))),
         ],
         writes: &[(b"a", b"a\0")],
@@ -377,7 +392,11 @@ static CASES: [Case; 21] = [
         what: "decided keys are not asked",
         fault: FUTURE,
         lines: &[
+            (Line::ReadVersion, Ok(Some(40))),
+            (Line::Decides(b"b"), NO),
             (Line::Write(Change::ClearRange(b"a", b"c")), DONE),
+            (Line::Decides(b"b"), YES),
+            (Line::Decides(b"c"), NO),
             (Line::Get(b"b", ORDINARY), NO_VALUE),
             (Line::Get(b"c", ORDINARY), Err(1009)),
             (Line::Reads(&[]), YES),

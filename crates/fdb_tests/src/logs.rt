@@ -84,13 +84,18 @@ enum Line {
     Gives(u32, &'static [(u32, &'static [u8])]),
     // To forget the tag's messages through the version.
     Pop(u32, u64),
+    // The version of the last entry taken.
+    Version,
+    HasFailed,
 }
 
 // The log and the entry of what is acknowledged, or how many messages there are and through which version they go. Else
-// it is 1 where something is done or holds, and 0.
+// it is the version that is asked for, or 1 where something is done or holds and 0 where it doesn't, and 0.
 type Answer = Result<(u64, u64), Refusal>;
 
 const YES: Answer = Ok((1, 0));
+
+const NO: Answer = Ok((0, 0));
 
 const DONE: Answer = Ok((1, 0));
 
@@ -129,6 +134,8 @@ fn answer(core: &mut LogCore, alloc: Global, line: Line) -> Answer {
             core.pop(tag, through)?;
             DONE
         }
+        Line::Version => Ok((core.version(), 0)),
+        Line::HasFailed => Ok((u64::from(core.is_failed()), 0)),
     }
 }
 
@@ -176,11 +183,14 @@ static CASES: [Case; 4] = [
         logs: 1,
         tags: 1,
         lines: &[
+            (Line::Version, Ok((0, 0))),
             (Line::Take(1, 100, 0, &[]), Err(Refusal::Unknown)),
             (Line::Take(0, 100, 0, &[]), Ok((0, 7))),
             (Line::Take(0, 200, 100, &[]), Ok((0, 7))),
             (Line::Take(0, 200, 100, &[]), Err(Refusal::Stale)),
             (Line::Take(0, 400, 300, &[]), Err(Refusal::NotYet(300))),
+            (Line::Version, Ok((200, 0))),
+            (Line::HasFailed, NO),
         ],
     },
     Case {

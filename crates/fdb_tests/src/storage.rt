@@ -154,6 +154,7 @@ enum Line {
     Forget(u64),
     Version,
     Floor,
+    HasFailed,
     // Whether its range has the bounds.
     Bounds(&'static [u8], &'static [u8]),
     // The byte of the key's value at the version.
@@ -191,6 +192,7 @@ fn answer(shard: &mut Shard, alloc: Global, line: Line) -> Answer {
         }
         Line::Version => Ok(Some(shard.version())),
         Line::Floor => Ok(Some(shard.floor())),
+        Line::HasFailed => Ok(Some(u64::from(shard.is_failed()))),
         Line::Bounds(begin, end) => Ok(Some(u64::from(has_bounds(shard.range(), begin, end)))),
         Line::Get(key, version) => Ok(get(shard, alloc, key, version)?.map(u64::from)),
         Line::Page(end, version, limit, reverse, pairs) => {
@@ -238,6 +240,7 @@ static CASES: [Case; 5] = [
             (Line::ApplyTwo, Err(Refusal::Stale)),
             (Line::ApplyNone(0, 200), DONE),
             (Line::ApplyNone(0, 200), DONE),
+            (Line::HasFailed, NO),
         ],
     },
     Case {

@@ -30,6 +30,12 @@ enum Act {
     Seal(&'static [u32]),
     Unseal,
     IsIdle,
+    // The batch that is sealed or in flight has the transactions of these sessions.
+    Has(&'static [u32]),
+    Waits,
+    // So many resolvers are asked.
+    Resolvers(u32),
+    HasFailed,
     Fail,
     // They are the transactions of these sessions.
     RefuseAll(&'static [u32]),
@@ -53,12 +59,16 @@ type Told = Result<bool, (u32, u64)>;
 
 const YES: Told = Ok(true);
 
+const NO: Told = Ok(false);
+
 // Each of a new proxy.
 const NEW: &[&[(Act, Told)]] = &[
     // An idle proxy seals an empty batch.
     &[
         (Act::Decide(Err(0)), Err((9014, 0))),
         (Act::Done(0, Err(0)), Err((9014, 0))),
+        (Act::Waits, NO),
+        (Act::Resolvers(2), YES),
         (Act::Seal(&[]), YES),
     ],
     // An id waits once.
@@ -68,15 +78,32 @@ const NEW: &[&[(Act, Told)]] = &[
         (Act::Submit(4), Err((9007, 0))),
     ],
     // Nothing is submitted after a failure.
-    &[(Act::Fail, YES), (Act::Submit(4), Err((9004, 0)))],
+    &[
+        (Act::HasFailed, NO),
+        (Act::Fail, YES),
+        (Act::HasFailed, YES),
+        (Act::Submit(4), Err((9004, 0))),
+    ],
     // A batch that was given up is sealed again.
     &[
         (Act::Submit(4), YES),
         (Act::Submit(2), YES),
+        (Act::Waits, YES),
+        (Act::Has(&[]), YES),
         (Act::Seal(&[4, 2]), YES),
-        (Act::IsIdle, Ok(false)),
+        (Act::IsIdle, NO),
+        (Act::Waits, NO),
+        (Act::Has(&[4, 2]), YES),
+        (Act::Submit(5), YES),
+        (Act::Waits, YES),
         (Act::Unseal, YES),
         (Act::IsIdle, YES),
+        (Act::Has(&[]), YES),
+        (Act::Waits, YES),
+        (Act::RefuseAll(&[4, 2, 5]), YES),
+        (Act::Waits, NO),
+        (Act::Submit(4), YES),
+        (Act::Submit(2), YES),
         (Act::Seal(&[4, 2]), YES),
     ],
     // All that wait are refused by id.
@@ -114,7 +141,9 @@ const ASKING: &[&[(Act, Told)]] = &[
         (Act::Acknowledge(0), Err((9003, 0))),
         (Act::Acknowledge(1), YES),
         (Act::AllLogged, YES),
+        (Act::Has(&[4]), YES),
         (Act::Done(4, Err(1020)), YES),
+        (Act::Has(&[]), YES),
         (Act::Done(0, Err(0)), Err((9014, 0))),
     ],
     // A commit is sent to the log of its shard.
@@ -206,23 +235,26 @@ fn asking(alloc: Global) -> Result<CommitCore, Refusal> {
     }
 }
 
+fn has_sessions(batch: &[Sealed], sessions: &[u32]) -> bool {
+    batch.len() == sessions.len()
+        && batch
+            .iter()
+            .zip(sessions)
+            .all(|(sealed, session)| sealed.id().session == *session)
+}
+
 fn is_of_sessions(batch: Result<Batch, Refusal>, sessions: &[u32]) -> Result<bool, Refusal> {
     let batch = batch?;
-    match (batch.as_slice(), sessions) {
-        ([], []) => Ok(true),
-        ([first, second], [one, two]) => Ok(
-            [first.id().session, second.id().session] == [*one, *two],
-        ),
-        _ => Ok(false),
-    }
+    Ok(has_sessions(batch.as_slice(), sessions))
 }
 
 fn are_of_sessions(ids: Items<TxnId>, sessions: &[u32]) -> bool {
-    match (ids.as_slice(), sessions) {
-        ([first, second], [one, two]) => [first.session, second.session] == [*one, *two]
-            && [first.number, second.number] == [0, 0],
-        _ => false,
-    }
+    ids.len() == sessions.len()
+        && ids
+            .as_slice()
+            .iter()
+            .zip(sessions)
+            .all(|(id, session)| id.session == *session && id.number == 0)
 }
 
 // Whether the part is of one place, which reads and writes the ranges.
@@ -336,6 +368,10 @@ fn change(core: &mut CommitCore, alloc: Global, act: &Act) -> Result<(), Refusal
 fn act_on(core: &mut CommitCore, alloc: Global, act: &Act) -> Result<bool, Refusal> {
     match *act {
         Act::IsIdle => Ok(core.is_idle()),
+        Act::Has(sessions) => Ok(has_sessions(core.batch(), sessions)),
+        Act::Waits => Ok(core.waits()),
+        Act::Resolvers(count) => Ok(core.resolvers() == count),
+        Act::HasFailed => Ok(core.is_failed()),
         Act::Seal(sessions) => is_of_sessions(core.seal(), sessions),
         Act::RefuseAll(sessions) => Ok(are_of_sessions(core.refuse_all(), sessions)),
         Act::Parts => are_write_and_read(core.parts()),
