@@ -13,7 +13,7 @@ use Rattle.fdb_txn.specs.declared.entry.Entry.{Entry}
 use Rattle.fdb_txn.specs.declared.txn_id.TxnId.{TxnId}
 use Rattle.fdb_txn.specs.book.Transactions.{Transaction}
 use Rattle.fdb_txn.specs.book.Book.{last_version}
-use Rattle.fdb_txn.specs.book.History.{ReadsBelow}
+use Rattle.fdb_txn.specs.book.History.{ReadsBelow, IsSealed}
 use Rattle.fdb_txn.specs.book.Once.{same_id, times_with_id, times_in_book}
 use Rattle.fdb_book.specs.Appending.{goes_on, ids_fault, append_fault}
 use Rattle.fdb_book.specs.Fronts.{IsLinkedBook}
@@ -107,10 +107,10 @@ once-after id book earlier (t ∷ later) new once =
     (once-after id book (earlier ++ t ∷ []) later (sym (cond-false (is_among t.id book earlier) _ _ fresh) ∙ new)
     (once-more id book earlier t fresh once))
 
--- where there is no fault, the book with the entry is a book
+-- where there is no fault, the book with the entry of sealed transactions is a book
 pub append-book : (capacity : ℕ) (book : List Entry) (entry : Entry) → IsLinkedBook book
-    → append_fault capacity book entry ≡ None → IsLinkedBook (book ++ entry ∷ [])
-append-book capacity book entry linked none =
+    → append_fault capacity book entry ≡ None → IsSealed entry → IsLinkedBook (book ++ entry ∷ [])
+append-book capacity book entry linked none is_sealed =
     let met : IsFaultless capacity book entry = faultless capacity book entry none in
     let reads = list_all (λ (t : Transaction). nat_lt t.read entry.version) entry.batch in
     let is_above = nat_lt (last_version book) entry.version in
@@ -120,6 +120,7 @@ append-book capacity book entry linked none =
       linked = linked-append 0 book entry linked.linked (ltb-true (last_version book) entry.version above.0)
           (eqb-true entry.prev (last_version book) chain.0);
       reads = all-append ReadsBelow book entry linked.reads (reads-met entry.version entry.batch above.1);
+      each_sealed = all-append IsSealed book entry linked.each_sealed is_sealed;
       ids = λ id. rw (sum_by_push (λ (e : Entry). times_with_id id e.batch) book entry)
           (once-after id book [] entry.batch met.new (omega (arith, linked.ids id)));
     }

@@ -5,7 +5,7 @@ use Rattle.std.proofs.lemmas.List.{take-append-drop}
 use Rattle.std.proofs.lemmas.List.Sums.{sum_by-append}
 use Rattle.fdb_txn.specs.declared.entry.Entry.{Entry}
 use Rattle.fdb_txn.specs.declared.txn_id.TxnId.{TxnId}
-use Rattle.fdb_txn.specs.book.History.{AreLinked, ReadsBelow}
+use Rattle.fdb_txn.specs.book.History.{AreLinked, ReadsBelow, IsSealed}
 use Rattle.fdb_txn.specs.book.Once.{times_with_id, times_in_book}
 use Rattle.fdb_book.specs.Fronts.{IsLinkedBook}
 use Rattle.fdb_book.specs.Ids.{Latest, Covers}
@@ -44,6 +44,7 @@ book-first : (first later : List Entry) → IsLinkedBook (first ++ later) → Is
 book-first first later book = record {
   linked = linked-first 0 first later book.linked;
   reads = all-first ReadsBelow first later book.reads;
+  each_sealed = all-first IsSealed first later book.each_sealed;
   ids = λ id. grind (arith, times-first id first later, book.ids id);
 }
 

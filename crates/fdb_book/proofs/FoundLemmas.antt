@@ -10,6 +10,7 @@ use Rattle.fdb_keys.specs.declared.refusal.Refusal.{Refusal}
 use Rattle.fdb_keys.specs.declared.refusal.Refusal.TheVariants.{Chain, NoMemory, Taken}
 use Rattle.fdb_txn.specs.declared.entry.Entry.{Entry}
 use Rattle.fdb_txn.specs.book.Book.{last_version}
+use Rattle.fdb_txn.specs.book.History.{IsSealed}
 use Rattle.fdb_book.specs.Fronts.{IsLinkedBook, IsFront, Known, AreOfFirst, shown}
 use Rattle.fdb_book.specs.Ids.{Latest, Covers, repeated_place}
 use Rattle.fdb_book.proofs.AppendLemmas.{append-room, append-book}
@@ -87,16 +88,18 @@ room-left names cells known book entry same first view fits =
 -- a front with what is known of the next cell, whose entry may stand there
 pub front-next : (names cells : List ℕ) (next : Known) (len : ℕ) (latest : Latest) (capacity : ℕ) (book : List Entry)
     (entry : Entry) → cells ≡ names → AreOfFirst names next → len ≡ length book → shown next ≡ book ++ entry ∷ []
-    → IsLinkedBook book → append_fault capacity book entry ≡ None → Covers latest (book ++ entry ∷ [])
-    → IsFront names cells next (len + 1) latest
-front-next names cells next len latest capacity book entry same first counted more linked fits covered = record {
-  same = same;
-  first = rw same first;
-  counted =
-      ap (λ (n : ℕ). n + 1) counted ∙ sym (length-append book (entry ∷ [])) ∙ ap length (sym more) ∙ shown-count next;
-  book = rw more (append-book capacity book entry linked fits);
-  covered = rw more covered;
-}
+    → IsLinkedBook book → append_fault capacity book entry ≡ None → IsSealed entry
+    → Covers latest (book ++ entry ∷ []) → IsFront names cells next (len + 1) latest
+front-next names cells next len latest capacity book entry same
+    first counted more linked fits is_sealed covered = record {
+      same = same;
+      first = rw same first;
+      counted =
+          ap (λ (n : ℕ). n + 1) counted ∙ sym (length-append book (entry ∷ [])) ∙ ap length (sym more)
+          ∙ shown-count next;
+      book = rw more (append-book capacity book entry linked fits is_sealed);
+      covered = rw more covered;
+    }
 
 -- what a call gives says that there is no fault, and what it gives
 pub given-fits : {T : Type 0} (given : T) (fault : Option Refusal) (P : T → Type 0)

@@ -4,6 +4,7 @@ ghost use Rattle.std.specs.Option.{MatchOption};
 ghost use Rattle.std.specs.List.{list_all};
 ghost use Rattle.fdb_keys.specs.Answers.{Answers};
 ghost use Rattle.fdb_keys.specs.declared.refusal.Refusal.TheVariants.{NoMemory, Taken};
+ghost use Rattle.fdb_txn.specs.book.History.{IsSealed};
 ghost use Rattle.fdb_book.specs.Appending.{goes_on, append_fault, Appends, AppendsAndShares};
 ghost use Rattle.fdb_book.specs.Fronts.{AreOfFirst, shown};
 ghost use Rattle.fdb_book.specs.Ids.{Covers};
@@ -71,15 +72,16 @@ pub fn append_and_share<B: BookName>(
 
 impl<B: BookName> Front<B> {
     // Answers why the entry may not be appended. Where it may, gives the greatest number of each session with those of
-    // the entry.
+    // the entry. Whoever looks at a batch knows that its transactions are sealed.
     fn prepare(&self, alloc: Global, entry: &Entry) -> Result<Arc<BTreeMap<u32, u64>>, Refusal>
-        ensures { Answers result (append_fault (length B.cells) self.now entry.now)
+        ensures answers { Answers result (append_fault (length B.cells) self.now entry.now)
             (λ latest. Covers (arc_value latest) (self.now ++ entry.now ∷ [])) }
+        ensures sealed { IsSealed entry.now }
     {
+        let batch = entry.batch.as_slice();
         if !goes_on(self.version(), entry) {
             return Err(Refusal::Chain);
         }
-        let batch = entry.batch.as_slice();
         let taken = with_ids(&self.latest, batch);
         if !matches!(&taken, Ok((_, true))) {
             if let Some(place) = self.repeated_place(batch) {
@@ -100,6 +102,7 @@ impl<B: BookName> Front<B> {
         latest: Arc<BTreeMap<u32, u64>>,
     ) -> Result<Self, Refused<Option<Self>>>
         requires fits { append_fault (length B.cells) self.now entry ≡ None }
+        requires sealed { IsSealed entry }
         requires ids { Covers (arc_value latest) (self.now ++ entry ∷ []) }
         ensures { Appends (length B.cells) self.now entry result }
     {
@@ -147,6 +150,7 @@ impl<B: BookName> Front<B> {
         latest: Arc<BTreeMap<u32, u64>>,
     ) -> Result<(Self, Self), Refused<Option<Self>>>
         requires fits { append_fault (length B.cells) self.now entry ≡ None }
+        requires sealed { IsSealed entry }
         requires ids { Covers (arc_value latest) (self.now ++ entry ∷ []) }
         ensures { AppendsAndShares (length B.cells) self.now entry result }
     {

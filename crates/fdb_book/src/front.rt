@@ -58,7 +58,7 @@ pub fn empty<B: BookName>(alloc: Global, book: &Book<B>) -> Result<Front<B>, Ref
 }
 
 impl<B: BookName> Front<B> {
-    /// How many entries the front shows. They are a book, wherever their moves go.
+    /// How many entries the front shows. They are a book of sealed transactions, wherever their moves go.
     pub fn len(&self) -> usize
         ensures len { result ≡ length self.now }
         ensures book { IsLinkedBook self.now }

@@ -293,7 +293,8 @@ places_are_found_in_the_book book n p entry place earlier there is =
     let rest = later-newer (add_entry before entry) (drop (suc n) book) in
     let whole : (seen_of book).places ≡ (fold add_entry (add_entry before entry) (drop (suc n) book)).places =
     ap (λ (es : List Entry). (seen_of es).places) (book-at book n entry there)
-    ∙ ap (λ (seen : Seen). seen.places) (fold-append add_entry nothing (take n book) (entry ∷ drop (suc n) book)) in (
+    ∙ ap (λ (seen : Seen). seen.places)
+    (fold-append add_entry nothing (take n book) (entry ∷ drop (suc n) book)) in (
       found.0,
       found.1
           ∙ sym (ap (λ (seen : Seen). seen.places)

@@ -24,7 +24,7 @@ invariant_of-result g c =
     (counted-view _ _ _ c.self.invariant.counted c.self.view_is)
     (match-none _ _ _ c.in_default-other.is c.fill_next-facts.ensures.entry
     ∙ ap (λ (it : Entry). c.args.self.now ++ it ∷ []) c.in-Ok.ensures.1)
-    (subst IsLinkedBook c.self.view_is c.self.invariant.book) c.requires.fits c.requires.ids
+    (subst IsLinkedBook c.self.view_is c.self.invariant.book) c.requires.fits c.requires.sealed c.requires.ids
 
 pub invariant_of-result-in-Ok-prepare : goal.invariant_of-result-in-Ok-prepare
 invariant_of-result-in-Ok-prepare g c =
@@ -34,11 +34,11 @@ invariant_of-result-in-Ok-prepare g c =
     (subst IsLinkedBook c.self.view_is c.self.invariant.book) (given-fits {T = Prepared} c.in-Ok-prepare.latest
     (append_fault (length g.B.BookName.cells) c.args.self.now c.in-Some.other.now)
     (λ latest. Covers (arc_value latest) (c.args.self.now ++ c.in-Some.other.now ∷ []))
-    c.in-Ok-prepare.ensures)
-    (given-has {T = Prepared} c.in-Ok-prepare.latest
+    c.in-Ok-prepare.ensures.answers)
+    c.in-Ok-prepare.ensures.sealed (given-has {T = Prepared} c.in-Ok-prepare.latest
     (append_fault (length g.B.BookName.cells) c.args.self.now c.in-Some.other.now)
     (λ latest. Covers (arc_value latest) (c.args.self.now ++ c.in-Some.other.now ∷ []))
-    c.in-Ok-prepare.ensures)
+    c.in-Ok-prepare.ensures.answers)
 
 pub returns-in-Ok-prepare : goal.returns-in-Ok-prepare
 returns-in-Ok-prepare g c =
@@ -47,7 +47,7 @@ returns-in-Ok-prepare g c =
     (given-fits {T = Prepared} c.in-Ok-prepare.latest
     (append_fault (length g.B.BookName.cells) c.args.self.now c.in-Some.other.now)
     (λ latest. Covers (arc_value latest) (c.args.self.now ++ c.in-Some.other.now ∷ []))
-    c.in-Ok-prepare.ensures)
+    c.in-Ok-prepare.ensures.answers)
     found.0
 
 pub returns : goal.returns
@@ -57,5 +57,5 @@ returns g c =
     c.in-Err.why c.why_taken.result
     (λ latest. Covers (arc_value latest) (c.args.self.now ++ c.in-Some.other.now ∷ []))
     c.requires.fits
-    (λ same. found.1 (same ∙ sym c.in-Ok.ensures.1)) c.in-Err.ensures c.why_taken.ensures.memory
+    (λ same. found.1 (same ∙ sym c.in-Ok.ensures.1)) c.in-Err.ensures.answers c.why_taken.ensures.memory
     c.why_taken.ensures.taken
