@@ -126,7 +126,22 @@ fn share_of<B: BookName>(
     }
 }
 
-// Appends to the row's front, also with a share, and adds the front that is handed out to the others.
+// Appends, and where shares are asked for gives the share in the place of the longer front.
+fn append_by<B: BookName>(
+    alloc: Global,
+    book: &Book<B>,
+    front: &Front<B>,
+    entry: Entry,
+    shares: bool,
+) -> ((u32, u64), Option<Front<B>>) {
+    if shares {
+        handed_out(share_of(alloc, book, front, entry))
+    } else {
+        handed_out(append(alloc, book, front, entry))
+    }
+}
+
+// Appends to the row's front, and adds the front that is handed out to the others.
 fn append_to<B: BookName>(
     alloc: Global,
     book: &Book<B>,
@@ -134,10 +149,8 @@ fn append_to<B: BookName>(
     row: &Append,
     shares: bool,
 ) -> Result<Told, Refusal> {
-    let entry = entry_of(alloc, row.1, row.2)?;
     let ((code, number), longer) = match fronts.as_slice().get(row.0) {
-        Some(front) if shares => handed_out(share_of(alloc, book, front, entry)),
-        Some(front) => handed_out(append(alloc, book, front, entry)),
+        Some(front) => append_by(alloc, book, front, entry_of(alloc, row.1, row.2)?, shares),
         None => return Err(Refusal::Unknown),
     };
     match longer {
