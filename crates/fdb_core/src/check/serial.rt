@@ -4,7 +4,6 @@ ghost use Rattle.std.specs.Prelude.{if◌then◌else◌};
 ghost use Rattle.std.specs.List.{AllByRecursion};
 ghost use Rattle.std.specs.List.Sorted.{IsPermutation};
 ghost use Rattle.fdb_keys.specs.Points.{Point};
-ghost use Rattle.fdb_txn.specs.book.Transactions.{NamesWrites};
 ghost use Rattle.fdb_txn.specs.book.History.{AreEntries, IsBook, IsSealed};
 ghost use Rattle.fdb_txn.specs.Limits.{shard_limit};
 ghost use Rattle.fdb_proxy.specs.Configs.{config_fault};
@@ -23,7 +22,7 @@ use crate::roles::shard::ShardRole;
 use crate::world::CheckFault;
 use fdb_keys::Key;
 use fdb_proxy::Config;
-use fdb_txn::{Entry, Sealed};
+use fdb_txn::Entry;
 use std::alloc::Global;
 
 // Compares each one at its visit, in the order of the run.
@@ -51,21 +50,12 @@ fn run_visits(
     Ok(())
 }
 
-// What a transaction's mutations name is in its write set, as of every sealed one.
-fn know_named(batch: &[Sealed])
-    ensures { AllByRecursion NamesWrites batch.now }
-{
-    for sealed in batch {
-        let _writes = sealed.writes();
-    }
-}
-
-// So it is of all transactions of the entries.
+// What a transaction's mutations name is in its write set, as of every sealed one, for all of the entries.
 fn know_sealed(book: &[Entry])
     ensures { AllByRecursion IsSealed book.now }
 {
     for entry in book {
-        know_named(entry.batch.as_slice());
+        let _batch = entry.batch.as_slice();
     }
 }
 
