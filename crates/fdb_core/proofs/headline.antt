@@ -1,11 +1,13 @@
 pub mod AnswerExamplesLemmas
 pub mod CommittedLaws
 pub mod ExamplesLemmas
+pub mod FrontLaws
 pub mod HeadlineLaws
 pub mod MoveExamplesLemmas
 pub mod PromiseLaws
 pub mod ReplayLaws
 pub mod RoleLaws
+pub mod RoleStartLaws
 pub mod RunsLemmas
 pub mod ScriptExamplesLemmas
 pub mod ScriptLemmas

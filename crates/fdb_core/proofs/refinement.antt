@@ -2,6 +2,7 @@ pub mod AnsweringTies
 pub mod BookLemmas
 pub mod BookPushes
 pub mod CommitProxyTies
+pub mod FrontLemmas
 pub mod GrvProxyTies
 pub mod LogTies
 pub mod MoveLemmas

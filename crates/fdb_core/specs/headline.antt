@@ -4,6 +4,7 @@ pub mod Books
 pub mod Committed
 pub mod Due
 pub mod Examples
+pub mod Fronts
 pub mod Headline
 pub mod MoveExamples
 pub mod Promises
@@ -12,6 +13,7 @@ pub mod Readings
 pub mod RealTime
 pub mod Replays
 pub mod RoleLaws
+pub mod RoleStarts
 pub mod ScriptExamples
 pub mod Serving
 pub mod Sessions

@@ -6,9 +6,12 @@ ghost use Rattle.fdb_core.specs.headline.AnswerExamples.{OtherVersionsAreNoAnswe
 ghost use Rattle.fdb_core.specs.headline.AnswerExamples.{EarlyDecisionsAreNoAnswers, EarlyMessagesAreNoAnswers};
 ghost use Rattle.fdb_core.specs.headline.AnswerExamples.{OtherOutcomesAreNoAnswers, MessagesAreDue};
 ghost use Rattle.fdb_core.specs.headline.Answers.{AnsweredByTheTrace};
+ghost use Rattle.fdb_core.specs.headline.Fronts.{FrontsHaveOneRun};
 ghost use Rattle.fdb_core.specs.headline.Replays.{ReplaysTellTheRun};
 ghost use Rattle.fdb_core.specs.headline.RealTime.{RealTime};
 ghost use Rattle.fdb_core.specs.headline.RoleLaws.{ResolverGoesOn, OwnersGoOn, SequencerGoesOn, LogGoesOn, ShardGoesOn};
+ghost use Rattle.fdb_core.specs.headline.RoleLaws.{ShardGoesOnByMessages, LogGivesMessages, ShardGoesOnByItsLog};
+ghost use Rattle.fdb_core.specs.headline.RoleStarts.{ResolverStarts, LogStarts, ShardStarts, LogPops, ShardForgets};
 ghost use Rattle.fdb_core.specs.headline.Examples.{OnlyTheFirstIsSerialized, ReadOnlyAtItsVersion, AfterAVersion};
 ghost use Rattle.fdb_core.specs.headline.Examples.{AnEmptyShardDoesNotServe, OnlyOrdinaryReadsCount, BegunByServing};
 ghost use Rattle.fdb_core.specs.headline.Examples.{ForgetfulRolesDoNotKeep, ReadOffTheTrace, Traced};
@@ -183,13 +186,44 @@ pub fn places_are_committed_where_the_asked_say_yes()
 /// A role that is where a book leaves it, and takes its message of one more entry, is where the book with that entry
 /// leaves it. A resolver says of its part what the rule says of the entry's places. Owners learn the entry's moves. The
 /// sequencer accepts the entry's ticket: what a commit proxy hasn't had yet are still the last of the moves that took
-/// effect. A log keeps the entry's message for each of its tags above what was popped, which has to be less than the
-/// entry's version. A shard applies the entry's message for its tag, and answers from the run with the entry. None of
-/// the resolver, the log and the shard is refused it.
+/// effect. A log keeps the entry's message for each of its tags above what was popped, which is below the entry's
+/// version. A shard applies the entry's message for its tag, and answers from the run with the entry. None of the
+/// resolver, the log and the shard is refused it.
 pub fn roles_go_on_with_one_more_entry()
     ensures resolver { ResolverGoesOn }
     ensures owners { OwnersGoOn }
     ensures sequencer { SequencerGoesOn }
     ensures log { LogGoesOn }
     ensures shard { ShardGoesOn }
+{}
+
+/// Two fronts of one book, of which the longer one begins with the shorter one, have one serial map at each version
+/// that both reach.
+pub fn fronts_of_one_book_have_one_run()
+    ensures { FrontsHaveOneRun }
+{}
+
+/// A shard that is where some first entries of a book leave it, and takes the messages of further entries for its tag,
+/// isn't refused them, and is where all these entries leave it. A log that took the further entries gives a peek of
+/// just these messages, as many as the limit says, through the version of the last of their entries. So a shard that
+/// applies what such a log gives of its tag after its version has then applied as many further entries as the peek has
+/// messages.
+pub fn shards_go_on_by_what_their_logs_give()
+    ensures messages { ShardGoesOnByMessages }
+    ensures gives { LogGivesMessages }
+    ensures log { ShardGoesOnByItsLog }
+{}
+
+/// A new resolver, a new log and a new shard are where the book without entries leaves them.
+pub fn new_roles_are_at_no_entry()
+    ensures resolver { ResolverStarts }
+    ensures log { LogStarts }
+    ensures shard { ShardStarts }
+{}
+
+/// What a role does without an entry leaves it where the book left it: a log pops a tag through a version that it has
+/// reached, and a shard raises its floor to one.
+pub fn roles_stay_where_no_entry_is_taken()
+    ensures log { LogPops }
+    ensures shard { ShardForgets }
 {}

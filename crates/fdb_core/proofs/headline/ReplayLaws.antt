@@ -25,7 +25,8 @@ use Rattle.fdb_storage.specs.Replays.{covered_from, messages_of}
 use Rattle.fdb_storage.proofs.LogMessagesLemmas.{messages_above_a_version}
 use Rattle.fdb_core.specs.headline.Replays.{IsUnpopped, GoOnFrom, ReplaysTellTheRun}
 use Rattle.fdb_core.specs.refinement.Cluster.{IsRising}
-use Rattle.fdb_core.proofs.refinement.LogTies.{messages-take, through-messages, take-both}
+use Rattle.fdb_core.proofs.refinement.FrontLemmas.{messages-take, through-messages}
+use Rattle.fdb_core.proofs.refinement.LogTies.{take-both}
 use Rattle.fdb_core.proofs.refinement.BookLemmas.{entries-take}
 use Rattle.fdb_core.proofs.refinement.RunLaws.{entries-rising, serial-front, versions-ordered}
 
@@ -80,7 +81,8 @@ module _ (splits : List Point) (range : Range) (book : List Entry) (entries : Ar
         ∙ ap (λ (version : ℕ). above version (messages_for splits range (take is.taken book))) begins
         ∙ above-first n is.taken)
         ∙ messages-take splits range (seen_before book n) is.limit (take (is.taken - n) (drop n book))
-        ∙ ap (messages_after splits range (seen_before book n)) (take-both is.limit (is.taken - n) (drop n book)) in (
+        ∙ ap (messages_after splits range (seen_before book n))
+        (take-both is.limit (is.taken - n) (drop n book)) in (
           k,
           messages,
           ap (λ (it : Peek). it.through) is.gives

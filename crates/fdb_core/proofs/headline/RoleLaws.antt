@@ -1,24 +1,22 @@
 -- Each role's state at a book with one more entry.
-use Rattle.std.proofs.Common.{◌≡◌, ◌∙◌, refl, sym, ap, ap₂, subst, ℕ, suc, ◌+◌, ◌<◌, ◌≤◌, le_refl, le_of_lt, true, not}
-use Rattle.std.proofs.Common.{List, [], ◌∷◌, ◌++◌, length, take, fold, unwrap_or, Option, Some, None, arith, ⊎_elim}
-use Rattle.std.specs.Prelude.{◌==◌}
-use Rattle.std.specs.FinMap.{get}
-use Rattle.std.proofs.lemmas.Bool.{cases_Bool, cases_lt, both_ways, cond-false, eq-eqb, eqb-true, le-ltb}
-use Rattle.std.proofs.lemmas.List.{append-nil, append_assoc, length-append, take_all, take-append-le}
+use Rattle.std.proofs.Common.{◌≡◌, ◌∙◌, refl, sym, ap, ap₂, subst, ℕ, suc, ◌+◌, ◌<◌, ◌≤◌, min, le_refl, Bool, true}
+use Rattle.std.proofs.Common.{false, not, List, [], ◌∷◌, ◌++◌, length, take, unwrap_or, Option, Some, None, arith, ⊎_elim}
+use Rattle.std.specs.Prelude.{◌==◌, ◌||◌, nat_lt, if◌then◌else◌}
+use Rattle.std.proofs.lemmas.Bool.{cases_Bool, cases_lt, both_ways, cond-false, eq-eqb, eqb-true, le-ltb, ltb-false}
+use Rattle.std.proofs.lemmas.Bool.{or_parts}
+use Rattle.std.proofs.lemmas.List.{append-nil, append_assoc, length-append, length-take, take_all, take-append-le}
 use Rattle.std.proofs.lemmas.Option.{slice_get_past}
-use Rattle.fdb_keys.specs.Ranges.{Range, in_range}
-use Rattle.fdb_mutations.specs.Maps.{Map}
+use Rattle.std.proofs.Math.Seq.{take-append-add}
+use Rattle.fdb_keys.specs.declared.refusal.Refusal.TheVariants.{Failed, BadConfig, TransactionTooOld}
 use Rattle.fdb_txn.specs.declared.entry.Entry.{Entry}
 use Rattle.fdb_txn.specs.declared.entry.Move.{Move}
 use Rattle.fdb_txn.specs.declared.tag_msg.TagMsg.{TagMsg}
 use Rattle.fdb_txn.specs.book.Book.{Seen, seen_of, last_version}
 use Rattle.fdb_txn.specs.book.History.{AreEntries}
 use Rattle.fdb_txn.specs.book.Transactions.{Transaction}
-use Rattle.fdb_txn.specs.rules.Messages.{message_for, messages_for, value_with}
-use Rattle.fdb_txn.specs.rules.SerialMap.{serial_map_at}
+use Rattle.fdb_txn.specs.rules.Messages.{message_for, messages_for, messages_after}
 use Rattle.fdb_txn.specs.rules.Splits.{piece}
 use Rattle.fdb_txn.proofs.book.HistoryLemmas.{seen_of-push}
-use Rattle.fdb_txn.proofs.rules.MessagesLemmas.{shards_go_on}
 use Rattle.fdb_owners.specs.OwnersLaws.{AgreesWith}
 use Rattle.fdb_owners.proofs.BookLemmas.{learning_goes_on}
 use Rattle.fdb_resolver.specs.declared.verdict.Verdict.{Verdict}
@@ -28,27 +26,27 @@ use Rattle.fdb_sequencer.specs.Sequencer.{Sequencer, accepting, unlearnt_by}
 use Rattle.fdb_sequencer.proofs.TicketLemmas.{accepted_are_planned}
 use Rattle.fdb_log.specs.declared.message.LogMsg.{LogMsg}
 use Rattle.fdb_log.specs.declared.peek.Peek.{Peek}
-use Rattle.fdb_log.specs.Logs.{Log, keeps, popped_through, push_fault, HasTaken}
+use Rattle.fdb_log.specs.Logs.{Log, keeps, popped_through, push_fault, peek_fault, peek_of, HasTaken}
 use Rattle.fdb_log.specs.Messages.{above}
 use Rattle.fdb_storage.specs.LogMessages.{log_message}
-use Rattle.fdb_storage.specs.Shards.{Shard, apply_fault, HasApplied}
+use Rattle.fdb_storage.specs.Shards.{Shard, HasApplied}
 use Rattle.fdb_proxy.specs.declared.config.Config.{Config}
-use Rattle.fdb_proxy.specs.Parting.{IsPartOf}
-use Rattle.fdb_proxy.specs.Verdicts.{moves_through}
 use Rattle.fdb_core.specs.headline.RoleLaws.{ResolverGoesOn, OwnersGoOn, AreLastOf, IsSequencerAt, SequencerGoesOn}
-use Rattle.fdb_core.specs.headline.RoleLaws.{IsLogAt, LogGoesOn, IsShardAt, ShardGoesOn}
+use Rattle.fdb_core.specs.headline.RoleLaws.{IsLogAt, LogGoesOn, IsShardAt, ShardGoesOn, ShardGoesOnByMessages}
+use Rattle.fdb_core.specs.headline.RoleLaws.{LogGivesMessages, ShardGoesOnByItsLog}
 use Rattle.fdb_core.specs.machine.SequencerSteps.{dated_moves}
 use Rattle.fdb_core.specs.refinement.CommitProxies.{entry_of}
 use Rattle.fdb_core.specs.refinement.Logs.{LogRefines}
 use Rattle.fdb_core.proofs.common.ListLemmas.{last-at}
-use Rattle.fdb_core.proofs.refinement.BookLemmas.{last-push}
+use Rattle.fdb_core.proofs.refinement.BookLemmas.{last-push, entries-take}
+use Rattle.fdb_core.proofs.refinement.FrontLemmas.{count-messages, gives-messages, gives-through, shard-may-apply}
+use Rattle.fdb_core.proofs.refinement.FrontLemmas.{shard-applied}
 use Rattle.fdb_core.proofs.refinement.LogTies.{log-next}
 use Rattle.fdb_core.proofs.refinement.MoveLemmas.{dated_moves-push, handed-count, handed-own, handed-other}
 use Rattle.fdb_core.proofs.refinement.ResolvingLemmas.{follows, may-take, takes}
-use Rattle.fdb_core.proofs.refinement.RunLaws.{entries-rising, serial-front}
 
 pub resolver_goes_on : ResolverGoesOn
-resolver_goes_on splits book entry i old parts part entries at are there = (
+resolver_goes_on splits book entry i old part entries at of = (
   may-take splits book entry entries (length book) i old part at of,
   λ verdicts new answer taken.
       let took = takes splits book entry entries (length book) i old part at of new (Some verdicts.answers)
@@ -56,10 +54,6 @@ resolver_goes_on splits book entry i old parts part entries at are there = (
       (same-some verdicts.answers _ took.0, took.1),
 )
   where
-    of : IsPartOf splits (moves_through (seen_of book) entry)
-        (record { index = length book; version = entry.version; prev = entry.prev }) entry.batch i part
-    of = are.each i part there
-
     same-some : (a b : List (ℕ × Verdict)) → Some a ≡ Some b → a ≡ b
     same-some a b is = cc
 
@@ -158,11 +152,16 @@ module _ (config : Config) (book : List Entry) (entry : Entry) (l : ℕ) (old : 
         (messages_for config.resolver_splits (piece config.shard_splits tag) all)) (sym (front book entry));
   }
 
-  log-taken : (new : Log) → ((tag : ℕ) → keeps old tag ≡ true → popped_through old tag < entry.version)
-      → HasTaken old message new → IsLogAt config (book ++ entry ∷ []) l new
-  log-taken new unpopped taken =
+  -- it popped no tag up to the entry
+  unpopped : (tag : ℕ) → popped_through old tag < entry.version
+  unpopped tag =
+      let later = (follows config.resolver_splits book entry entries).0 in
+      omega (arith, at.popped tag, at.last, later)
+
+  log-taken : (new : Log) → HasTaken old message new → IsLogAt config (book ++ entry ∷ []) l new
+  log-taken new taken =
       let next = log-next config (book ++ entry ∷ []) l (record { core = old; taken = length book }) entry message new
-      refines-front (last-at book entry) unpopped
+      refines-front (last-at book entry) (λ tag keeps_it. unpopped tag)
       (is ∙ ap (λ (all : List Entry). log_message config.resolver_splits config.shard_splits config.logs l
       (length book) (seen_of all) entry) (sym (front book entry))) taken in
       record {
@@ -171,6 +170,9 @@ module _ (config : Config) (book : List Entry) (entry : Entry) (l : ℕ) (old : 
         tags = next.tags;
         works = next.works;
         last = next.last ∙ ap last_version whole;
+        popped = λ tag.
+            let version : new.last ≡ entry.version = taken.last ∙ ap (λ (m : LogMsg). m.version) is in
+            omega (arith, taken.popped tag, unpopped tag, version);
         kept = λ tag keeps_it. next.kept tag keeps_it
             ∙ ap (λ (all : List Entry). above (popped_through new tag)
             (messages_for config.resolver_splits (piece config.shard_splits tag) all)) whole;
@@ -180,68 +182,112 @@ module _ (config : Config) (book : List Entry) (entry : Entry) (l : ℕ) (old : 
       whole = take_all (length book + 1) (book ++ entry ∷ []) (omega (arith, length-append book (entry ∷ [])))
 
 pub log_goes_on : LogGoesOn
-log_goes_on config book entry l old message entries at unpopped is = (
+log_goes_on config book entry l old message entries at is = (
   log-may-take config book entry l old message entries at is,
-  λ new taken. log-taken config book entry l old message entries at is new unpopped taken,
+  λ new taken. log-taken config book entry l old message entries at is new taken,
 )
 
--- A shard applies the message of the next entry.
-module _ (config : Config) (book : List Entry) (entry : Entry) (s : ℕ) (old : Shard) (peek : Peek)
-    (entries : AreEntries (suc (length config.resolver_splits)) 0 (book ++ entry ∷ []))
-    (at : IsShardAt config book s old) where
-  shard-may-apply : peek.tag ≡ s → peek.after ≡ old.version → apply_fault old peek ≡ None
-  shard-may-apply tag from =
-      cond-false _ _ _ (ap not (eq-eqb peek.tag old.tag (tag ∙ sym at.tag)))
-      ∙ cond-false _ _ _ at.works
-      ∙ cond-false _ _ _ (le-ltb peek.after old.version (omega (arith, from)))
-      ∙ cond-false _ _ _ (le-ltb old.version peek.after (omega (arith, from)))
-
-  -- up to the version of the book's last entry, the run is that of the book
-  run-before : (v : ℕ) → v ≤ last_version book
-      → serial_map_at config.resolver_splits v (seen_of (book ++ entry ∷ [])).places
-      ≡ serial_map_at config.resolver_splits v (seen_of book).places
-  run-before v reached =
-      serial-front config.resolver_splits (book ++ entry ∷ [])
-      (entries-rising (suc (length config.resolver_splits)) (book ++ entry ∷ []) entries) (length book) v
-      (subst (λ (version : ℕ). v ≤ version) (ap last_version (sym (front book entry))) reached)
-      ∙ ap (λ (all : List Entry). serial_map_at config.resolver_splits v (seen_of all).places) (front book entry)
-
-  shard-applied : (new : Shard) → peek.through ≡ entry.version
-      → peek.messages
-      ≡ message_for config.resolver_splits (piece config.shard_splits s) (seen_of book) entry ∷ []
-      → HasApplied old peek new → IsShardAt config (book ++ entry ∷ []) s new
-  shard-applied new through messages applied = record {
-    tag = applied.tag ∙ at.tag;
-    range = applied.range ∙ at.range;
-    works = applied.works;
-    version = applied.version ∙ through ∙ sym (last-push book entry);
-    serving =
-        let later = (follows config.resolver_splits book entry entries).0 in
-        let low = at.serving in
-        omega (arith, low, later, applied.floor, at.version, applied.version, through);
-    serves = λ v x from until inside.
-        let held : in_range old.range x ≡ true = ap (λ (all : Range). in_range all x) at.range ∙ inside in
-        let above_floor : old.floor ≤ v = subst (λ (floor : ℕ). floor ≤ v) applied.floor from in
-        ⊎_elim
-        (λ earlier. let before : v ≤ old.version = le_of_lt earlier in
-        applied.before v x above_floor before held
-        ∙ at.serves v x above_floor before inside
-        ∙ sym (ap (λ (map : Map). get map x)
-        (run-before v (subst (λ (version : ℕ). v ≤ version) at.version before))))
-        (λ from_version.
-        applied.after v x from_version until held
-        ∙ ap₂ (λ (value : Option (List ℕ)) (those : List TagMsg). fold (value_with v x) value those)
-        (at.serves old.version x at.serving (le_refl old.version) inside
-        ∙ ap (λ (version : ℕ). get (serial_map_at config.resolver_splits version (seen_of book).places) x) at.version)
-        messages
-        ∙ shards_go_on (suc (length config.resolver_splits)) config.resolver_splits (piece config.shard_splits s) book
-        (entry ∷ []) entries v x inside (subst (λ (version : ℕ). version ≤ v) at.version from_version))
-        (cases_lt v old.version);
-  }
-
-pub shard_goes_on : ShardGoesOn
-shard_goes_on config book entry s old peek entries at is = (
-  shard-may-apply config book entry s old peek entries at (ap (λ (p : Peek). p.tag) is) (ap (λ (p : Peek). p.after) is),
-  λ new applied. shard-applied config book entry s old peek entries at new (ap (λ (p : Peek). p.through) is)
+pub shard_goes_on_by_messages : ShardGoesOnByMessages
+shard_goes_on_by_messages config book more s old peek entries at is = (
+  shard-may-apply config book s old peek at (ap (λ (p : Peek). p.tag) is) (ap (λ (p : Peek). p.after) is),
+  λ new applied. shard-applied config book more entries s old new peek at (ap (λ (p : Peek). p.through) is)
       (ap (λ (p : Peek). p.messages) is) applied,
 )
+
+pub shard_goes_on : ShardGoesOn
+shard_goes_on config book entry s old peek entries at is =
+    shard_goes_on_by_messages config book (entry ∷ []) s old peek entries at (is
+    ∙ ap (λ (version : ℕ). record {
+      tag = s;
+      after = old.version;
+      through = version;
+      messages = message_for config.resolver_splits (piece config.shard_splits s) (seen_of book) entry ∷ [];
+    }) (sym (last-push book entry)))
+
+-- a log that answers a peek keeps the tag, and popped it through no more than the peek's version
+answered : (log : Log) (tag after : ℕ) → log.is_failed ≡ false → peek_fault log tag after ≡ None
+    → (keeps log tag ≡ true) × (popped_through log tag ≤ after)
+answered log tag after works none =
+    by_tests (not (keeps log tag) || nat_lt log.last after) (nat_lt after (popped_through log tag)) refl refl
+    (sym (cond-false log.is_failed (Some Failed) _ works) ∙ none)
+  where
+    true_from_not_false : (test : Bool) → not test ≡ false → test ≡ true
+    true_from_not_false true is = refl
+    true_from_not_false false is = cc
+
+    by_tests : (unknown dropped : Bool) → (not (keeps log tag) || nat_lt log.last after) ≡ unknown
+        → nat_lt after (popped_through log tag) ≡ dropped
+        → (if unknown then Some BadConfig else (if dropped then Some TransactionTooOld else None)) ≡ None
+        → (keeps log tag ≡ true) × (popped_through log tag ≤ after)
+    by_tests true dropped is also none = cc
+    by_tests false true is also none = cc
+    by_tests false false is also none = (
+      true_from_not_false (keeps log tag) (or_parts (not (keeps log tag)) (nat_lt log.last after) is).0,
+      ltb-false after (popped_through log tag) also,
+    )
+
+-- A log that took these entries gives a tag's messages of the entries after the first ones.
+module _ (config : Config) (book more : List Entry) (l tag limit : ℕ) (log : Log)
+    (entries : AreEntries (suc (length config.resolver_splits)) 0 (book ++ more))
+    (at : IsLogAt config (book ++ more) l log) (may : peek_fault log tag (last_version book) ≡ None) where
+  gives : peek_of log tag (last_version book) limit ≡ record {
+    tag = tag;
+    after = last_version book;
+    through = last_version (book ++ take limit more);
+    messages = messages_after config.resolver_splits (piece config.shard_splits tag) (seen_of book) (take limit more);
+  }
+  gives =
+      let fine = answered log tag (last_version book) at.works may in
+      ap₂ (λ (through : ℕ) (messages : List TagMsg).
+      record { tag = tag; after = last_version book; through = through; messages = messages })
+      (gives-through config book more entries tag limit log (at.kept tag fine.0) fine.1)
+      (gives-messages config book more entries tag limit log (at.kept tag fine.0) fine.1)
+
+  -- which are as many as there are entries up to the limit
+  gives-count : length (peek_of log tag (last_version book) limit).messages ≡ length (take limit more)
+  gives-count = ap (λ (peek : Peek). length peek.messages) gives
+      ∙ count-messages config.resolver_splits (piece config.shard_splits tag) (seen_of book) (take limit more)
+
+pub log_gives_messages : LogGivesMessages
+log_gives_messages = gives
+
+-- the first entries, cut as long as some of them and the first of the others
+cut-is : (book more : List Entry) (limit : ℕ)
+    → take (length book + length (take limit more)) (book ++ more) ≡ book ++ take limit more
+cut-is book more limit =
+    take-append-add book more (length (take limit more))
+    ∙ ap (λ (those : List Entry). book ++ those)
+    (ap (λ (n : ℕ). take n more) (length-take limit more)
+    ∙ ⊎_elim
+    (λ fewer. ap (λ (n : ℕ). take n more) (let is : min limit (length more) ≡ limit = omega (arith, fewer) in is))
+    (λ all. take_all (min limit (length more)) more (omega (arith, all)) ∙ sym (take_all limit more all))
+    (cases_lt limit (length more)))
+
+pub shard_goes_on_by_its_log : ShardGoesOnByItsLog
+shard_goes_on_by_its_log config book more s l limit old log entries at has may =
+    let peek = peek_of log s old.version limit in
+    let may_give : peek_fault log s (last_version book) ≡ None =
+    subst (λ (v : ℕ). peek_fault log s v ≡ None) at.version may in
+    let count : length peek.messages ≡ length (take limit more) =
+    ap (λ (v : ℕ). length (peek_of log s v limit).messages) at.version
+    ∙ gives-count config book more l s limit log entries has may_give in
+    let cut : take (length book + length peek.messages) (book ++ more) ≡ book ++ take limit more =
+    ap (λ (n : ℕ). take (length book + n) (book ++ more)) count ∙ cut-is book more limit in
+    let some : AreEntries (suc (length config.resolver_splits)) 0 (book ++ take limit more) =
+    subst (AreEntries (suc (length config.resolver_splits)) 0) cut
+    (entries-take (suc (length config.resolver_splits)) 0 (length book + length peek.messages) (book ++ more) entries)
+    in
+    let given : peek ≡ record {
+      tag = s;
+      after = old.version;
+      through = last_version (book ++ take limit more);
+      messages = messages_after config.resolver_splits (piece config.shard_splits s) (seen_of book) (take limit more);
+    } = ap (λ (v : ℕ). record (peek_of log s v limit) { after = old.version }) at.version
+    ∙ ap (λ (p : Peek). record p { after = old.version })
+    (gives config book more l s limit log entries has may_give) in
+    let next = shard_goes_on_by_messages config book (take limit more) s old peek some at given in (
+      next.0,
+      ap length cut ∙ length-append book (take limit more) ∙ ap (λ (n : ℕ). length book + n) (sym count),
+      ap (λ (p : Peek). p.through) given ∙ ap last_version (sym cut),
+      λ new applied. subst (λ (all : List Entry). IsShardAt config all s new) (sym cut) (next.1 new applied),
+    )

@@ -39,13 +39,17 @@ use Rattle.fdb_storage.proofs.LogMessagesLemmas.{logs_are_sent_the_messages, mes
 use Rattle.fdb_proxy.specs.declared.config.Config.{Config}
 use Rattle.fdb_core.specs.declared.roles.log.LogRole.{LogRole}
 use Rattle.fdb_core.specs.declared.roles.shard.ShardRole.{ShardRole}
+use Rattle.fdb_core.specs.headline.RoleLaws.{IsShardAt}
 use Rattle.fdb_core.specs.machine.Machine.{Machine, Transition, refused_where, is_set}
 use Rattle.fdb_core.specs.machine.RoleSteps.{pushes}
 use Rattle.fdb_core.specs.refinement.Cluster.{IsRising}
 use Rattle.fdb_core.specs.refinement.Logs.{Each, LogRefines, ShardRefines, TagRefines}
 use Rattle.fdb_core.proofs.common.ListLemmas.{each-set}
 use Rattle.fdb_core.proofs.refinement.BookLemmas.{take-next, take-take, entries-take}
-use Rattle.fdb_core.proofs.refinement.RunLaws.{entries-rising, serial-front, versions-ordered, versions-apart}
+use Rattle.fdb_core.proofs.refinement.FrontLemmas.{count-messages, gives-messages, gives-through, shard-applied}
+use Rattle.fdb_core.proofs.refinement.FrontLemmas.{same-keeps, kept-popped}
+use Rattle.fdb_core.proofs.refinement.RunLaws.{entries-linked, entries-rising, front-version, versions-ordered}
+use Rattle.fdb_core.proofs.refinement.RunLaws.{versions-apart}
 
 -- a front of a front, whichever is shorter
 pub take-both : {A : Type 0} (n m : ℕ) (xs : List A) → take n (take m xs) ≡ take (min n m) xs
@@ -55,28 +59,6 @@ take-both n m xs = ⊎_elim
     (λ longer. take_all n (take m xs) (let count = length-take m xs in omega (arith, count, longer))
     ∙ ap (λ (k : ℕ). take k xs) (let is : m ≡ min n m = omega (arith, longer) in is))
     (cases_lt n m)
-
--- the first messages of entries are those of the first entries
-pub messages-take : (splits : List Point) (range : Range) (seen : Seen) (n : ℕ) (more : List Entry)
-    → take n (messages_after splits range seen more) ≡ messages_after splits range seen (take n more)
-messages-take splits range seen zero more = refl
-messages-take splits range seen (suc n) [] = refl
-messages-take splits range seen (suc n) (entry ∷ more) =
-    ap (λ (others : List TagMsg). message_for splits range seen entry ∷ others)
-    (messages-take splits range (add_entry seen entry) n more)
-
--- the messages of entries go through the version of the last one
-pub through-messages : (splits : List Point) (range : Range) (seen : Seen) (version : ℕ) (more : List Entry)
-    → through_after version (messages_after splits range seen more) ≡ version_after version more
-through-messages splits range seen version [] = refl
-through-messages splits range seen version (entry ∷ more) =
-    through-messages splits range (add_entry seen entry) entry.version more
-
--- there is one for each entry
-count-messages : (splits : List Point) (range : Range) (seen : Seen) (more : List Entry)
-    → length (messages_after splits range seen more) ≡ length more
-count-messages splits range seen [] = refl
-count-messages splits range seen (entry ∷ more) = ap suc (count-messages splits range (add_entry seen entry) more)
 
 -- with one more entry there is one more message above a version that the entries before reach
 kept-next : (splits : List Point) (range : Range) (book : List Entry) (i : ℕ) (entry : Entry) (low : ℕ)
@@ -99,13 +81,6 @@ kept-next splits range book i entry low there later =
 
     count : suc i ≡ i + 1
     count = omega arith
-
--- a log keeps the same tags as one that is the same log
-same-keeps : (old new : Log) (tag : ℕ) → IsSameLog old new → keeps new tag ≡ keeps old tag
-same-keeps old new tag same =
-    ap (λ (tags : ℕ). nat_lt tag tags && (log_of new.logs tag == new.log)) same.tags
-    ∙ ap (λ (logs : ℕ). nat_lt tag old.tags && (log_of logs tag == new.log)) same.logs
-    ∙ ap (λ (log : ℕ). nat_lt tag old.tags && (log_of old.logs tag == log)) same.log
 
 -- what a log keeps is of a tag that there is, and that is its own
 pub kept-tag : (log : Log) (tag : ℕ) → keeps log tag ≡ true → (tag < log.tags) × (log_of log.logs tag ≡ log.log)
@@ -154,39 +129,47 @@ module _ (config : Config) (book : List Entry) where
           ap (λ (n : ℕ). last_version (take n book)) count ∙ ap last_version (take-next book role.taken entry there)
           ∙ fold-append (λ (before : ℕ) (e : Entry). e.version) 0 (take role.taken book) (entry ∷ [])
 
-  -- and drops what a tag was popped through, which its shard has reached
+  -- and drops what a tag was popped through
   pub log-popped : (l : ℕ) (role : LogRole) (tag through : ℕ) (new : Log)
-      → LogRefines config book l role → popped_through role.core tag ≤ through
-      → HasPopped role.core tag through new
+      → LogRefines config book l role → HasPopped role.core tag through new
       → LogRefines config book l (record { core = new; taken = role.taken })
-  log-popped l role tag through new before later popped = record {
+  log-popped l role tag through new before popped = record {
     number = popped.same.log ∙ before.number;
     logs = popped.same.logs ∙ before.logs;
     tags = popped.same.tags ∙ before.tags;
     works = popped.works;
     within = before.within;
     last = popped.last ∙ before.last;
-    kept = λ other keeps_it.
-        let kept_before : keeps role.core other ≡ true = sym (same-keeps role.core new other popped.same) ∙ keeps_it in
-        ⊎_elim
-        (λ is. subst (λ (it : ℕ). kept new it ≡ above (popped_through new it) (messages it))
-        (sym (eqb-true other tag is))
-        (popped.dropped
-        ∙ ap (above through)
-        (before.kept tag (subst (λ (it : ℕ). keeps role.core it ≡ true) (eqb-true other tag is) kept_before))
-        ∙ above-higher (popped_through role.core tag) through (messages tag) later
-        ∙ ap (λ (low : ℕ). above low (messages tag)) (sym (popped.popped ∙ greater))))
-        (λ differs. popped.others_kept other differs
-        ∙ before.kept other kept_before
-        ∙ ap (λ (low : ℕ). above low (messages other)) (sym (popped.others_popped other differs)))
-        (cases_Bool (other == tag));
+    kept = kept-popped (λ (it : ℕ). messages_for config.resolver_splits (piece config.shard_splits it)
+        (take role.taken book)) tag through role.core new before.kept popped;
   }
-    where
-      messages : ℕ → List TagMsg
-      messages it = messages_for config.resolver_splits (piece config.shard_splits it) (take role.taken book)
 
-      greater : max (popped_through role.core tag) through ≡ through
-      greater = omega (arith, later)
+  -- a shard is where the entries that it applied leave it
+  pub shard-at : (s : ℕ) (role : ShardRole) → ShardRefines config book s role
+      → IsShardAt config (take role.applied book) s role.core
+  shard-at s role is = record {
+    tag = is.tag;
+    range = is.range;
+    works = is.works;
+    version = is.version;
+    serving = is.serving;
+    serves = is.serves;
+  }
+
+  -- and one that is there applied them
+  pub shard-refines : (s applied popped : ℕ) (core : Shard) → IsShardAt config (take applied book) s core
+      → applied ≤ length book → popped ≤ core.version
+      → ShardRefines config book s (record { core = core; applied = applied; popped = popped })
+  shard-refines s applied popped core at within dropped = record {
+    tag = at.tag;
+    range = at.range;
+    works = at.works;
+    within = within;
+    version = at.version;
+    serving = at.serving;
+    popped = dropped;
+    serves = at.serves;
+  }
 
 -- A shard applies what its log has for it.
 module _ (config : Config) (book : List Entry)
@@ -214,32 +197,40 @@ module _ (config : Config) (book : List Entry)
   abbrev pub more : List Entry
   more = take count (drop shard.applied book)
 
+  -- the entries that the log took and the shard didn't apply
+  abbrev left : List Entry
+  left = take (log.taken - shard.applied) (drop shard.applied book)
+
   whole : front ++ more ≡ take (shard.applied + count) book
   whole = sym (take-add shard.applied count book)
 
-  taken-is : take log.taken book ≡ front ++ take (log.taken - shard.applied) (drop shard.applied book)
+  taken-is : take log.taken book ≡ front ++ left
   taken-is =
       let all : shard.applied + (log.taken - shard.applied) ≡ log.taken = omega (arith, behind) in
       ap (λ (n : ℕ). take n book) (sym all) ∙ take-add shard.applied (log.taken - shard.applied) book
 
-  -- what lies above the shard's version
-  above-is : above shard.core.version (kept log.core s)
-      ≡ messages_after splits range (seen_of front) (take (log.taken - shard.applied) (drop shard.applied book))
-  above-is =
-      ap (above shard.core.version) (has.kept s keeps_it)
-      ∙ above-higher (popped_through log.core s) shard.core.version (messages_for splits range (take log.taken book))
-      unpopped
-      ∙ ap₂ (λ (low : ℕ) (all : List Entry). above low (messages_for splits range all)) is.version taken-is
-      ∙ messages_above_a_version resolvers splits range front
-      (take (log.taken - shard.applied) (drop shard.applied book))
-      (subst (AreEntries resolvers 0) taken-is (entries-take resolvers 0 log.taken book entries))
+  entries-taken : AreEntries resolvers 0 (front ++ left)
+  entries-taken = subst (AreEntries resolvers 0) taken-is (entries-take resolvers 0 log.taken book entries)
 
-  pub given-is : given_after log.core s shard.core.version limit ≡ messages_after splits range (seen_of front) more
+  entries-whole : AreEntries resolvers 0 (front ++ more)
+  entries-whole = subst (AreEntries resolvers 0) (sym whole)
+      (entries-take resolvers 0 (shard.applied + count) book entries)
+
+  left-is : take limit left ≡ more
+  left-is = take-both limit (log.taken - shard.applied) (drop shard.applied book)
+
+  kept-is : kept log.core s ≡ above (popped_through log.core s) (messages_for splits range (front ++ left))
+  kept-is = has.kept s keeps_it
+      ∙ ap (λ (all : List Entry). above (popped_through log.core s) (messages_for splits range all)) taken-is
+
+  unpopped-front : popped_through log.core s ≤ last_version front
+  unpopped-front = subst (λ (v : ℕ). popped_through log.core s ≤ v) is.version unpopped
+
+  given-is : given_after log.core s shard.core.version limit ≡ messages_after splits range (seen_of front) more
   given-is =
-      ap (take limit) above-is
-      ∙ messages-take splits range (seen_of front) limit (take (log.taken - shard.applied) (drop shard.applied book))
-      ∙ ap (messages_after splits range (seen_of front))
-      (take-both limit (log.taken - shard.applied) (drop shard.applied book))
+      ap (λ (v : ℕ). given_after log.core s v limit) is.version
+      ∙ gives-messages config front left entries-taken s limit log.core kept-is unpopped-front
+      ∙ ap (messages_after splits range (seen_of front)) left-is
 
   within : shard.applied + count ≤ length book
   within = omega (arith, has.within, behind)
@@ -248,69 +239,27 @@ module _ (config : Config) (book : List Entry)
   count-is =
       ap length given-is ∙ count-messages splits range (seen_of front) more
       ∙ length-take count (drop shard.applied book)
-      ∙ (let left = length-drop shard.applied book in omega (arith, left, within))
+      ∙ (let rest = length-drop shard.applied book in omega (arith, rest, within))
 
   -- they go through the version of the last entry that the shard has then applied
   pub through-is : (peek_of log.core s shard.core.version limit).through
-      ≡ last_version (take (shard.applied + count) book)
+      ≡ last_version (front ++ more)
   through-is =
-      ap (through_after shard.core.version) given-is
-      ∙ through-messages splits range (seen_of front) shard.core.version more
-      ∙ ap (λ (version : ℕ). version_after version more) is.version
-      ∙ sym (fold-append (λ (before : ℕ) (entry : Entry). entry.version) 0 front more)
-      ∙ ap last_version whole
-
-  entries-whole : AreEntries resolvers 0 (front ++ more)
-  entries-whole = subst (AreEntries resolvers 0) (sym whole)
-      (entries-take resolvers 0 (shard.applied + count) book entries)
+      ap (λ (v : ℕ). (peek_of log.core s v limit).through) is.version
+      ∙ gives-through config front left entries-taken s limit log.core kept-is unpopped-front
+      ∙ ap (λ (those : List Entry). last_version (front ++ those)) left-is
 
   -- the shard then answers from the run of these entries
   pub shard-pulled : (new : Shard) → HasApplied shard.core (peek_of log.core s shard.core.version limit) new
       → ShardRefines config book s (record shard { core = new; applied = shard.applied + count })
-  shard-pulled new applied = record {
-    tag = applied.tag ∙ is.tag;
-    range = applied.range ∙ is.range;
-    works = applied.works;
-    within = within;
-    version = version;
-    serving = let low = is.serving in omega (arith, low, applied.floor, later);
-    popped = let low = is.popped in omega (arith, low, later);
-    serves = λ v x from until inside.
-        let held : in_range shard.core.range x ≡ true = ap (λ (all : Range). in_range all x) is.range ∙ inside in
-        let above_floor : shard.core.floor ≤ v = subst (λ (floor : ℕ). floor ≤ v) applied.floor from in
-        ⊎_elim
-        (λ earlier. let old : v ≤ shard.core.version = le_of_lt earlier in
-        applied.before v x above_floor old held
-        ∙ is.serves v x above_floor old inside
-        ∙ sym (ap (λ (map : Map). get map x)
-        (ap (λ (all : List Entry). serial_map_at splits v (seen_of all).places) (sym whole)
-        ∙ serial-front splits (front ++ more) (entries-rising resolvers (front ++ more) entries-whole) shard.applied v
-        (subst (λ (version : ℕ). v ≤ version) (is.version ∙ ap last_version (sym front-of)) old)
-        ∙ ap (λ (all : List Entry). serial_map_at splits v (seen_of all).places) front-of)))
-        (λ from_version.
-        applied.after v x from_version until held
-        ∙ ap₂ (λ (value : Option (List ℕ)) (messages : List TagMsg). fold (value_with v x) value messages)
-        (is.serves shard.core.version x is.serving (le_refl shard.core.version) inside
-        ∙ ap (λ (version : ℕ). get (serial_map_at splits version (seen_of front).places) x) is.version)
-        given-is
-        ∙ shards_go_on resolvers splits range front more entries-whole v x inside
-        (subst (λ (version : ℕ). version ≤ v) is.version from_version)
-        ∙ ap (λ (all : List Entry). get (serial_map_at splits v (seen_of all).places) x) whole)
-        (cases_lt v shard.core.version);
-  }
-    where
-      version : new.version ≡ last_version (take (shard.applied + count) book)
-      version = applied.version ∙ through-is
-
-      later : shard.core.version ≤ new.version
-      later = subst (λ (v : ℕ). shard.core.version ≤ v) (sym version)
-          (subst (λ (v : ℕ). v ≤ last_version (take (shard.applied + count) book)) (sym is.version)
-          (versions-ordered book (entries-rising resolvers book entries) shard.applied (shard.applied + count)
-          (omega arith)))
-
-      front-of : take shard.applied (front ++ more) ≡ front
-      front-of = ap (take shard.applied) whole
-          ∙ take-take book shard.applied (shard.applied + count) (omega arith)
+  shard-pulled new applied =
+      let next : IsShardAt config (front ++ more) s new = shard-applied config front more entries-whole s shard.core
+      new (peek_of log.core s shard.core.version limit) (shard-at config book s shard is) through-is given-is applied in
+      let later = front-version front more (entries-linked resolvers 0 (front ++ more) entries-whole) in
+      let low = is.popped in
+      shard-refines config book s (shard.applied + count) shard.popped new
+      (subst (λ (all : List Entry). IsShardAt config all s new) whole next) within
+      (omega (arith, low, later, is.version, next.version))
 
 -- an entry's previous version is that of the last entry before it
 prev-from : (resolvers last : ℕ) (book : List Entry) (i : ℕ) (entry : Entry) → AreEntries resolvers last book
@@ -471,7 +420,8 @@ tags-popped logs shards s old new log popped there at applied
         let tie = before s old there log at in
         let within : shard.applied ≤ its-log.taken =
         subst (λ (n : ℕ). shard.applied ≤ n) (sym taken ∙ ap (λ (role : LogRole). role.taken) at_log.1)
-        (subst (λ (n : ℕ). n ≤ log.taken) (sym applied ∙ ap (λ (role : ShardRole). role.applied) is) tie.0) in (
+        (subst (λ (n : ℕ). n ≤ log.taken) (sym applied
+        ∙ ap (λ (role : ShardRole). role.applied) is) tie.0) in (
           within,
           ap (λ (role : LogRole). popped_through role.core t) (sym at_log.1)
               ∙ ap (popped_through popped.core) same ∙ own ∙ ap (λ (role : ShardRole). role.popped) is,

@@ -173,14 +173,11 @@ module _ (splits : List Point) (before : List Entry) (entry : Entry)
           },
         )
 
--- resolvers that took nothing
-pub all-at-first : (splits : List Point) (resolvers : List Resolver) → Each IsNew resolvers
-    → Each (IsResolverAt splits []) resolvers
-all-at-first splits resolvers new i resolver there =
-    let its = new i resolver there in
-    record {
-      index = its.index;
-      last = its.last;
-      works = its.works;
-      state = λ x v reached. ap (λ (n : ℕ). nat_lt v n) (its.versions x);
-    }
+-- a new resolver took nothing
+pub new-resolver : (splits : List Point) (i : ℕ) (new : Resolver) → IsNew i new → IsResolverAt splits [] i new
+new-resolver splits i new is = record {
+  index = is.index;
+  last = is.last;
+  works = is.works;
+  state = λ x v reached. ap (λ (n : ℕ). nat_lt v n) (is.versions x);
+}

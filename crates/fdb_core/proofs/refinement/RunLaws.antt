@@ -1,15 +1,17 @@
 -- What is made of the entries of a book, and the run of its committed transactions.
 use Rattle.std.proofs.Common.{◌≡◌, ◌∙◌, sym, ap, refl, ℕ, zero, suc, ◌<◌, ◌≤◌, take-append-drop, le_refl, le_of_lt}
-use Rattle.std.proofs.Common.{subst, List, [], ◌∷◌, take, drop, fold, length, slice_get, Some, arith}
+use Rattle.std.proofs.Common.{subst, List, [], ◌∷◌, ◌++◌, take, drop, fold, length, slice_get, Some, arith}
 use Rattle.std.specs.List.{AllByRecursion}
+use Rattle.std.proofs.lemmas.List.{length-append, take_all}
 use Rattle.std.proofs.lemmas.List.Sums.{fold-append}
+use Rattle.std.proofs.Math.Seq.{take-append_seam}
 use Rattle.fdb_keys.specs.Points.{Point}
 use Rattle.fdb_txn.specs.declared.entry.Entry.{Entry}
 use Rattle.fdb_txn.specs.book.Transactions.{Transaction}
 use Rattle.fdb_txn.specs.book.Book.{Stamped, Place, Seen, nothing, placed, add_places, add_entry, seen_of, last_version}
 use Rattle.fdb_txn.specs.book.Book.{seen_before}
 use Rattle.fdb_txn.specs.rules.SerialMap.{serial_map, up_to, serial_map_at}
-use Rattle.fdb_txn.specs.book.History.{AreEntries, ReadsBelow}
+use Rattle.fdb_txn.specs.book.History.{AreLinked, AreEntries, ReadsBelow}
 use Rattle.fdb_txn.proofs.book.HistoryLemmas.{all-weaken, AtMost, add_places-newer, up_to-above, up_to-all}
 use Rattle.fdb_txn.proofs.rules.MessagesLemmas.{at_most-more}
 use Rattle.fdb_proxy.specs.Verdicts.{moves_through}
@@ -77,13 +79,22 @@ apart-from least zero (suc m) (entry ∷ book) rising before within =
 apart-from least (suc n) (suc m) (entry ∷ book) rising before within =
     apart-from entry.version n m book rising.1 (omega (arith, before)) (omega (arith, within))
 
--- entries rise
-entries-rise : (resolvers least : ℕ) (book : List Entry) → AreEntries resolvers least book → RisesFrom least book
-entries-rise resolvers least [] entries = tt
-entries-rise resolvers least (entry ∷ book) entries = (entries.0, entries-rise resolvers entry.version book entries.4)
+-- linked entries rise
+linked-rise : (least : ℕ) (book : List Entry) → AreLinked least book → RisesFrom least book
+linked-rise least [] linked = tt
+linked-rise least (entry ∷ book) linked = (linked.0, linked-rise entry.version book linked.2)
+
+linked-rising : (book : List Entry) → AreLinked 0 book → IsRising book
+linked-rising book linked = rises-at 0 book (linked-rise 0 book linked)
+
+-- entries are linked, and so they rise
+pub entries-linked : (resolvers least : ℕ) (book : List Entry) → AreEntries resolvers least book → AreLinked least book
+entries-linked resolvers least [] entries = tt
+entries-linked resolvers least (entry ∷ book) entries =
+    (entries.0, entries.1, entries-linked resolvers entry.version book entries.4)
 
 pub entries-rising : (resolvers : ℕ) (book : List Entry) → AreEntries resolvers 0 book → IsRising book
-entries-rising resolvers book entries = rises-at 0 book (entries-rise resolvers 0 book entries)
+entries-rising resolvers book entries = linked-rising book (entries-linked resolvers 0 book entries)
 
 -- and their transactions read below their versions
 pub entries-below : (resolvers least : ℕ) (book : List Entry) → AreEntries resolvers least book
@@ -137,6 +148,25 @@ versions-ordered book rising n m ordered = ordered-from 0 n m book (rises 0 book
 pub versions-apart : (book : List Entry) → IsRising book → (n m : ℕ) → n < m → m ≤ length book
     → last_version (take n book) < last_version (take m book)
 versions-apart book rising n m before within = apart-from 0 n m book (rises 0 book rising) before within
+
+-- The entries of a linked book up to one of them.
+module _ (front more : List Entry) (linked : AreLinked 0 (front ++ more)) where
+  -- up to their last version, the map is that of the book
+  pub front-run : (splits : List Point) (v : ℕ) → v ≤ last_version front
+      → serial_map_at splits v (seen_of front).places ≡ serial_map_at splits v (seen_of (front ++ more)).places
+  front-run splits v reached =
+      sym (serial-front splits (front ++ more) (linked-rising (front ++ more) linked) (length front) v
+      (subst (λ (all : List Entry). v ≤ last_version all) (sym (take-append_seam front more)) reached)
+      ∙ ap (λ (all : List Entry). serial_map_at splits v (seen_of all).places) (take-append_seam front more))
+
+  -- and that isn't above the book's
+  pub front-version : last_version front ≤ last_version (front ++ more)
+  front-version =
+      subst (λ (all : List Entry). last_version all ≤ last_version (front ++ more)) (take-append_seam front more)
+      (subst (λ (all : List Entry). last_version (take (length front) (front ++ more)) ≤ last_version all)
+      (take_all (length (front ++ more)) (front ++ more) (le_refl (length (front ++ more))))
+      (versions-ordered (front ++ more) (linked-rising (front ++ more) linked) (length front) (length (front ++ more))
+      (omega (arith, length-append front more))))
 
 -- with the places of a rising book none is above its last version
 at_most-book : (least : ℕ) (seen : Seen) (book : List Entry) → AtMost least seen.places → RisesFrom least book

@@ -26,7 +26,8 @@ use Rattle.fdb_core.specs.refinement.Cluster.{machine_of, Refines}
 use Rattle.fdb_core.specs.refinement.Logs.{LogRefines, ShardRefines, TagRefines, logs_taken, progress_of}
 use Rattle.fdb_core.proofs.common.ListLemmas.{each-set}
 use Rattle.fdb_core.proofs.refinement.LogTies.{set-same, log-popped, shard-pulled, count, count-is, tags-applied}
-use Rattle.fdb_core.proofs.refinement.LogTies.{tags-popped}
+use Rattle.fdb_core.proofs.refinement.LogTies.{tags-popped, shard-at, shard-refines}
+use Rattle.fdb_core.proofs.refinement.FrontLemmas.{shard-forgot}
 use Rattle.fdb_core.proofs.refinement.RunLaws.{entries-rising, versions-ordered}
 
 -- what the machine does, once the shard and its log are found
@@ -141,24 +142,12 @@ module _ (k : Cluster) (before : Refines k) (s : ℕ) (role : ShardRole)
 
     pub forgot : (core : Shard) → HasForgotten role.core version core
         → ShardRefines k.config k.book.items s (record role { core = core })
-    forgot core forgotten = record {
-      tag = forgotten.tag ∙ its.tag;
-      range = forgotten.range ∙ its.range;
-      works = forgotten.works ∙ its.works;
-      within = its.within;
-      version = forgotten.version ∙ its.version;
-      serving = let low = its.serving in
-          let has : version ≤ role.core.version = subst (λ (v : ℕ). version ≤ v) (sym its.version)
-          (ltb-false (version_of_shard k.book.items (progress_of role)) version reached) in
-          omega (arith, forgotten.floor, forgotten.version, low, has);
-      popped = let low = its.popped in omega (arith, low, forgotten.version);
-      serves = λ v x from until inside.
-          let above_floor : core.floor ≤ v = from in
-          let below : v ≤ role.core.version = subst (λ (top : ℕ). v ≤ top) forgotten.version until in
-          let old_floor : role.core.floor ≤ v = omega (arith, forgotten.floor, above_floor) in
-          forgotten.values v x above_floor below (ap (λ (all : Range). in_range all x) its.range ∙ inside)
-          ∙ its.serves v x old_floor below inside;
-    }
+    forgot core forgotten =
+        let low = its.popped in
+        shard-refines k.config k.book.items s role.applied role.popped core
+        (shard-forgot k.config (take role.applied k.book.items) s version role.core core
+        (shard-at k.config k.book.items s role its) faultless forgotten) its.within
+        (omega (arith, low, forgotten.version))
 
   -- its log keeps its tag
   module _ (log : LogRole) (log_at : slice_get k.logs.items (log_of (length k.logs.items) s) ≡ Some log) where
@@ -261,7 +250,7 @@ module _ (k : Cluster) (before : Refines k) (s : ℕ) (role : ShardRole)
         each_log = each-set (LogRefines k.config k.book.items) k.logs.items (log_of (length k.logs.items) s) log-new
             before.logs.each_log
             (λ _. log-popped k.config k.book.items (log_of (length k.logs.items) s) log s role.core.version core log-is
-            unpopped drops);
+            drops);
         each_shard = each-set (ShardRefines k.config k.book.items) k.shards.items s shard-new before.logs.each_shard
             (λ _. shard-is);
         each_tag = tags-popped k.logs.items k.shards.items s role shard-new log log-new at log_at refl refl

@@ -40,6 +40,7 @@ use Rattle.fdb_core.specs.refinement.Logs.{progress_of}
 use Rattle.fdb_core.specs.refinement.Resolving.{ResolversRefine, taken_by}
 use Rattle.fdb_core.specs.refinement.Starts.{AreNewLogs, AreNewShards, IsNewResolver}
 use Rattle.fdb_core.proofs.common.ListLemmas.{each-push}
+use Rattle.fdb_core.proofs.refinement.FrontLemmas.{new-log, new-shard}
 
 -- what is made of items of which the same is made is so many of it
 all-same : {A B : Type 0} (f : A → B) (made : B) (n : ℕ) (xs : List A) → length xs ≡ n
@@ -83,31 +84,30 @@ module _ (config : Config) (logs : List LogRole) (shards : List ShardRole)
   log-start : Each (LogRefines config []) logs
   log-start i role there =
       let new = new_logs.each i role there in
+      let at = new-log config i role.core new.0 in
       record {
-        number = new.0.log;
-        logs = new.0.logs;
-        tags = new.0.tags;
-        works = new.0.works;
+        number = at.number;
+        logs = at.logs;
+        tags = at.tags;
+        works = at.works;
         within = omega (arith, new.1);
-        last = new.0.last ∙ rw new.1 refl;
-        kept = λ tag keeps_it. new.0.kept tag ∙ rw new.1 refl;
+        last = at.last ∙ rw new.1 refl;
+        kept = λ tag keeps_it. at.kept tag keeps_it ∙ rw new.1 refl;
       }
 
   shard-start : Each (ShardRefines config []) shards
   shard-start i role there =
       let new = new_shards.each i role there in
-      let version = new.0.version in
-      let floor = new.0.floor in
+      let at = new-shard config i role.core new.0 in
       record {
-        tag = new.0.tag;
-        range = new.0.range;
-        works = new.0.works;
+        tag = at.tag;
+        range = at.range;
+        works = at.works;
         within = omega (arith, new.1);
-        version = version ∙ rw new.1 refl;
-        serving = omega (arith, version, floor);
+        version = at.version ∙ rw new.1 refl;
+        serving = at.serving;
         popped = omega (arith, new.2);
-        serves = λ v x from until inside. new.0.empty v x
-            ∙ rw new.1 (sym (get-empty {X = List ℕ} (slice_cmp nat_cmp) x));
+        serves = λ v x from until inside. at.serves v x from until inside ∙ rw new.1 refl;
       }
 
   tag-start : Each (TagRefines logs) shards

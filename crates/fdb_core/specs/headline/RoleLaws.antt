@@ -1,6 +1,6 @@
 -- A role whose state is that of a book, and that takes its message of one more entry, has the state of the book with
 -- that entry.
-use Rattle.std.specs.Prelude.{◌≡◌, ◌<◌, ◌≤◌, ℕ, suc, true, false, List, [], ◌∷◌, ◌++◌, length, Some, None, slice_get}
+use Rattle.std.specs.Prelude.{◌≡◌, ◌+◌, ◌≤◌, ℕ, suc, true, false, List, [], ◌∷◌, ◌++◌, length, take, None}
 use Rattle.std.specs.FinMap.{get}
 use Rattle.fdb_keys.specs.Points.{Point}
 use Rattle.fdb_keys.specs.Ranges.{in_range}
@@ -8,7 +8,7 @@ use Rattle.fdb_txn.specs.declared.entry.Entry.{Entry}
 use Rattle.fdb_txn.specs.book.Book.{seen_of, last_version}
 use Rattle.fdb_txn.specs.book.History.{AreEntries}
 use Rattle.fdb_txn.specs.book.Transactions.{Transaction}
-use Rattle.fdb_txn.specs.rules.Messages.{message_for, messages_for}
+use Rattle.fdb_txn.specs.rules.Messages.{message_for, messages_for, messages_after}
 use Rattle.fdb_txn.specs.rules.SerialMap.{serial_map_at}
 use Rattle.fdb_txn.specs.rules.Splits.{piece}
 use Rattle.fdb_owners.specs.Ownership.{Ownership, HasLearnt}
@@ -23,12 +23,12 @@ use Rattle.fdb_sequencer.specs.Sequencer.{Sequencer, accept_fault, accepting, un
 use Rattle.fdb_log.specs.declared.message.LogMsg.{LogMsg}
 use Rattle.fdb_log.specs.declared.peek.Peek.{Peek}
 use Rattle.fdb_log.specs.Logs as logs
-use Rattle.fdb_log.specs.Logs.{Log, keeps, kept, popped_through, push_fault}
+use Rattle.fdb_log.specs.Logs.{Log, keeps, kept, popped_through, push_fault, peek_fault, peek_of}
 use Rattle.fdb_log.specs.Messages.{above}
 use Rattle.fdb_storage.specs.LogMessages.{log_message}
 use Rattle.fdb_storage.specs.Shards.{Shard, value_at, apply_fault, HasApplied}
 use Rattle.fdb_proxy.specs.declared.config.Config.{Config}
-use Rattle.fdb_proxy.specs.Parting.{AreParts}
+use Rattle.fdb_proxy.specs.Parting.{IsPartOf}
 use Rattle.fdb_proxy.specs.Verdicts.{moves_through, verdicts_on}
 use Rattle.fdb_core.specs.machine.SequencerSteps.{dated_moves}
 use Rattle.fdb_core.specs.refinement.CommitProxies.{entry_of}
@@ -37,11 +37,10 @@ use Rattle.fdb_core.specs.refinement.Resolving.{IsResolverAt}
 -- A resolver isn't refused its part of the next entry, says the rule's verdicts, and has then taken the entry.
 abbrev pub ResolverGoesOn : Type 0
 ResolverGoesOn =
-    (splits : List Point) (book : List Entry) (entry : Entry) (i : ℕ) (old : Resolver) (parts : List Part) (part : Part)
+    (splits : List Point) (book : List Entry) (entry : Entry) (i : ℕ) (old : Resolver) (part : Part)
     → AreEntries (suc (length splits)) 0 (book ++ entry ∷ []) → IsResolverAt splits book i old
-    → AreParts splits (moves_through (seen_of book) entry)
-    (record { index = length book; version = entry.version; prev = entry.prev }) entry.batch parts
-    → slice_get parts i ≡ Some part
+    → IsPartOf splits (moves_through (seen_of book) entry)
+    (record { index = length book; version = entry.version; prev = entry.prev }) entry.batch i part
     → (part_fault old part ≡ None)
     × ((verdicts : Verdicts) (new : Resolver) → IsAnswer old part verdicts → resolver.HasTaken old part verdicts new
     → (verdicts.answers ≡ verdicts_on splits i (seen_of book) entry) × IsResolverAt splits (book ++ entry ∷ []) i new)
@@ -69,13 +68,15 @@ SequencerGoesOn =
     → accept_fault old ticket ≡ None → IsSequencerAt (book ++ entry_of ticket batch ∷ []) (accepting old ticket)
 
 module _ (config : Config) (book : List Entry) where
-  -- log l took these entries, and keeps of each of its tags their messages above what was popped
+  -- log l took these entries, popped no tag above the last one's version, and keeps of each of its tags the messages of
+  -- the entries above what was popped
   pub record IsLogAt (l : ℕ) (log : Log) : Type 0 where
     pub number : log.log ≡ l
     pub logs : log.logs ≡ config.logs
     pub tags : log.tags ≡ suc (length config.shard_splits)
     pub works : log.is_failed ≡ false
     pub last : log.last ≡ last_version book
+    pub popped : (tag : ℕ) → popped_through log tag ≤ log.last
     pub kept : (tag : ℕ) → keeps log tag ≡ true
         → kept log tag ≡ above (popped_through log tag)
         (messages_for config.resolver_splits (piece config.shard_splits tag) book)
@@ -91,13 +92,11 @@ module _ (config : Config) (book : List Entry) where
         → in_range (piece config.shard_splits s) x ≡ true
         → value_at shard v x ≡ get (serial_map_at config.resolver_splits v (seen_of book).places) x
 
--- A log of which each own tag was popped through less than the next entry's version isn't refused its message of the
--- entry, and has taken the entry with it.
+-- A log isn't refused its message of the next entry, and has taken the entry with it.
 abbrev pub LogGoesOn : Type 0
 LogGoesOn =
     (config : Config) (book : List Entry) (entry : Entry) (l : ℕ) (old : Log) (message : LogMsg)
     → AreEntries (suc (length config.resolver_splits)) 0 (book ++ entry ∷ []) → IsLogAt config book l old
-    → ((tag : ℕ) → keeps old tag ≡ true → popped_through old tag < entry.version)
     → message
     ≡ log_message config.resolver_splits config.shard_splits config.logs l (length book) (seen_of book) entry
     → (push_fault old message ≡ None)
@@ -117,3 +116,47 @@ ShardGoesOn =
     }
     → (apply_fault old peek ≡ None)
     × ((new : Shard) → HasApplied old peek new → IsShardAt config (book ++ entry ∷ []) s new)
+
+-- A shard isn't refused a peek of its tag from its version with the messages of further entries, through the last one's
+-- version, and has applied these entries with it.
+abbrev pub ShardGoesOnByMessages : Type 0
+ShardGoesOnByMessages =
+    (config : Config) (book more : List Entry) (s : ℕ) (old : Shard) (peek : Peek)
+    → AreEntries (suc (length config.resolver_splits)) 0 (book ++ more) → IsShardAt config book s old
+    → peek ≡ record {
+      tag = s;
+      after = old.version;
+      through = last_version (book ++ more);
+      messages = messages_after config.resolver_splits (piece config.shard_splits s) (seen_of book) more;
+    }
+    → (apply_fault old peek ≡ None)
+    × ((new : Shard) → HasApplied old peek new → IsShardAt config (book ++ more) s new)
+
+-- What a log gives of a tag after the version of the last of some first entries is the messages of the entries after
+-- these, as many as the limit says, through the version of the last one.
+abbrev pub LogGivesMessages : Type 0
+LogGivesMessages =
+    (config : Config) (book more : List Entry) (l tag limit : ℕ) (log : Log)
+    → AreEntries (suc (length config.resolver_splits)) 0 (book ++ more) → IsLogAt config (book ++ more) l log
+    → peek_fault log tag (last_version book) ≡ None
+    → peek_of log tag (last_version book) limit ≡ record {
+      tag = tag;
+      after = last_version book;
+      through = last_version (book ++ take limit more);
+      messages = messages_after config.resolver_splits (piece config.shard_splits tag) (seen_of book)
+          (take limit more);
+    }
+
+-- A shard isn't refused what a log that took further entries gives of its tag after its version, and has then applied
+-- as many further entries as there are messages; the last one's version is that through which the peek goes.
+abbrev pub ShardGoesOnByItsLog : Type 0
+ShardGoesOnByItsLog =
+    (config : Config) (book more : List Entry) (s l limit : ℕ) (old : Shard) (log : Log)
+    → AreEntries (suc (length config.resolver_splits)) 0 (book ++ more) → IsShardAt config book s old
+    → IsLogAt config (book ++ more) l log → peek_fault log s old.version ≡ None
+    → let peek = peek_of log s old.version limit in
+    let applied = take (length book + length peek.messages) (book ++ more) in
+    (apply_fault old peek ≡ None)
+    × (length applied ≡ length book + length peek.messages)
+    × (peek.through ≡ last_version applied)
+    × ((new : Shard) → HasApplied old peek new → IsShardAt config applied s new)

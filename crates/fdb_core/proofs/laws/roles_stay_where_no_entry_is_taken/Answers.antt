@@ -1,0 +1,8 @@
+use Rattle.fdb_core.proofs.headline.RoleStartLaws.{log_pops, shard_forgets}
+use Rattle.fdb_core.proofs.laws.roles_stay_where_no_entry_is_taken.Goals as goal
+
+pub returns : goal.returns
+returns c = record {
+  log = log_pops;
+  shard = shard_forgets;
+}
