@@ -10,8 +10,10 @@ ghost use Rattle.fdb_core.specs.headline.Fronts.{FrontsHaveOneRun};
 ghost use Rattle.fdb_core.specs.headline.Replays.{ReplaysTellTheRun};
 ghost use Rattle.fdb_core.specs.headline.RealTime.{RealTime};
 ghost use Rattle.fdb_core.specs.headline.RoleLaws.{ResolverGoesOn, OwnersGoOn, SequencerGoesOn, LogGoesOn, ShardGoesOn};
-ghost use Rattle.fdb_core.specs.headline.RoleLaws.{ShardGoesOnByMessages, LogGivesMessages, ShardGoesOnByItsLog};
-ghost use Rattle.fdb_core.specs.headline.RoleStarts.{ResolverStarts, LogStarts, ShardStarts, LogPops, ShardForgets};
+ghost use Rattle.fdb_core.specs.headline.RoleLaws.{EntriesGoOnByTickets, ShardGoesOnByMessages, LogGivesMessages};
+ghost use Rattle.fdb_core.specs.headline.RoleLaws.{ShardGoesOnByItsLog};
+ghost use Rattle.fdb_core.specs.headline.RoleStarts.{ResolverStarts, SequencerStarts, LogStarts, ShardStarts, LogPops};
+ghost use Rattle.fdb_core.specs.headline.RoleStarts.{SequencerReports, SequencerMoves, ShardForgets};
 ghost use Rattle.fdb_core.specs.headline.Examples.{OnlyTheFirstIsSerialized, ReadOnlyAtItsVersion, AfterAVersion};
 ghost use Rattle.fdb_core.specs.headline.Examples.{AnEmptyShardDoesNotServe, OnlyOrdinaryReadsCount, BegunByServing};
 ghost use Rattle.fdb_core.specs.headline.Examples.{ForgetfulRolesDoNotKeep, ReadOffTheTrace, Traced};
@@ -186,13 +188,15 @@ pub fn places_are_committed_where_the_asked_say_yes()
 /// A role that is where a book leaves it, and takes its message of one more entry, is where the book with that entry
 /// leaves it. A resolver says of its part what the rule says of the entry's places. Owners learn the entry's moves. The
 /// sequencer accepts the entry's ticket: what a commit proxy hasn't had yet are still the last of the moves that took
-/// effect. A log keeps the entry's message for each of its tags above what was popped, which is below the entry's
-/// version. A shard applies the entry's message for its tag, and answers from the run with the entry. None of the
-/// resolver, the log and the shard is refused it.
+/// effect. The entry goes on from the book's entries, where each transaction of its batch read below the ticket's
+/// version and has in its write set all that its mutations name. A log keeps the entry's message for each of its tags
+/// above what was popped, which is below the entry's version. A shard applies the entry's message for its tag, and
+/// answers from the run with the entry. None of the resolver, the log and the shard is refused it.
 pub fn roles_go_on_with_one_more_entry()
     ensures resolver { ResolverGoesOn }
     ensures owners { OwnersGoOn }
     ensures sequencer { SequencerGoesOn }
+    ensures entries { EntriesGoOnByTickets }
     ensures log { LogGoesOn }
     ensures shard { ShardGoesOn }
 {}
@@ -214,16 +218,21 @@ pub fn shards_go_on_by_what_their_logs_give()
     ensures log { ShardGoesOnByItsLog }
 {}
 
-/// A new resolver, a new log and a new shard are where the book without entries leaves them.
+/// A new resolver, a new sequencer from version 0 on, a new log and a new shard are where the book without entries
+/// leaves them.
 pub fn new_roles_are_at_no_entry()
     ensures resolver { ResolverStarts }
+    ensures sequencer { SequencerStarts }
     ensures log { LogStarts }
     ensures shard { ShardStarts }
 {}
 
-/// What a role does without an entry leaves it where the book left it: a log pops a tag through a version that it has
-/// reached, and a shard raises its floor to one.
+/// What a role does without an entry leaves it where the book left it: a version that was issued is reported to the
+/// sequencer, or a move is made with it, a log pops a tag through a version that it has reached, and a shard raises its
+/// floor to one.
 pub fn roles_stay_where_no_entry_is_taken()
+    ensures reports { SequencerReports }
+    ensures moves { SequencerMoves }
     ensures log { LogPops }
     ensures shard { ShardForgets }
 {}

@@ -1,7 +1,9 @@
 -- Each role's state at a book with one more entry.
 use Rattle.std.proofs.Common.{◌≡◌, ◌∙◌, refl, sym, ap, ap₂, subst, ℕ, suc, ◌+◌, ◌<◌, ◌≤◌, min, le_refl, Bool, true}
-use Rattle.std.proofs.Common.{false, not, List, [], ◌∷◌, ◌++◌, length, take, unwrap_or, Option, Some, None, arith, ⊎_elim}
+use Rattle.std.proofs.Common.{false, not, List, [], ◌∷◌, ◌++◌, length, take, unwrap_or, Option, Some, None, arith}
+use Rattle.std.proofs.Common.{⊎_elim}
 use Rattle.std.specs.Prelude.{◌==◌, ◌||◌, nat_lt, if◌then◌else◌}
+use Rattle.std.specs.List.{AllByRecursion}
 use Rattle.std.proofs.lemmas.Bool.{cases_Bool, cases_lt, both_ways, cond-false, eq-eqb, eqb-true, le-ltb, ltb-false}
 use Rattle.std.proofs.lemmas.Bool.{or_parts}
 use Rattle.std.proofs.lemmas.List.{append-nil, append_assoc, length-append, length-take, take_all, take-append-le}
@@ -16,14 +18,14 @@ use Rattle.fdb_txn.specs.book.History.{AreEntries}
 use Rattle.fdb_txn.specs.book.Transactions.{Transaction}
 use Rattle.fdb_txn.specs.rules.Messages.{message_for, messages_for, messages_after}
 use Rattle.fdb_txn.specs.rules.Splits.{piece}
-use Rattle.fdb_txn.proofs.book.HistoryLemmas.{seen_of-push}
+use Rattle.fdb_txn.proofs.book.HistoryLemmas.{entries_go_on, seen_of-push}
 use Rattle.fdb_owners.specs.OwnersLaws.{AgreesWith}
 use Rattle.fdb_owners.proofs.BookLemmas.{learning_goes_on}
 use Rattle.fdb_resolver.specs.declared.verdict.Verdict.{Verdict}
 use Rattle.fdb_sequencer.specs.declared.ticket.Ticket.{Ticket}
 use Rattle.fdb_sequencer.specs.Moves.{Dated, dated}
 use Rattle.fdb_sequencer.specs.Sequencer.{Sequencer, accepting, unlearnt_by}
-use Rattle.fdb_sequencer.proofs.TicketLemmas.{accepted_are_planned}
+use Rattle.fdb_sequencer.proofs.TicketLemmas.{accepted_is_now}
 use Rattle.fdb_log.specs.declared.message.LogMsg.{LogMsg}
 use Rattle.fdb_log.specs.declared.peek.Peek.{Peek}
 use Rattle.fdb_log.specs.Logs.{Log, keeps, popped_through, push_fault, peek_fault, peek_of, HasTaken}
@@ -32,6 +34,7 @@ use Rattle.fdb_storage.specs.LogMessages.{log_message}
 use Rattle.fdb_storage.specs.Shards.{Shard, HasApplied}
 use Rattle.fdb_proxy.specs.declared.config.Config.{Config}
 use Rattle.fdb_core.specs.headline.RoleLaws.{ResolverGoesOn, OwnersGoOn, AreLastOf, IsSequencerAt, SequencerGoesOn}
+use Rattle.fdb_core.specs.headline.RoleLaws.{EntriesGoOnByTickets}
 use Rattle.fdb_core.specs.headline.RoleLaws.{IsLogAt, LogGoesOn, IsShardAt, ShardGoesOn, ShardGoesOnByMessages}
 use Rattle.fdb_core.specs.headline.RoleLaws.{LogGivesMessages, ShardGoesOnByItsLog}
 use Rattle.fdb_core.specs.machine.SequencerSteps.{dated_moves}
@@ -110,12 +113,28 @@ module _ (book : List Entry) (batch : List Transaction) (old : Sequencer) (ticke
       (cases_lt proxy (length old.unlearnt))
 
 pub sequencer_goes_on : SequencerGoesOn
-sequencer_goes_on book batch old ticket at accepted = record {
-  accepted = let was = at.accepted in omega (arith, was, length-append book (entry_of ticket batch ∷ []));
-  last = sym (last-push book (entry_of ticket batch));
-  unlearnt = all-unlearnt book batch old ticket at
-      (ap (λ (t : Ticket). t.pending) (accepted_are_planned old ticket accepted).1.2);
-}
+sequencer_goes_on book batch old ticket at accepted =
+    let now = accepted_is_now old ticket accepted in
+    let last : last_version (book ++ entry_of ticket batch ∷ []) ≡ ticket.version =
+    last-push book (entry_of ticket batch) in
+    record {
+      accepted = let was = at.accepted in omega (arith, was, length-append book (entry_of ticket batch ∷ []));
+      last = sym last;
+      committed = let low = at.committed in omega (arith, low, at.last, now.above, last);
+      targets = tt;
+      unlearnt = all-unlearnt book batch old ticket at now.pending;
+    }
+
+pub entries_go_on_by_tickets : EntriesGoOnByTickets
+entries_go_on_by_tickets book batch old ticket entries at accepted reads =
+    let now = accepted_is_now old ticket accepted in
+    entries_go_on old.resolvers 0 book (entry_of ticket batch) entries (
+      subst (λ (version : ℕ). version < ticket.version) at.last now.above,
+      now.prev ∙ at.last,
+      subst (AllByRecursion (λ (move : Move). move.to < old.resolvers)) (sym now.pending) at.targets,
+      reads,
+      tt,
+    )
 
 -- the book before its last entry
 front : (book : List Entry) (entry : Entry) → take (length book) (book ++ entry ∷ []) ≡ book

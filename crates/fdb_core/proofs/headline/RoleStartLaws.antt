@@ -1,21 +1,59 @@
 -- Roles before their first entry, and what leaves them at the entries that they took.
-use Rattle.std.proofs.Common.{◌≡◌, ◌∙◌, sym, refl, ℕ, ◌≤◌, Bool, true, false, Option, Some, None}
+use Rattle.std.proofs.Common.{◌≡◌, ◌∙◌, sym, refl, ℕ, ◌≤◌, le_refl, arith, Bool, true, false, [], Option, Some, None}
 use Rattle.std.specs.Prelude.{◌||◌, not, nat_lt, if◌then◌else◌}
 use Rattle.std.proofs.lemmas.Bool.{cond-false, ltb-false, or_parts}
 use Rattle.fdb_keys.specs.declared.refusal.Refusal.TheVariants.{Failed, BadConfig}
 use Rattle.fdb_log.specs.Logs.{Log, keeps, tag_fault}
-use Rattle.fdb_core.specs.headline.RoleStarts.{ResolverStarts, LogStarts, ShardStarts, LogPops, ShardForgets}
+use Rattle.fdb_sequencer.proofs.TicketLemmas.{pending_exist}
+use Rattle.fdb_core.specs.headline.RoleStarts.{ResolverStarts, SequencerStarts, LogStarts, ShardStarts, LogPops}
+use Rattle.fdb_core.specs.headline.RoleStarts.{SequencerReports, SequencerMoves, ShardForgets}
 use Rattle.fdb_core.proofs.refinement.FrontLemmas.{new-log, new-shard, log-pops, shard-forgot}
 use Rattle.fdb_core.proofs.refinement.ResolvingLemmas.{new-resolver}
+use Rattle.fdb_core.proofs.refinement.StartLemmas.{none-unlearnt}
 
 pub resolver_starts : ResolverStarts
 resolver_starts = new-resolver
+
+pub sequencer_starts : SequencerStarts
+sequencer_starts proxies resolvers = record {
+  accepted = refl;
+  last = refl;
+  committed = le_refl 0;
+  targets = tt;
+  unlearnt = λ proxy. ([], none-unlearnt proxies proxy);
+}
 
 pub log_starts : LogStarts
 log_starts = new-log
 
 pub shard_starts : ShardStarts
 shard_starts = new-shard
+
+pub sequencer_reports : SequencerReports
+sequencer_reports book old version at none = record {
+  accepted = at.accepted;
+  last = at.last;
+  committed =
+      let low = at.committed in
+      let reached = may-report (nat_lt old.last version) refl none in
+      omega (arith, low, at.last, reached);
+  targets = at.targets;
+  unlearnt = at.unlearnt;
+}
+  where
+    may-report : (late : Bool) → nat_lt old.last version ≡ late → (if late then Some BadConfig else None) ≡ None
+        → version ≤ old.last
+    may-report true is same = cc
+    may-report false is same = ltb-false old.last version is
+
+pub sequencer_moves : SequencerMoves
+sequencer_moves book old move at none = record {
+  accepted = at.accepted;
+  last = at.last;
+  committed = at.committed;
+  targets = pending_exist old move none at.targets;
+  unlearnt = at.unlearnt;
+}
 
 -- a log that may speak of a version has reached it
 reached : (log : Log) (tag version : ℕ) → log.is_failed ≡ false → tag_fault log tag version ≡ None

@@ -152,7 +152,7 @@ sequencer-start config proxies resolvers all_proxies all_resolvers = record {
 }
 
 -- has no moves for any proxy
-none-unlearnt : (proxies i : ℕ) → unwrap_or (slice_get (replicate {A = List Dated} proxies []) i) [] ≡ []
+pub none-unlearnt : (proxies i : ℕ) → unwrap_or (slice_get (replicate {A = List Dated} proxies []) i) [] ≡ []
 none-unlearnt zero i = refl
 none-unlearnt (suc n) zero = refl
 none-unlearnt (suc n) (suc i) = none-unlearnt n i

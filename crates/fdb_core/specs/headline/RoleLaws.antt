@@ -1,13 +1,15 @@
 -- A role whose state is that of a book, and that takes its message of one more entry, has the state of the book with
 -- that entry.
-use Rattle.std.specs.Prelude.{◌≡◌, ◌+◌, ◌≤◌, ℕ, suc, true, false, List, [], ◌∷◌, ◌++◌, length, take, None}
+use Rattle.std.specs.Prelude.{◌≡◌, ◌+◌, ◌<◌, ◌≤◌, ℕ, suc, true, false, List, [], ◌∷◌, ◌++◌, length, take, None}
+use Rattle.std.specs.List.{AllByRecursion}
 use Rattle.std.specs.FinMap.{get}
 use Rattle.fdb_keys.specs.Points.{Point}
 use Rattle.fdb_keys.specs.Ranges.{in_range}
 use Rattle.fdb_txn.specs.declared.entry.Entry.{Entry}
+use Rattle.fdb_txn.specs.declared.entry.Move.{Move}
 use Rattle.fdb_txn.specs.book.Book.{seen_of, last_version}
 use Rattle.fdb_txn.specs.book.History.{AreEntries}
-use Rattle.fdb_txn.specs.book.Transactions.{Transaction}
+use Rattle.fdb_txn.specs.book.Transactions.{Transaction, NamesWrites}
 use Rattle.fdb_txn.specs.rules.Messages.{message_for, messages_for, messages_after}
 use Rattle.fdb_txn.specs.rules.SerialMap.{serial_map_at}
 use Rattle.fdb_txn.specs.rules.Splits.{piece}
@@ -55,10 +57,13 @@ OwnersGoOn =
 abbrev pub AreLastOf : List Dated → List Dated → Type 0
 AreLastOf last all = (first : List Dated) × (first ++ last ≡ all)
 
--- The sequencer accepted the tickets of these entries: each proxy has had their moves but for some last ones.
+-- The sequencer accepted the tickets of these entries, and no version above theirs was reported. What is pending goes
+-- to its resolvers, and each proxy has had the entries' moves but for some last ones.
 pub record IsSequencerAt (book : List Entry) (sequencer : Sequencer) : Type 0 where
   pub accepted : sequencer.accepted ≡ length book
   pub last : sequencer.last ≡ last_version book
+  pub committed : sequencer.committed ≤ last_version book
+  pub targets : AllByRecursion (λ (move : Move). move.to < sequencer.resolvers) sequencer.pending
   pub unlearnt : (proxy : ℕ) → AreLastOf (unlearnt_by sequencer proxy) (dated_moves book)
 
 -- A sequencer that accepts a ticket has then accepted the ticket's entry, whatever its batch.
@@ -66,6 +71,15 @@ abbrev pub SequencerGoesOn : Type 0
 SequencerGoesOn =
     (book : List Entry) (batch : List Transaction) (old : Sequencer) (ticket : Ticket) → IsSequencerAt book old
     → accept_fault old ticket ≡ None → IsSequencerAt (book ++ entry_of ticket batch ∷ []) (accepting old ticket)
+
+-- And the entry goes on from the book's entries, where each of its transactions read below the ticket's version and all
+-- that its mutations name is in its write set.
+abbrev pub EntriesGoOnByTickets : Type 0
+EntriesGoOnByTickets =
+    (book : List Entry) (batch : List Transaction) (old : Sequencer) (ticket : Ticket)
+    → AreEntries old.resolvers 0 book → IsSequencerAt book old → accept_fault old ticket ≡ None
+    → AllByRecursion (λ (t : Transaction). (t.read < ticket.version) × NamesWrites t) batch
+    → AreEntries old.resolvers 0 (book ++ entry_of ticket batch ∷ [])
 
 module _ (config : Config) (book : List Entry) where
   -- log l took these entries, popped no tag above the last one's version, and keeps of each of its tags the messages of

@@ -1,5 +1,5 @@
-use Rattle.fdb_core.proofs.headline.RoleLaws.{resolver_goes_on, owners_go_on, sequencer_goes_on, log_goes_on}
-use Rattle.fdb_core.proofs.headline.RoleLaws.{shard_goes_on}
+use Rattle.fdb_core.proofs.headline.RoleLaws.{resolver_goes_on, owners_go_on, sequencer_goes_on}
+use Rattle.fdb_core.proofs.headline.RoleLaws.{entries_go_on_by_tickets, log_goes_on, shard_goes_on}
 use Rattle.fdb_core.proofs.laws.roles_go_on_with_one_more_entry.Goals as goal
 
 pub returns : goal.returns
@@ -7,6 +7,7 @@ returns c = record {
   resolver = resolver_goes_on;
   owners = owners_go_on;
   sequencer = sequencer_goes_on;
+  entries = entries_go_on_by_tickets;
   log = log_goes_on;
   shard = shard_goes_on;
 }

@@ -1,8 +1,10 @@
-use Rattle.fdb_core.proofs.headline.RoleStartLaws.{log_pops, shard_forgets}
+use Rattle.fdb_core.proofs.headline.RoleStartLaws.{sequencer_reports, sequencer_moves, log_pops, shard_forgets}
 use Rattle.fdb_core.proofs.laws.roles_stay_where_no_entry_is_taken.Goals as goal
 
 pub returns : goal.returns
 returns c = record {
+  reports = sequencer_reports;
+  moves = sequencer_moves;
   log = log_pops;
   shard = shard_forgets;
 }
