@@ -1,5 +1,5 @@
 -- The run of a front of a book.
-use Rattle.std.proofs.Common.{◌≡◌, sym, subst, List, ◌++◌}
+use Rattle.std.proofs.Common.{◌≡◌, sym, subst, List}
 use Rattle.fdb_txn.specs.declared.entry.Entry.{Entry}
 use Rattle.fdb_txn.specs.book.Book.{seen_of}
 use Rattle.fdb_txn.specs.book.History.{AreLinked}

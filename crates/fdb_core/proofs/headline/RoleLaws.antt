@@ -31,7 +31,6 @@ use Rattle.fdb_log.specs.declared.peek.Peek.{Peek}
 use Rattle.fdb_log.specs.Logs.{Log, keeps, popped_through, push_fault, peek_fault, peek_of, HasTaken}
 use Rattle.fdb_log.specs.Messages.{above}
 use Rattle.fdb_storage.specs.LogMessages.{log_message}
-use Rattle.fdb_storage.specs.Shards.{Shard, HasApplied}
 use Rattle.fdb_proxy.specs.declared.config.Config.{Config}
 use Rattle.fdb_core.specs.headline.RoleLaws.{ResolverGoesOn, OwnersGoOn, AreLastOf, IsSequencerAt, SequencerGoesOn}
 use Rattle.fdb_core.specs.headline.RoleLaws.{EntriesGoOnByTickets}

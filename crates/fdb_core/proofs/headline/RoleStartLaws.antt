@@ -1,5 +1,5 @@
 -- Roles before their first entry, and what leaves them at the entries that they took.
-use Rattle.std.proofs.Common.{◌≡◌, ◌∙◌, sym, refl, ℕ, ◌≤◌, le_refl, arith, Bool, true, false, [], Option, Some, None}
+use Rattle.std.proofs.Common.{◌≡◌, ◌∙◌, sym, refl, ℕ, ◌≤◌, le_refl, arith, Bool, true, false, [], Some, None}
 use Rattle.std.specs.Prelude.{◌||◌, not, nat_lt, if◌then◌else◌}
 use Rattle.std.proofs.lemmas.Bool.{cond-false, ltb-false, or_parts}
 use Rattle.fdb_keys.specs.declared.refusal.Refusal.TheVariants.{Failed, BadConfig}

@@ -1,5 +1,5 @@
 -- Logs and shards at a front of the book: what a log gives of a tag, and what leaves a shard and a log at a front.
-use Rattle.std.proofs.Common.{◌≡◌, ◌∙◌, refl, sym, ap, ap₂, subst, ℕ, zero, suc, ◌≤◌, max, le_refl, le_of_lt, Bool}
+use Rattle.std.proofs.Common.{◌≡◌, ◌∙◌, refl, sym, ap, ap₂, subst, ℕ, zero, suc, ◌≤◌, le_refl, le_of_lt, Bool}
 use Rattle.std.proofs.Common.{true, false, List, [], ◌∷◌, ◌++◌, length, take, fold, Option, Some, None, arith, ⊎_elim}
 use Rattle.std.specs.Prelude.{◌==◌, ◌&&◌, not, nat_lt, if◌then◌else◌}
 use Rattle.std.specs.Ordering.{nat_cmp}

@@ -1,10 +1,9 @@
 -- The logs and the shards, kept tied through the steps.
-use Rattle.std.proofs.Common.{◌≡◌, ◌∙◌, refl, sym, ap, ap₂, subst, ℕ, zero, suc, ◌+◌, ◌-◌, ◌<◌, ◌≤◌, min, max, le_refl}
-use Rattle.std.proofs.Common.{le_of_lt, le_trans, Bool, true, false, List, [], ◌∷◌, ◌++◌, length, take, drop, map, fold}
+use Rattle.std.proofs.Common.{◌≡◌, ◌∙◌, refl, sym, ap, ap₂, subst, ℕ, zero, suc, ◌+◌, ◌-◌, ◌<◌, ◌≤◌, min}
+use Rattle.std.proofs.Common.{le_of_lt, le_trans, Bool, true, false, List, [], ◌∷◌, ◌++◌, length, take, drop, map}
 use Rattle.std.proofs.Common.{Option, Some, None, arith, ◌⊎◌, inl, inr, ⊎_elim}
-use Rattle.std.specs.Prelude.{◌==◌, ◌&&◌, not, nat_lt, Result, Err, if◌then◌else◌}
+use Rattle.std.specs.Prelude.{◌==◌, not, nat_lt, Result, Err, if◌then◌else◌}
 use Rattle.std.specs.List.{slice_get, slice_set, range_with_len}
-use Rattle.std.specs.FinMap.{get}
 use Rattle.std.proofs.lemmas.Bool.{cases_Bool, cases_lt, and_parts, both_ways, cond-false, eq-eqb, eqb-true}
 use Rattle.std.proofs.lemmas.Bool.{false_from_ne_true, lt-ltb, ltb-true, ltb-false}
 use Rattle.std.proofs.lemmas.List.{length-take, length-drop, length-set, take_all}
@@ -14,28 +13,25 @@ use Rattle.std.proofs.lemmas.List.Sums.{fold-append}
 use Rattle.std.proofs.lemmas.Option.{get_or_from_slice_get, slice_get_within}
 use Rattle.std.proofs.Math.Seq.{take-add}
 use Rattle.fdb_keys.specs.Points.{Point}
-use Rattle.fdb_keys.specs.Ranges.{Range, in_range}
+use Rattle.fdb_keys.specs.Ranges.{Range}
 use Rattle.fdb_keys.specs.declared.refusal.Refusal.{Refusal}
 use Rattle.fdb_keys.specs.declared.refusal.Refusal.TheVariants.{NotYet, Stale, Failed, Unknown}
-use Rattle.fdb_mutations.specs.Maps.{Map}
 use Rattle.fdb_txn.specs.declared.entry.Entry.{Entry}
 use Rattle.fdb_txn.specs.declared.tag_msg.TagMsg.{TagMsg}
-use Rattle.fdb_txn.specs.book.Book.{Seen, add_entry, seen_of, last_version, seen_before}
+use Rattle.fdb_txn.specs.book.Book.{seen_of, last_version, seen_before}
 use Rattle.fdb_txn.specs.book.History.{AreEntries}
 use Rattle.fdb_txn.specs.laws.SerialMapLaws.{version_after}
-use Rattle.fdb_txn.specs.rules.Messages.{message_for, messages_for, messages_after, value_with}
-use Rattle.fdb_txn.specs.rules.SerialMap.{serial_map_at}
+use Rattle.fdb_txn.specs.rules.Messages.{message_for, messages_for, messages_after}
 use Rattle.fdb_txn.specs.rules.Splits.{piece}
-use Rattle.fdb_txn.proofs.rules.MessagesLemmas.{messages_go_on, shards_go_on}
+use Rattle.fdb_txn.proofs.rules.MessagesLemmas.{messages_go_on}
 use Rattle.fdb_log.specs.declared.message.LogMsg.{LogMsg}
-use Rattle.fdb_log.specs.Logs.{Log, keeps, kept, popped_through, push_fault, given_after, peek_of, IsSameLog, HasTaken}
+use Rattle.fdb_log.specs.Logs.{Log, keeps, kept, popped_through, push_fault, given_after, peek_of, HasTaken}
 use Rattle.fdb_log.specs.Logs.{HasPopped}
 use Rattle.fdb_log.specs.Messages.{log_of, tag_message, above}
-use Rattle.fdb_log.specs.Peeks.{through_after}
-use Rattle.fdb_log.proofs.AboveLemmas.{above-keeps, above-higher}
+use Rattle.fdb_log.proofs.AboveLemmas.{above-keeps}
 use Rattle.fdb_storage.specs.LogMessages.{log_message}
 use Rattle.fdb_storage.specs.Shards.{Shard, HasApplied}
-use Rattle.fdb_storage.proofs.LogMessagesLemmas.{logs_are_sent_the_messages, messages_above_a_version}
+use Rattle.fdb_storage.proofs.LogMessagesLemmas.{logs_are_sent_the_messages}
 use Rattle.fdb_proxy.specs.declared.config.Config.{Config}
 use Rattle.fdb_core.specs.declared.roles.log.LogRole.{LogRole}
 use Rattle.fdb_core.specs.declared.roles.shard.ShardRole.{ShardRole}

@@ -31,7 +31,6 @@ use Rattle.fdb_proxy.specs.Parting.{AreItems, IsPartOf, AreParts}
 use Rattle.fdb_proxy.specs.Verdicts.{moves_through, verdicts_on}
 use Rattle.fdb_proxy.proofs.VerdictLemmas.{entries_are_judged_by_the_rule}
 use Rattle.fdb_core.specs.check.Judging.{MayFollow, HasSaid}
-use Rattle.fdb_core.specs.refinement.Logs.{Each}
 use Rattle.fdb_core.specs.refinement.Resolving.{IsResolverAt}
 use Rattle.fdb_core.proofs.common.AllLemmas.{within-item}
 use Rattle.fdb_core.proofs.refinement.BookLemmas.{last-push}

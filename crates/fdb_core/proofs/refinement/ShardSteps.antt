@@ -4,10 +4,9 @@ use Rattle.std.proofs.Common.{true, false, length, map, take, Some, None, Ok, Er
 use Rattle.std.specs.Prelude.{◌==◌, nat_lt, if◌then◌else◌}
 use Rattle.std.specs.List.{slice_get, slice_set}
 use Rattle.std.specs.Vec.{with_item}
-use Rattle.std.proofs.lemmas.Bool.{and_from, cond-false, eq-eqb, le-ltb, lt-ltb, ltb-false}
+use Rattle.std.proofs.lemmas.Bool.{and_from, cond-false, eq-eqb, le-ltb, lt-ltb}
 use Rattle.std.proofs.lemmas.List.{length-map, length-set, map-set}
 use Rattle.std.proofs.lemmas.Option.{same_Some, slice_get-map, slice_get_within}
-use Rattle.fdb_keys.specs.Ranges.{Range, in_range}
 use Rattle.fdb_keys.specs.declared.refusal.Refusal.{Refusal}
 use Rattle.fdb_keys.specs.declared.refusal.Refusal.TheVariants.{Failed, FutureVersion}
 use Rattle.fdb_txn.specs.book.Book.{last_version}
