@@ -6,6 +6,7 @@ pub mod HeadlineLaws
 pub mod MoveExamplesLemmas
 pub mod PromiseLaws
 pub mod ReplayLaws
+pub mod RoleExamplesLemmas
 pub mod RoleLaws
 pub mod RoleStartLaws
 pub mod RunsLemmas

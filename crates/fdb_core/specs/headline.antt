@@ -12,6 +12,7 @@ pub mod ReadingExamples
 pub mod Readings
 pub mod RealTime
 pub mod Replays
+pub mod RoleExamples
 pub mod RoleLaws
 pub mod RoleStarts
 pub mod ScriptExamples

@@ -9,6 +9,8 @@ ghost use Rattle.fdb_core.specs.headline.Answers.{AnsweredByTheTrace};
 ghost use Rattle.fdb_core.specs.headline.Fronts.{FrontsHaveOneRun};
 ghost use Rattle.fdb_core.specs.headline.Replays.{ReplaysTellTheRun};
 ghost use Rattle.fdb_core.specs.headline.RealTime.{RealTime};
+ghost use Rattle.fdb_core.specs.headline.RoleExamples.{OtherSequencersAreElsewhere, OtherLogsAreElsewhere};
+ghost use Rattle.fdb_core.specs.headline.RoleExamples.{OtherShardsAreElsewhere};
 ghost use Rattle.fdb_core.specs.headline.RoleLaws.{ResolverGoesOn, OwnersGoOn, SequencerGoesOn, LogGoesOn, ShardGoesOn};
 ghost use Rattle.fdb_core.specs.headline.RoleLaws.{EntriesGoOnByTickets, ShardGoesOnByMessages, LogGivesMessages};
 ghost use Rattle.fdb_core.specs.headline.RoleLaws.{ShardGoesOnByItsLog};
@@ -235,4 +237,13 @@ pub fn roles_stay_where_no_entry_is_taken()
     ensures moves { SequencerMoves }
     ensures log { LogPops }
     ensures shard { ShardForgets }
+{}
+
+/// Which sequencers, logs and shards are where a small book leaves them, and which aren't: one that took no entry, to
+/// which a later version was reported, whose moves go elsewhere or weren't made, that popped a tag too far, lacks a
+/// mutation or a value, or serves from a version that it hasn't reached.
+pub fn worked_roles()
+    ensures sequencers { OtherSequencersAreElsewhere }
+    ensures logs { OtherLogsAreElsewhere }
+    ensures shards { OtherShardsAreElsewhere }
 {}
