@@ -31,6 +31,7 @@ use Rattle.fdb_log.specs.declared.peek.Peek.{Peek}
 use Rattle.fdb_log.specs.Logs.{Log, keeps, popped_through, push_fault, peek_fault, peek_of, HasTaken}
 use Rattle.fdb_log.specs.Messages.{above}
 use Rattle.fdb_storage.specs.LogMessages.{log_message}
+use Rattle.fdb_storage.specs.Shards.{Shard, apply_fault, HasApplied}
 use Rattle.fdb_proxy.specs.declared.config.Config.{Config}
 use Rattle.fdb_core.specs.headline.RoleLaws.{ResolverGoesOn, OwnersGoOn, AreLastOf, IsSequencerAt, SequencerGoesOn}
 use Rattle.fdb_core.specs.headline.RoleLaws.{EntriesGoOnByTickets}
@@ -281,31 +282,61 @@ cut-is book more limit =
     (λ all. take_all (min limit (length more)) more (omega (arith, all)) ∙ sym (take_all limit more all))
     (cases_lt limit (length more)))
 
-pub shard_goes_on_by_its_log : ShardGoesOnByItsLog
-shard_goes_on_by_its_log config book more s l limit old log entries at has may =
-    let peek = peek_of log s old.version limit in
-    let may_give : peek_fault log s (last_version book) ≡ None =
-    subst (λ (v : ℕ). peek_fault log s v ≡ None) at.version may in
-    let count : length peek.messages ≡ length (take limit more) =
-    ap (λ (v : ℕ). length (peek_of log s v limit).messages) at.version
-    ∙ gives-count config book more l s limit log entries has may_give in
-    let cut : take (length book + length peek.messages) (book ++ more) ≡ book ++ take limit more =
-    ap (λ (n : ℕ). take (length book + n) (book ++ more)) count ∙ cut-is book more limit in
-    let some : AreEntries (suc (length config.resolver_splits)) 0 (book ++ take limit more) =
-    subst (AreEntries (suc (length config.resolver_splits)) 0) cut
-    (entries-take (suc (length config.resolver_splits)) 0 (length book + length peek.messages) (book ++ more) entries)
-    in
-    let given : peek ≡ record {
+-- A shard applies what a log gives.
+module _ (config : Config) (book : List Entry) (s l limit : ℕ) (old : Shard) (log : Log) where
+  abbrev given : Peek
+  given = peek_of log s old.version limit
+
+  abbrev reached : ℕ
+  reached = length book + length given.messages
+
+  -- it has then applied the first entries of the longer book
+  abbrev Applies : List Entry → Type 0
+  Applies long =
+      (apply_fault old given ≡ None) × (length (take reached long) ≡ reached)
+      × (given.through ≡ last_version (take reached long))
+      × ((new : Shard) → HasApplied old given new → IsShardAt config (take reached long) s new)
+
+  module _ (more : List Entry) (entries : AreEntries (suc (length config.resolver_splits)) 0 (book ++ more))
+      (at : IsShardAt config book s old) (has : IsLogAt config (book ++ more) l log)
+      (may : peek_fault log s old.version ≡ None) where
+    may-give : peek_fault log s (last_version book) ≡ None
+    may-give = subst (λ (v : ℕ). peek_fault log s v ≡ None) at.version may
+
+    count : length given.messages ≡ length (take limit more)
+    count =
+        ap (λ (v : ℕ). length (peek_of log s v limit).messages) at.version
+        ∙ gives-count config book more l s limit log entries has may-give
+
+    cut : take reached (book ++ more) ≡ book ++ take limit more
+    cut = ap (λ (n : ℕ). take (length book + n) (book ++ more)) count ∙ cut-is book more limit
+
+    given-is : given ≡ record {
       tag = s;
       after = old.version;
       through = last_version (book ++ take limit more);
       messages = messages_after config.resolver_splits (piece config.shard_splits s) (seen_of book) (take limit more);
-    } = ap (λ (v : ℕ). record (peek_of log s v limit) { after = old.version }) at.version
-    ∙ ap (λ (p : Peek). record p { after = old.version })
-    (gives config book more l s limit log entries has may_give) in
-    let next = shard_goes_on_by_messages config book (take limit more) s old peek some at given in (
-      next.0,
-      ap length cut ∙ length-append book (take limit more) ∙ ap (λ (n : ℕ). length book + n) (sym count),
-      ap (λ (p : Peek). p.through) given ∙ ap last_version (sym cut),
-      λ new applied. subst (λ (all : List Entry). IsShardAt config all s new) (sym cut) (next.1 new applied),
-    )
+    }
+    given-is =
+        ap (λ (v : ℕ). record (peek_of log s v limit) { after = old.version }) at.version
+        ∙ ap (λ (p : Peek). record p { after = old.version })
+        (gives config book more l s limit log entries has may-give)
+
+    applies : Applies (book ++ more)
+    applies =
+        let some : AreEntries (suc (length config.resolver_splits)) 0 (book ++ take limit more) =
+        subst (AreEntries (suc (length config.resolver_splits)) 0) cut
+        (entries-take (suc (length config.resolver_splits)) 0 reached (book ++ more) entries) in
+        let next = shard_goes_on_by_messages config book (take limit more) s old given some at given-is in (
+          next.0,
+          ap length cut ∙ length-append book (take limit more) ∙ ap (λ (n : ℕ). length book + n) (sym count),
+          ap (λ (p : Peek). p.through) given-is ∙ ap last_version (sym cut),
+          λ new applied. subst (λ (all : List Entry). IsShardAt config all s new) (sym cut) (next.1 new applied),
+        )
+
+pub shard_goes_on_by_its_log : ShardGoesOnByItsLog
+shard_goes_on_by_its_log config short long s l limit old log begins entries at has may =
+    subst (Applies config short s l limit old log) (sym begins.1)
+    (applies config short s l limit old log begins.0
+    (subst (AreEntries (suc (length config.resolver_splits)) 0) begins.1 entries) at
+    (subst (λ (all : List Entry). IsLogAt config all l log) begins.1 has) may)

@@ -161,16 +161,16 @@ LogGivesMessages =
           (take limit more);
     }
 
--- A shard isn't refused what a log that took further entries gives of its tag after its version, and has then applied
--- as many further entries as there are messages; the last one's version is that through which the peek goes.
+-- A shard isn't refused what a log at a book that begins with the shard's gives of its tag after its version, and has
+-- then applied as many entries more as there are messages; the last one's version is that through which the peek goes.
 abbrev pub ShardGoesOnByItsLog : Type 0
 ShardGoesOnByItsLog =
-    (config : Config) (book more : List Entry) (s l limit : ℕ) (old : Shard) (log : Log)
-    → AreEntries (suc (length config.resolver_splits)) 0 (book ++ more) → IsShardAt config book s old
-    → IsLogAt config (book ++ more) l log → peek_fault log s old.version ≡ None
+    (config : Config) (short long : List Entry) (s l limit : ℕ) (old : Shard) (log : Log)
+    → ((rest : List Entry) × (long ≡ short ++ rest)) → AreEntries (suc (length config.resolver_splits)) 0 long
+    → IsShardAt config short s old → IsLogAt config long l log → peek_fault log s old.version ≡ None
     → let peek = peek_of log s old.version limit in
-    let applied = take (length book + length peek.messages) (book ++ more) in
+    let applied = take (length short + length peek.messages) long in
     (apply_fault old peek ≡ None)
-    × (length applied ≡ length book + length peek.messages)
+    × (length applied ≡ length short + length peek.messages)
     × (peek.through ≡ last_version applied)
     × ((new : Shard) → HasApplied old peek new → IsShardAt config applied s new)
