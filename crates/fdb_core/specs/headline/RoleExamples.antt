@@ -13,9 +13,9 @@ use Rattle.fdb_core.specs.headline.RoleLaws.{IsSequencerAt, IsLogAt, IsShardAt}
 abbrev pub to_one : Move
 to_one = record { range = from_to (codes "a") (codes "c"); to = 1 }
 
--- A fresh sequencer of two resolvers is at no entry, whatever move to one of them is pending. It isn't at an entry, nor
--- is one at no entry to which version 1 was reported, where what is pending goes to a third resolver, or which has yet
--- to tell its proxy of a move that no entry has.
+-- A fresh sequencer of two resolvers is at no entry, also where a move to one of them is pending. It isn't at an
+-- entry, nor is one at no entry to which version 1 was reported, where what is pending goes to a third resolver, or
+-- which has yet to tell its proxy of a move that no entry has.
 abbrev pub OtherSequencersAreElsewhere : Type 0
 OtherSequencersAreElsewhere =
     IsSequencerAt [] (pending (to_one ∷ []))
@@ -40,8 +40,8 @@ OtherLogsAreElsewhere =
     × (IsLogAt plain two_in_one_entry 0 (popped_to 101) → ⊥)
     × (IsLogAt plain two_in_one_entry 0 empty_message_taken → ⊥)
 
--- A shard that has nothing at any key is at no entry, but not with a floor that it hasn't reached. It isn't at the entry
--- that set a key, whether it has come to the entry's version or not.
+-- A shard that has nothing at any key is at no entry, but not with a floor that it hasn't reached. It isn't at the
+-- entry that set a key, whether it has come to the entry's version or not.
 abbrev pub OtherShardsAreElsewhere : Type 0
 OtherShardsAreElsewhere =
     IsShardAt plain [] 0 (empty 0 0)
