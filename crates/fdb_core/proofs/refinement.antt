@@ -1,4 +1,5 @@
 pub mod AnsweringTies
+pub mod BatchStages
 pub mod BookLemmas
 pub mod BookPushes
 pub mod CommitProxyTies

@@ -8,6 +8,8 @@ pub mod Fronts
 pub mod Headline
 pub mod MoveExamples
 pub mod Promises
+pub mod ProxyLaws
+pub mod ProxyStages
 pub mod ReadingExamples
 pub mod Readings
 pub mod RealTime

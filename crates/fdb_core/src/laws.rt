@@ -30,6 +30,9 @@ ghost use Rattle.fdb_core.specs.headline.Traces.{TracesDetermineTheMachine, Worl
 ghost use Rattle.fdb_core.specs.headline.Sessions.{SessionsAreWhereTheirStatesSay, AsksAreRefused};
 ghost use Rattle.fdb_core.specs.headline.Books.{TracesTellBooks, EntriesAreAnsweredOnce};
 ghost use Rattle.fdb_core.specs.headline.Committed.{ReadsOfTheCommittedStand, CommittedWhereTheAskedSayYes};
+ghost use Rattle.fdb_core.specs.headline.ProxyLaws.{NewProxiesHaveNoEntry, RequestsComeAndGo, ProxiesLearnTheirTickets};
+ghost use Rattle.fdb_core.specs.headline.ProxyLaws.{ProxiesHearVerdicts, ProxiesDecideByTheRule, MessagesAreOfTheEntry};
+ghost use Rattle.fdb_core.specs.headline.ProxyLaws.{ProxiesHearLogs, ProxiesAnswerByTheRule, AnswersAreByTheRule};
 
 /// A refused step changes nothing.
 pub fn refusals_change_nothing()
@@ -246,4 +249,22 @@ pub fn worked_roles()
     ensures sequencers { OtherSequencersAreElsewhere }
     ensures logs { OtherLogsAreElsewhere }
     ensures shards { OtherShardsAreElsewhere }
+{}
+
+/// A commit proxy that has the entries of a book through that of its last ticket has them still after each call but
+/// `learn`, and with that it has those through the new ticket's entry. A new proxy has none. A ticket with the moves of
+/// the entries that it hadn't is learnt, and resolvers are asked about the entry's places. By verdicts that are the
+/// rule's a batch is decided by the rule; logs are sent the entry's messages; and each transaction is answered once, by
+/// its id, that it committed exactly where it is committed by the rule, that it was too old exactly where it is, and
+/// else of a conflict.
+pub fn commit_proxies_go_on_with_their_tickets()
+    ensures new { NewProxiesHaveNoEntry }
+    ensures requests { RequestsComeAndGo }
+    ensures learns { ProxiesLearnTheirTickets }
+    ensures hears { ProxiesHearVerdicts }
+    ensures decides { ProxiesDecideByTheRule }
+    ensures messages { MessagesAreOfTheEntry }
+    ensures logged { ProxiesHearLogs }
+    ensures answers { ProxiesAnswerByTheRule }
+    ensures by_rule { AnswersAreByTheRule }
 {}

@@ -27,6 +27,7 @@ use Rattle.fdb_core.proofs.checking.BodyLemmas.{length-outcomes_on}
 use Rattle.fdb_core.proofs.checking.StandingLemmas.{place-found}
 use Rattle.fdb_core.proofs.common.AllLemmas.{all-at, contains-item, item-contained}
 use Rattle.fdb_core.proofs.readings.AnswerReadings.{OneEach}
+use Rattle.fdb_core.proofs.readings.RoleReplies.{in-batch}
 
 -- the outcome at a place is the rule's
 pub outcome-by-rule : (splits : List Point) (earlier : List Place) (place : Place) (p : ℕ)
@@ -48,6 +49,25 @@ outcome-by-rule splits earlier place p =
     by_cases true true false = ((λ is. cc, λ is. cc), (λ is. cc, λ is. cc), (λ is. (refl, refl), λ is. refl))
     by_cases true true true =
         ((λ is. refl, λ is. refl), (λ is. cc, λ is. cc), (λ is. cc, λ is. let free = is.1 in cc))
+
+-- and so is what becomes of each place of an entry
+pub place-by-rule : (splits : List Point) (before : Seen) (entry : Entry) (p : ℕ) (there : Place × List Place)
+    → place_of before p (Some entry) ≡ Some there
+    → (became : Outcome) × (slice_get (outcomes_on splits before entry) p ≡ Some became)
+    × (slice_get entry.batch p ≡ Some there.0.transaction) × IsByRule splits there p became
+place-by-rule splits before entry p there at =
+    let transaction = in-batch entry.version (moves_through before entry) entry.batch before.places p there at in
+    let found = place-found splits entry.version (moves_through before entry) entry.batch before.places 0 p
+    transaction.0 transaction.1 in
+    let place : Place = placed entry.version (moves_through before entry) transaction.0 in
+    let same : (place, found.0) ≡ there = same_Some (place, found.0) there (sym found.1 ∙ at) in
+    let number : 0 + p ≡ p = omega arith in (
+      outcome_at splits found.0 place p,
+      found.2 ∙ ap (λ (k : ℕ). Some (outcome_at splits found.0 place k)) number,
+      transaction.1 ∙ ap (λ (it : Place × List Place). Some it.0.transaction) same,
+      subst (λ (it : Place × List Place). IsByRule splits it p (outcome_at splits found.0 place p)) same
+          (outcome-by-rule splits found.0 place p),
+    )
 
 -- there are as many replies as outcomes
 replies-all : (transcripts : List Transcript) (outcomes : List Outcome) → length outcomes ≡ length transcripts

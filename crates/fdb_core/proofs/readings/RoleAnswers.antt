@@ -4,15 +4,15 @@ use Rattle.std.proofs.Common.{length, take, Option, Some}
 use Rattle.std.specs.Prelude.{unwrap_or, nat_le}
 use Rattle.std.specs.List.{slice_get, count_by}
 use Rattle.std.proofs.lemmas.List.{length-replicate, length-set}
-use Rattle.std.proofs.lemmas.Option.{same_Some, slice_get_within}
+use Rattle.std.proofs.lemmas.Option.{slice_get_within}
 use Rattle.fdb_keys.specs.Points.{Point}
 use Rattle.fdb_txn.specs.declared.entry.Entry.{Entry}
-use Rattle.fdb_txn.specs.book.Book.{Place, Seen, placed, last_version, seen_before}
+use Rattle.fdb_txn.specs.book.Book.{Place, Seen, last_version, seen_before}
 use Rattle.fdb_txn.specs.book.Places.{place_in, place_of, place_at}
 use Rattle.fdb_log.specs.Messages.{log_of}
 use Rattle.fdb_proxy.specs.declared.config.Config.{Config}
 use Rattle.fdb_proxy.specs.declared.outcome.Outcome.{Outcome}
-use Rattle.fdb_proxy.specs.Verdicts.{verdict_at, moves_through, verdicts_on, is_needed, outcomes_on, outcome_at}
+use Rattle.fdb_proxy.specs.Verdicts.{verdict_at, moves_through, verdicts_on, is_needed, outcomes_on}
 use Rattle.fdb_core.specs.declared.step.Answered.{Answered}
 use Rattle.fdb_core.specs.declared.step.Answered.TheVariants as answered
 use Rattle.fdb_core.specs.declared.step.Step.{Step}
@@ -25,16 +25,15 @@ use Rattle.fdb_core.specs.machine.RoleSteps.{version_of_shard}
 use Rattle.fdb_core.specs.machine.Roles.{CommitProxy, Stage, Resolving, Logging, ShardProgress}
 use Rattle.fdb_core.specs.machine.Worlds.{start}
 use Rattle.fdb_core.proofs.checking.BodyLemmas.{length-outcomes_on}
-use Rattle.fdb_core.proofs.checking.StandingLemmas.{place-found}
 use Rattle.fdb_core.proofs.common.AllLemmas.{contains-item, item-contained}
 use Rattle.fdb_core.proofs.machine.RoleChanges.{RoleWent, ProxyWent, ShardPulled, applied_after, VerdictsReached}
 use Rattle.fdb_core.proofs.machine.RoleChanges.{BatchDecided, AcknowledgementReached}
 use Rattle.fdb_core.proofs.machine.Steps.{KeptBySteps}
 use Rattle.fdb_core.proofs.readings.Agreement.{TellsMachine}
-use Rattle.fdb_core.proofs.readings.AnswerReplies.{outcome-by-rule}
+use Rattle.fdb_core.proofs.readings.AnswerReplies.{place-by-rule}
 use Rattle.fdb_core.proofs.readings.RoleAgreement.{StageTold, TellsRoles}
 use Rattle.fdb_core.proofs.readings.RoleReadings.{stage-at, awaits-verdicts, awaits-acknowledgement}
-use Rattle.fdb_core.proofs.readings.RoleReplies.{verdict-by-rule, in-batch, said-at, said-of, said-rises, asked-about}
+use Rattle.fdb_core.proofs.readings.RoleReplies.{verdict-by-rule, said-at, said-of, said-rises, asked-about}
 use Rattle.fdb_core.proofs.readings.RoleReplies.{none-missing, count-up-to}
 
 -- there are as many resolvers and logs as the configuration says
@@ -170,18 +169,8 @@ module _ (m : Machine) (r : Readings) (has : HasRoles m) (sound : Invariant m) (
         → (became : Outcome) × (slice_get (outcomes_on splits before entry) p ≡ Some became)
         × IsByRule splits there p became
     became-by-rule p there at =
-        let here = sym (place-told p) ∙ at in
-        let transaction = in-batch entry.version (moves_through before entry) entry.batch before.places p there here in
-        let found = place-found splits entry.version (moves_through before entry) entry.batch before.places 0 p
-        transaction.0 transaction.1 in
-        let place : Place = placed entry.version (moves_through before entry) transaction.0 in
-        let same : (place, found.0) ≡ there = same_Some (place, found.0) there (sym found.1 ∙ here) in
-        let number : 0 + p ≡ p = omega arith in (
-          outcome_at splits found.0 place p,
-          found.2 ∙ ap (λ (k : ℕ). Some (outcome_at splits found.0 place k)) number,
-          subst (λ (it : Place × List Place). IsByRule splits it p (outcome_at splits found.0 place p)) same
-              (outcome-by-rule splits found.0 place p),
-        )
+        let found = place-by-rule splits before entry p there (sym (place-told p) ∙ at) in
+        (found.0, found.1, found.3)
 
   -- a decision
   decided-by-rule : (own proxy : ℕ) (answer : Answered) (commit_proxy : CommitProxy) (stage : Stage)

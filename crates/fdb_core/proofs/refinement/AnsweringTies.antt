@@ -62,7 +62,7 @@ placed-is index (transcript ∷ transcripts) (outcome.Conflict ∷ outcomes) = p
 placed-is index (transcript ∷ transcripts) (outcome.Old ∷ outcomes) = placed-is index transcripts outcomes
 
 -- there is an answer for each transaction that has an outcome
-length-answers : (batch : List Transaction) (outcomes : List Outcome) → length outcomes ≡ length batch
+pub length-answers : (batch : List Transaction) (outcomes : List Outcome) → length outcomes ≡ length batch
     → length (answers_by batch outcomes) ≡ length batch
 length-answers [] outcomes count = refl
 length-answers (t ∷ ts) [] count = absurd (omega (arith, count))

@@ -24,7 +24,7 @@ use Rattle.fdb_core.specs.declared.roles.resolver.ResolverRole.{ResolverRole}
 use Rattle.fdb_core.specs.declared.roles.shard.ShardRole.{ShardRole}
 use Rattle.fdb_core.specs.machine.Machine.{is_set}
 use Rattle.fdb_core.specs.refinement.Cluster.{BookRefines, messages_on}
-use Rattle.fdb_core.specs.refinement.CommitProxies.{ArePartsOf}
+use Rattle.fdb_core.specs.headline.ProxyStages.{ArePartsOf}
 use Rattle.fdb_core.specs.refinement.Logs.{LogRefines, ShardRefines, LogsRefine}
 use Rattle.fdb_core.specs.refinement.Resolving.{IsResolverAt, ResolverRefines, ResolversRefine, PartsRefine}
 use Rattle.fdb_core.proofs.common.ListLemmas.{front-at, last-at}

@@ -142,11 +142,8 @@ module _ (config : Config) (book : List Entry) (known : Known) (role : CommitPro
             subst (StageRefines config book true role.entry role.core.proxy.batch) (sym is) (
               refines.0,
               refines.1,
-              record {
-                answers = refines.2.answers;
-                count = refines.2.count;
-                reported = λ reported. sym (unset-missing 0 decided.acknowledged) ∙ all_came;
-              },
+              refines.2,
+              λ reported. sym (unset-missing 0 decided.acknowledged) ∙ all_came,
             )
           where
             all_came : first_missing (λ log. true) 0 decided.acknowledged ≡ None

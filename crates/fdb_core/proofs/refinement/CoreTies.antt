@@ -3,7 +3,6 @@ use Rattle.std.proofs.Common.{◌≡◌, ◌∙◌, refl, sym, ap, subst, ⊎_el
 use Rattle.std.proofs.Common.{◌&&◌, ◌==◌, nat_lt, List, [], ◌∷◌, length, Option, Some, None, Result, Ok, Err, slice_set}
 use Rattle.std.proofs.Common.{if◌then◌else◌, arith}
 use Rattle.std.proofs.lemmas.Bool.{and_right, cases_eq, eq-eqb, ne_eqb, lt-ltb, true≢false}
-use Rattle.std.proofs.lemmas.List.{length-set}
 use Rattle.fdb_keys.specs.Answers.{AnswersExactly}
 use Rattle.fdb_keys.specs.declared.refusal.Refusal.{Refusal}
 use Rattle.fdb_keys.specs.declared.refusal.Refusal.TheVariants.{Stale}
@@ -24,8 +23,10 @@ use Rattle.fdb_core.specs.declared.roles.commit_proxy.CommitProxyRole.{CommitPro
 use Rattle.fdb_core.specs.machine.CommitProxySteps.{awaits, with_received, is_logging}
 use Rattle.fdb_core.specs.machine.Machine.{is_set, first_missing}
 use Rattle.fdb_core.specs.machine.Roles.{Logging, Reported, FromLog}
-use Rattle.fdb_core.specs.refinement.CommitProxies.{CommitProxyRefines, Known, AreUnlearnt, StageRefines, IsLogging}
+use Rattle.fdb_core.specs.headline.ProxyStages.{IsLogging}
+use Rattle.fdb_core.specs.refinement.CommitProxies.{CommitProxyRefines, Known, AreUnlearnt, StageRefines}
 use Rattle.fdb_core.specs.refinement.CommitProxies.{stage_of, received_at, acknowledged_at, seen_as}
+use Rattle.fdb_core.proofs.refinement.BatchStages.{logging-heard}
 
 -- what a call gave that was answered has what follows from it where there is no fault
 pub exactly-map : {T : Type 0} (result : Result T Refusal) (fault : Option Refusal) (P Q : T → Type 0)
@@ -110,16 +111,17 @@ module _ (config : Config) (book : List Entry) (known : Known) (role : CommitPro
     AcknowledgementIsAwaited = awaits (seen_as role) ack.index (FromLog ack.log)
 
     same-awaited : (reported : Bool) (entry : Entry) (decided : Decided)
-        → decided.position.index ≡ role.entry → IsLogging config book reported role.entry entry decided
+        → decided.position.index ≡ role.entry → IsLogging config book role.entry entry decided
+        → (reported ≡ true → first_unset 0 decided.acknowledged ≡ None)
         → logging.is_awaited decided ack
         ≡ ((is_logging (if reported then Reported else Logging) && (role.entry == ack.index))
         && not (is_set decided.acknowledged ack.log))
-    same-awaited true entry decided number is =
+    same-awaited true entry decided number is all_came =
         let count = is.count in
-        let set_there = all-set 0 decided.acknowledged ack.log (is.reported refl) (omega (arith, exists, count)) in
+        let set_there = all-set 0 decided.acknowledged ack.log (all_came refl) (omega (arith, exists, count)) in
         and_right ((ack.index == decided.position.index) && nat_lt ack.log (length decided.acknowledged)) _
         (ap not set_there)
-    same-awaited false entry decided number is =
+    same-awaited false entry decided number is all_came =
         let count = is.count in
         let there : nat_lt ack.log (length decided.acknowledged) ≡ true =
         lt-ltb ack.log (length decided.acknowledged) (omega (arith, exists, count)) in
@@ -144,7 +146,7 @@ module _ (config : Config) (book : List Entry) (known : Known) (role : CommitPro
         by_stage (core.Resolving batch) is refines = rw (ok.works, is) refl
         by_stage (core.Logging decided) is refines =
             rw (ok.works, is) (ap (λ (b : Bool). if b then None else Some Stale)
-            (same-awaited role.is_reported refines.0 decided refines.1.index refines.2))
+            (same-awaited role.is_reported refines.0 decided refines.1.index refines.2 refines.3))
 
     -- once it came
     after-acknowledged : (later : ProxyWithRoom) → AcknowledgementIsAwaited ≡ true
@@ -163,17 +165,13 @@ module _ (config : Config) (book : List Entry) (known : Known) (role : CommitPro
         by_stage (core.Resolving batch) is refines = absurd (true≢false (sym (rw is at waits)))
         by_stage (core.Logging decided) is refines =
             let stage = core.Logging (with_acknowledgement decided ack) in
-            let next : later.proxy ≡ record role.core.proxy { stage = stage } = after ∙ rw is refl in
-            let old = refines.2 in (
+            let next : later.proxy ≡ record role.core.proxy { stage = stage } = after ∙ rw is refl in (
               seen-staged later stage next ∙ rw is refl,
               staged later stage role.is_reported next (
                 refines.0,
                 refines.1,
-                record {
-                  answers = old.answers;
-                  count = length-set decided.acknowledged ack.log true ∙ old.count;
-                  reported = λ reported. set-all 0 decided.acknowledged ack.log (old.reported reported);
-                },
+                logging-heard config book role.entry refines.0 decided refines.2 ack,
+                λ reported. set-all 0 decided.acknowledged ack.log (refines.3 reported),
               ),
             )
           where

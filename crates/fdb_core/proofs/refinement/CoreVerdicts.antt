@@ -1,20 +1,19 @@
 -- A commit proxy to which a resolver's verdicts come, and what it decides by those that came.
 use Rattle.std.proofs.Common.{◌≡◌, ◌∙◌, refl, sym, ap, ap₂, subst, ⊎_elim, ℕ, zero, suc, ◌+◌, ◌<◌, Bool, true, false}
-use Rattle.std.proofs.Common.{not, ◌&&◌, ◌==◌, List, [], ◌∷◌, length, map, take, replicate, Option, Some, None, Result}
-use Rattle.std.proofs.Common.{slice_get, slice_set, if◌then◌else◌, arith}
+use Rattle.std.proofs.Common.{not, ◌&&◌, ◌==◌, List, [], ◌∷◌, length, map, replicate, Option, Some, None, Result}
+use Rattle.std.proofs.Common.{slice_get, if◌then◌else◌, arith}
 use Rattle.std.proofs.lemmas.Bool.{and_parts, and_from, cases_eq, eq-eqb, ne_eqb, eqb-true, true≢false}
-use Rattle.std.proofs.lemmas.List.{length-set, length-replicate}
-use Rattle.std.proofs.lemmas.Option.{same_Some, slice_get_within}
+use Rattle.std.proofs.lemmas.List.{length-replicate}
+use Rattle.std.proofs.lemmas.Option.{same_Some}
 use Rattle.std.specs.Option.{is_some}
 use Rattle.fdb_keys.specs.Answers.{Answers, AnswersExactly}
 use Rattle.fdb_keys.specs.Points.{Point}
 use Rattle.fdb_keys.specs.declared.refusal.Refusal.{Refusal}
 use Rattle.fdb_keys.specs.declared.refusal.Refusal.TheVariants.{Stale}
 use Rattle.fdb_txn.specs.declared.entry.Entry.{Entry}
-use Rattle.fdb_txn.specs.book.Book.{Stamped, Place, Seen, placed, add_entry, seen_before}
-use Rattle.fdb_txn.specs.book.History.{AreEntries, IsHistory}
+use Rattle.fdb_txn.specs.book.Book.{Stamped, Place, Seen, placed, seen_before}
+use Rattle.fdb_txn.specs.book.History.{AreEntries}
 use Rattle.fdb_txn.specs.book.Transactions.{Transaction}
-use Rattle.fdb_txn.proofs.book.HistoryLemmas.{places_are_history}
 use Rattle.fdb_log.specs.declared.message.LogMsg.{LogMsg}
 use Rattle.fdb_storage.specs.LogMessages.{log_messages}
 use Rattle.fdb_resolver.specs.declared.part.Item.{Item}
@@ -29,25 +28,23 @@ use Rattle.fdb_proxy.specs.declared.stage.Stage.TheVariants as core
 use Rattle.fdb_proxy.specs.CommitProxies.{ProxyWithRoom, waiting_for, verdict_fault, with_verdict, decide_fault}
 use Rattle.fdb_proxy.specs.CommitProxies.{outcomes_in, deciding, messages_fault, messages_of}
 use Rattle.fdb_proxy.specs.Deciding.{Said}
-use Rattle.fdb_proxy.specs.Logging.{answers_by, messages_by}
+use Rattle.fdb_proxy.specs.Logging.{answers_by}
 use Rattle.fdb_proxy.specs.Parting.{AreItems}
 use Rattle.fdb_proxy.specs.Resolving as resolving
 use Rattle.fdb_proxy.specs.Resolving.{with_verdicts, are_on, are_on_part, has_not_come, asks}
 use Rattle.fdb_proxy.specs.Verdicts.{verdicts_from, verdicts_on, moves_through, is_needed, outcomes_on}
-use Rattle.fdb_proxy.specs.VerdictLaws.{AreByTheRule}
-use Rattle.fdb_proxy.proofs.MessageLemmas.{messages_hold_the_committed}
-use Rattle.fdb_proxy.proofs.OutcomeLemmas.{entries_are_decided_by_the_rule}
-use Rattle.fdb_proxy.proofs.VerdictLemmas.{items_where_asked}
 use Rattle.fdb_core.specs.declared.roles.commit_proxy.CommitProxyRole.{CommitProxyRole}
 use Rattle.fdb_core.specs.machine.CommitProxySteps.{awaits, with_received, is_resolving, is_logging}
 use Rattle.fdb_core.specs.machine.Machine.{is_set, first_missing}
 use Rattle.fdb_core.specs.machine.Roles.{FromResolver, Resolving, Logging}
-use Rattle.fdb_core.specs.refinement.CommitProxies.{CommitProxyRefines, Known, StageRefines, IsBatchOf, IsResolving}
-use Rattle.fdb_core.specs.refinement.CommitProxies.{IsSaid, Decides, stage_of, received_at, seen_as}
+use Rattle.fdb_core.specs.headline.ProxyStages.{IsBatchOf, IsResolving}
+use Rattle.fdb_core.specs.refinement.CommitProxies.{CommitProxyRefines, Known, StageRefines}
+use Rattle.fdb_core.specs.headline.ProxyStages.{IsSaid}
+use Rattle.fdb_core.specs.refinement.CommitProxies.{Decides, stage_of, received_at, seen_as}
 use Rattle.fdb_core.proofs.common.AllLemmas.{within-item}
 use Rattle.fdb_core.proofs.common.FaultLemmas.{answers-by}
-use Rattle.fdb_core.proofs.common.ListLemmas.{map-set, set-here, set-other}
-use Rattle.fdb_core.proofs.refinement.BookLemmas.{entries-take, seen_before-next}
+use Rattle.fdb_core.proofs.common.ListLemmas.{map-set}
+use Rattle.fdb_core.proofs.refinement.BatchStages.{resolving-heard, asked, outcomes-decided, messages-decided}
 use Rattle.fdb_core.proofs.refinement.CoreTies.{exactly-by, awaited, same-test, staged, seen-staged}
 
 -- the rule's verdicts on a batch are on just the places of the resolver's items
@@ -165,17 +162,12 @@ module _ (config : Config) (book : List Entry) (known : Known) (role : CommitPro
         by_stage (core.Resolving batch) is refines =
             let stage = core.Resolving (with_verdicts batch verdicts) in
             let next : later.proxy ≡ record role.core.proxy { stage = stage } = after ∙ rw is refl in
-            let old = refines.2 in
             let waiting : ((true && (role.entry == verdicts.index))
             && not (is_set (map (λ (of : Option Said). is_some of) batch.verdicts) verdicts.resolver)) ≡ true =
             rw is at waits in
             let same : role.entry ≡ verdicts.index = eqb-true role.entry verdicts.index
             (and_parts true (role.entry == verdicts.index)
-            (and_parts (true && (role.entry == verdicts.index)) _ waiting).0).1 in
-            let entry_is : entry ≡ refines.0 = same_Some entry refines.0
-            (sym said.there ∙ ap (slice_get book) (sym same) ∙ refines.1.there) in
-            let exists = said.exists in
-            let count = old.count in (
+            (and_parts (true && (role.entry == verdicts.index)) _ waiting).0).1 in (
               seen-staged config book known role ok later stage next
                   ∙ rw is (ap (λ (received : List Bool). record (seen_as role)
                   { stage = Resolving; verdicts_received = received; acknowledgements_received = [] })
@@ -184,22 +176,8 @@ module _ (config : Config) (book : List Entry) (known : Known) (role : CommitPro
               staged config book known role ok later stage role.is_reported next (
                 refines.0,
                 refines.1,
-                record {
-                  parts = old.parts;
-                  count = length-set batch.verdicts verdicts.resolver (Some verdicts.answers) ∙ old.count;
-                  came = λ r one there. ⊎_elim
-                      (λ equal.
-                      let here : Some verdicts.answers ≡ Some one = same_Some (Some verdicts.answers) (Some one)
-                      (sym (ap (slice_get (slice_set batch.verdicts verdicts.resolver (Some verdicts.answers))) equal
-                      ∙ set-here batch.verdicts verdicts.resolver (Some verdicts.answers)
-                      (omega (arith, exists, count)))
-                      ∙ there) in
-                      sym (same_Some verdicts.answers one here) ∙ said.answers
-                      ∙ (λ i. verdicts_on config.resolver_splits (sym equal i) (seen_before book (sym same i))
-                      (entry_is i))) (λ differs. old.came r one
-                      (sym (set-other batch.verdicts verdicts.resolver r (Some verdicts.answers) differs) ∙ there))
-                      (cases_eq r verdicts.resolver);
-                },
+                resolving-heard config.resolver_splits book role.entry refines.0 refines.1.there batch refines.2
+                    verdicts entry said same,
                 refines.3,
               ),
             )
@@ -239,30 +217,6 @@ missing-same needed n (part ∷ parts) (Some said ∷ verdicts) count asked =
     both true = refl
     both false = refl
 
--- where none is missing, who was asked has said something
-none-missing : (n : ℕ) (parts : List Part) (verdicts : List (Option Said)) (i : ℕ) (part : Part)
-    → resolving.first_missing n parts verdicts ≡ None → slice_get verdicts i ≡ Some None
-    → slice_get parts i ≡ Some part → asks part ≡ false
-none-missing n [] verdicts i part none silent there = cc
-none-missing n (first ∷ parts) [] i part none silent there = cc
-none-missing n (first ∷ parts) (of ∷ verdicts) zero part none silent there =
-    let same : first ≡ part = cc in
-    let quiet : of ≡ None = cc in
-    by_test (asks part) (rw (same, quiet) at none)
-  where
-    by_test : (b : Bool) → (if b && true then Some n else
-        resolving.first_missing (suc n) parts verdicts) ≡ None → b ≡ false
-    by_test true is = cc
-    by_test false is = refl
-none-missing n (first ∷ parts) (of ∷ verdicts) (suc i) part none silent there =
-    by_test (asks first && has_not_come (Some of)) none
-    (λ later. none-missing (suc n) parts verdicts i part later silent there)
-  where
-    by_test : (b : Bool) → (if b then Some n else resolving.first_missing (suc n) parts verdicts) ≡ None
-        → (resolving.first_missing (suc n) parts verdicts ≡ None → asks part ≡ false) → asks part ≡ false
-    by_test true is others = cc
-    by_test false is others = others is
-
 -- what is decided of a batch that waits for verdicts
 module _ (config : Config) (book : List Entry) (known : Known) (role : CommitProxyRole)
     (ok : CommitProxyRefines config book known role) (entry : Entry)
@@ -276,11 +230,6 @@ module _ (config : Config) (book : List Entry) (known : Known) (role : CommitPro
         (its : IsBatchOf book role.entry role.core.proxy.batch batch.position entry)
         (is : IsResolving config.resolver_splits book role.entry entry batch) (unreported : role.is_reported ≡ false)
       where
-        asked : (i : ℕ) (part : Part) → slice_get batch.parts i ≡ Some part
-            → asks part ≡ is_needed config.resolver_splits i before entry
-        asked i part at = items_where_asked config.resolver_splits (moves_through before entry) i entry.version 0
-            entry.batch part.items (is.parts.each i part at).items
-
         fault-decided : decide_fault role.core.proxy
             ≡ waiting_for (first_missing (λ resolver. is_needed config.resolver_splits resolver before entry) 0
             (received_at role.core.proxy.stage))
@@ -288,33 +237,8 @@ module _ (config : Config) (book : List Entry) (known : Known) (role : CommitPro
             (missing-same (λ resolver. is_needed config.resolver_splits resolver before entry) 0 batch.parts
             batch.verdicts (is.count ∙ sym is.parts.count) (λ i part at.
             let number : i ≡ 0 + i = omega arith in
-            asked i part at ∙ ap (λ (n : ℕ). is_needed config.resolver_splits n before entry) number)))
-
-        history : IsHistory (suc (length config.resolver_splits)) (add_entry before entry).places
-        history = subst (λ (seen : Seen). IsHistory (suc (length config.resolver_splits)) seen.places)
-            (seen_before-next book role.entry entry there)
-            (places_are_history (suc (length config.resolver_splits)) (take (suc role.entry) book)
-            (entries-take (suc (length config.resolver_splits)) 0 (suc role.entry) book entries))
-
-        by-the-rule : resolving.first_missing 0 batch.parts batch.verdicts ≡ None
-            → AreByTheRule config.resolver_splits entry.version (moves_through before entry) entry.batch before.places
-            batch.verdicts
-        by-the-rule none = record {
-          count = is.count;
-          came = is.came;
-          silent = λ i silent.
-              let within = slice_get_within batch.verdicts i None silent in
-              let count = is.count in
-              let parts_count = is.parts.count in
-              let part = within-item batch.parts i (omega (arith, within, count, parts_count)) in
-              sym (asked i part.0 part.1) ∙ none-missing 0 batch.parts batch.verdicts i part.0 none silent part.1;
-        }
-
-        outcomes-are : resolving.first_missing 0 batch.parts batch.verdicts ≡ None
-            → outcomes_in role.core.proxy ≡ outcomes_on config.resolver_splits before entry
-        outcomes-are none = rw stage (rw (its.version, its.places)
-            (entries_are_decided_by_the_rule config.resolver_splits before entry batch.verdicts history
-            (by-the-rule none)))
+            asked config.resolver_splits book role.entry entry there batch is i part at
+            ∙ ap (λ (n : ℕ). is_needed config.resolver_splits n before entry) number)))
 
         fault-none : decide_fault role.core.proxy ≡ None → resolving.first_missing 0 batch.parts batch.verdicts ≡ None
         fault-none none = by_missing (resolving.first_missing 0 batch.parts batch.verdicts)
@@ -331,7 +255,9 @@ module _ (config : Config) (book : List Entry) (known : Known) (role : CommitPro
             → Decides config book known entry role outcomes (record role { core = later })
         decides later outcomes no_fault are after =
             let none = fault-none no_fault in
-            let by_rule = outcomes-are none in
+            let by_rule : outcomes_in role.core.proxy ≡ outcomes_on config.resolver_splits before entry =
+            rw stage (outcomes-decided config.resolver_splits book role.entry entry there batch is
+            role.core.proxy.batch its entries none) in
             let decided : Decided = record {
               position = batch.position;
               answers = answers_by role.core.proxy.batch (outcomes_in role.core.proxy);
@@ -346,15 +272,16 @@ module _ (config : Config) (book : List Entry) (known : Known) (role : CommitPro
                     verdicts_received = [];
                     acknowledgements_received = replicate (ok.logs i) false;
                   });
-              refines = staged config book known role ok later (core.Logging decided) role.is_reported next (
-                entry,
-                its,
-                record {
-                  answers = ap₂ answers_by its.places by_rule;
-                  count = length-replicate role.core.proxy.logs false ∙ ok.logs;
-                  reported = λ reported. absurd (true≢false (sym reported ∙ unreported));
-                },
-              );
+              refines = staged config book known role ok later
+                  (core.Logging decided) role.is_reported next (
+                    entry,
+                    its,
+                    record {
+                      answers = ap₂ answers_by its.places by_rule;
+                      count = length-replicate role.core.proxy.logs false ∙ ok.logs;
+                    },
+                    λ reported. absurd (true≢false (sym reported ∙ unreported)),
+                  );
             }
 
     pub decides-resolving : is_resolving (stage_of role.is_reported role.core.proxy.stage) ≡ true
@@ -372,7 +299,8 @@ module _ (config : Config) (book : List Entry) (known : Known) (role : CommitPro
         by_stage core.Sealed is refines = absurd refines
         by_stage core.Entered is refines = absurd refines
         by_stage (core.Resolving batch) is refines =
-            let same : refines.0 ≡ entry = same_Some refines.0 entry (sym refines.1.there ∙ there) in (
+            let same : refines.0 ≡ entry = same_Some refines.0
+            entry (sym refines.1.there ∙ there) in (
               batch,
               is,
               subst (IsBatchOf book role.entry role.core.proxy.batch batch.position) same refines.1,
@@ -430,19 +358,11 @@ messages-answers config book known role ok logging entry there result answers =
         let its = refines.1 in
         let same : refines.0 ≡ entry = same_Some refines.0 entry (sym its.there ∙ there) in
         let fault : messages_fault role.core.proxy ≡ None = rw (ok.works, is) refl in
-        let messages : messages_of role.core.proxy ≡ sent = rw is ((λ i. messages_by (ok.shard_splits i) (ok.logs i)
-        (its.places i) (record {
-          position = record { index = its.index i; version = its.version i; prev = its.prev i };
-          answers = refines.2.answers i;
-          acknowledged = decided.acknowledged;
-        }))
-        ∙ ap (λ (e : Entry). messages_by config.shard_splits config.logs e.batch (record {
-          position = record { index = role.entry; version = e.version; prev = e.prev };
-          answers = answers_by e.batch (outcomes_on config.resolver_splits (seen_before book role.entry) e);
-          acknowledged = decided.acknowledged;
-        })) same
-        ∙ messages_hold_the_committed config.resolver_splits config.shard_splits config.logs role.entry
-        (seen_before book role.entry) entry decided.acknowledged) in
+        let messages : messages_of role.core.proxy ≡ sent = rw is
+        (messages-decided config book role.entry refines.0 decided refines.2 role.core.proxy.shard_splits
+        role.core.proxy.logs role.core.proxy.batch ok.shard_splits ok.logs its
+        ∙ ap (log_messages config.resolver_splits config.shard_splits config.logs role.entry
+        (seen_before book role.entry)) same) in
         answers-by result (messages_fault role.core.proxy) None
         (λ (given : List LogMsg). given ≡ messages_of role.core.proxy) (λ (given : List LogMsg). given ≡ sent) fault
         (λ none given is_given. is_given ∙ messages) answers

@@ -7,14 +7,17 @@ use Rattle.std.proofs.lemmas.List.Sums.{fold-append, sum_by_push}
 use Rattle.fdb_txn.specs.declared.entry.Entry.{Entry}
 use Rattle.fdb_txn.specs.declared.entry.Move.{Move}
 use Rattle.fdb_txn.specs.book.Book.{Seen, Stamped, add_entry, add_moves, nothing, seen_of}
-use Rattle.fdb_txn.proofs.book.HistoryLemmas.{all-append}
+use Rattle.fdb_txn.specs.book.History.{AreEntries}
+use Rattle.fdb_txn.specs.laws.SerialMapLaws.{version_after}
+use Rattle.fdb_txn.proofs.book.HistoryLemmas.{all-append, all-weaken}
 use Rattle.fdb_sequencer.specs.declared.ticket.Ticket.{Ticket}
-use Rattle.fdb_sequencer.specs.TicketLaws.{AreRisingUpTo}
+use Rattle.fdb_sequencer.specs.TicketLaws.{AreRisingUpTo, GoToResolvers}
 use Rattle.fdb_sequencer.specs.Moves.{Dated, dated}
 use Rattle.fdb_sequencer.specs.Sequencer.{Sequencer, accepting, unlearnt_by}
 use Rattle.fdb_proxy.specs.CommitProxies.{moves_with}
 use Rattle.fdb_core.specs.machine.SequencerSteps.{dated_moves, moves_in}
 use Rattle.fdb_core.specs.refinement.CommitProxies.{AreUnlearnt}
+use Rattle.fdb_core.proofs.invariant.SoundLemmas.{last-above}
 
 -- the moves of one version, after older ones
 dated-with : (version : ℕ) (moves : List Move) (older : List Stamped)
@@ -28,13 +31,19 @@ pub moves-append : (first more : List Dated) (older : List Stamped)
 moves-append first more older =
     fold-append (λ (moves : List Stamped) (of : Dated). add_moves of.0 of.1 moves) older first more
 
+-- the moves of more entries come after those of the first ones
+pub dated_moves-append : (book more : List Entry)
+    → dated_moves (book ++ more) ≡ dated_moves book ++ dated_moves more
+dated_moves-append [] more = refl
+dated_moves-append (first ∷ book) more =
+    ap (λ (moves : List Dated). dated first.version first.moves ++ moves) (dated_moves-append book more)
+    ∙ sym (append_assoc (dated first.version first.moves) (dated_moves book) (dated_moves more))
+
 -- one more entry has its own moves
 pub dated_moves-push : (book : List Entry) (entry : Entry)
     → dated_moves (book ++ entry ∷ []) ≡ dated_moves book ++ dated entry.version entry.moves
-dated_moves-push [] entry = append-nil (dated entry.version entry.moves)
-dated_moves-push (first ∷ book) entry =
-    ap (λ (moves : List Dated). dated first.version first.moves ++ moves) (dated_moves-push book entry)
-    ∙ sym (append_assoc (dated first.version first.moves) (dated_moves book) (dated entry.version entry.moves))
+dated_moves-push book entry = dated_moves-append book (entry ∷ [])
+    ∙ ap (λ (moves : List Dated). dated_moves book ++ moves) (append-nil (dated entry.version entry.moves))
 
 moves-seen : (book : List Entry) (seen : Seen)
     → moves_with (dated_moves book) seen.moves ≡ (fold add_entry seen book).moves
@@ -78,6 +87,47 @@ unlearnt-push resolvers last through version unlearnt moves may later from targe
   above = all-append (λ (of : Dated). last < of.0) unlearnt (dated version moves) may.above
       (dated-all (λ (of : Dated). last < of.0) version moves (omega (arith, later, from)));
 }
+
+-- The moves of entries after a version may be learnt by who learnt those up to it.
+module _ (resolvers : ℕ) where
+  moves-later : (last : ℕ) (entries : List Entry) → AreEntries resolvers last entries
+      → AllByRecursion (λ (of : Dated). last < of.0) (dated_moves entries)
+  moves-later last [] are = tt
+  moves-later last (entry ∷ entries) are =
+      let later = are.0 in
+      all-append (λ (of : Dated). last < of.0) (dated entry.version entry.moves) (dated_moves entries)
+      (dated-all (λ (of : Dated). last < of.0) entry.version entry.moves later)
+      (all-weaken (λ (of : Dated). entry.version < of.0) (λ (of : Dated). last < of.0)
+      (λ of above. omega (arith, later, above)) (dated_moves entries) (moves-later entry.version entries are.4))
+
+  moves-rising : (last through : ℕ) (entries : List Entry) → AreEntries resolvers last entries
+      → version_after last entries ≤ through → AreRisingUpTo through (dated_moves entries)
+  moves-rising last through [] are reached = tt
+  moves-rising last through (entry ∷ entries) are reached =
+      with-first (moves-rising entry.version through entries are.4 reached) entry.moves
+    where
+      with-first : AreRisingUpTo through (dated_moves entries) → (moves : List Move)
+          → AreRisingUpTo through (dated entry.version moves ++ dated_moves entries)
+      with-first others [] = others
+      with-first others (move ∷ moves) =
+          let end = last-above resolvers entry.version entries are.4 in
+          (omega (arith, end, reached), moves-later entry.version entries are.4, others)
+
+  moves-exist : (last : ℕ) (entries : List Entry) → AreEntries resolvers last entries
+      → GoToResolvers resolvers (dated_moves entries)
+  moves-exist last [] are = tt
+  moves-exist last (entry ∷ entries) are =
+      let Exist : Dated → Type 0 = λ (of : Dated). AllByRecursion (λ (move : Move). move.to < resolvers) of.1 in
+      all-append Exist (dated entry.version entry.moves) (dated_moves entries)
+      (dated-all Exist entry.version entry.moves are.2) (moves-exist entry.version entries are.4)
+
+  pub entries-unlearnt : (last : ℕ) (entries : List Entry) → AreEntries resolvers last entries
+      → AreUnlearnt resolvers last (version_after last entries) (dated_moves entries)
+  entries-unlearnt last entries are = record {
+    targets = moves-exist last entries are;
+    rising = moves-rising last (version_after last entries) entries are (le_refl (version_after last entries));
+    above = moves-later last entries are;
+  }
 
 -- so many moves there are with one more entry
 pub moves_in-push : (book : List Entry) (entry : Entry)

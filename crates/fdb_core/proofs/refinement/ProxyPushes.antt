@@ -17,7 +17,8 @@ use Rattle.fdb_proxy.specs.Logging.{answers_by}
 use Rattle.fdb_proxy.specs.Parting.{AreParts}
 use Rattle.fdb_proxy.specs.Verdicts.{moves_through, verdicts_on, outcomes_on}
 use Rattle.fdb_core.specs.declared.roles.commit_proxy.CommitProxyRole.{CommitProxyRole}
-use Rattle.fdb_core.specs.refinement.CommitProxies.{CommitProxyRefines, Known, AreUnlearnt, StageRefines, IsBatchOf}
+use Rattle.fdb_core.specs.headline.ProxyStages.{IsBatchOf}
+use Rattle.fdb_core.specs.refinement.CommitProxies.{CommitProxyRefines, Known, AreUnlearnt, StageRefines}
 use Rattle.fdb_core.proofs.common.ListLemmas.{front-at}
 use Rattle.fdb_core.proofs.refinement.BookLemmas.{last-push}
 use Rattle.fdb_core.proofs.refinement.BookPushes.{seen-front}
@@ -71,8 +72,8 @@ module _ (config : Config) (book : List Entry) (entry : Entry)
           answers = refines.2.answers
               ∙ ap (λ (s : Seen). answers_by e.batch (outcomes_on config.resolver_splits s e)) seen;
           count = refines.2.count;
-          reported = refines.2.reported;
         },
+        refines.3,
       )
 
   -- it hasn't had the moves of the new entry

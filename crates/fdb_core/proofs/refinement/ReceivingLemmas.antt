@@ -22,7 +22,8 @@ use Rattle.fdb_core.specs.machine.CommitProxySteps.{taken_by_sender, receives, a
 use Rattle.fdb_core.specs.machine.Machine.{Machine}
 use Rattle.fdb_core.specs.machine.Roles.{CommitProxy, Sender, FromResolver, FromLog}
 use Rattle.fdb_core.specs.refinement.Cluster.{machine_of, Refines}
-use Rattle.fdb_core.specs.refinement.CommitProxies.{CommitProxyRefines, known_to, IsSaid, seen_as}
+use Rattle.fdb_core.specs.headline.ProxyStages.{IsSaid}
+use Rattle.fdb_core.specs.refinement.CommitProxies.{CommitProxyRefines, known_to, seen_as}
 use Rattle.fdb_core.specs.refinement.Logs.{logs_taken}
 use Rattle.fdb_core.specs.refinement.Receiving.{IsReceiver, IsUnknown}
 use Rattle.fdb_core.specs.refinement.Resolving.{ResolverRefines, taken_by}

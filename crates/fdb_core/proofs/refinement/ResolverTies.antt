@@ -24,7 +24,7 @@ use Rattle.fdb_core.specs.declared.step.Answered.TheVariants as answered
 use Rattle.fdb_core.specs.machine.RoleSteps.{resolves}
 use Rattle.fdb_core.specs.machine.Steps.{Unless, ran_out}
 use Rattle.fdb_core.specs.refinement.Cluster.{machine_of, Refines}
-use Rattle.fdb_core.specs.refinement.CommitProxies.{ArePartsOf}
+use Rattle.fdb_core.specs.headline.ProxyStages.{ArePartsOf}
 use Rattle.fdb_core.specs.refinement.Resolving.{IsResolverAt, ResolverRefines, ResolversRefine, TakesNext, taken_by}
 use Rattle.fdb_core.proofs.common.AllLemmas.{within-item}
 use Rattle.fdb_core.proofs.common.FaultLemmas.{answers-fault, hands-on, lacks-memory}

@@ -24,7 +24,8 @@ use Rattle.fdb_core.specs.declared.roles.resolver.ResolverRole.{ResolverRole}
 use Rattle.fdb_core.specs.machine.CommitProxySteps.{with_batch}
 use Rattle.fdb_core.specs.refinement.Cluster.{machine_of, CommitProxiesRefine, Refines, SequencerRefines}
 use Rattle.fdb_core.specs.refinement.CommitProxies.{CommitProxyRefines, Known, known_to, IsNextTicket, Seals}
-use Rattle.fdb_core.specs.refinement.CommitProxies.{ArePartsOf, ReadsWithin, entry_of, seen_as}
+use Rattle.fdb_core.specs.headline.ProxyStages.{ArePartsOf}
+use Rattle.fdb_core.specs.refinement.CommitProxies.{ReadsWithin, entry_of, seen_as}
 use Rattle.fdb_core.specs.refinement.Resolving.{taken_by}
 use Rattle.fdb_core.proofs.common.AllLemmas.{all-map, all-take}
 use Rattle.fdb_core.proofs.refinement.BookLemmas.{last-push}

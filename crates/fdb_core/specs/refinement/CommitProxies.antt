@@ -1,9 +1,8 @@
 -- What ties a commit proxy of the world to the machine's and to the book.
 use Rattle.std.specs.Prelude.{◌≡◌, ◌≤◌, ◌<◌, ℕ, suc, Bool, true, false, List, [], ◌∷◌, ◌++◌, take, map, length}
-use Rattle.std.specs.Prelude.{replicate, Option, Some, None, slice_get, if◌then◌else◌}
+use Rattle.std.specs.Prelude.{replicate, Option, None, if◌then◌else◌}
 use Rattle.std.specs.List.{AllByRecursion}
 use Rattle.std.specs.Option.{is_some}
-use Rattle.fdb_keys.specs.Points.{Point}
 use Rattle.fdb_txn.specs.declared.entry.Entry.{Entry}
 use Rattle.fdb_txn.specs.declared.entry.Move.{Move}
 use Rattle.fdb_txn.specs.declared.txn_id.TxnId.{TxnId}
@@ -12,16 +11,12 @@ use Rattle.fdb_txn.specs.book.Book.{seen_of, seen_before, last_version}
 use Rattle.fdb_txn.specs.Limits.{place_limit}
 use Rattle.fdb_owners.specs.OwnersLaws.{AgreesWith}
 use Rattle.fdb_resolver.specs.declared.part.Part.{Part}
-use Rattle.fdb_resolver.specs.declared.verdict.Verdicts.{Verdicts}
 use Rattle.fdb_sequencer.specs.declared.ticket.Ticket.{Ticket}
 use Rattle.fdb_sequencer.specs.TicketLaws.{AreRisingUpTo, GoToResolvers}
 use Rattle.fdb_sequencer.specs.Moves.{Dated, dated}
 use Rattle.fdb_sequencer.specs.Sequencer.{Sequencer, unlearnt_by}
 use Rattle.fdb_proxy.specs.declared.config.Config.{Config}
 use Rattle.fdb_proxy.specs.declared.outcome.Outcome.{Outcome}
-use Rattle.fdb_proxy.specs.declared.position.Position.{Position}
-use Rattle.fdb_proxy.specs.declared.logging.Logging.{Logging as Decided}
-use Rattle.fdb_proxy.specs.declared.resolving.Resolving.{Resolving as Unheard}
 use Rattle.fdb_proxy.specs.declared.stage.Stage.{Stage as CoreStage}
 use Rattle.fdb_proxy.specs.declared.stage.Stage.TheVariants as core
 use Rattle.fdb_proxy.specs.CommitProxies.{position_of, moves_with}
@@ -29,10 +24,11 @@ use Rattle.fdb_proxy.specs.Deciding.{Said}
 use Rattle.fdb_proxy.specs.Flags.{first_unset}
 use Rattle.fdb_proxy.specs.Logging.{answers_by}
 use Rattle.fdb_proxy.specs.Parting.{AreParts}
-use Rattle.fdb_proxy.specs.Verdicts.{moves_through, verdicts_on, outcomes_on}
+use Rattle.fdb_proxy.specs.Verdicts.{moves_through, outcomes_on}
 use Rattle.fdb_client.specs.declared.program.Transcript.{Transcript}
 use Rattle.fdb_client.specs.Programs.{commit_request_of}
 use Rattle.fdb_core.specs.declared.roles.commit_proxy.CommitProxyRole.{CommitProxyRole}
+use Rattle.fdb_core.specs.headline.ProxyStages.{IsBatchOf, IsResolving, IsLogging}
 use Rattle.fdb_core.specs.machine.CommitProxySteps.{with_batch}
 use Rattle.fdb_core.specs.machine.Roles.{CommitProxy, Stage, Idle, Resolving, Logging, Reported}
 use Rattle.fdb_core.specs.machine.SequencerSteps.{dated_moves}
@@ -69,37 +65,7 @@ seen_as role =
       acknowledgements_received = acknowledged_at role.core.proxy.stage;
     }
 
--- the batch is that of entry i, which is at its position in the book
-pub record IsBatchOf (book : List Entry) (i : ℕ) (batch : List Transaction)
-    (position : Position) (entry : Entry) : Type 0 where
-  pub there : slice_get book i ≡ Some entry
-  pub index : position.index ≡ i
-  pub version : position.version ≡ entry.version
-  pub prev : position.prev ≡ entry.prev
-  pub places : batch ≡ entry.batch
-
--- the parts of entry i, one for each resolver
-abbrev pub ArePartsOf : List Point → List Entry → ℕ → Entry → List Part → Type 0
-ArePartsOf splits book i entry parts =
-    AreParts splits (moves_through (seen_before book i) entry)
-    (record { index = i; version = entry.version; prev = entry.prev }) entry.batch parts
-
--- the batch waits for verdicts: the rule's came, and no others
-pub record IsResolving (splits : List Point) (book : List Entry) (i : ℕ) (entry : Entry) (batch : Unheard) : Type 0
-  where
-    pub parts : ArePartsOf splits book i entry batch.parts
-    pub count : length batch.verdicts ≡ suc (length splits)
-    pub came : (r : ℕ) (said : Said) → slice_get batch.verdicts r ≡ Some (Some said)
-        → said ≡ verdicts_on splits r (seen_before book i) entry
-
--- the batch is decided by the rule, and waits for so many logs, of which none is left once its version is reported
-pub record IsLogging (config : Config) (book : List Entry) (is_reported : Bool) (i : ℕ) (entry : Entry)
-    (decided : Decided) : Type 0 where
-  pub answers : decided.answers ≡ answers_by entry.batch (outcomes_on config.resolver_splits (seen_before book i) entry)
-  pub count : length decided.acknowledged ≡ config.logs
-  pub reported : is_reported ≡ true → first_unset 0 decided.acknowledged ≡ None
-
--- the batch in flight, if there is one, is that of entry i
+-- The batch in flight, if there is one, is that of entry i; once its version is reported it waits for no log.
 abbrev pub StageRefines : Config → List Entry → Bool → ℕ → List Transaction → CoreStage → Type 0
 StageRefines config book is_reported i batch core.Idle = (batch ≡ []) × (is_reported ≡ false)
 StageRefines config book is_reported i batch core.Sealed = ⊥
@@ -109,7 +75,7 @@ StageRefines config book is_reported i batch (core.Resolving resolving) =
     × IsResolving config.resolver_splits book i entry resolving × (is_reported ≡ false)
 StageRefines config book is_reported i batch (core.Logging decided) =
     (entry : Entry) × IsBatchOf book i batch decided.position entry
-    × IsLogging config book is_reported i entry decided
+    × IsLogging config book i entry decided × (is_reported ≡ true → first_unset 0 decided.acknowledged ≡ None)
 
 -- What the sequencer has for a commit proxy: the greatest version that was reported, and the moves that the proxy
 -- hasn't had, by version.
@@ -199,9 +165,3 @@ pub record IsDone (config : Config) (book : List Entry) (known : Known) (entry :
   pub batch : entry.batch ≡ map commit_request_of old.in_flight
   pub machine : seen_as new ≡ record (seen_as old) { in_flight = []; stage = Idle; acknowledgements_received = [] }
   pub refines : CommitProxyRefines config book known new
-
--- what a resolver said of an entry is the rule's
-pub record IsSaid (splits : List Point) (book : List Entry) (verdicts : Verdicts) (entry : Entry) : Type 0 where
-  pub there : slice_get book verdicts.index ≡ Some entry
-  pub exists : verdicts.resolver < suc (length splits)
-  pub answers : verdicts.answers ≡ verdicts_on splits verdicts.resolver (seen_before book verdicts.index) entry

@@ -12,7 +12,7 @@ use Rattle.fdb_resolver.specs.declared.verdict.Verdicts.{Verdicts}
 use Rattle.fdb_resolver.specs.Resolvers.{Resolver}
 use Rattle.fdb_proxy.specs.Verdicts.{verdicts_on}
 use Rattle.fdb_core.specs.declared.roles.resolver.ResolverRole.{ResolverRole}
-use Rattle.fdb_core.specs.refinement.CommitProxies.{ArePartsOf}
+use Rattle.fdb_core.specs.headline.ProxyStages.{ArePartsOf}
 use Rattle.fdb_core.specs.refinement.Logs.{Each}
 
 -- Resolver i took these entries. From the begin of the window on it answers as the last versions of their places.

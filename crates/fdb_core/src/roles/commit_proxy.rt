@@ -61,7 +61,8 @@ impl CommitProxyRole {
     ghost use Rattle.fdb_core.specs.machine.Machine.{first_missing};
     ghost use Rattle.fdb_core.specs.machine.Roles.{FromResolver, FromLog};
     ghost use Rattle.fdb_core.specs.refinement.CommitProxies.{Known, seen_as, CommitProxyRefines, IsNewCommitProxy};
-    ghost use Rattle.fdb_core.specs.refinement.CommitProxies.{IsNextTicket, Seals, Decides, IsDone, IsSaid};
+    ghost use Rattle.fdb_core.specs.headline.ProxyStages.{IsSaid};
+    ghost use Rattle.fdb_core.specs.refinement.CommitProxies.{IsNextTicket, Seals, Decides, IsDone};
 
     /// The commit proxy with the number, without a batch, at which nobody waits. Refused only as `NoMemory`.
     pub(crate) fn new(alloc: Global, index: u32, config: &Config) -> Result<Self, Refusal>
