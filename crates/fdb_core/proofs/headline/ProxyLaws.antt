@@ -5,6 +5,7 @@ use Rattle.std.proofs.lemmas.Bool.{and_parts, eqb-true}
 use Rattle.std.proofs.lemmas.List.{append_assoc, length-append, length-replicate}
 use Rattle.std.proofs.lemmas.Option.{same_Some}
 use Rattle.fdb_keys.specs.declared.refusal.Refusal.{Refusal}
+use Rattle.fdb_keys.specs.declared.refusal.Refusal.TheVariants.{WrongState}
 use Rattle.fdb_txn.specs.declared.entry.Entry.{Entry}
 use Rattle.fdb_txn.specs.book.Book.{seen_of, seen_before}
 use Rattle.fdb_txn.specs.book.History.{AreEntries}
@@ -128,7 +129,7 @@ version-push last (first ∷ more) entry = version-push first.version more entry
 
 -- The ticket of its sealed batch.
 module _ (config : Config) (front between : List Entry) (old : CommitProxy) (ticket : Ticket)
-    (at : IsCommitProxyAt config front old) (sealed : is_sealed old.stage ≡ true)
+    (at : IsCommitProxyAt config front old)
     (entries : AreEntries (suc (length config.resolver_splits)) 0
     ((front ++ between) ++ entry_of ticket old.batch ∷ []))
     (number : ticket.index ≡ length (front ++ between))
@@ -158,9 +159,14 @@ module _ (config : Config) (front between : List Entry) (old : CommitProxy) (tic
       (λ (t : Transaction). t.read < ticket.version) (λ t may. may.0) old.batch
       (entries-after (suc (length config.resolver_splits)) 0 before entry entries).3)
 
-  learns : learn_fault old ticket ≡ None
-  learns = ticket-learns config.resolver_splits old ticket at.splits unlearnt at.works sealed
-      (later-than (suc (length config.resolver_splits)) old.last between entry behind)
+  learns : learn_fault old ticket ≡ (if is_sealed old.stage then None else Some WrongState)
+  learns = by_test (is_sealed old.stage) refl
+    where
+      by_test : (test : Bool) → is_sealed old.stage ≡ test
+          → learn_fault old ticket ≡ (if test then None else Some WrongState)
+      by_test true sealed = ticket-learns config.resolver_splits old ticket at.splits unlearnt at.works sealed
+          (later-than (suc (length config.resolver_splits)) old.last between entry behind)
+      by_test false unsealed = rw (at.works, unsealed) refl
 
   -- the moves of the proxy's entries, and then the ticket's, are those of all
   all-moves : dated_moves front ++ ticket.moves ≡ dated_moves (before ++ entry ∷ [])
@@ -206,13 +212,13 @@ module _ (config : Config) (front between : List Entry) (old : CommitProxy) (tic
         its.parts)
 
 pub proxies_learn_their_tickets : ProxiesLearnTheirTickets
-proxies_learn_their_tickets config front between old ticket at sealed entries number moves = (
-  may-learn config front between old ticket at sealed entries number moves,
-  learns config front between old ticket at sealed entries number moves,
+proxies_learn_their_tickets config front between old ticket at entries number moves = (
+  may-learn config front between old ticket at entries number moves,
+  learns config front between old ticket at entries number moves,
   λ new learnt. (
-    at-grown config front between old ticket at sealed entries number moves new learnt,
-    unheard config front between old ticket at sealed entries number moves new learnt,
-    parts-there config front between old ticket at sealed entries number moves new learnt,
+    at-grown config front between old ticket at entries number moves new learnt,
+    unheard config front between old ticket at entries number moves new learnt,
+    parts-there config front between old ticket at entries number moves new learnt,
   ),
 )
 

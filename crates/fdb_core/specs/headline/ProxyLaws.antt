@@ -1,6 +1,7 @@
 -- A commit proxy that has the entries of a book through that of its last ticket, and what each call leaves of that.
-use Rattle.std.specs.Prelude.{◌≡◌, ⊤, ℕ, suc, true, false, List, [], ◌∷◌, ◌++◌, length, Some, None, slice_get}
+use Rattle.std.specs.Prelude.{◌≡◌, ⊤, ℕ, suc, false, List, [], ◌∷◌, ◌++◌, length, Some, None, slice_get, if◌then◌else◌}
 use Rattle.fdb_keys.specs.Points.{Point}
+use Rattle.fdb_keys.specs.declared.refusal.Refusal.TheVariants.{WrongState}
 use Rattle.fdb_txn.specs.declared.entry.Entry.{Entry}
 use Rattle.fdb_txn.specs.declared.txn_id.TxnId.{TxnId}
 use Rattle.fdb_txn.specs.book.Book.{Place, seen_of, seen_before, last_version}
@@ -71,18 +72,18 @@ RequestsComeAndGo =
     × IsCommitProxyAt config front (sealing proxy) × IsCommitProxyAt config front (unsealing proxy)
     × IsCommitProxyAt config front (record proxy { waiting = [] })
 
--- A ticket for the sealed batch, of an entry that comes at once or after some others, and with the moves of these and
--- of its own, may be learnt and isn't refused. Then the proxy has these entries too, nothing is heard of the batch yet,
--- and its parts are those of the entry, as resolvers take them.
+-- A ticket for the batch, of an entry that comes at once or after some others, and with the moves of these and of its
+-- own, may be learnt, and isn't refused where the batch is sealed. Once it is learnt the proxy has these entries too,
+-- nothing is heard of the batch yet, and its parts are those of the entry, as resolvers take them.
 abbrev pub ProxiesLearnTheirTickets : Type 0
 ProxiesLearnTheirTickets =
     (config : Config) (front between : List Entry) (old : CommitProxy) (ticket : Ticket) →
     let before = front ++ between in
     let entry = entry_of ticket old.batch in
-    IsCommitProxyAt config front old → is_sealed old.stage ≡ true
+    IsCommitProxyAt config front old
     → AreEntries (suc (length config.resolver_splits)) 0 (before ++ entry ∷ [])
     → ticket.index ≡ length before → ticket.moves ≡ dated_moves (between ++ entry ∷ [])
-    → IsTicketFor old ticket × (learn_fault old ticket ≡ None)
+    → IsTicketFor old ticket × (learn_fault old ticket ≡ (if is_sealed old.stage then None else Some WrongState))
     × ((new : CommitProxy) → HasLearntTicket old ticket new
     → IsCommitProxyAt config (before ++ entry ∷ []) new
     × (new.stage ≡ stage.Resolving (without_verdicts (position_of ticket) (parts_in new.stage)))
