@@ -26,4 +26,5 @@ pub mod ResolverTies
 pub mod ReceivingLemmas
 pub mod DecidingLemmas
 pub mod SealingLemmas
+pub mod ProxyFronts
 pub mod ProxyPushes

@@ -1,11 +1,12 @@
 -- What becomes of the places of a batch by the book.
-use Rattle.std.proofs.Common.{◌≡◌, ap, refl, ℕ, suc, Bool, true, false, ◌&&◌, List, [], ◌∷◌, if◌then◌else◌, length}
+use Rattle.std.proofs.Common.{◌≡◌, ap, refl, ℕ, suc, Bool, true, false, ◌&&◌, List, [], ◌∷◌, if◌then◌else◌, length, arith}
 use Rattle.fdb_keys.specs.Points.{Point}
 use Rattle.fdb_txn.specs.declared.entry.Entry.{Entry}
 use Rattle.fdb_txn.specs.book.Transactions.{Transaction}
 use Rattle.fdb_txn.specs.book.Book.{Stamped, Place, Seen, placed}
 use Rattle.fdb_txn.specs.rules.Admission.{is_fresh, no_conflict, admits, all_below, committed}
-use Rattle.fdb_proxy.specs.Logging.{is_commit}
+use Rattle.fdb_proxy.specs.Logging.{answers_by, is_commit}
+use Rattle.fdb_proxy.specs.declared.outcome.Outcome.{Outcome}
 use Rattle.fdb_proxy.specs.declared.outcome.Outcome.TheVariants as outcome
 use Rattle.fdb_proxy.specs.Verdicts.{outcome_at, outcomes_from, moves_through, outcomes_on}
 
@@ -38,3 +39,11 @@ pub length-outcomes_on : (splits : List Point) (before : Seen) (entry : Entry)
     → length (outcomes_on splits before entry) ≡ length entry.batch
 length-outcomes_on splits before entry = length-outcomes_from splits entry.version (moves_through before entry)
     entry.batch before.places 0
+
+-- there is an answer for each transaction that has an outcome
+pub length-answers : (batch : List Transaction) (outcomes : List Outcome) → length outcomes ≡ length batch
+    → length (answers_by batch outcomes) ≡ length batch
+length-answers [] outcomes count = refl
+length-answers (t ∷ ts) [] count = absurd (omega (arith, count))
+length-answers (t ∷ ts) (outcome ∷ outcomes) count =
+    ap suc (length-answers ts outcomes (omega (arith, count)))

@@ -2,7 +2,7 @@
 use Rattle.std.proofs.Common.{◌≡◌, ◌∙◌, refl, sym, ap, subst, ℕ, zero, suc, ◌<◌, ◌==◌, Bool, true, false, List, []}
 use Rattle.std.proofs.Common.{◌∷◌, ◌++◌, length, replicate, Option, Some, None, slice_get, if◌then◌else◌, arith}
 use Rattle.std.proofs.lemmas.Bool.{and_parts, eqb-true}
-use Rattle.std.proofs.lemmas.List.{append_assoc, length-append, length-replicate}
+use Rattle.std.proofs.lemmas.List.{append_assoc, length-replicate}
 use Rattle.std.proofs.lemmas.Option.{same_Some}
 use Rattle.fdb_keys.specs.declared.refusal.Refusal.{Refusal}
 use Rattle.fdb_keys.specs.declared.refusal.Refusal.TheVariants.{WrongState}
@@ -11,13 +11,11 @@ use Rattle.fdb_txn.specs.book.Book.{seen_of, seen_before}
 use Rattle.fdb_txn.specs.book.History.{AreEntries}
 use Rattle.fdb_txn.specs.book.Places.{place_of}
 use Rattle.fdb_txn.specs.book.Transactions.{Transaction, NamesWrites}
-use Rattle.fdb_txn.specs.laws.SerialMapLaws.{version_after}
 use Rattle.fdb_txn.proofs.book.HistoryLemmas.{all-weaken}
-use Rattle.fdb_txn.proofs.rules.MessagesLemmas.{entries-split}
-use Rattle.fdb_owners.specs.OwnersLaws.{AgreesWith}
 use Rattle.fdb_owners.proofs.BookLemmas.{new_goes_on}
 use Rattle.fdb_sequencer.specs.declared.ticket.Ticket.{Ticket}
 use Rattle.fdb_sequencer.specs.Moves.{Dated}
+use Rattle.fdb_sequencer.specs.TicketLaws.{MayBeLearnt}
 use Rattle.fdb_log.specs.declared.message.LogAck.{LogAck}
 use Rattle.fdb_storage.specs.LogMessages.{log_messages}
 use Rattle.fdb_proxy.specs.declared.config.Config.{Config}
@@ -35,19 +33,18 @@ use Rattle.fdb_proxy.specs.Parting.{AreParts}
 use Rattle.fdb_proxy.specs.Resolving as resolving
 use Rattle.fdb_proxy.specs.Resolving.{with_verdicts}
 use Rattle.fdb_proxy.specs.Verdicts.{moves_through, outcomes_on}
-use Rattle.fdb_core.specs.headline.ProxyLaws.{IsLastEntry, IsStageAt, IsCommitProxyAt, NewProxiesHaveNoEntry}
+use Rattle.fdb_core.specs.headline.ProxyLaws.{IsLastEntry, NewProxiesHaveNoEntry}
 use Rattle.fdb_core.specs.headline.ProxyLaws.{RequestsComeAndGo, ProxiesLearnTheirTickets, ProxiesHearVerdicts}
 use Rattle.fdb_core.specs.headline.ProxyLaws.{ProxiesDecideByTheRule, MessagesAreOfTheEntry, ProxiesHearLogs}
 use Rattle.fdb_core.specs.headline.ProxyLaws.{ProxiesAnswerByTheRule, AnswersAreByTheRule}
+use Rattle.fdb_core.specs.headline.ProxyStages.{IsStageAt, IsCommitProxyAt}
 use Rattle.fdb_core.specs.machine.SequencerSteps.{dated_moves}
-use Rattle.fdb_core.specs.refinement.CommitProxies.{AreUnlearnt, entry_of}
-use Rattle.fdb_core.proofs.checking.BodyLemmas.{length-outcomes_on}
+use Rattle.fdb_core.specs.refinement.CommitProxies.{entry_of}
+use Rattle.fdb_core.proofs.checking.BodyLemmas.{length-answers, length-outcomes_on}
 use Rattle.fdb_core.proofs.readings.AnswerReplies.{place-by-rule}
-use Rattle.fdb_core.proofs.refinement.AnsweringTies.{length-answers}
-use Rattle.fdb_core.proofs.refinement.BatchStages.{IsLearnt, is-learnt, ticket-may, ticket-learns, resolving-heard}
+use Rattle.fdb_core.proofs.refinement.BatchStages.{IsLearnt, is-learnt, ticket-fits, ticket-learns, resolving-heard}
 use Rattle.fdb_core.proofs.refinement.BatchStages.{outcomes-decided, answers-decided, logging-heard, messages-decided}
-use Rattle.fdb_core.proofs.refinement.BookLemmas.{last-push}
-use Rattle.fdb_core.proofs.refinement.MoveLemmas.{dated_moves-append, entries-unlearnt, moves-of-book}
+use Rattle.fdb_core.proofs.refinement.MoveLemmas.{dated_moves-append, entries-behind, ticket-after}
 use Rattle.fdb_core.proofs.refinement.ResolvingLemmas.{entries-after}
 
 pub new_proxies_have_no_entry : NewProxiesHaveNoEntry
@@ -64,9 +61,9 @@ new_proxies_have_no_entry config index proxy new = record {
 -- A proxy that has the entries.
 module _ (config : Config) (front : List Entry) (proxy : CommitProxy) (at : IsCommitProxyAt config front proxy) where
   -- with other requests, at another stage
-  staged : (waiting batch : List Transaction) (stage : CoreStage) → IsStageAt config front batch stage
+  pub stays : (waiting batch : List Transaction) (stage : CoreStage) → IsStageAt config front batch stage
       → IsCommitProxyAt config front (record proxy { waiting = waiting; batch = batch; stage = stage })
-  staged waiting batch stage is = record {
+  stays waiting batch stage is = record {
     works = at.works;
     logs = at.logs;
     shard_splits = at.shard_splits;
@@ -82,7 +79,7 @@ module _ (config : Config) (front : List Entry) (proxy : CommitProxy) (at : IsCo
       by_test : (test : Bool) → IsCommitProxyAt config front
           (if test then record proxy { batch = []; waiting = proxy.batch ++ proxy.waiting; stage = core.Idle } else
           proxy)
-      by_test true = staged (proxy.batch ++ proxy.waiting) [] core.Idle refl
+      by_test true = stays (proxy.batch ++ proxy.waiting) [] core.Idle refl
       by_test false = at
 
   logged : (ack : LogAck) → IsCommitProxyAt config front (with_logged proxy ack)
@@ -90,12 +87,12 @@ module _ (config : Config) (front : List Entry) (proxy : CommitProxy) (at : IsCo
     where
       by_stage : (stage : CoreStage) → proxy.stage ≡ stage → IsStageAt config front proxy.batch stage
           → IsCommitProxyAt config front (with_logged proxy ack)
-      by_stage core.Idle is here = rw is (staged proxy.waiting proxy.batch core.Idle here)
-      by_stage core.Sealed is here = rw is (staged proxy.waiting proxy.batch core.Sealed here)
+      by_stage core.Idle is here = rw is (stays proxy.waiting proxy.batch core.Idle here)
+      by_stage core.Sealed is here = rw is (stays proxy.waiting proxy.batch core.Sealed here)
       by_stage core.Entered is here = absurd here
-      by_stage (core.Resolving batch) is here = rw is (staged proxy.waiting proxy.batch (core.Resolving batch) here)
+      by_stage (core.Resolving batch) is here = rw is (stays proxy.waiting proxy.batch (core.Resolving batch) here)
       by_stage (core.Logging decided) is here = rw is
-          (staged proxy.waiting proxy.batch (core.Logging (with_acknowledgement decided ack)) (
+          (stays proxy.waiting proxy.batch (core.Logging (with_acknowledgement decided ack)) (
             here.0,
             here.1,
             here.2,
@@ -105,29 +102,16 @@ module _ (config : Config) (front : List Entry) (proxy : CommitProxy) (at : IsCo
 
 pub requests_come_and_go : RequestsComeAndGo
 requests_come_and_go config front proxy at = (
-  λ t. staged config front proxy at (proxy.waiting ++ t ∷ []) proxy.batch proxy.stage at.stage,
-  staged config front proxy at (sealing proxy).waiting (sealing proxy).batch core.Sealed tt,
+  λ t. stays config front proxy at (proxy.waiting ++ t ∷ []) proxy.batch proxy.stage at.stage,
+  stays config front proxy at (sealing proxy).waiting (sealing proxy).batch core.Sealed tt,
   unsealed config front proxy at,
-  staged config front proxy at [] proxy.batch proxy.stage at.stage,
+  stays config front proxy at [] proxy.batch proxy.stage at.stage,
 )
 
 pub proxies_hear_logs : ProxiesHearLogs
 proxies_hear_logs config front proxy ack at = logged config front proxy at ack
 
--- entries before one more have a lower last version
-later-than : (resolvers last : ℕ) (more : List Entry) (entry : Entry)
-    → AreEntries resolvers last (more ++ entry ∷ []) → last < entry.version
-later-than resolvers last [] entry entries = entries.0
-later-than resolvers last (first ∷ more) entry entries =
-    let later = entries.0 in
-    let others = later-than resolvers first.version more entry entries.4 in
-    omega (arith, later, others)
-
-version-push : (last : ℕ) (more : List Entry) (entry : Entry) → version_after last (more ++ entry ∷ []) ≡ entry.version
-version-push last [] entry = refl
-version-push last (first ∷ more) entry = version-push first.version more entry
-
--- The ticket of its sealed batch.
+-- The ticket of its batch.
 module _ (config : Config) (front between : List Entry) (old : CommitProxy) (ticket : Ticket)
     (at : IsCommitProxyAt config front old)
     (entries : AreEntries (suc (length config.resolver_splits)) 0
@@ -143,18 +127,13 @@ module _ (config : Config) (front between : List Entry) (old : CommitProxy) (tic
   -- what comes after the proxy's entries
   behind : AreEntries (suc (length config.resolver_splits)) old.last (between ++ entry ∷ [])
   behind = subst (λ (last : ℕ). AreEntries (suc (length config.resolver_splits)) last (between ++ entry ∷ []))
-      (sym at.last)
-      (entries-split (suc (length config.resolver_splits)) 0 front (between ++ entry ∷ [])
-      (subst (AreEntries (suc (length config.resolver_splits)) 0) (append_assoc front between (entry ∷ [])) entries)).1
+      (sym at.last) (entries-behind (suc (length config.resolver_splits)) front between entry entries)
 
-  unlearnt : AreUnlearnt (suc (length config.resolver_splits)) old.last ticket.version ticket.moves
-  unlearnt = subst (AreUnlearnt (suc (length config.resolver_splits)) old.last ticket.version) (sym moves)
-      (subst (λ (through : ℕ). AreUnlearnt (suc (length config.resolver_splits)) old.last through
-      (dated_moves (between ++ entry ∷ []))) (version-push old.last between entry)
-      (entries-unlearnt (suc (length config.resolver_splits)) old.last (between ++ entry ∷ []) behind))
+  may : MayBeLearnt (suc (length config.resolver_splits)) old.last ticket
+  may = ticket-after (suc (length config.resolver_splits)) old.last between entry ticket behind refl moves
 
   may-learn : IsTicketFor old ticket
-  may-learn = ticket-may config.resolver_splits old ticket at.splits unlearnt
+  may-learn = ticket-fits config.resolver_splits old ticket at.splits may
       (all-weaken (λ (t : Transaction). (t.read < ticket.version) × NamesWrites t)
       (λ (t : Transaction). t.read < ticket.version) (λ t may. may.0) old.batch
       (entries-after (suc (length config.resolver_splits)) 0 before entry entries).3)
@@ -164,8 +143,7 @@ module _ (config : Config) (front between : List Entry) (old : CommitProxy) (tic
     where
       by_test : (test : Bool) → is_sealed old.stage ≡ test
           → learn_fault old ticket ≡ (if test then None else Some WrongState)
-      by_test true sealed = ticket-learns config.resolver_splits old ticket at.splits unlearnt at.works sealed
-          (later-than (suc (length config.resolver_splits)) old.last between entry behind)
+      by_test true sealed = ticket-learns config.resolver_splits old ticket at.splits may at.works sealed
       by_test false unsealed = rw (at.works, unsealed) refl
 
   -- the moves of the proxy's entries, and then the ticket's, are those of all
@@ -176,26 +154,8 @@ module _ (config : Config) (front between : List Entry) (old : CommitProxy) (tic
 
   -- once it is learnt
   module _ (new : CommitProxy) (learnt : HasLearntTicket old ticket new) where
-    its : IsLearnt config.resolver_splits before old new ticket (dated_moves front) learnt.resolving
-    its = is-learnt config.resolver_splits before old new ticket learnt at.splits number (dated_moves front)
-        (subst (AgreesWith old.owners) (sym (moves-of-book front)) at.owners) all-moves
-
-    at-grown : IsCommitProxyAt config (before ++ entry ∷ []) new
-    at-grown = record {
-      works = ap (λ (p : CommitProxy). p.is_failed) learnt.rest ∙ at.works;
-      logs = ap (λ (p : CommitProxy). p.logs) learnt.rest ∙ at.logs;
-      shard_splits = ap (λ (p : CommitProxy). p.shard_splits) learnt.rest ∙ at.shard_splits;
-      splits = its.splits_are;
-      owners = its.through;
-      last = ap (λ (p : CommitProxy). p.last) learnt.rest ∙ sym (last-push before entry);
-      stage = subst (IsStageAt config (before ++ entry ∷ []) new.batch) (sym its.stage) (
-        length before,
-        entry,
-        (let count = length-append before (entry ∷ []) in omega (arith, count)),
-        its.batch,
-        its.waits,
-      );
-    }
+    its : IsLearnt config before old new ticket learnt.resolving
+    its = is-learnt config front before old new ticket at learnt number all-moves
 
     unheard : new.stage ≡ core.Resolving (without_verdicts (position_of ticket) (parts_in new.stage))
     unheard = its.stage ∙ ap core.Resolving learnt.without_verdicts.rest
@@ -216,7 +176,7 @@ proxies_learn_their_tickets config front between old ticket at entries number mo
   may-learn config front between old ticket at entries number moves,
   learns config front between old ticket at entries number moves,
   λ new learnt. (
-    at-grown config front between old ticket at entries number moves new learnt,
+    (its config front between old ticket at entries number moves new learnt).at,
     unheard config front between old ticket at entries number moves new learnt,
     parts-there config front between old ticket at entries number moves new learnt,
   ),
@@ -246,7 +206,7 @@ proxies_hear_verdicts config front entry proxy verdicts at said no_fault = by_st
         taken (resolving.is_awaited batch verdicts) _ (rw (at.works, is) at no_fault) in
         let same : verdicts.index ≡ batch.position.index = eqb-true verdicts.index batch.position.index
         (and_parts (verdicts.index == batch.position.index) _ (and_parts _ _ awaited).0).0 in
-        rw is (staged config front proxy at proxy.waiting proxy.batch (core.Resolving (with_verdicts batch verdicts)) (
+        rw is (stays config front proxy at proxy.waiting proxy.batch (core.Resolving (with_verdicts batch verdicts)) (
           here.0,
           here.1,
           here.2,
@@ -296,7 +256,7 @@ proxies_decide_by_the_rule config front i entry proxy at entries last no_fault =
               entries none)),
           rw (is, at.works) refl,
           subst (IsCommitProxyAt config front) (sym next)
-              (staged config front proxy at proxy.waiting proxy.batch (core.Logging decided) (
+              (stays config front proxy at proxy.waiting proxy.batch (core.Logging decided) (
                 here.0,
                 here.1,
                 here.2,
@@ -330,7 +290,7 @@ messages_are_of_the_entry config front i entry proxy at last no_fault = by_stage
 pub proxies_answer_by_the_rule : ProxiesAnswerByTheRule
 proxies_answer_by_the_rule config front i entry proxy at last no_fault = (
   by_stage proxy.stage refl at.stage,
-  staged config front proxy at proxy.waiting [] core.Idle refl,
+  stays config front proxy at proxy.waiting [] core.Idle refl,
 )
   where
     by_stage : (stage : CoreStage) → proxy.stage ≡ stage → IsStageAt config front proxy.batch stage

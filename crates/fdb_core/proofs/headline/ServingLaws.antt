@@ -21,6 +21,7 @@ use Rattle.fdb_core.specs.machine.SequencerSteps.{dated_moves}
 use Rattle.fdb_core.specs.headline.Serving.{EachKeeps, SequencerKeeps, ResolverKeeps, PartsKeep, MessagesKeep, LogKeeps}
 use Rattle.fdb_core.specs.headline.Serving.{ShardReaches, ShardServes, RolesKeep}
 use Rattle.fdb_core.proofs.common.AllLemmas.{within-item}
+use Rattle.fdb_core.proofs.refinement.MoveLemmas.{dated_moves-append}
 use Rattle.fdb_core.proofs.refinement.LogTies.{kept-tag}
 use Rattle.fdb_core.proofs.refinement.RunLaws.{entries-rising, serial-front}
 use Rattle.fdb_core.specs.declared.roles.resolver.ResolverRole.{ResolverRole}
@@ -67,8 +68,11 @@ roles_keep k refines = (sequencer, resolvers, parts, messages, logs, reaches, (c
         unlearnt proxy within =
             let found = within-item k.commit_proxies.items proxy (omega (arith, within, refines.commit_proxies.count))
             in
-            let its = refines.commit_proxies.each proxy found.0 found.1 in
-            (its.learnt, its.all_moves)
+            let its = refines.commit_proxies.each proxy found.0 found.1 in (
+              dated_moves its.front,
+              ap (λ (moves : List Dated). dated_moves its.front ++ moves) its.unlearnt
+                  ∙ sym (dated_moves-append its.front its.behind) ∙ ap dated_moves its.whole,
+            )
 
     resolvers : EachKeeps (ResolverKeeps m) m.resolvers (map (λ (role : ResolverRole). role.core) k.resolvers.items)
     resolvers = (

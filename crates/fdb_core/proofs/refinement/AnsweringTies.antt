@@ -1,5 +1,5 @@
 -- A commit proxy answers the clients of its batch, once the batch's version is reported.
-use Rattle.std.proofs.Common.{◌≡◌, ◌∙◌, refl, sym, ap, ap₂, subst, arith, ℕ, suc, get_or, ◌<◌, true, false, List, []}
+use Rattle.std.proofs.Common.{◌≡◌, ◌∙◌, refl, sym, ap, ap₂, subst, ℕ, get_or, ◌<◌, true, false, List, []}
 use Rattle.std.proofs.Common.{◌∷◌, ◌++◌, length, map, Some, None, Result, Ok, Err, slice_get, slice_set}
 use Rattle.std.proofs.lemmas.List.{length-map}
 use Rattle.std.proofs.lemmas.Option.{slice_get_read, slice_get_within}
@@ -10,7 +10,6 @@ use Rattle.fdb_txn.specs.declared.entry.Entry.{Entry}
 use Rattle.fdb_txn.specs.declared.spot.Spot.TheVariants as spot
 use Rattle.fdb_txn.specs.declared.txn_id.TxnId.{TxnId}
 use Rattle.fdb_txn.specs.book.Book.{seen_before}
-use Rattle.fdb_txn.specs.book.Transactions.{Transaction}
 use Rattle.fdb_client.specs.declared.program.Transcript.{Transcript}
 use Rattle.fdb_client.specs.Programs.{commit_request_of}
 use Rattle.fdb_proxy.specs.declared.config.Config.{Config}
@@ -28,7 +27,7 @@ use Rattle.fdb_core.specs.machine.Roles.{CommitProxy, Idle}
 use Rattle.fdb_core.specs.machine.Sessions.{tell_all}
 use Rattle.fdb_core.specs.refinement.Cluster.{machine_of, CommitProxiesRefine, Refines}
 use Rattle.fdb_core.specs.refinement.CommitProxies.{CommitProxyRefines, Known, known_to, IsDone, seen_as}
-use Rattle.fdb_core.proofs.checking.BodyLemmas.{length-outcomes_on}
+use Rattle.fdb_core.proofs.checking.BodyLemmas.{length-answers, length-outcomes_on}
 use Rattle.fdb_core.proofs.common.ListLemmas.{map-at, map-set}
 use Rattle.fdb_core.proofs.refinement.CommitProxyTies.{busy-entry, commit_proxies-put, reported-is}
 use Rattle.fdb_core.proofs.refinement.CoreTies.{exactly-map}
@@ -60,14 +59,6 @@ placed-is index (transcript ∷ transcripts) (outcome.Commit version place ∷ o
     (placed-is index transcripts outcomes)
 placed-is index (transcript ∷ transcripts) (outcome.Conflict ∷ outcomes) = placed-is index transcripts outcomes
 placed-is index (transcript ∷ transcripts) (outcome.Old ∷ outcomes) = placed-is index transcripts outcomes
-
--- there is an answer for each transaction that has an outcome
-pub length-answers : (batch : List Transaction) (outcomes : List Outcome) → length outcomes ≡ length batch
-    → length (answers_by batch outcomes) ≡ length batch
-length-answers [] outcomes count = refl
-length-answers (t ∷ ts) [] count = absurd (omega (arith, count))
-length-answers (t ∷ ts) (outcome ∷ outcomes) count =
-    ap suc (length-answers ts outcomes (omega (arith, count)))
 
 -- what the machine does, once it knows the proxy and its entry
 module _ (m : Machine) (proxy : ℕ) (commit_proxy : CommitProxy) (entry : Entry)

@@ -5,7 +5,7 @@ use Rattle.std.proofs.Common.{if◌then◌else◌, arith}
 use Rattle.std.specs.Prelude.{nat_le}
 use Rattle.std.specs.List.{AllByRecursion, list_any}
 use Rattle.std.proofs.lemmas.Bool.{cases_eq, lt-leb}
-use Rattle.std.proofs.lemmas.List.{length-set, length-replicate, take_all, take-append-le}
+use Rattle.std.proofs.lemmas.List.{length-append, length-set, length-replicate, take_all, take-append-le}
 use Rattle.std.proofs.lemmas.Option.{same_Some, slice_get_within}
 use Rattle.fdb_keys.specs.Points.{Point}
 use Rattle.fdb_txn.specs.declared.entry.Entry.{Entry}
@@ -17,7 +17,7 @@ use Rattle.fdb_owners.specs.OwnersLaws.{AgreesWith}
 use Rattle.fdb_resolver.specs.declared.part.Part.{Part}
 use Rattle.fdb_resolver.specs.declared.verdict.Verdicts.{Verdicts}
 use Rattle.fdb_sequencer.specs.declared.ticket.Ticket.{Ticket}
-use Rattle.fdb_sequencer.specs.TicketLaws.{GoToResolvers}
+use Rattle.fdb_sequencer.specs.TicketLaws.{GoToResolvers, MayBeLearnt}
 use Rattle.fdb_sequencer.specs.Moves.{Dated}
 use Rattle.fdb_log.specs.declared.message.LogAck.{LogAck}
 use Rattle.fdb_storage.specs.LogMessages.{log_messages}
@@ -38,12 +38,12 @@ use Rattle.fdb_proxy.specs.VerdictLaws.{AreByTheRule}
 use Rattle.fdb_proxy.proofs.MessageLemmas.{messages_hold_the_committed}
 use Rattle.fdb_proxy.proofs.OutcomeLemmas.{entries_are_decided_by_the_rule}
 use Rattle.fdb_proxy.proofs.VerdictLemmas.{items_where_asked}
-use Rattle.fdb_core.specs.headline.ProxyStages.{IsBatchOf, IsResolving, IsLogging, IsSaid}
+use Rattle.fdb_core.specs.headline.ProxyStages.{IsStageAt, IsCommitProxyAt, IsBatchOf, IsResolving, IsLogging, IsSaid}
 use Rattle.fdb_core.specs.machine.SequencerSteps.{dated_moves}
-use Rattle.fdb_core.specs.refinement.CommitProxies.{AreUnlearnt, entry_of}
+use Rattle.fdb_core.specs.refinement.CommitProxies.{entry_of}
 use Rattle.fdb_core.proofs.common.AllLemmas.{within-item}
 use Rattle.fdb_core.proofs.common.ListLemmas.{last-at, set-here, set-other}
-use Rattle.fdb_core.proofs.refinement.BookLemmas.{entries-take, seen_before-next}
+use Rattle.fdb_core.proofs.refinement.BookLemmas.{entries-take, last-push, seen_before-next}
 use Rattle.fdb_core.proofs.refinement.MoveLemmas.{moves-append, moves-of-book}
 
 -- moves that are all above a version
@@ -52,22 +52,21 @@ fresh-moves : (last : ℕ) (moves : List Dated) → AllByRecursion (λ (of : Dat
 fresh-moves last [] above = refl
 fresh-moves last (of ∷ moves) above = rw (lt-leb of.0 last above.0) (fresh-moves last moves above.1)
 
--- A proxy whose last ticket was of a lower version, and that may learn the moves of a ticket.
+-- A ticket that may be learnt by who had one of a version.
 module _ (splits : List Point) (p : Core) (ticket : Ticket) (same : p.owners.splits ≡ splits)
-    (unlearnt : AreUnlearnt (suc (length splits)) p.last ticket.version ticket.moves) where
-  -- may learn the ticket, where it is above what the batch read at
-  pub ticket-may : AllByRecursion (λ (t : Transaction). t.read < ticket.version) p.batch → IsTicketFor p ticket
-  ticket-may later = record {
-    targets = subst (λ (ss : List Point). GoToResolvers (suc (length ss)) ticket.moves) (sym same) unlearnt.targets;
-    rising = unlearnt.rising;
+    (may : MayBeLearnt (suc (length splits)) p.last ticket) where
+  -- is for a proxy that had it, where it is above what the batch read at
+  pub ticket-fits : AllByRecursion (λ (t : Transaction). t.read < ticket.version) p.batch → IsTicketFor p ticket
+  ticket-fits later = record {
+    targets = subst (λ (ss : List Point). GoToResolvers (suc (length ss)) ticket.moves) (sym same) may.targets;
+    rising = may.rising;
     later = later;
   }
 
-  -- and it isn't refused
-  pub ticket-learns : p.is_failed ≡ false → is_sealed p.stage ≡ true → p.last < ticket.version
-      → learn_fault p ticket ≡ None
-  ticket-learns works sealed later =
-      rw (works, sealed, lt-leb ticket.version p.last later, fresh-moves p.last ticket.moves unlearnt.above) refl
+  -- and isn't refused where the batch is sealed
+  pub ticket-learns : p.is_failed ≡ false → is_sealed p.stage ≡ true → learn_fault p ticket ≡ None
+  ticket-learns works sealed =
+      rw (works, sealed, lt-leb ticket.version p.last may.later, fresh-moves p.last ticket.moves may.above) refl
 
 -- what was seen before the last entry
 pub seen-before-last : (before : List Entry) (entry : Entry)
@@ -81,26 +80,23 @@ none-came zero r said there = cc
 none-came (suc n) zero said there = cc
 none-came (suc n) (suc r) said there = none-came n r said there
 
--- What stands once a proxy that was so learnt the ticket of the entry that comes after these: it has had all moves
--- through the entry, which is where its batch is, and heard nothing of it.
-pub record IsLearnt (splits : List Point) (before : List Entry) (old new : Core) (ticket : Ticket)
-    (had : List Dated) (resolving : Unheard) : Type 0 where
-  pub splits_are : new.owners.splits ≡ splits
-  pub owners : AgreesWith new.owners (moves_with (had ++ ticket.moves) [])
-  pub through : AgreesWith new.owners (seen_of (before ++ entry_of ticket old.batch ∷ [])).moves
-  pub parts : AreParts splits (moves_through (seen_of before) (entry_of ticket old.batch)) (position_of ticket) old.batch
-      resolving.parts
+-- What stands once a proxy learnt the ticket of the entry that comes after these: it has the entry too, its batch waits
+-- for verdicts, and it has the entry's parts.
+pub record IsLearnt (config : Config) (before : List Entry) (old new : Core) (ticket : Ticket)
+    (resolving : Unheard) : Type 0 where
+  pub at : IsCommitProxyAt config (before ++ entry_of ticket old.batch ∷ []) new
   pub stage : new.stage ≡ core.Resolving resolving
-  pub batch : IsBatchOf (before ++ entry_of ticket old.batch ∷ []) (length before) new.batch resolving.position
-      (entry_of ticket old.batch)
-  pub waits : IsResolving splits (before ++ entry_of ticket old.batch ∷ []) (length before) (entry_of ticket old.batch)
-      resolving
+  pub parts : AreParts config.resolver_splits (moves_through (seen_of before) (entry_of ticket old.batch))
+      (position_of ticket) old.batch resolving.parts
 
--- A proxy that had some moves learnt a ticket, so that it has had all moves through the ticket's entry.
-module _ (splits : List Point) (before : List Entry) (old new : Core) (ticket : Ticket)
-    (learnt : HasLearntTicket old ticket new) (same : old.owners.splits ≡ splits)
-    (number : ticket.index ≡ length before) (had : List Dated) (agrees : AgreesWith old.owners (moves_with had []))
-    (all : had ++ ticket.moves ≡ dated_moves (before ++ entry_of ticket old.batch ∷ [])) where
+-- A proxy that has some of these entries learnt a ticket with the moves of the others.
+module _ (config : Config) (front before : List Entry) (old new : Core) (ticket : Ticket)
+    (had : IsCommitProxyAt config front old) (learnt : HasLearntTicket old ticket new)
+    (number : ticket.index ≡ length before)
+    (all : dated_moves front ++ ticket.moves ≡ dated_moves (before ++ entry_of ticket old.batch ∷ [])) where
+  abbrev splits : List Point
+  splits = config.resolver_splits
+
   abbrev entry : Entry
   entry = entry_of ticket old.batch
 
@@ -108,15 +104,14 @@ module _ (splits : List Point) (before : List Entry) (old new : Core) (ticket : 
   grown = before ++ entry ∷ []
 
   splits-learnt : new.owners.splits ≡ splits
-  splits-learnt = learnt.learnt.splits ∙ same
-
-  owners-learnt : AgreesWith new.owners (moves_with (had ++ ticket.moves) [])
-  owners-learnt = subst (AgreesWith new.owners) (sym (moves-append had ticket.moves []))
-      (learnt.learnt.moves (moves_with had []) agrees)
+  splits-learnt = learnt.learnt.splits ∙ had.splits
 
   owners-grown : AgreesWith new.owners (seen_of grown).moves
   owners-grown = subst (AgreesWith new.owners)
-      (ap (λ (moves : List Dated). moves_with moves []) all ∙ moves-of-book grown) owners-learnt
+      (ap (moves_with ticket.moves) (sym (moves-of-book front))
+      ∙ sym (moves-append (dated_moves front) ticket.moves [])
+      ∙ ap (λ (moves : List Dated). moves_with moves []) all ∙ moves-of-book grown)
+      (learnt.learnt.moves (seen_of front).moves had.owners)
 
   owners-through : AgreesWith new.owners (moves_through (seen_of before) entry)
   owners-through = subst (AgreesWith new.owners) (ap (λ (s : Seen). s.moves) (seen_of-push before entry)) owners-grown
@@ -142,22 +137,34 @@ module _ (splits : List Point) (before : List Entry) (old new : Core) (ticket : 
         (sym (ap (λ (of : Unheard). slice_get of.verdicts r) learnt.without_verdicts.rest) ∙ there));
   }
 
-  pub is-learnt : IsLearnt splits before old new ticket had learnt.resolving
-  is-learnt = record {
-    splits_are = splits-learnt;
-    owners = owners-learnt;
-    through = owners-grown;
-    parts = parts-learnt;
-    stage = ap (λ (p : Core). p.stage) learnt.rest;
-    batch = record {
-      there = last-at before entry;
-      index = ap (λ (p : Position). p.index) at ∙ number;
-      version = ap (λ (p : Position). p.version) at;
-      prev = ap (λ (p : Position). p.prev) at;
-      places = ap (λ (p : Core). p.batch) learnt.rest;
-    };
-    waits = waits-learnt;
+  stage-learnt : new.stage ≡ core.Resolving learnt.resolving
+  stage-learnt = ap (λ (p : Core). p.stage) learnt.rest
+
+  at-grown : IsCommitProxyAt config grown new
+  at-grown = record {
+    works = ap (λ (p : Core). p.is_failed) learnt.rest ∙ had.works;
+    logs = ap (λ (p : Core). p.logs) learnt.rest ∙ had.logs;
+    shard_splits = ap (λ (p : Core). p.shard_splits) learnt.rest ∙ had.shard_splits;
+    splits = splits-learnt;
+    owners = owners-grown;
+    last = ap (λ (p : Core). p.last) learnt.rest ∙ sym (last-push before entry);
+    stage = subst (IsStageAt config grown new.batch) (sym stage-learnt) (
+      length before,
+      entry,
+      (let count = length-append before (entry ∷ []) in omega (arith, count)),
+      record {
+        there = last-at before entry;
+        index = ap (λ (p : Position). p.index) at ∙ number;
+        version = ap (λ (p : Position). p.version) at;
+        prev = ap (λ (p : Position). p.prev) at;
+        places = ap (λ (p : Core). p.batch) learnt.rest;
+      },
+      waits-learnt,
+    );
   }
+
+  pub is-learnt : IsLearnt config before old new ticket learnt.resolving
+  is-learnt = record { at = at-grown; stage = stage-learnt; parts = parts-learnt }
 
 -- where none is missing, who was asked has said something
 none-missing : (n : ℕ) (parts : List Part) (verdicts : List (Option Said)) (i : ℕ) (part : Part)

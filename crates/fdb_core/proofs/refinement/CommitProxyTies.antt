@@ -20,6 +20,7 @@ use Rattle.fdb_core.specs.refinement.Cluster.{CommitProxiesRefine}
 use Rattle.fdb_core.specs.refinement.CommitProxies.{CommitProxyRefines, Known, StageRefines, ReadsWithin}
 use Rattle.fdb_core.specs.refinement.CommitProxies.{acknowledged_at, seen_as}
 use Rattle.fdb_core.proofs.readings.SessionLists.{item-after-set}
+use Rattle.fdb_core.proofs.refinement.ProxyFronts.{StageTold, stage-told}
 
 -- another one stands at a number, and the others go on
 pub commit_proxies-set : (config : Config) (book later : List Entry) (known raised : ℕ → Known)
@@ -52,10 +53,10 @@ module _ (config : Config) (book : List Entry) (known : Known) (role : CommitPro
   pub busy-entry : is_idle (seen_as role).stage ≡ false
       → (entry : Entry) × (slice_get book role.entry ≡ Some entry)
       × (entry.batch ≡ map commit_request_of role.in_flight)
-  busy-entry busy = by_stage role.core.proxy.stage refl ok.stage
+  busy-entry busy = by_stage role.core.proxy.stage refl (stage-told config book known role ok)
     where
       by_stage : (stage : CoreStage) → role.core.proxy.stage ≡ stage
-          → StageRefines config book role.is_reported role.entry role.core.proxy.batch stage
+          → StageTold config book role.is_reported role.entry role.core.proxy.batch stage
           → (entry : Entry) × (slice_get book role.entry ≡ Some entry)
           × (entry.batch ≡ map commit_request_of role.in_flight)
       by_stage core.Idle is refines = absurd (true≢false (rw is at busy))
@@ -68,14 +69,14 @@ module _ (config : Config) (book : List Entry) (known : Known) (role : CommitPro
 
   -- its machine's one is reported where it says so
   pub reported-is : is_idle (seen_as role).stage ≡ false → is_reported (seen_as role).stage ≡ role.is_reported
-  reported-is busy = by_stage role.core.proxy.stage refl ok.stage
+  reported-is busy = by_stage role.core.proxy.stage refl (stage-told config book known role ok)
     where
       by_flag : (flag : Bool) → is_reported (if flag then Reported else Logging) ≡ flag
       by_flag true = refl
       by_flag false = refl
 
       by_stage : (stage : CoreStage) → role.core.proxy.stage ≡ stage
-          → StageRefines config book role.is_reported role.entry role.core.proxy.batch stage
+          → StageTold config book role.is_reported role.entry role.core.proxy.batch stage
           → is_reported (seen_as role).stage ≡ role.is_reported
       by_stage core.Idle is refines = absurd (true≢false (rw is at busy))
       by_stage core.Sealed is refines = absurd refines
@@ -91,15 +92,11 @@ module _ (config : Config) (book : List Entry) (known : Known) (role : CommitPro
 
     pub commit_proxy-raised : CommitProxyRefines config book (record known { committed = raised }) role
     commit_proxy-raised = record {
-      works = ok.works;
-      logs = ok.logs;
-      shard_splits = ok.shard_splits;
-      splits = ok.splits;
-      learnt = ok.learnt;
-      all_moves = ok.all_moves;
-      owners = ok.owners;
+      front = ok.front;
+      behind = ok.behind;
+      whole = ok.whole;
+      core = ok.core;
       unlearnt = ok.unlearnt;
-      last = ok.last;
       waiting = ok.waiting;
       in_flight = ok.in_flight;
       reads = reads-raised;
@@ -111,15 +108,11 @@ module _ (config : Config) (book : List Entry) (known : Known) (role : CommitPro
         → first_missing (λ log. true) 0 (seen_as role).acknowledgements_received ≡ None
         → CommitProxyRefines config book (record known { committed = raised }) (record role { is_reported = true })
     commit_proxy-reported logging none = record {
-      works = ok.works;
-      logs = ok.logs;
-      shard_splits = ok.shard_splits;
-      splits = ok.splits;
-      learnt = ok.learnt;
-      all_moves = ok.all_moves;
-      owners = ok.owners;
+      front = ok.front;
+      behind = ok.behind;
+      whole = ok.whole;
+      core = ok.core;
       unlearnt = ok.unlearnt;
-      last = ok.last;
       waiting = ok.waiting;
       in_flight = ok.in_flight;
       reads = reads-raised;
@@ -132,19 +125,14 @@ module _ (config : Config) (book : List Entry) (known : Known) (role : CommitPro
         unset-missing n (false ∷ flags) = refl
 
         by_stage : (stage : CoreStage) → role.core.proxy.stage ≡ stage
-            → StageRefines config book role.is_reported role.entry role.core.proxy.batch stage
-            → StageRefines config book true role.entry role.core.proxy.batch role.core.proxy.stage
+            → StageRefines role.is_reported role.entry stage → StageRefines true role.entry role.core.proxy.stage
         by_stage core.Idle is refines = absurd (true≢false (sym (rw is at logging)))
         by_stage core.Sealed is refines = absurd refines
         by_stage core.Entered is refines = absurd refines
         by_stage (core.Resolving batch) is refines = absurd (true≢false (sym (rw is at logging)))
         by_stage (core.Logging decided) is refines =
-            subst (StageRefines config book true role.entry role.core.proxy.batch) (sym is) (
-              refines.0,
-              refines.1,
-              refines.2,
-              λ reported. sym (unset-missing 0 decided.acknowledged) ∙ all_came,
-            )
+            subst (StageRefines true role.entry) (sym is)
+            (refines.0, λ reported. sym (unset-missing 0 decided.acknowledged) ∙ all_came)
           where
             all_came : first_missing (λ log. true) 0 decided.acknowledged ≡ None
             all_came = sym (ap (λ (stage : CoreStage). first_missing (λ log. true) 0 (acknowledged_at stage)) is) ∙ none

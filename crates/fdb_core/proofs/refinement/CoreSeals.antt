@@ -1,6 +1,6 @@
 -- A commit proxy whose first requests become a batch.
 use Rattle.std.proofs.Common.{◌≡◌, ◌∙◌, refl, sym, ap, subst, ℕ, zero, suc, ◌<◌, Bool, true, false, List, [], ◌∷◌, ◌++◌}
-use Rattle.std.proofs.Common.{length, map, take, drop, replicate, Option, None, Ok, Err, arith}
+use Rattle.std.proofs.Common.{length, map, take, drop, replicate, Option, None, Ok, Err}
 use Rattle.std.specs.List.{AllByRecursion}
 use Rattle.std.specs.Option.{is_some}
 use Rattle.std.proofs.lemmas.Bool.{true≢false}
@@ -11,10 +11,13 @@ use Rattle.fdb_keys.specs.declared.refusal.Refusal.TheVariants.{NoMemory}
 use Rattle.fdb_txn.specs.Limits.{place_limit}
 use Rattle.fdb_txn.specs.declared.entry.Entry.{Entry}
 use Rattle.fdb_txn.specs.book.Book.{seen_of, last_version}
+use Rattle.fdb_txn.specs.book.History.{AreEntries}
 use Rattle.fdb_txn.specs.book.Transactions.{Transaction}
+use Rattle.fdb_txn.proofs.book.HistoryLemmas.{entries_go_on}
 use Rattle.fdb_resolver.specs.declared.part.Part.{Part}
 use Rattle.fdb_sequencer.specs.declared.ticket.Ticket.{Ticket}
 use Rattle.fdb_sequencer.specs.Moves.{Dated, dated}
+use Rattle.fdb_sequencer.specs.TicketLaws.{MayBeLearnt}
 use Rattle.fdb_client.specs.Programs.{commit_request_of}
 use Rattle.fdb_proxy.specs.declared.config.Config.{Config}
 use Rattle.fdb_proxy.specs.declared.resolving.Resolving.{Resolving as Unheard}
@@ -29,13 +32,13 @@ use Rattle.fdb_core.specs.declared.roles.commit_proxy.CommitProxyRole.{CommitPro
 use Rattle.fdb_core.specs.machine.CommitProxySteps.{is_idle, with_batch}
 use Rattle.fdb_core.specs.machine.Roles.{Resolving}
 use Rattle.fdb_core.specs.machine.SequencerSteps.{dated_moves}
-use Rattle.fdb_core.specs.refinement.CommitProxies.{CommitProxyRefines, Known, AreUnlearnt, StageRefines, IsNextTicket}
+use Rattle.fdb_core.specs.refinement.CommitProxies.{CommitProxyRefines, Known, StageRefines, IsNextTicket}
 use Rattle.fdb_core.specs.refinement.CommitProxies.{Seals, ReadsWithin, entry_of, stage_of, seen_as}
 use Rattle.fdb_core.proofs.common.AllLemmas.{all-take, all-drop}
 use Rattle.fdb_core.proofs.common.FaultLemmas.{answers-fault}
-use Rattle.fdb_core.proofs.refinement.BatchStages.{IsLearnt, is-learnt, ticket-may, ticket-learns}
-use Rattle.fdb_core.proofs.refinement.BookLemmas.{last-push}
-use Rattle.fdb_core.proofs.refinement.MoveLemmas.{dated_moves-push, unlearnt-push}
+use Rattle.fdb_core.proofs.refinement.BatchStages.{IsLearnt, is-learnt, ticket-fits, ticket-learns}
+use Rattle.fdb_core.proofs.headline.ProxyLaws.{requests_come_and_go}
+use Rattle.fdb_core.proofs.refinement.MoveLemmas.{dated_moves-append, dated_moves-push, entries-behind, ticket-after}
 
 -- fronts and rests of what is made of a list
 pub map-take : {A B : Type 0} (f : A → B) (n : ℕ) (xs : List A) → map f (take n xs) ≡ take n (map f xs)
@@ -69,28 +72,34 @@ flags-unset (suc n) = ap (λ rest. false ∷ rest) (flags-unset n)
 module _ (config : Config) (book : List Entry) (known : Known) (role : CommitProxyRole)
     (ok : CommitProxyRefines config book known role)
     (idle : is_idle (stage_of role.is_reported role.core.proxy.stage) ≡ true) (ticket : Ticket)
-    (next : IsNextTicket config book known ticket) where
-  -- the ticket's moves may be learnt
-  tickets-moves : AreUnlearnt (suc (length config.resolver_splits)) role.core.proxy.last ticket.version ticket.moves
-  tickets-moves = subst (AreUnlearnt (suc (length config.resolver_splits)) role.core.proxy.last ticket.version)
-      (sym next.moves)
-      (unlearnt-push (suc (length config.resolver_splits)) role.core.proxy.last (last_version book) ticket.version
-      known.unlearnt ticket.pending ok.unlearnt next.later ok.last next.targets)
+    (next : IsNextTicket config book known ticket)
+    (entries : AreEntries (suc (length config.resolver_splits)) 0 book) where
+  -- an entry of the ticket, whatever its batch, comes after the book's
+  abbrev empty : Entry
+  empty = entry_of ticket []
 
-  -- so the ticket may be, where it is above what waits
+  follows : AreEntries (suc (length config.resolver_splits)) 0 ((ok.front ++ ok.behind) ++ empty ∷ [])
+  follows = subst (λ (all : List Entry). AreEntries (suc (length config.resolver_splits)) 0 (all ++ empty ∷ []))
+      (sym ok.whole) (entries_go_on (suc (length config.resolver_splits)) 0 book empty entries
+      (next.later, next.prev, next.targets, tt, tt))
+
+  -- so the ticket may be learnt
+  may : MayBeLearnt (suc (length config.resolver_splits)) role.core.proxy.last ticket
+  may = subst (λ (last : ℕ). MayBeLearnt (suc (length config.resolver_splits)) last ticket) (sym ok.core.last)
+      (ticket-after (suc (length config.resolver_splits)) (last_version ok.front) ok.behind empty ticket
+      (entries-behind (suc (length config.resolver_splits)) ok.front ok.behind empty follows) refl
+      (next.moves ∙ ap (λ (moves : List Dated). moves ++ dated ticket.version ticket.pending) ok.unlearnt
+      ∙ sym (dated_moves-push ok.behind empty)))
+
+  -- where it is above what waits
   pub ticket-for : AllByRecursion (λ (t : Transaction). t.read < ticket.version) role.core.proxy.waiting
       → IsTicketFor (sealing role.core.proxy) ticket
-  ticket-for later =
-      ticket-may config.resolver_splits (sealing role.core.proxy) ticket ok.splits tickets-moves
+  ticket-for later = ticket-fits config.resolver_splits (sealing role.core.proxy) ticket ok.core.splits may
       (all-take (λ (t : Transaction). t.read < ticket.version) place_limit role.core.proxy.waiting later)
 
-  -- and it is not stale
+  -- and isn't refused
   learns : learn_fault (sealing role.core.proxy) ticket ≡ None
-  learns =
-      let last = ok.last in
-      let later = next.later in
-      ticket-learns config.resolver_splits (sealing role.core.proxy) ticket ok.splits tickets-moves ok.works refl
-      (omega (arith, last, later))
+  learns = ticket-learns config.resolver_splits (sealing role.core.proxy) ticket ok.core.splits may ok.core.works refl
 
   -- so only memory may be lacking
   pub learn-lacks : (T : Type 0) (sealed : Core) (learnt : ProxyWithRoom) (batch : List Transaction) (why : Refusal)
@@ -108,11 +117,11 @@ module _ (config : Config) (book : List Entry) (known : Known) (role : CommitPro
   unreported = by_stage role.core.proxy.stage refl ok.stage
     where
       by_stage : (stage : CoreStage) → role.core.proxy.stage ≡ stage
-          → StageRefines config book role.is_reported role.entry role.core.proxy.batch stage → role.is_reported ≡ false
-      by_stage core.Idle is refines = refines.1
+          → StageRefines role.is_reported role.entry stage → role.is_reported ≡ false
+      by_stage core.Idle is refines = refines
       by_stage core.Sealed is refines = absurd refines
       by_stage core.Entered is refines = absurd refines
-      by_stage (core.Resolving batch) is refines = refines.3
+      by_stage (core.Resolving batch) is refines = refines.1
       by_stage (core.Logging decided) is refines = by_flag role.is_reported refl
         where
           by_flag : (reported : Bool) → role.is_reported ≡ reported → role.is_reported ≡ false
@@ -136,22 +145,23 @@ module _ (config : Config) (book : List Entry) (known : Known) (role : CommitPro
     abbrev grown : List Entry
     grown = book ++ entry ∷ []
 
-    -- it has learnt all moves of the book with the entry
-    moves-grown : ok.learnt ++ ticket.moves ≡ dated_moves grown
+    -- the moves of the front, and then the ticket's, are those of the book with the entry
+    moves-grown : dated_moves ok.front ++ ticket.moves ≡ dated_moves grown
     moves-grown =
         let newest = dated ticket.version ticket.pending in
-        ap (λ (moves : List Dated). ok.learnt ++ moves) next.moves
-        ∙ sym (append_assoc ok.learnt known.unlearnt newest)
-        ∙ ap (λ (moves : List Dated). moves ++ newest) ok.all_moves
+        ap (λ (moves : List Dated). dated_moves ok.front ++ moves) next.moves
+        ∙ sym (append_assoc (dated_moves ok.front) known.unlearnt newest)
+        ∙ ap (λ (moves : List Dated). moves ++ newest)
+        (ap (λ (moves : List Dated). dated_moves ok.front ++ moves) ok.unlearnt
+        ∙ sym (dated_moves-append ok.front ok.behind) ∙ ap dated_moves ok.whole)
         ∙ sym (dated_moves-push book entry)
 
     batch-requests : batch ≡ map commit_request_of (take place_limit role.waiting)
     batch-requests = ap (take place_limit) ok.waiting ∙ sym (map-take commit_request_of place_limit role.waiting)
 
-    its : IsLearnt config.resolver_splits book (sealing role.core.proxy) later.core.proxy ticket ok.learnt
-        learnt.resolving
-    its = is-learnt config.resolver_splits book (sealing role.core.proxy) later.core.proxy ticket learnt ok.splits
-        next.index ok.learnt ok.owners moves-grown
+    its : IsLearnt config book (sealing role.core.proxy) later.core.proxy ticket learnt.resolving
+    its = is-learnt config ok.front book (sealing role.core.proxy) later.core.proxy ticket
+        (requests_come_and_go config ok.front role.core.proxy ok.core).1 learnt next.index moves-grown
 
     machine-is : seen_as later ≡ with_batch (seen_as role) ticket.index (suc (length config.resolver_splits))
     machine-is = ap seen_as same ∙ rw its.stage (λ i. record {
@@ -166,18 +176,12 @@ module _ (config : Config) (book : List Entry) (known : Known) (role : CommitPro
       acknowledgements_received = [];
     })
 
-    stage-refines : StageRefines config grown later.is_reported later.entry later.core.proxy.batch
-        later.core.proxy.stage
-    stage-refines =
-        let entry_at : later.entry ≡ length book = ap (λ (r : CommitProxyRole). r.entry) same ∙ next.index in
-        subst (λ (n : ℕ). StageRefines config grown later.is_reported n later.core.proxy.batch later.core.proxy.stage)
-        (sym entry_at) (subst (StageRefines config grown later.is_reported (length book) later.core.proxy.batch)
-        (sym its.stage) (
-          entry,
-          its.batch,
-          its.waits,
-          ap (λ (r : CommitProxyRole). r.is_reported) same ∙ unreported,
-        ))
+    stage-refines : StageRefines later.is_reported later.entry later.core.proxy.stage
+    stage-refines = subst (StageRefines later.is_reported later.entry) (sym its.stage) (
+      ap (λ (r : Unheard). r.position.index) learnt.without_verdicts.rest
+          ∙ sym (ap (λ (r : CommitProxyRole). r.entry) same),
+      ap (λ (r : CommitProxyRole). r.is_reported) same ∙ unreported,
+    )
 
     pub seals : Seals config book known ticket role batch parts later
     seals = record {
@@ -186,16 +190,11 @@ module _ (config : Config) (book : List Entry) (known : Known) (role : CommitPro
           batch) (sym (parts_are ∙ ap parts_in its.stage)) its.parts;
       machine = machine-is;
       refines = record {
-        works = ap (λ (p : Core). p.is_failed) learnt.rest ∙ ok.works;
-        logs = ap (λ (p : Core). p.logs) learnt.rest ∙ ok.logs;
-        shard_splits = ap (λ (p : Core). p.shard_splits) learnt.rest ∙ ok.shard_splits;
-        splits = its.splits_are;
-        learnt = ok.learnt ++ ticket.moves;
-        all_moves = append-nil (ok.learnt ++ ticket.moves) ∙ moves-grown;
-        owners = its.owners;
-        unlearnt = record { targets = tt; rising = tt; above = tt };
-        last = let is = ap (λ (p : Core). p.last) learnt.rest in
-            let end = last-push book entry in omega (arith, is, end);
+        front = grown;
+        behind = [];
+        whole = append-nil grown;
+        core = its.at;
+        unlearnt = refl;
         waiting = ap (λ (p : Core). p.waiting) learnt.rest ∙ ap (drop place_limit) ok.waiting
             ∙ sym (map-drop commit_request_of place_limit role.waiting)
             ∙ ap (λ (r : CommitProxyRole). map commit_request_of r.waiting) (sym same);

@@ -3,7 +3,6 @@ use Rattle.std.proofs.Common.{◌≡◌, ◌∙◌, refl, sym, ap, ap₂, subst,
 use Rattle.std.proofs.Common.{not, ◌&&◌, ◌==◌, List, [], ◌∷◌, length, map, replicate, Option, Some, None, Result}
 use Rattle.std.proofs.Common.{slice_get, if◌then◌else◌, arith}
 use Rattle.std.proofs.lemmas.Bool.{and_parts, and_from, cases_eq, eq-eqb, ne_eqb, eqb-true, true≢false}
-use Rattle.std.proofs.lemmas.List.{length-replicate}
 use Rattle.std.proofs.lemmas.Option.{same_Some}
 use Rattle.std.specs.Option.{is_some}
 use Rattle.fdb_keys.specs.Answers.{Answers, AnswersExactly}
@@ -37,14 +36,15 @@ use Rattle.fdb_core.specs.declared.roles.commit_proxy.CommitProxyRole.{CommitPro
 use Rattle.fdb_core.specs.machine.CommitProxySteps.{awaits, with_received, is_resolving, is_logging}
 use Rattle.fdb_core.specs.machine.Machine.{is_set, first_missing}
 use Rattle.fdb_core.specs.machine.Roles.{FromResolver, Resolving, Logging}
-use Rattle.fdb_core.specs.headline.ProxyStages.{IsBatchOf, IsResolving}
-use Rattle.fdb_core.specs.refinement.CommitProxies.{CommitProxyRefines, Known, StageRefines}
-use Rattle.fdb_core.specs.headline.ProxyStages.{IsSaid}
+use Rattle.fdb_core.specs.headline.ProxyStages.{IsCommitProxyAt, IsBatchOf, IsResolving, IsSaid}
+use Rattle.fdb_core.specs.refinement.CommitProxies.{CommitProxyRefines, Known}
 use Rattle.fdb_core.specs.refinement.CommitProxies.{Decides, stage_of, received_at, seen_as}
 use Rattle.fdb_core.proofs.common.AllLemmas.{within-item}
 use Rattle.fdb_core.proofs.common.FaultLemmas.{answers-by}
 use Rattle.fdb_core.proofs.common.ListLemmas.{map-set}
-use Rattle.fdb_core.proofs.refinement.BatchStages.{resolving-heard, asked, outcomes-decided, messages-decided}
+use Rattle.fdb_core.proofs.headline.ProxyLaws.{proxies_hear_verdicts, proxies_decide_by_the_rule}
+use Rattle.fdb_core.proofs.refinement.BatchStages.{asked, outcomes-decided, messages-decided}
+use Rattle.fdb_core.proofs.refinement.ProxyFronts.{StageTold, stage-told, last-told, said-front, entries-front}
 use Rattle.fdb_core.proofs.refinement.CoreTies.{exactly-by, awaited, same-test, staged, seen-staged}
 
 -- the rule's verdicts on a batch are on just the places of the resolver's items
@@ -119,33 +119,33 @@ module _ (config : Config) (book : List Entry) (known : Known) (role : CommitPro
         by_test false s = refl
 
     fault-said : verdict_fault role.core.proxy verdicts ≡ (if VerdictsAreAwaited then None else Some Stale)
-    fault-said = by_stage role.core.proxy.stage refl ok.stage
+    fault-said = by_stage role.core.proxy.stage refl (stage-told config book known role ok)
       where
         by_stage : (stage : CoreStage) → role.core.proxy.stage ≡ stage
-            → StageRefines config book role.is_reported role.entry role.core.proxy.batch stage
+            → StageTold config book role.is_reported role.entry role.core.proxy.batch stage
             → verdict_fault role.core.proxy verdicts ≡ (if VerdictsAreAwaited then None else Some Stale)
-        by_stage core.Idle is refines = rw (ok.works, is) refl
+        by_stage core.Idle is refines = rw (ok.core.works, is) refl
         by_stage core.Sealed is refines = absurd refines
         by_stage core.Entered is refines = absurd refines
         by_stage (core.Resolving batch) is refines =
-            rw (ok.works, is) (ap (λ (b : Bool). if b then None else Some Stale)
+            rw (ok.core.works, is) (ap (λ (b : Bool). if b then None else Some Stale)
             (same-awaited refines.0 batch refines.1.index refines.1.there refines.2))
         by_stage (core.Logging decided) is refines = by_flag role.is_reported refl
           where
             by_flag : (reported : Bool) → role.is_reported ≡ reported
                 → verdict_fault role.core.proxy verdicts ≡ (if VerdictsAreAwaited then None else Some Stale)
-            by_flag true flag = rw (ok.works, is, flag) refl
-            by_flag false flag = rw (ok.works, is, flag) refl
+            by_flag true flag = rw (ok.core.works, is, flag) refl
+            by_flag false flag = rw (ok.core.works, is, flag) refl
 
     -- once they came
     after-said : (later : ProxyWithRoom) → VerdictsAreAwaited ≡ true → later.proxy
         ≡ with_verdict role.core.proxy verdicts
         → (seen_as (record role { core = later }) ≡ with_received (seen_as role) (FromResolver verdicts.resolver))
         × CommitProxyRefines config book known (record role { core = later })
-    after-said later waits after = by_stage role.core.proxy.stage refl ok.stage
+    after-said later waits after = by_stage role.core.proxy.stage refl (stage-told config book known role ok)
       where
         by_stage : (stage : CoreStage) → role.core.proxy.stage ≡ stage
-            → StageRefines config book role.is_reported role.entry role.core.proxy.batch stage
+            → StageTold config book role.is_reported role.entry role.core.proxy.batch stage
             → (seen_as (record role { core = later }) ≡ with_received (seen_as role) (FromResolver verdicts.resolver))
             × CommitProxyRefines config book known (record role { core = later })
         by_stage core.Idle is refines = absurd (true≢false (sym (rw is at waits)))
@@ -167,19 +167,19 @@ module _ (config : Config) (book : List Entry) (known : Known) (role : CommitPro
             rw is at waits in
             let same : role.entry ≡ verdicts.index = eqb-true role.entry verdicts.index
             (and_parts true (role.entry == verdicts.index)
-            (and_parts (true && (role.entry == verdicts.index)) _ waiting).0).1 in (
+            (and_parts (true && (role.entry == verdicts.index)) _ waiting).0).1 in
+            let count = (last-told config book known role ok batch refines.0 is refines.1.there).count in (
               seen-staged config book known role ok later stage next
                   ∙ rw is (ap (λ (received : List Bool). record (seen_as role)
                   { stage = Resolving; verdicts_received = received; acknowledgements_received = [] })
                   (map-set (λ (of : Option Said). is_some of) batch.verdicts verdicts.resolver
                   (Some verdicts.answers))),
-              staged config book known role ok later stage role.is_reported next (
-                refines.0,
-                refines.1,
-                resolving-heard config.resolver_splits book role.entry refines.0 refines.1.there batch refines.2
-                    verdicts entry said same,
-                refines.3,
-              ),
+              staged config book known role ok later stage role.is_reported next
+                  (subst (IsCommitProxyAt config ok.front) (rw is refl)
+                  (proxies_hear_verdicts config ok.front entry role.core.proxy verdicts ok.core
+                  (said-front config book known role ok verdicts entry said (omega (arith, count, same)))
+                  (fault-said ∙ ap (λ (b : Bool). if b then None else Some Stale) waits)))
+                  (refines.1.index, refines.3),
             )
 
     pub takes-verdicts : {T : Type 0} (result : Result T Refusal) (later : ProxyWithRoom)
@@ -233,7 +233,7 @@ module _ (config : Config) (book : List Entry) (known : Known) (role : CommitPro
         fault-decided : decide_fault role.core.proxy
             ≡ waiting_for (first_missing (λ resolver. is_needed config.resolver_splits resolver before entry) 0
             (received_at role.core.proxy.stage))
-        fault-decided = rw (ok.works, stage) (ap waiting_for
+        fault-decided = rw (ok.core.works, stage) (ap waiting_for
             (missing-same (λ resolver. is_needed config.resolver_splits resolver before entry) 0 batch.parts
             batch.verdicts (is.count ∙ sym is.parts.count) (λ i part at.
             let number : i ≡ 0 + i = omega arith in
@@ -242,7 +242,7 @@ module _ (config : Config) (book : List Entry) (known : Known) (role : CommitPro
 
         fault-none : decide_fault role.core.proxy ≡ None → resolving.first_missing 0 batch.parts batch.verdicts ≡ None
         fault-none none = by_missing (resolving.first_missing 0 batch.parts batch.verdicts)
-            (rw (ok.works, stage) at none)
+            (rw (ok.core.works, stage) at none)
           where
             by_missing : (missing : Option ℕ) → waiting_for missing ≡ None → missing ≡ None
             by_missing None none = refl
@@ -270,28 +270,24 @@ module _ (config : Config) (book : List Entry) (known : Known) (role : CommitPro
                   ∙ rw unreported (λ i. record (seen_as role) {
                     stage = Logging;
                     verdicts_received = [];
-                    acknowledgements_received = replicate (ok.logs i) false;
+                    acknowledgements_received = replicate (ok.core.logs i) false;
                   });
-              refines = staged config book known role ok later
-                  (core.Logging decided) role.is_reported next (
-                    entry,
-                    its,
-                    record {
-                      answers = ap₂ answers_by its.places by_rule;
-                      count = length-replicate role.core.proxy.logs false ∙ ok.logs;
-                    },
-                    λ reported. absurd (true≢false (sym reported ∙ unreported)),
-                  );
+              refines = staged config book known role ok later (core.Logging decided) role.is_reported next
+                  (subst (IsCommitProxyAt config ok.front) (rw stage refl)
+                  (proxies_decide_by_the_rule config ok.front role.entry entry role.core.proxy ok.core
+                  (entries-front config book known role ok entries)
+                  (last-told config book known role ok batch entry stage there) no_fault).2)
+                  (its.index, λ reported. absurd (true≢false (sym reported ∙ unreported)));
             }
 
     pub decides-resolving : is_resolving (stage_of role.is_reported role.core.proxy.stage) ≡ true
         → (batch : Unheard) × (role.core.proxy.stage ≡ core.Resolving batch)
         × IsBatchOf book role.entry role.core.proxy.batch batch.position entry
         × IsResolving config.resolver_splits book role.entry entry batch × (role.is_reported ≡ false)
-    decides-resolving resolving_now = by_stage role.core.proxy.stage refl ok.stage
+    decides-resolving resolving_now = by_stage role.core.proxy.stage refl (stage-told config book known role ok)
       where
         by_stage : (stage : CoreStage) → role.core.proxy.stage ≡ stage
-            → StageRefines config book role.is_reported role.entry role.core.proxy.batch stage
+            → StageTold config book role.is_reported role.entry role.core.proxy.batch stage
             → (batch : Unheard) × (role.core.proxy.stage ≡ core.Resolving batch)
             × IsBatchOf book role.entry role.core.proxy.batch batch.position entry
             × IsResolving config.resolver_splits book role.entry entry batch × (role.is_reported ≡ false)
@@ -341,14 +337,14 @@ pub messages-answers : (config : Config) (book : List Entry) (known : Known) (ro
     → Answers result None (λ messages. messages ≡ log_messages config.resolver_splits config.shard_splits config.logs
     role.entry (seen_before book role.entry) entry)
 messages-answers config book known role ok logging entry there result answers =
-    by_stage role.core.proxy.stage refl ok.stage
+    by_stage role.core.proxy.stage refl (stage-told config book known role ok)
   where
     sent : List LogMsg
     sent = log_messages config.resolver_splits config.shard_splits config.logs role.entry
         (seen_before book role.entry) entry
 
     by_stage : (stage : CoreStage) → role.core.proxy.stage ≡ stage
-        → StageRefines config book role.is_reported role.entry role.core.proxy.batch stage
+        → StageTold config book role.is_reported role.entry role.core.proxy.batch stage
         → Answers result None (λ messages. messages ≡ sent)
     by_stage core.Idle is refines = absurd (true≢false (sym (rw is at logging)))
     by_stage core.Sealed is refines = absurd refines
@@ -357,10 +353,10 @@ messages-answers config book known role ok logging entry there result answers =
     by_stage (core.Logging decided) is refines =
         let its = refines.1 in
         let same : refines.0 ≡ entry = same_Some refines.0 entry (sym its.there ∙ there) in
-        let fault : messages_fault role.core.proxy ≡ None = rw (ok.works, is) refl in
+        let fault : messages_fault role.core.proxy ≡ None = rw (ok.core.works, is) refl in
         let messages : messages_of role.core.proxy ≡ sent = rw is
         (messages-decided config book role.entry refines.0 decided refines.2 role.core.proxy.shard_splits
-        role.core.proxy.logs role.core.proxy.batch ok.shard_splits ok.logs its
+        role.core.proxy.logs role.core.proxy.batch ok.core.shard_splits ok.core.logs its
         ∙ ap (log_messages config.resolver_splits config.shard_splits config.logs role.entry
         (seen_before book role.entry)) same) in
         answers-by result (messages_fault role.core.proxy) None

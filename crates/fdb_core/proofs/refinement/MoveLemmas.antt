@@ -1,22 +1,22 @@
 -- The moves of a book, as they are handed out and learnt.
-use Rattle.std.proofs.Common.{◌≡◌, ◌≢◌, ◌∙◌, refl, sym, ap, ℕ, zero, suc, ◌+◌, ◌<◌, ◌≤◌, le_refl, List, [], ◌∷◌, ◌++◌}
-use Rattle.std.proofs.Common.{length, map, fold, unwrap_or, arith}
+use Rattle.std.proofs.Common.{◌≡◌, ◌≢◌, ◌∙◌, refl, sym, ap, ℕ, zero, suc, ◌+◌, ◌<◌, ◌≤◌, List, [], ◌∷◌, ◌++◌}
+use Rattle.std.proofs.Common.{length, map, fold, subst, unwrap_or, arith}
 use Rattle.std.specs.List.{AllByRecursion, slice_get, slice_set}
 use Rattle.std.proofs.lemmas.List.{append-nil, append_assoc, length-map, length-set}
 use Rattle.std.proofs.lemmas.List.Sums.{fold-append, sum_by_push}
 use Rattle.fdb_txn.specs.declared.entry.Entry.{Entry}
 use Rattle.fdb_txn.specs.declared.entry.Move.{Move}
-use Rattle.fdb_txn.specs.book.Book.{Seen, Stamped, add_entry, add_moves, nothing, seen_of}
+use Rattle.fdb_txn.specs.book.Book.{Seen, Stamped, add_entry, add_moves, last_version, nothing, seen_of}
 use Rattle.fdb_txn.specs.book.History.{AreEntries}
 use Rattle.fdb_txn.specs.laws.SerialMapLaws.{version_after}
 use Rattle.fdb_txn.proofs.book.HistoryLemmas.{all-append, all-weaken}
+use Rattle.fdb_txn.proofs.rules.MessagesLemmas.{entries-split}
 use Rattle.fdb_sequencer.specs.declared.ticket.Ticket.{Ticket}
-use Rattle.fdb_sequencer.specs.TicketLaws.{AreRisingUpTo, GoToResolvers}
+use Rattle.fdb_sequencer.specs.TicketLaws.{AreRisingUpTo, GoToResolvers, MayBeLearnt}
 use Rattle.fdb_sequencer.specs.Moves.{Dated, dated}
 use Rattle.fdb_sequencer.specs.Sequencer.{Sequencer, accepting, unlearnt_by}
 use Rattle.fdb_proxy.specs.CommitProxies.{moves_with}
 use Rattle.fdb_core.specs.machine.SequencerSteps.{dated_moves, moves_in}
-use Rattle.fdb_core.specs.refinement.CommitProxies.{AreUnlearnt}
 use Rattle.fdb_core.proofs.invariant.SoundLemmas.{last-above}
 
 -- the moves of one version, after older ones
@@ -63,31 +63,6 @@ dated-all : (P : Dated → Type 0) (version : ℕ) (moves : List Move) → P (ve
 dated-all P version [] holds = tt
 dated-all P version (move ∷ moves) holds = (holds, tt)
 
-rising-push : (through version : ℕ) (unlearnt : List Dated) (moves : List Move) → AreRisingUpTo through unlearnt
-    → through < version → AreRisingUpTo version (unlearnt ++ dated version moves)
-rising-push through version [] [] rising later = tt
-rising-push through version [] (move ∷ moves) rising later = (le_refl version, tt, tt)
-rising-push through version (of ∷ unlearnt) moves rising later = (
-  omega (arith, rising.0, later),
-  all-append (λ (other : Dated). of.0 < other.0) unlearnt (dated version moves) rising.1
-      (dated-all (λ (other : Dated). of.0 < other.0) version moves (omega (arith, rising.0, later))),
-  rising-push through version unlearnt moves rising.2 later,
-)
-
--- with the moves of a later version they may still be learnt
-pub unlearnt-push : (resolvers last through version : ℕ) (unlearnt : List Dated) (moves : List Move)
-    → AreUnlearnt resolvers last through unlearnt → through < version → last ≤ through
-    → AllByRecursion (λ (move : Move). move.to < resolvers) moves
-    → AreUnlearnt resolvers last version (unlearnt ++ dated version moves)
-unlearnt-push resolvers last through version unlearnt moves may later from targets = record {
-  targets = all-append (λ (of : Dated). AllByRecursion (λ (move : Move). move.to < resolvers) of.1) unlearnt
-      (dated version moves) may.targets
-      (dated-all (λ (of : Dated). AllByRecursion (λ (move : Move). move.to < resolvers) of.1) version moves targets);
-  rising = rising-push through version unlearnt moves may.rising later;
-  above = all-append (λ (of : Dated). last < of.0) unlearnt (dated version moves) may.above
-      (dated-all (λ (of : Dated). last < of.0) version moves (omega (arith, later, from)));
-}
-
 -- The moves of entries after a version may be learnt by who learnt those up to it.
 module _ (resolvers : ℕ) where
   moves-later : (last : ℕ) (entries : List Entry) → AreEntries resolvers last entries
@@ -121,13 +96,41 @@ module _ (resolvers : ℕ) where
       all-append Exist (dated entry.version entry.moves) (dated_moves entries)
       (dated-all Exist entry.version entry.moves are.2) (moves-exist entry.version entries are.4)
 
-  pub entries-unlearnt : (last : ℕ) (entries : List Entry) → AreEntries resolvers last entries
-      → AreUnlearnt resolvers last (version_after last entries) (dated_moves entries)
-  entries-unlearnt last entries are = record {
-    targets = moves-exist last entries are;
-    rising = moves-rising last (version_after last entries) entries are (le_refl (version_after last entries));
-    above = moves-later last entries are;
-  }
+  -- entries before one more have a lower last version
+  later-than : (last : ℕ) (more : List Entry) (entry : Entry) → AreEntries resolvers last (more ++ entry ∷ [])
+      → last < entry.version
+  later-than last [] entry are = are.0
+  later-than last (first ∷ more) entry are =
+      let later = are.0 in
+      let others = later-than first.version more entry are.4 in
+      omega (arith, later, others)
+
+  version-push : (last : ℕ) (more : List Entry) (entry : Entry)
+      → version_after last (more ++ entry ∷ []) ≡ entry.version
+  version-push last [] entry = refl
+  version-push last (first ∷ more) entry = version-push first.version more entry
+
+  -- one more after some and others comes after the first ones
+  pub entries-behind : (front between : List Entry) (entry : Entry)
+      → AreEntries resolvers 0 ((front ++ between) ++ entry ∷ [])
+      → AreEntries resolvers (last_version front) (between ++ entry ∷ [])
+  entries-behind front between entry entries = (entries-split resolvers 0 front (between ++ entry ∷ [])
+      (subst (AreEntries resolvers 0) (append_assoc front between (entry ∷ [])) entries)).1
+
+  -- and so may the ticket of the last one, that tells them all
+  pub ticket-after : (last : ℕ) (more : List Entry) (entry : Entry) (ticket : Ticket)
+      → AreEntries resolvers last (more ++ entry ∷ []) → entry.version ≡ ticket.version
+      → ticket.moves ≡ dated_moves (more ++ entry ∷ []) → MayBeLearnt resolvers last ticket
+  ticket-after last more entry ticket are version moves =
+      let all = more ++ entry ∷ [] in
+      let through : version_after last all ≡ ticket.version = version-push last more entry ∙ version in
+      record {
+        later = subst (λ (v : ℕ). last < v) version (later-than last more entry are);
+        above = subst (AllByRecursion (λ (of : Dated). last < of.0)) (sym moves) (moves-later last all are);
+        rising = subst (AreRisingUpTo ticket.version) (sym moves)
+            (moves-rising last ticket.version all are (omega (arith, through)));
+        targets = subst (GoToResolvers resolvers) (sym moves) (moves-exist last all are);
+      }
 
 -- so many moves there are with one more entry
 pub moves_in-push : (book : List Entry) (entry : Entry)

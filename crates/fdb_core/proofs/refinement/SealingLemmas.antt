@@ -190,7 +190,7 @@ module _ (k : Cluster) (refines : Refines k) (proxy advance : ℕ) (role : Commi
         (λ n other differs at its.
         subst (λ (known : Known). CommitProxyRefines k.config (k.book.items ++ entry ∷ []) known other)
         (known-other n other differs at)
-        (commit_proxy-push k.config k.book.items entry next-ticket.targets above (known_to k.sequencer n) other its))
+        (commit_proxy-push k.config k.book.items entry (known_to k.sequencer n) other its))
 
     -- and so is the sequencer
     pub sequencer-tied : SequencerRefines k.config (k.book.items ++ entry ∷ []) issued

@@ -26,7 +26,6 @@ use Rattle.fdb_core.specs.declared.roles.resolver.ResolverRole.{ResolverRole}
 use Rattle.fdb_core.specs.machine.Worlds.{idle_proxy}
 use Rattle.fdb_core.specs.refinement.Cluster.{IsLegal, CommitProxiesRefine, SequencerRefines, GrvProxiesRefine}
 use Rattle.fdb_core.specs.refinement.Cluster.{HasSeenNone, sessions_of}
-use Rattle.fdb_owners.proofs.BookLemmas.{new_goes_on}
 use Rattle.fdb_sequencer.specs.Moves.{Dated}
 use Rattle.fdb_sequencer.specs.Sequencer.{fresh}
 use Rattle.fdb_proxy.specs.CommitProxies.{CommitProxy as Core, IsNewProxy}
@@ -38,6 +37,7 @@ use Rattle.fdb_core.specs.refinement.Resolving.{ResolversRefine, taken_by}
 use Rattle.fdb_core.specs.refinement.Starts.{AreNewLogs, AreNewShards, IsNewResolver}
 use Rattle.fdb_core.proofs.common.ListLemmas.{each-push}
 use Rattle.fdb_core.proofs.refinement.FrontLemmas.{new-log, new-shard}
+use Rattle.fdb_core.proofs.headline.ProxyLaws.{new_proxies_have_no_entry}
 
 -- what is made of items of which the same is made is so many of it
 all-same : {A B : Type 0} (f : A → B) (made : B) (n : ℕ) (xs : List A) → length xs ≡ n
@@ -163,19 +163,15 @@ commit_proxy-start index config role new is =
     subst (IsNewCommitProxy config) (sym is) (record {
       machine = rw new.rest refl;
       refines = record {
-        works = ap (λ (p : Core). p.is_failed) new.rest;
-        logs = ap (λ (p : Core). p.logs) new.rest;
-        shard_splits = ap (λ (p : Core). p.shard_splits) new.rest;
-        splits = new.owners.splits_are;
-        learnt = [];
-        all_moves = refl;
-        owners = new_goes_on config.resolver_splits role.core.proxy.owners new.owners;
-        unlearnt = record { targets = tt; rising = tt; above = tt };
-        last = let last = ap (λ (p : Core). p.last) new.rest in omega (arith, last);
+        front = [];
+        behind = [];
+        whole = refl;
+        core = new_proxies_have_no_entry config index role.core.proxy new;
+        unlearnt = refl;
         waiting = ap (λ (p : Core). p.waiting) new.rest;
         in_flight = ap (λ (p : Core). p.batch) new.rest;
         reads = tt;
-        stage = subst (λ (p : Core). StageRefines config [] false 0 p.batch p.stage) (sym new.rest) (refl, refl);
+        stage = subst (λ (p : Core). StageRefines false 0 p.stage) (sym new.rest) refl;
       };
     })
 

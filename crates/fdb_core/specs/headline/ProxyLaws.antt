@@ -1,21 +1,19 @@
--- A commit proxy that has the entries of a book through that of its last ticket, and what each call leaves of that.
-use Rattle.std.specs.Prelude.{◌≡◌, ⊤, ℕ, suc, false, List, [], ◌∷◌, ◌++◌, length, Some, None, slice_get, if◌then◌else◌}
+-- What each call leaves of a commit proxy that has the entries of a book through that of its last ticket.
+use Rattle.std.specs.Prelude.{◌≡◌, ℕ, suc, List, [], ◌∷◌, ◌++◌, length, Some, None, slice_get, if◌then◌else◌}
 use Rattle.fdb_keys.specs.Points.{Point}
 use Rattle.fdb_keys.specs.declared.refusal.Refusal.TheVariants.{WrongState}
 use Rattle.fdb_txn.specs.declared.entry.Entry.{Entry}
 use Rattle.fdb_txn.specs.declared.txn_id.TxnId.{TxnId}
-use Rattle.fdb_txn.specs.book.Book.{Place, seen_of, seen_before, last_version}
+use Rattle.fdb_txn.specs.book.Book.{Place, seen_of, seen_before}
 use Rattle.fdb_txn.specs.book.History.{AreEntries}
 use Rattle.fdb_txn.specs.book.Places.{place_at}
 use Rattle.fdb_txn.specs.book.Transactions.{Transaction}
-use Rattle.fdb_owners.specs.OwnersLaws.{AgreesWith}
 use Rattle.fdb_resolver.specs.declared.verdict.Verdicts.{Verdicts}
 use Rattle.fdb_sequencer.specs.declared.ticket.Ticket.{Ticket}
 use Rattle.fdb_log.specs.declared.message.LogAck.{LogAck}
 use Rattle.fdb_storage.specs.LogMessages.{log_messages}
 use Rattle.fdb_proxy.specs.declared.config.Config.{Config}
 use Rattle.fdb_proxy.specs.declared.outcome.Outcome.{Outcome}
-use Rattle.fdb_proxy.specs.declared.stage.Stage.{Stage}
 use Rattle.fdb_proxy.specs.declared.stage.Stage.TheVariants as stage
 use Rattle.fdb_proxy.specs.CommitProxies.{CommitProxy, IsNewProxy, is_sealed, submitting, sealing, unsealing}
 use Rattle.fdb_proxy.specs.CommitProxies.{IsTicketFor, learn_fault, HasLearntTicket, position_of, without_verdicts}
@@ -25,7 +23,7 @@ use Rattle.fdb_proxy.specs.Logging.{answers_by}
 use Rattle.fdb_proxy.specs.Parting.{AreParts}
 use Rattle.fdb_proxy.specs.Verdicts.{moves_through, outcomes_on}
 use Rattle.fdb_core.specs.headline.Answers.{IsByRule}
-use Rattle.fdb_core.specs.headline.ProxyStages.{IsBatchOf, IsResolving, IsLogging, IsSaid}
+use Rattle.fdb_core.specs.headline.ProxyStages.{IsCommitProxyAt, IsSaid}
 use Rattle.fdb_core.specs.machine.SequencerSteps.{dated_moves}
 use Rattle.fdb_core.specs.refinement.CommitProxies.{entry_of}
 
@@ -33,30 +31,6 @@ use Rattle.fdb_core.specs.refinement.CommitProxies.{entry_of}
 pub record IsLastEntry (front : List Entry) (i : ℕ) (entry : Entry) : Type 0 where
   pub count : length front ≡ suc i
   pub there : slice_get front i ≡ Some entry
-
-module _ (config : Config) (front : List Entry) where
-  -- how far the batch in flight is: one that has an entry is that of the last one
-  abbrev pub IsStageAt : List Transaction → Stage → Type 0
-  IsStageAt batch stage.Idle = batch ≡ []
-  IsStageAt batch stage.Sealed = ⊤
-  IsStageAt batch stage.Entered = ⊥
-  IsStageAt batch (stage.Resolving resolving) =
-      (i : ℕ) × (entry : Entry) × (length front ≡ suc i) × IsBatchOf front i batch resolving.position entry
-      × IsResolving config.resolver_splits front i entry resolving
-  IsStageAt batch (stage.Logging decided) =
-      (i : ℕ) × (entry : Entry) × (length front ≡ suc i) × IsBatchOf front i batch decided.position entry
-      × IsLogging config front i entry decided
-
-  -- The commit proxy works, knows the configuration, and learnt the moves of these entries, of which the last one is
-  -- that of its last ticket.
-  pub record IsCommitProxyAt (proxy : CommitProxy) : Type 0 where
-    pub works : proxy.is_failed ≡ false
-    pub logs : proxy.logs ≡ config.logs
-    pub shard_splits : proxy.shard_splits ≡ config.shard_splits
-    pub splits : proxy.owners.splits ≡ config.resolver_splits
-    pub owners : AgreesWith proxy.owners (seen_of front).moves
-    pub last : proxy.last ≡ last_version front
-    pub stage : IsStageAt proxy.batch proxy.stage
 
 -- a new commit proxy has no entry
 abbrev pub NewProxiesHaveNoEntry : Type 0

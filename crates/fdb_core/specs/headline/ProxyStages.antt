@@ -1,15 +1,19 @@
--- The batch of an entry of a book, as a commit proxy has it while it waits for verdicts and for logs.
-use Rattle.std.specs.Prelude.{◌≡◌, ◌<◌, ℕ, suc, List, length, Some, slice_get}
+-- A commit proxy that has the entries of a book through that of its last ticket, and its batch, at each stage.
+use Rattle.std.specs.Prelude.{◌≡◌, ◌<◌, ⊤, ℕ, suc, false, List, [], length, Some, slice_get}
 use Rattle.fdb_keys.specs.Points.{Point}
 use Rattle.fdb_txn.specs.declared.entry.Entry.{Entry}
-use Rattle.fdb_txn.specs.book.Book.{seen_before}
+use Rattle.fdb_txn.specs.book.Book.{seen_of, seen_before, last_version}
 use Rattle.fdb_txn.specs.book.Transactions.{Transaction}
+use Rattle.fdb_owners.specs.OwnersLaws.{AgreesWith}
 use Rattle.fdb_resolver.specs.declared.part.Part.{Part}
 use Rattle.fdb_resolver.specs.declared.verdict.Verdicts.{Verdicts}
 use Rattle.fdb_proxy.specs.declared.config.Config.{Config}
 use Rattle.fdb_proxy.specs.declared.logging.Logging.{Logging as Decided}
 use Rattle.fdb_proxy.specs.declared.position.Position.{Position}
 use Rattle.fdb_proxy.specs.declared.resolving.Resolving.{Resolving as Unheard}
+use Rattle.fdb_proxy.specs.declared.stage.Stage.{Stage}
+use Rattle.fdb_proxy.specs.declared.stage.Stage.TheVariants as stage
+use Rattle.fdb_proxy.specs.CommitProxies.{CommitProxy}
 use Rattle.fdb_proxy.specs.Deciding.{Said}
 use Rattle.fdb_proxy.specs.Logging.{answers_by}
 use Rattle.fdb_proxy.specs.Parting.{AreParts}
@@ -42,6 +46,30 @@ pub record IsResolving (splits : List Point) (book : List Entry) (i : ℕ) (entr
 pub record IsLogging (config : Config) (book : List Entry) (i : ℕ) (entry : Entry) (decided : Decided) : Type 0 where
   pub answers : decided.answers ≡ answers_by entry.batch (outcomes_on config.resolver_splits (seen_before book i) entry)
   pub count : length decided.acknowledged ≡ config.logs
+
+module _ (config : Config) (front : List Entry) where
+  -- how far the batch in flight is: one that has an entry is that of the last one
+  abbrev pub IsStageAt : List Transaction → Stage → Type 0
+  IsStageAt batch stage.Idle = batch ≡ []
+  IsStageAt batch stage.Sealed = ⊤
+  IsStageAt batch stage.Entered = ⊥
+  IsStageAt batch (stage.Resolving resolving) =
+      (i : ℕ) × (entry : Entry) × (length front ≡ suc i) × IsBatchOf front i batch resolving.position entry
+      × IsResolving config.resolver_splits front i entry resolving
+  IsStageAt batch (stage.Logging decided) =
+      (i : ℕ) × (entry : Entry) × (length front ≡ suc i) × IsBatchOf front i batch decided.position entry
+      × IsLogging config front i entry decided
+
+  -- The commit proxy works, knows the configuration, and learnt the moves of these entries, of which the last one is
+  -- that of its last ticket.
+  pub record IsCommitProxyAt (proxy : CommitProxy) : Type 0 where
+    pub works : proxy.is_failed ≡ false
+    pub logs : proxy.logs ≡ config.logs
+    pub shard_splits : proxy.shard_splits ≡ config.shard_splits
+    pub splits : proxy.owners.splits ≡ config.resolver_splits
+    pub owners : AgreesWith proxy.owners (seen_of front).moves
+    pub last : proxy.last ≡ last_version front
+    pub stage : IsStageAt proxy.batch proxy.stage
 
 -- what a resolver said of an entry is the rule's
 pub record IsSaid (splits : List Point) (book : List Entry) (verdicts : Verdicts) (entry : Entry) : Type 0 where

@@ -9,17 +9,15 @@ use Rattle.fdb_txn.specs.declared.txn_id.TxnId.{TxnId}
 use Rattle.fdb_txn.specs.book.Transactions.{Transaction}
 use Rattle.fdb_txn.specs.book.Book.{seen_of, seen_before, last_version}
 use Rattle.fdb_txn.specs.Limits.{place_limit}
-use Rattle.fdb_owners.specs.OwnersLaws.{AgreesWith}
 use Rattle.fdb_resolver.specs.declared.part.Part.{Part}
 use Rattle.fdb_sequencer.specs.declared.ticket.Ticket.{Ticket}
-use Rattle.fdb_sequencer.specs.TicketLaws.{AreRisingUpTo, GoToResolvers}
 use Rattle.fdb_sequencer.specs.Moves.{Dated, dated}
 use Rattle.fdb_sequencer.specs.Sequencer.{Sequencer, unlearnt_by}
 use Rattle.fdb_proxy.specs.declared.config.Config.{Config}
 use Rattle.fdb_proxy.specs.declared.outcome.Outcome.{Outcome}
 use Rattle.fdb_proxy.specs.declared.stage.Stage.{Stage as CoreStage}
 use Rattle.fdb_proxy.specs.declared.stage.Stage.TheVariants as core
-use Rattle.fdb_proxy.specs.CommitProxies.{position_of, moves_with}
+use Rattle.fdb_proxy.specs.CommitProxies.{position_of}
 use Rattle.fdb_proxy.specs.Deciding.{Said}
 use Rattle.fdb_proxy.specs.Flags.{first_unset}
 use Rattle.fdb_proxy.specs.Logging.{answers_by}
@@ -28,7 +26,7 @@ use Rattle.fdb_proxy.specs.Verdicts.{moves_through, outcomes_on}
 use Rattle.fdb_client.specs.declared.program.Transcript.{Transcript}
 use Rattle.fdb_client.specs.Programs.{commit_request_of}
 use Rattle.fdb_core.specs.declared.roles.commit_proxy.CommitProxyRole.{CommitProxyRole}
-use Rattle.fdb_core.specs.headline.ProxyStages.{IsBatchOf, IsResolving, IsLogging}
+use Rattle.fdb_core.specs.headline.ProxyStages.{IsCommitProxyAt}
 use Rattle.fdb_core.specs.machine.CommitProxySteps.{with_batch}
 use Rattle.fdb_core.specs.machine.Roles.{CommitProxy, Stage, Idle, Resolving, Logging, Reported}
 use Rattle.fdb_core.specs.machine.SequencerSteps.{dated_moves}
@@ -65,17 +63,15 @@ seen_as role =
       acknowledgements_received = acknowledged_at role.core.proxy.stage;
     }
 
--- The batch in flight, if there is one, is that of entry i; once its version is reported it waits for no log.
-abbrev pub StageRefines : Config → List Entry → Bool → ℕ → List Transaction → CoreStage → Type 0
-StageRefines config book is_reported i batch core.Idle = (batch ≡ []) × (is_reported ≡ false)
-StageRefines config book is_reported i batch core.Sealed = ⊥
-StageRefines config book is_reported i batch core.Entered = ⊥
-StageRefines config book is_reported i batch (core.Resolving resolving) =
-    (entry : Entry) × IsBatchOf book i batch resolving.position entry
-    × IsResolving config.resolver_splits book i entry resolving × (is_reported ≡ false)
-StageRefines config book is_reported i batch (core.Logging decided) =
-    (entry : Entry) × IsBatchOf book i batch decided.position entry
-    × IsLogging config book i entry decided × (is_reported ≡ true → first_unset 0 decided.acknowledged ≡ None)
+-- How the world has the batch in flight, if there is one: as that of entry i, and once its version is reported it waits
+-- for no log.
+abbrev pub StageRefines : Bool → ℕ → CoreStage → Type 0
+StageRefines is_reported i core.Idle = is_reported ≡ false
+StageRefines is_reported i core.Sealed = ⊥
+StageRefines is_reported i core.Entered = ⊥
+StageRefines is_reported i (core.Resolving resolving) = (resolving.position.index ≡ i) × (is_reported ≡ false)
+StageRefines is_reported i (core.Logging decided) =
+    (decided.position.index ≡ i) × (is_reported ≡ true → first_unset 0 decided.acknowledged ≡ None)
 
 -- What the sequencer has for a commit proxy: the greatest version that was reported, and the moves that the proxy
 -- hasn't had, by version.
@@ -87,36 +83,23 @@ abbrev pub known_to : Sequencer → ℕ → Known
 known_to sequencer proxy =
     record { committed = sequencer.committed; unlearnt = unlearnt_by sequencer proxy }
 
--- A proxy may learn these moves: they go to resolvers of which there are so many, and their versions rise from above
--- the last one that it learnt up to another.
-pub record AreUnlearnt (resolvers last through : ℕ) (unlearnt : List Dated) : Type 0 where
-  pub targets : GoToResolvers resolvers unlearnt
-  pub rising : AreRisingUpTo through unlearnt
-  pub above : AllByRecursion (λ (of : Dated). last < of.0) unlearnt
-
 -- a transaction reads at most at the committed version
 abbrev pub ReadsWithin : ℕ → Transcript → Type 0
 ReadsWithin committed transcript = transcript.read_version ≤ committed
 
--- The core works, and knows the configuration. The book's moves are those that it learnt and those that it hasn't had
--- yet; by the first ones its owners tell who owns a key. What waits there and what is in flight is what is judged of
--- the transcripts.
+-- The core has the first entries of the book, through that of its last ticket, and the sequencer has for it the moves of
+-- the others. What waits there and what is in flight is what is judged of the transcripts.
 pub record CommitProxyRefines (config : Config) (book : List Entry) (known : Known) (role : CommitProxyRole) : Type 0
   where
-    pub works : role.core.proxy.is_failed ≡ false
-    pub logs : role.core.proxy.logs ≡ config.logs
-    pub shard_splits : role.core.proxy.shard_splits ≡ config.shard_splits
-    pub splits : role.core.proxy.owners.splits ≡ config.resolver_splits
-    pub learnt : List Dated
-    pub all_moves : learnt ++ known.unlearnt ≡ dated_moves book
-    pub owners : AgreesWith role.core.proxy.owners (moves_with learnt [])
-    pub unlearnt : AreUnlearnt (suc (length config.resolver_splits))
-        role.core.proxy.last (last_version book) known.unlearnt
-    pub last : role.core.proxy.last ≤ last_version book
+    pub front : List Entry
+    pub behind : List Entry
+    pub whole : front ++ behind ≡ book
+    pub core : IsCommitProxyAt config front role.core.proxy
+    pub unlearnt : known.unlearnt ≡ dated_moves behind
     pub waiting : role.core.proxy.waiting ≡ map commit_request_of role.waiting
     pub in_flight : role.core.proxy.batch ≡ map commit_request_of role.in_flight
     pub reads : AllByRecursion (ReadsWithin known.committed) role.waiting
-    pub stage : StageRefines config book role.is_reported role.entry role.core.proxy.batch role.core.proxy.stage
+    pub stage : StageRefines role.is_reported role.entry role.core.proxy.stage
 
 -- a commit proxy before its first batch
 pub record IsNewCommitProxy (config : Config) (role : CommitProxyRole) : Type 0 where

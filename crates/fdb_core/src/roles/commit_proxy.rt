@@ -130,7 +130,7 @@ impl CommitProxyRole {
         requires { IsTicketFor (sealing self.old.core.proxy) ticket.now }
         ensures { (config : Config) (book : List Entry) (known : Known)
             → CommitProxyRefines config book known self.old → is_idle (seen_as self.old).stage ≡ true
-            → IsNextTicket config book known ticket.now
+            → IsNextTicket config book known ticket.now → AreEntries (suc (length config.resolver_splits)) 0 book
             → Answers result None
             (λ given. Seals config book known ticket.now self.old given.0 given.1 self.new) }
     {

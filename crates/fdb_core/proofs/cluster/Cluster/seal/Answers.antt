@@ -108,6 +108,7 @@ seal-requires c =
     ticket-for k.config k.book.items (known_to k.sequencer c.args.proxy) role
     (c.requires.commit_proxies.each c.args.proxy role (there before)) (idle before) c.in_ok-ticket.ticket
     (next-ticket k c.requires c.args.proxy c.args.advance role (there before) c.in_ok-ticket.ticket (given before).1)
+    c.requires.book.entries
     (reads-below k c.requires c.args.proxy c.args.advance role (there before) c.in_ok-ticket.ticket (given before).1)
 
 pub returns-in_err-batch-clause-answer : goal.returns-in_err-batch-clause-answer
@@ -119,7 +120,7 @@ returns-in_err-batch-clause-answer c =
     (known_to k.sequencer c.args.proxy)
     (c.requires.commit_proxies.each c.args.proxy c.index_mut-commit_proxy.result.now (there before)) (idle before)
     (next-ticket k c.requires c.args.proxy c.args.advance c.index_mut-commit_proxy.result.now (there before)
-    c.in_ok-ticket.ticket (given before).1) in
+    c.in_ok-ticket.ticket (given before).1) c.requires.book.entries in
     rw (same, lacks) tt
 
 pub returns-in_err-batch-clause-after : goal.returns-in_err-batch-clause-after
@@ -131,7 +132,7 @@ returns-in_err-batch-clause-after c =
     (known_to k.sequencer c.args.proxy)
     (c.requires.commit_proxies.each c.args.proxy c.index_mut-commit_proxy.result.now (there before)) (idle before)
     (next-ticket k c.requires c.args.proxy c.args.advance c.index_mut-commit_proxy.result.now (there before)
-    c.in_ok-ticket.ticket (given before).1) in
+    c.in_ok-ticket.ticket (given before).1) c.requires.book.entries in
     rw (same, lacks) tt
 
 pub returns-in_err-batch-clause-refines : goal.returns-in_err-batch-clause-refines
@@ -143,7 +144,7 @@ returns-in_err-batch-clause-refines c =
     (known_to k.sequencer c.args.proxy)
     (c.requires.commit_proxies.each c.args.proxy c.index_mut-commit_proxy.result.now (there before)) (idle before)
     (next-ticket k c.requires c.args.proxy c.args.advance c.index_mut-commit_proxy.result.now (there before)
-    c.in_ok-ticket.ticket (given before).1) in
+    c.in_ok-ticket.ticket (given before).1) c.requires.book.entries in
     rw (same, lacks) tt
 
 -- the batch is sealed
@@ -159,7 +160,7 @@ sealed c at idle_now ticket =
     c.in_ok-batch.ensures k.config k.book.items (known_to k.sequencer c.args.proxy)
     (c.requires.commit_proxies.each c.args.proxy c.index_mut-commit_proxy.result.now at) idle_now
     (next-ticket k c.requires c.args.proxy c.args.advance c.index_mut-commit_proxy.result.now at
-    c.in_ok-ticket.ticket ticket)
+    c.in_ok-ticket.ticket ticket) c.requires.book.entries
 
 pub returns-clause-answer : goal.returns-clause-answer
 returns-clause-answer c =
