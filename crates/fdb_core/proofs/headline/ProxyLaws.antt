@@ -1,7 +1,7 @@
 -- What each call leaves of a commit proxy that has the entries of a book through that of its last ticket.
 use Rattle.std.proofs.Common.{◌≡◌, ◌∙◌, refl, sym, ap, subst, ℕ, zero, suc, ◌<◌, ◌==◌, Bool, true, false, List, []}
 use Rattle.std.proofs.Common.{◌∷◌, ◌++◌, length, replicate, Option, Some, None, slice_get, if◌then◌else◌, arith}
-use Rattle.std.proofs.lemmas.Bool.{and_parts, eqb-true}
+use Rattle.std.proofs.lemmas.Bool.{and_parts, eqb-true, true≢false}
 use Rattle.std.proofs.lemmas.List.{append_assoc, length-replicate}
 use Rattle.std.proofs.lemmas.Option.{same_Some}
 use Rattle.fdb_keys.specs.declared.refusal.Refusal.{Refusal}
@@ -33,7 +33,7 @@ use Rattle.fdb_proxy.specs.Parting.{AreParts}
 use Rattle.fdb_proxy.specs.Resolving as resolving
 use Rattle.fdb_proxy.specs.Resolving.{with_verdicts}
 use Rattle.fdb_proxy.specs.Verdicts.{moves_through, outcomes_on}
-use Rattle.fdb_core.specs.headline.ProxyLaws.{IsLastEntry, NewProxiesHaveNoEntry}
+use Rattle.fdb_core.specs.headline.ProxyLaws.{IsLastEntry, NewProxiesHaveNoEntry, BatchesAreOfTheLastEntry}
 use Rattle.fdb_core.specs.headline.ProxyLaws.{RequestsComeAndGo, ProxiesLearnTheirTickets, ProxiesHearVerdicts}
 use Rattle.fdb_core.specs.headline.ProxyLaws.{ProxiesDecideByTheRule, MessagesAreOfTheEntry, ProxiesHearLogs}
 use Rattle.fdb_core.specs.headline.ProxyLaws.{ProxiesAnswerByTheRule, AnswersAreByTheRule}
@@ -181,6 +181,19 @@ proxies_learn_their_tickets config front between old ticket at entries number mo
     parts-there config front between old ticket at entries number moves new learnt,
   ),
 )
+
+pub batches_are_of_the_last_entry : BatchesAreOfTheLastEntry
+batches_are_of_the_last_entry config front proxy at busy unsealed = by_stage proxy.stage refl at.stage
+  where
+    by_stage : (stage : CoreStage) → proxy.stage ≡ stage → IsStageAt config front proxy.batch stage
+        → (i : ℕ) × (entry : Entry) × IsLastEntry front i entry × (proxy.batch ≡ entry.batch)
+    by_stage core.Idle is here = absurd (true≢false (rw is at busy))
+    by_stage core.Sealed is here = absurd (true≢false (rw is at unsealed))
+    by_stage core.Entered is here = absurd here
+    by_stage (core.Resolving batch) is here =
+        (here.0, here.1, record { count = here.2; there = here.3.there }, here.3.places)
+    by_stage (core.Logging decided) is here =
+        (here.0, here.1, record { count = here.2; there = here.3.there }, here.3.places)
 
 -- nothing is refused where a test holds
 taken : (test : Bool) (why : Refusal) → (if test then None else Some why) ≡ None → test ≡ true

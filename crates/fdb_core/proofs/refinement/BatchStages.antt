@@ -5,7 +5,7 @@ use Rattle.std.proofs.Common.{if◌then◌else◌, arith}
 use Rattle.std.specs.Prelude.{nat_le}
 use Rattle.std.specs.List.{AllByRecursion, list_any}
 use Rattle.std.proofs.lemmas.Bool.{cases_eq, lt-leb}
-use Rattle.std.proofs.lemmas.List.{length-append, length-set, length-replicate, take_all, take-append-le}
+use Rattle.std.proofs.lemmas.List.{length-append, length-set, length-replicate}
 use Rattle.std.proofs.lemmas.Option.{same_Some, slice_get_within}
 use Rattle.fdb_keys.specs.Points.{Point}
 use Rattle.fdb_txn.specs.declared.entry.Entry.{Entry}
@@ -43,7 +43,7 @@ use Rattle.fdb_core.specs.machine.SequencerSteps.{dated_moves}
 use Rattle.fdb_core.specs.refinement.CommitProxies.{entry_of}
 use Rattle.fdb_core.proofs.common.AllLemmas.{within-item}
 use Rattle.fdb_core.proofs.common.ListLemmas.{last-at, set-here, set-other}
-use Rattle.fdb_core.proofs.refinement.BookLemmas.{entries-take, last-push, seen_before-next}
+use Rattle.fdb_core.proofs.refinement.BookLemmas.{entries-take, last-push, seen-before-last, seen_before-next}
 use Rattle.fdb_core.proofs.refinement.MoveLemmas.{moves-append, moves-of-book}
 
 -- moves that are all above a version
@@ -67,12 +67,6 @@ module _ (splits : List Point) (p : Core) (ticket : Ticket) (same : p.owners.spl
   pub ticket-learns : p.is_failed ≡ false → is_sealed p.stage ≡ true → learn_fault p ticket ≡ None
   ticket-learns works sealed =
       rw (works, sealed, lt-leb ticket.version p.last may.later, fresh-moves p.last ticket.moves may.above) refl
-
--- what was seen before the last entry
-pub seen-before-last : (before : List Entry) (entry : Entry)
-    → seen_before (before ++ entry ∷ []) (length before) ≡ seen_of before
-seen-before-last before entry = ap seen_of
-    (take-append-le (length before) before (entry ∷ []) (omega arith) ∙ take_all (length before) before (omega arith))
 
 -- nothing came yet
 none-came : (n r : ℕ) (said : Said) → slice_get (replicate n None) r ≡ Some (Some said) → ⊥

@@ -3,7 +3,7 @@ use Rattle.std.proofs.Common.{◌≡◌, ◌∙◌, refl, ap, ℕ, zero, suc, �
 use Rattle.std.proofs.Common.{arith}
 use Rattle.std.specs.List.{slice_get}
 use Rattle.std.proofs.lemmas.Grind.{fold-append}
-use Rattle.std.proofs.lemmas.List.{take_all}
+use Rattle.std.proofs.lemmas.List.{take_all, take-append-le}
 use Rattle.std.proofs.lemmas.Option.{slice_get_within}
 use Rattle.fdb_txn.specs.declared.entry.Entry.{Entry}
 use Rattle.fdb_txn.specs.book.Book.{add_entry, seen_of, last_version, seen_before}
@@ -23,6 +23,17 @@ take-next (y ∷ ys) (suc i) x there = ap (λ zs. y ∷ zs) (take-next ys i x th
 pub seen_before-next : (book : List Entry) (i : ℕ) (entry : Entry) → slice_get book i ≡ Some entry
     → seen_before book (suc i) ≡ add_entry (seen_before book i) entry
 seen_before-next book i entry there = ap seen_of (take-next book i entry there) ∙ seen_of-push (take i book) entry
+
+-- what was seen before an entry stays so where others come after it
+pub seen-front : (front more : List Entry) (i : ℕ) → i ≤ length front
+    → seen_before (front ++ more) i ≡ seen_before front i
+seen-front front more i within = ap seen_of (take-append-le i front more within)
+
+-- before the last entry all others were
+pub seen-before-last : (book : List Entry) (entry : Entry)
+    → seen_before (book ++ entry ∷ []) (length book) ≡ seen_of book
+seen-before-last book entry =
+    seen-front book (entry ∷ []) (length book) (omega arith) ∙ ap seen_of (take_all (length book) book (omega arith))
 
 -- a front of entries
 pub entries-take : (resolvers last n : ℕ) (book : List Entry) → AreEntries resolvers last book

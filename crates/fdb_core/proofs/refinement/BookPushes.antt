@@ -1,5 +1,5 @@
 -- One more entry in the book, and what stays tied.
-use Rattle.std.proofs.Common.{◌≡◌, ◌∙◌, sym, ap, ap₂, subst, ⊎_elim, ℕ, suc, ◌<◌, ◌≤◌, le_of_lt, Bool, false, List, []}
+use Rattle.std.proofs.Common.{◌≡◌, ◌∙◌, sym, ap, ap₂, subst, ⊎_elim, ℕ, suc, ◌<◌, le_of_lt, Bool, false, List, []}
 use Rattle.std.proofs.Common.{◌∷◌, ◌++◌, length, Option, Some, None, unwrap_or, if◌then◌else◌, arith}
 use Rattle.std.specs.List.{slice_get}
 use Rattle.std.specs.FinMap.{get}
@@ -28,11 +28,7 @@ use Rattle.fdb_core.specs.headline.ProxyStages.{ArePartsOf}
 use Rattle.fdb_core.specs.refinement.Logs.{LogRefines, ShardRefines, LogsRefine}
 use Rattle.fdb_core.specs.refinement.Resolving.{IsResolverAt, ResolverRefines, ResolversRefine, PartsRefine}
 use Rattle.fdb_core.proofs.common.ListLemmas.{front-at, last-at}
-
--- what was seen before an entry stays so where others come after it
-pub seen-front : (book : List Entry) (entry : Entry) (i : ℕ) → i ≤ length book
-    → seen_before (book ++ entry ∷ []) i ≡ seen_before book i
-seen-front book entry i within = ap seen_of (take-append-le i book (entry ∷ []) within)
+use Rattle.fdb_core.proofs.refinement.BookLemmas.{seen-front}
 
 module _ (book : List Entry) (entry : Entry) where
   -- the parts of one more entry
@@ -63,7 +59,7 @@ module _ (book : List Entry) (entry : Entry) where
           (λ (before : Rattle.fdb_txn.specs.book.Book.Seen). Rattle.fdb_proxy.specs.Parting.AreParts splits
           (Rattle.fdb_proxy.specs.Verdicts.moves_through before other)
           (record { index = i; version = other.version; prev = other.prev }) other.batch of)
-          (sym (seen-front book entry i (le_of_lt early))) its
+          (sym (seen-front book (entry ∷ []) i (le_of_lt early))) its
 
       at-end : (i : ℕ) (other : Entry) (of : List Part) → i ≡ length book → entry ≡ other → given ≡ of
           → ArePartsOf splits (book ++ entry ∷ []) i other of
@@ -94,7 +90,7 @@ module _ (book : List Entry) (entry : Entry) where
               its.sent.rule j verdicts other sent (sym (front-at book (entry ∷ []) j early) ∙ there)
               ∙ ap (λ (before : Rattle.fdb_txn.specs.book.Book.Seen).
               Rattle.fdb_proxy.specs.Verdicts.verdicts_on splits i before other)
-              (sym (seen-front book entry j (le_of_lt early)));
+              (sym (seen-front book (entry ∷ []) j (le_of_lt early)));
         };
       }
 

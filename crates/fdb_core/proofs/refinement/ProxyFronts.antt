@@ -1,10 +1,9 @@
 -- What a commit proxy of the world has of the book, by the front that its core has.
 use Rattle.std.proofs.Common.{◌≡◌, ◌∙◌, sym, ap, subst, arith, ℕ, suc, ◌<◌, le_of_lt, Bool, true, false, List, []}
 use Rattle.std.proofs.Common.{◌++◌, length, Some, None, slice_get}
-use Rattle.std.proofs.lemmas.List.{take-append-le}
 use Rattle.fdb_keys.specs.Points.{Point}
 use Rattle.fdb_txn.specs.declared.entry.Entry.{Entry}
-use Rattle.fdb_txn.specs.book.Book.{Seen, seen_of, seen_before}
+use Rattle.fdb_txn.specs.book.Book.{Seen, seen_before}
 use Rattle.fdb_txn.specs.book.History.{AreEntries}
 use Rattle.fdb_txn.specs.book.Transactions.{Transaction}
 use Rattle.fdb_txn.proofs.rules.MessagesLemmas.{entries-split}
@@ -24,6 +23,7 @@ use Rattle.fdb_core.specs.headline.ProxyLaws.{IsLastEntry}
 use Rattle.fdb_core.specs.headline.ProxyStages.{IsBatchOf, IsResolving, IsLogging, IsStageAt, IsSaid}
 use Rattle.fdb_core.specs.refinement.CommitProxies.{CommitProxyRefines, Known, StageRefines}
 use Rattle.fdb_core.proofs.common.ListLemmas.{front-at}
+use Rattle.fdb_core.proofs.refinement.BookLemmas.{seen-front}
 
 -- the batch in flight, if there is one, is that of entry i of the book
 abbrev pub StageTold : Config → List Entry → Bool → ℕ → List Transaction → CoreStage → Type 0
@@ -40,7 +40,7 @@ StageTold config book is_reported i batch (core.Logging decided) =
 -- An entry of a front is one of the whole, after the same ones.
 module _ (front behind : List Entry) (i : ℕ) (entry : Entry) (within : i < length front) where
   seen-whole : seen_before front i ≡ seen_before (front ++ behind) i
-  seen-whole = ap seen_of (sym (take-append-le i front behind (le_of_lt within)))
+  seen-whole = sym (seen-front front behind i (le_of_lt within))
 
   batch-whole : (batch : List Transaction) (position : Position) → IsBatchOf front i batch position entry
       → IsBatchOf (front ++ behind) i batch position entry

@@ -2,12 +2,12 @@
 use Rattle.std.proofs.Common.{◌≡◌, ◌≢◌, ◌∙◌, refl, sym, ap, subst, ℕ, suc, ◌<◌, ◌≤◌, List, [], ◌∷◌, ◌++◌, length, take}
 use Rattle.std.proofs.Common.{Some, slice_get, slice_set, arith}
 use Rattle.std.specs.List.{AllByRecursion}
-use Rattle.std.proofs.lemmas.List.{length-append, length-map, take-append-le}
+use Rattle.std.proofs.lemmas.List.{length-append, length-map}
 use Rattle.std.proofs.lemmas.Option.{slice_get_within}
 use Rattle.fdb_txn.specs.Limits.{place_limit}
 use Rattle.fdb_txn.specs.declared.entry.Entry.{Entry}
 use Rattle.fdb_txn.specs.declared.entry.Move.{Move}
-use Rattle.fdb_txn.specs.book.Book.{Seen, seen_of, seen_before, last_version}
+use Rattle.fdb_txn.specs.book.Book.{Seen, seen_before, last_version}
 use Rattle.fdb_txn.specs.book.History.{AreEntries}
 use Rattle.fdb_txn.specs.book.Transactions.{Transaction, NamesWrites}
 use Rattle.fdb_client.proofs.WriteSetLemmas.{commit_request_of-names}
@@ -28,7 +28,7 @@ use Rattle.fdb_core.specs.headline.ProxyStages.{ArePartsOf}
 use Rattle.fdb_core.specs.refinement.CommitProxies.{ReadsWithin, entry_of, seen_as}
 use Rattle.fdb_core.specs.refinement.Resolving.{taken_by}
 use Rattle.fdb_core.proofs.common.AllLemmas.{all-map, all-take}
-use Rattle.fdb_core.proofs.refinement.BookLemmas.{last-push}
+use Rattle.fdb_core.proofs.refinement.BookLemmas.{last-push, seen-before-last}
 use Rattle.fdb_core.proofs.refinement.CommitProxyTies.{commit_proxies-set}
 use Rattle.fdb_core.proofs.refinement.MoveLemmas.{handed-own, handed-other, handed-count, moves_in-push}
 use Rattle.fdb_core.proofs.refinement.ProxyPushes.{commit_proxy-push}
@@ -136,19 +136,13 @@ module _ (k : Cluster) (refines : Refines k) (proxy advance : ℕ) (role : Commi
     pub parts-are : ArePartsOf k.config.resolver_splits (k.book.items ++ entry ∷ []) (length k.book.items) entry parts
     parts-are =
         let number : ticket.index ≡ length k.book.items = ap (λ (t : Ticket). t.index) given in
-        let seen : seen_before (k.book.items ++ entry ∷ []) (length k.book.items) ≡ seen_of k.book.items =
-        ap seen_of (take-append-le (length k.book.items) k.book.items (entry ∷ []) (omega arith)
-        ∙ take-whole k.book.items) in
+        let seen = seen-before-last k.book.items entry in
         subst (λ (n : ℕ). AreParts k.config.resolver_splits
         (moves_through (seen_before (k.book.items ++ entry ∷ []) (length k.book.items)) entry)
         (record { index = n; version = ticket.version; prev = ticket.prev }) batch parts) number
         (subst (λ (s : Seen). AreParts k.config.resolver_splits (moves_through s entry)
         (record { index = ticket.index; version = ticket.version; prev = ticket.prev }) batch parts) (sym seen)
         seals.parts_are)
-      where
-        take-whole : {A : Type 0} (xs : List A) → take (length xs) xs ≡ xs
-        take-whole [] = refl
-        take-whole (x ∷ xs) = ap (λ rest. x ∷ rest) (take-whole xs)
 
     -- what the sequencer has for the proxies once it accepted the ticket
     abbrev pub issued : Sequencer

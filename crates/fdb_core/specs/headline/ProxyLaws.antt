@@ -1,5 +1,5 @@
 -- What each call leaves of a commit proxy that has the entries of a book through that of its last ticket.
-use Rattle.std.specs.Prelude.{◌≡◌, ℕ, suc, List, [], ◌∷◌, ◌++◌, length, Some, None, slice_get, if◌then◌else◌}
+use Rattle.std.specs.Prelude.{◌≡◌, ℕ, suc, false, List, [], ◌∷◌, ◌++◌, length, Some, None, slice_get, if◌then◌else◌}
 use Rattle.fdb_keys.specs.Points.{Point}
 use Rattle.fdb_keys.specs.declared.refusal.Refusal.TheVariants.{WrongState}
 use Rattle.fdb_txn.specs.declared.entry.Entry.{Entry}
@@ -15,7 +15,7 @@ use Rattle.fdb_storage.specs.LogMessages.{log_messages}
 use Rattle.fdb_proxy.specs.declared.config.Config.{Config}
 use Rattle.fdb_proxy.specs.declared.outcome.Outcome.{Outcome}
 use Rattle.fdb_proxy.specs.declared.stage.Stage.TheVariants as stage
-use Rattle.fdb_proxy.specs.CommitProxies.{CommitProxy, IsNewProxy, is_sealed, submitting, sealing, unsealing}
+use Rattle.fdb_proxy.specs.CommitProxies.{CommitProxy, IsNewProxy, is_idle, is_sealed, submitting, sealing, unsealing}
 use Rattle.fdb_proxy.specs.CommitProxies.{IsTicketFor, learn_fault, HasLearntTicket, position_of, without_verdicts}
 use Rattle.fdb_proxy.specs.CommitProxies.{parts_in, verdict_fault, with_verdict, decide_fault, outcomes_in, deciding}
 use Rattle.fdb_proxy.specs.CommitProxies.{messages_fault, messages_of, with_logged, done_fault, answers_in, finishing}
@@ -63,6 +63,13 @@ ProxiesLearnTheirTickets =
     × (new.stage ≡ stage.Resolving (without_verdicts (position_of ticket) (parts_in new.stage)))
     × AreParts config.resolver_splits (moves_through (seen_of before) entry)
     (record { index = length before; version = entry.version; prev = entry.prev }) entry.batch (parts_in new.stage))
+
+-- a batch in flight that has an entry is that of the last one
+abbrev pub BatchesAreOfTheLastEntry : Type 0
+BatchesAreOfTheLastEntry =
+    (config : Config) (front : List Entry) (proxy : CommitProxy) → IsCommitProxyAt config front proxy
+    → is_idle proxy.stage ≡ false → is_sealed proxy.stage ≡ false
+    → (i : ℕ) × (entry : Entry) × IsLastEntry front i entry × (proxy.batch ≡ entry.batch)
 
 -- a resolver's verdicts by the rule, which are taken
 abbrev pub ProxiesHearVerdicts : Type 0
@@ -112,6 +119,7 @@ pub record AreAnswersByRule (splits : List Point) (book : List Entry) (n : ℕ) 
       → (became : Outcome) × (slice_get answers p ≡ Some (there.0.transaction.id, became))
       × IsByRule splits there p became
 
+-- so is answered who waits for the outcomes by the rule
 abbrev pub AnswersAreByTheRule : Type 0
 AnswersAreByTheRule =
     (splits : List Point) (book : List Entry) (n : ℕ) (entry : Entry) → slice_get book n ≡ Some entry

@@ -2,6 +2,7 @@ use Rattle.fdb_core.proofs.headline.ProxyLaws.{new_proxies_have_no_entry, reques
 use Rattle.fdb_core.proofs.headline.ProxyLaws.{proxies_learn_their_tickets, proxies_hear_verdicts}
 use Rattle.fdb_core.proofs.headline.ProxyLaws.{proxies_decide_by_the_rule, messages_are_of_the_entry, proxies_hear_logs}
 use Rattle.fdb_core.proofs.headline.ProxyLaws.{proxies_answer_by_the_rule, answers_are_by_the_rule}
+use Rattle.fdb_core.proofs.headline.ProxyLaws.{batches_are_of_the_last_entry}
 use Rattle.fdb_core.proofs.laws.commit_proxies_go_on_with_their_tickets.Goals as goal
 
 pub returns : goal.returns
@@ -9,6 +10,7 @@ returns c = record {
   new = new_proxies_have_no_entry;
   requests = requests_come_and_go;
   learns = proxies_learn_their_tickets;
+  in_flight = batches_are_of_the_last_entry;
   hears = proxies_hear_verdicts;
   decides = proxies_decide_by_the_rule;
   messages = messages_are_of_the_entry;
