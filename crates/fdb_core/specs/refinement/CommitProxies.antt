@@ -87,8 +87,8 @@ known_to sequencer proxy =
 abbrev pub ReadsWithin : ℕ → Transcript → Type 0
 ReadsWithin committed transcript = transcript.read_version ≤ committed
 
--- The core has the first entries of the book, through that of its last ticket, and the sequencer has for it the moves of
--- the others. What waits there and what is in flight is what is judged of the transcripts.
+-- The core has the first entries of the book, through that of its last ticket, and the sequencer has for it the moves
+-- of the others. What waits there and what is in flight is what is judged of the transcripts.
 pub record CommitProxyRefines (config : Config) (book : List Entry) (known : Known) (role : CommitProxyRole) : Type 0
   where
     pub front : List Entry
