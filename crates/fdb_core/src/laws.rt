@@ -252,12 +252,13 @@ pub fn worked_roles()
     ensures shards { OtherShardsAreElsewhere }
 {}
 
-/// A commit proxy that has the entries of a book through that of its last ticket has them still after each call but
-/// `learn`, and with that it has those through the new ticket's entry. A new proxy has none. A ticket with the moves of
-/// the entries that it hadn't is learnt, and resolvers are asked about the entry's places: a batch in flight that has
-/// an entry is that of the last one. By verdicts that are the rule's it is decided by the rule; logs are sent the
-/// entry's messages; and each transaction is answered once, by its id, that it committed exactly where it is committed
-/// by the rule, that it was too old exactly where it is, and else of a conflict.
+/// A commit proxy that has the entries of a book through that of its last ticket has just these after each call but
+/// `learn` and `fail`, where the verdicts that it takes are the rule's. A new proxy has none. A ticket with the moves of
+/// the entries that it hadn't may be learnt, and isn't refused where the batch is sealed. Then the proxy has those
+/// through the ticket's entry, and its parts are that entry's. A batch in flight that has an entry is that of the last
+/// one: it is decided by the rule, logs are sent the entry's messages, and each transaction is answered once, by its id,
+/// that it committed exactly where it is committed by the rule, that it was too old exactly where it is, and else of a
+/// conflict.
 pub fn commit_proxies_go_on_with_their_tickets()
     ensures new { NewProxiesHaveNoEntry }
     ensures requests { RequestsComeAndGo }
