@@ -5,6 +5,7 @@ pub mod FrontLaws
 pub mod HeadlineLaws
 pub mod MoveExamplesLemmas
 pub mod PromiseLaws
+pub mod ProxyExamplesLemmas
 pub mod ProxyLaws
 pub mod ReplayLaws
 pub mod RoleExamplesLemmas

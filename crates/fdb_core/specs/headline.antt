@@ -8,6 +8,7 @@ pub mod Fronts
 pub mod Headline
 pub mod MoveExamples
 pub mod Promises
+pub mod ProxyExamples
 pub mod ProxyLaws
 pub mod ProxyStages
 pub mod ReadingExamples

@@ -34,6 +34,7 @@ ghost use Rattle.fdb_core.specs.headline.ProxyLaws.{NewProxiesHaveNoEntry, Reque
 ghost use Rattle.fdb_core.specs.headline.ProxyLaws.{ProxiesHearVerdicts, ProxiesDecideByTheRule, MessagesAreOfTheEntry};
 ghost use Rattle.fdb_core.specs.headline.ProxyLaws.{ProxiesHearLogs, ProxiesAnswerByTheRule, AnswersAreByTheRule};
 ghost use Rattle.fdb_core.specs.headline.ProxyLaws.{BatchesAreOfTheLastEntry};
+ghost use Rattle.fdb_core.specs.headline.ProxyExamples.{OtherProxiesAreElsewhere};
 
 /// A refused step changes nothing.
 pub fn refusals_change_nothing()
@@ -253,12 +254,12 @@ pub fn worked_roles()
 {}
 
 /// A commit proxy that has the entries of a book through that of its last ticket has just these after each call but
-/// `learn` and `fail`, where the verdicts that it takes are the rule's. A new proxy has none. A ticket with the moves of
-/// the entries that it hadn't may be learnt, and isn't refused where the batch is sealed. Then the proxy has those
+/// `learn` and `fail`, where the verdicts that it takes are the rule's. A new proxy has none. A ticket with the moves
+/// of the entries that it hadn't may be learnt, and isn't refused where the batch is sealed. Then the proxy has those
 /// through the ticket's entry, and its parts are that entry's. A batch in flight that has an entry is that of the last
-/// one: it is decided by the rule, logs are sent the entry's messages, and each transaction is answered once, by its id,
-/// that it committed exactly where it is committed by the rule, that it was too old exactly where it is, and else of a
-/// conflict.
+/// one: it is decided by the rule, logs are sent the entry's messages, and each transaction is answered once, by its
+/// id, that it committed exactly where it is committed by the rule, that it was too old exactly where it is, and else
+/// of a conflict.
 pub fn commit_proxies_go_on_with_their_tickets()
     ensures new { NewProxiesHaveNoEntry }
     ensures requests { RequestsComeAndGo }
@@ -270,4 +271,11 @@ pub fn commit_proxies_go_on_with_their_tickets()
     ensures logged { ProxiesHearLogs }
     ensures answers { ProxiesAnswerByTheRule }
     ensures by_rule { AnswersAreByTheRule }
+{}
+
+/// Which commit proxies have the entry of a small book, and which haven't: one that failed, that had another ticket as
+/// its last one, that learnt a move that no entry has, that decided otherwise than the rule, or that has a batch in
+/// flight that isn't the last entry's.
+pub fn worked_proxies()
+    ensures { OtherProxiesAreElsewhere }
 {}
