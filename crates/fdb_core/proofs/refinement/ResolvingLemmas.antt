@@ -85,18 +85,23 @@ same-parts splits moves position batch given parts sent same_batch same_parts ar
     subst (AreParts splits moves position batch) (sym same_parts)
     (subst (λ (ts : List Transaction). AreParts splits moves position ts parts) same_batch are)
 
+-- what a resolver is sent of an entry is a part
+pub is-part : (splits : List Point) (moves : List Stamped) (position : Position) (batch : List Transaction) (i : ℕ)
+    (part : Part) → position.prev < position.version → IsPartOf splits moves position batch i part → IsPart part
+is-part splits moves position batch i part later of = record {
+  later = let prev = of.prev in let version = of.version in omega (arith, later, prev, version);
+  rising = items-rising splits moves i position.version 0 batch part.items of.items;
+  reads = items-reads splits moves i position.version 0 batch part.items of.items;
+}
+
 -- what is sent of an entry are parts
 pub are-parts : (splits : List Point) (moves : List Stamped) (position : Position) (batch : List Transaction)
     (parts : List Part) → position.prev < position.version → AreParts splits moves position batch parts
     → All IsPart parts
 are-parts splits moves position batch parts later are k d within =
     let there = within-item parts k within in
-    let of = are.each k there.0 there.1 in
-    subst IsPart (sym (get_or_from_slice_get parts k there.0 d there.1)) (record {
-      later = let prev = of.prev in let version = of.version in omega (arith, later, prev, version);
-      rising = items-rising splits moves k position.version 0 batch there.0.items of.items;
-      reads = items-reads splits moves k position.version 0 batch there.0.items of.items;
-    })
+    subst IsPart (sym (get_or_from_slice_get parts k there.0 d there.1))
+    (is-part splits moves position batch k there.0 later (are.each k there.0 there.1))
 
 -- entries after others follow on the last of those
 pub entries-after : (resolvers last : ℕ) (before : List Entry) (entry : Entry)

@@ -1,0 +1,47 @@
+-- A front with one entry more.
+use Rattle.std.proofs.Common.{◌≡◌, ◌∙◌, refl, ap, ap₂, ℕ, suc, List, [], ◌∷◌, ◌++◌, length, None, Result, Ok, Err, OnErr, arith}
+use Rattle.std.proofs.lemmas.Bool.{lt-leb, le-ltb}
+use Rattle.std.proofs.lemmas.List.{length-append}
+use Rattle.fdb_txn.specs.declared.entry.Entry.{Entry}
+use Rattle.fdb_book.specs.Fronts.{IsPrefix}
+use Rattle.fdb_runtime.specs.Turns.{front_fault, HasOneMore}
+
+-- a front that begins with another one and has one entry more
+pub one-more : (own theirs : List Entry) → length theirs ≡ suc (length own) → IsPrefix own theirs
+    → HasOneMore own theirs
+one-more own theirs count prefix = by_rest prefix.0 prefix.1
+  where
+    by_rest : (rest : List Entry) → theirs ≡ own ++ rest → HasOneMore own theirs
+    by_rest [] is = absurd (omega (arith, count, ap length is, length-append own []))
+    by_rest (entry ∷ []) is = (entry, is)
+    by_rest (entry ∷ other ∷ rest) is =
+        absurd (omega (arith, count, ap length is, length-append own (entry ∷ other ∷ rest)))
+
+-- it is taken next
+pub next-in-turn : (own theirs : List Entry) → length theirs ≡ suc (length own) → front_fault own theirs ≡ None
+next-in-turn own theirs count =
+    rw (lt-leb (length theirs) (length own) (omega (arith, count)))
+    (rw (le-ltb (suc (length own)) (length theirs) (omega (arith, count))) refl)
+
+-- of two ways to part a front into its last entry and those before it, the parts are the same
+pub same-front : (before own : List Entry) (entry other : Entry) → before ++ entry ∷ [] ≡ own ++ other ∷ []
+    → before ≡ own
+same-front [] [] entry other is = refl
+same-front [] (one ∷ own) entry other is =
+    absurd (omega (arith, ap length is, length-append own (other ∷ [])))
+same-front (one ∷ before) [] entry other is =
+    absurd (omega (arith, ap length is, length-append before (entry ∷ [])))
+same-front (one ∷ before) (another ∷ own) entry other is =
+    ap₂ (λ (e : Entry) (front : List Entry). e ∷ front) (same-head _ _ _ _ is)
+    (same-front before own entry other (same-tail _ _ _ _ is))
+  where
+    same-head : (a b : Entry) (more others : List Entry) → a ∷ more ≡ b ∷ others → a ≡ b
+    same-head a b more others is = cc
+
+    same-tail : (a b : Entry) (more others : List Entry) → a ∷ more ≡ b ∷ others → more ≡ others
+    same-tail a b more others is = cc
+
+-- what holds anyhow holds where a call is refused
+pub where-refused : {T E : Type 0} (result : Result T E) (P : Type 0) → P → OnErr result P
+where-refused (Ok given) P holds = tt
+where-refused (Err why) P holds = holds

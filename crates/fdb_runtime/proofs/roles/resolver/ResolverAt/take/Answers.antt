@@ -1,0 +1,60 @@
+use Rattle.std.proofs.Common.{◌≡◌, ◌∙◌, sym, ap, subst, List, Result, Ok, Err, OnErr, ⊎_elim, inl, inr}
+use Rattle.std.specs.Prelude.{◌⊎◌}
+use Rattle.fdb_keys.specs.declared.refusal.Refusal.{Refusal}
+use Rattle.fdb_txn.specs.declared.entry.Entry.{Entry}
+use Rattle.fdb_resolver.specs.Resolvers.{Resolver, part_fault, IsAnswer}
+use Rattle.fdb_core.proofs.common.FaultLemmas.{answers-fault, given-fault}
+use Rattle.fdb_runtime.specs.Messages.{AreLastVerdicts}
+use Rattle.fdb_runtime.specs.RolesAtFronts.{ResolverAtFront}
+use Rattle.fdb_runtime.specs.Turns.{front_fault, HasOneMore}
+use Rattle.fdb_runtime.proofs.TurnLemmas.{where-refused}
+use Rattle.fdb_runtime.proofs.ResolverLemmas.{sent-part, stays, takes-own, says, is-there, IsThere}
+use Rattle.fdb_runtime.proofs.roles.resolver.ResolverAt.take.Goals as goal
+
+pub take-requires : goal.take-requires
+take-requires g c =
+    sent-part g.B.ClusterName.config.resolver_splits _ c.message.invariant c.check_next.ensures.entries
+
+pub invariant_of-self : goal.invariant_of-self
+invariant_of-self g c =
+    (stays g.B.ClusterName.config.resolver_splits c.self.inside.front c.self.inside.core c.take.new.self
+    (part_fault c.self.inside.core c.message.inside.part) c.in_err-verdicts.ensures.refused
+    c.in_err-verdicts.ensures.failed c.self.invariant).0
+
+pub returns-in_err-verdicts-clause-refused : goal.returns-in_err-verdicts-clause-refused
+returns-in_err-verdicts-clause-refused g c =
+    where-refused c.from_residual-in_err-verdicts.result _ (⊎_elim
+    (λ same. inl (ap (λ (core : Resolver). record { front = c.self.inside.front; core = core }) same ∙ c.self.view_is))
+    (λ fails. inr fails)
+    (stays g.B.ClusterName.config.resolver_splits c.self.inside.front c.self.inside.core c.take.new.self
+    (part_fault c.self.inside.core c.message.inside.part) c.in_err-verdicts.ensures.refused
+    c.in_err-verdicts.ensures.failed c.self.invariant).1)
+
+pub invariant_of-result : goal.invariant_of-result
+invariant_of-result g c =
+    let splits = g.B.ClusterName.config.resolver_splits in
+    let core = c.self.inside.core in
+    let more = (given-fault (front_fault c.self.inside.front c.message.inside.front) _
+    (λ _. HasOneMore c.self.inside.front c.message.inside.front) c.in_ok-check_next.ensures.answers).1 in
+    let took = answers-fault (part_fault core c.message.inside.part) c.in_ok-verdicts.verdicts
+    (IsAnswer core c.message.inside.part) c.in_ok-verdicts.ensures.answers in
+    let own = takes-own core c.message.inside.part took.0 in
+    subst (λ (front : List Entry). AreLastVerdicts splits
+    (record { front = front; verdicts = c.in_ok-verdicts.verdicts })) (sym c.in_ok-sent.ensures)
+    (says splits _ c.message.invariant c.check_next.ensures.entries c.self.inside.front more core
+    (c.self.invariant.1 own.1) own.0 c.in_ok-verdicts.verdicts c.take.new.self took.1
+    c.in_ok-verdicts.ensures.taken c.self.invariant.0)
+
+pub invariant_of-self-2 : goal.invariant_of-self-2
+invariant_of-self-2 g c =
+    let splits = g.B.ClusterName.config.resolver_splits in
+    let core = c.self.inside.core in
+    let more = (given-fault (front_fault c.self.inside.front c.message.inside.front) _
+    (λ _. HasOneMore c.self.inside.front c.message.inside.front) c.in_ok-check_next.ensures.answers).1 in
+    let took = answers-fault (part_fault core c.message.inside.part) c.in_ok-verdicts.verdicts
+    (IsAnswer core c.message.inside.part) c.in_ok-verdicts.ensures.answers in
+    let own = takes-own core c.message.inside.part took.0 in
+    subst (λ (front : List Entry). IsThere splits front c.take.new.self) (sym c.in_ok-front.ensures)
+    (is-there splits _ c.message.invariant c.check_next.ensures.entries c.self.inside.front more core
+    (c.self.invariant.1 own.1) own.0 c.in_ok-verdicts.verdicts c.take.new.self took.1
+    c.in_ok-verdicts.ensures.taken c.self.invariant.0)

@@ -1,0 +1,10 @@
+use Rattle.std.proofs.Common.{◌≡◌, suc, length, sym, subst, List}
+use Rattle.fdb_txn.specs.declared.entry.Entry.{Entry}
+use Rattle.fdb_txn.specs.book.History.{AreEntries}
+use Rattle.fdb_core.proofs.refinement.BookLemmas.{entries-take}
+use Rattle.fdb_runtime.proofs.sealed_front.SealedFront.cut.Goals as goal
+
+pub invariant_of-result : goal.invariant_of-result
+invariant_of-result g c =
+    subst (AreEntries (suc (length g.B.ClusterName.config.resolver_splits)) 0) (sym c.in_ok-cut.ensures)
+    (entries-take (suc (length g.B.ClusterName.config.resolver_splits)) 0 c.args.len _ c.self.invariant)

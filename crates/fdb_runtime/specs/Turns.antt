@@ -1,0 +1,18 @@
+-- When a role takes a message: what it has seen and what it is told of are fronts of one book.
+use Rattle.std.specs.Prelude.{◌≡◌, ◌++◌, ℕ, suc, nat_le, nat_lt, List, [], ◌∷◌, length, Option, Some, None}
+use Rattle.std.specs.Prelude.{if◌then◌else◌}
+use Rattle.fdb_keys.specs.declared.refusal.Refusal.{Refusal}
+use Rattle.fdb_keys.specs.declared.refusal.Refusal.TheVariants.{NotYet, Stale}
+use Rattle.fdb_txn.specs.declared.entry.Entry.{Entry}
+use Rattle.fdb_txn.specs.book.Book.{last_version}
+
+-- why a role at its own front doesn't take a message that comes with another one: it took the message's entry before,
+-- or it hasn't taken the one before that
+abbrev pub front_fault : List Entry → List Entry → Option Refusal
+front_fault own theirs =
+    if nat_le (length theirs) (length own) then Some Stale
+    else (if nat_lt (suc (length own)) (length theirs) then Some (NotYet (last_version own)) else None)
+
+-- the longer front has one entry more
+abbrev pub HasOneMore : List Entry → List Entry → Type 0
+HasOneMore short long = (entry : Entry) × (long ≡ short ++ entry ∷ [])

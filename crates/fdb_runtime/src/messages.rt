@@ -1,0 +1,3 @@
+//! What roles tell each other, with what is known of it wherever it arrives.
+pub(crate) mod part_message;
+pub(crate) mod verdict_message;

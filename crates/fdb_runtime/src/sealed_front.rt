@@ -1,0 +1,122 @@
+ghost use Rattle.std.specs.Prelude.{◌≡◌, ◌≤◌, [], suc, take, length, slice_get, None};
+ghost use Rattle.std.specs.Option.{option_copied};
+ghost use Rattle.std.specs.Ordering.{nat_cmp};
+ghost use Rattle.fdb_keys.specs.Answers.{Answers, AnswersExactly};
+ghost use Rattle.fdb_txn.specs.book.Book.{last_version};
+ghost use Rattle.fdb_txn.specs.book.History.{AreEntries};
+ghost use Rattle.fdb_book.specs.Fronts.{IsPrefix};
+ghost use Rattle.fdb_runtime.specs.Turns.{front_fault, HasOneMore};
+
+use crate::name::ClusterName;
+use fdb_book::{Book, Front, agree, empty};
+use fdb_keys::Refusal;
+use fdb_txn::Entry;
+use std::alloc::Global;
+use std::cmp::Ordering;
+use std::marker::Model;
+
+/// A front whose transactions are sealed and whose moves go to resolvers that the database has. It is all that is known
+/// of the book where a lock is taken or a message received.
+#[derive(Drop)]
+pub(crate) struct SealedFront<B: ClusterName> {
+    front: Front<B>,
+}
+
+impl<B: ClusterName> Model for SealedFront<B> {
+    ghost use Rattle.std.specs.Prelude.{List, suc, length};
+    ghost use Rattle.fdb_txn.specs.declared.entry.Entry.{Entry as AnEntry};
+    ghost use Rattle.fdb_txn.specs.book.History.{AreEntries};
+
+    ghost Value = { List AnEntry };
+
+    ghost view = { λ sealed. sealed.front };
+
+    ghost invariant = { λ sealed. AreEntries (suc (length B.config.resolver_splits)) 0 sealed.front };
+}
+
+impl<B: ClusterName> SealedFront<B> {
+    /// The front of no entries. Refused only as `NoMemory`.
+    pub(crate) fn empty(alloc: Global, book: &Book<B>) -> Result<Self, Refusal>
+        ensures { Answers result None (λ sealed. sealed ≡ []) }
+    {
+        Ok(SealedFront {
+            front: empty(alloc, book)?,
+        })
+    }
+
+    /// The front, lent.
+    pub(crate) fn front(&self) -> &Front<B>
+        ensures value { result.now ≡ self.now }
+        ensures entries { AreEntries (suc (length B.config.resolver_splits)) 0 self.now }
+    {
+        &self.front
+    }
+
+    /// How many entries it shows.
+    pub(crate) fn len(&self) -> usize
+        ensures { result ≡ length self.now }
+    {
+        self.front.len()
+    }
+
+    /// The version of the last entry, 0 where there is none.
+    pub(crate) fn version(&self) -> u64
+        ensures { result ≡ last_version self.now }
+    {
+        self.front.version()
+    }
+
+    /// The entry with the number, if it shows it.
+    pub(crate) fn entry(&self, index: usize) -> Option<&Entry>
+        ensures { option_copied result ≡ slice_get self.now index }
+    {
+        self.front.entry(index)
+    }
+
+    /// The same front once more. Refused only as `NoMemory`.
+    pub(crate) fn share(&self) -> Result<Self, Refusal>
+        ensures { Answers result None (λ sealed. sealed ≡ self.now) }
+    {
+        Ok(SealedFront {
+            front: self.front.share()?,
+        })
+    }
+
+    /// The front of the first entries. Refused only as `NoMemory`.
+    pub(crate) fn cut(&self, len: usize) -> Result<Self, Refusal>
+        requires { len ≤ length self.now }
+        ensures { Answers result None (λ sealed. sealed ≡ take len self.now) }
+    {
+        Ok(SealedFront {
+            front: self.front.cut(len)?,
+        })
+    }
+
+    /// Compares how many entries two fronts of the database show. The longer one begins with the shorter one.
+    pub(crate) fn agree(&self, other: &Self) -> Ordering
+        ensures by_length { result ≡ nat_cmp (length self.now) (length other.now) }
+        ensures shorter { length self.now ≤ length other.now → IsPrefix self.now other.now }
+        ensures longer { length other.now ≤ length self.now → IsPrefix other.now self.now }
+    {
+        agree(&self.front, &other.front)
+    }
+
+    /// Whether another front has just one entry more. Refused as `Stale` where it has no more, and as `NotYet` with the
+    /// own last version where it has more than one more. It takes no memory.
+    pub(crate) fn check_next(&self, other: &Self) -> Result<(), Refusal>
+        ensures answers { AnswersExactly result (front_fault self.now other.now) (λ _. HasOneMore self.now other.now) }
+        ensures entries { AreEntries (suc (length B.config.resolver_splits)) 0 other.now }
+    {
+        let _ = &other.front;
+        let own = self.len();
+        let theirs = other.len();
+        self.agree(other);
+        if theirs <= own {
+            return Err(Refusal::Stale);
+        }
+        if theirs != own + 1 {
+            return Err(Refusal::NotYet(self.version()));
+        }
+        Ok(())
+    }
+}
