@@ -1,2 +1,4 @@
 pub mod TurnLemmas
 pub mod ResolverLemmas
+pub mod LogLemmas
+pub mod IssueLemmas

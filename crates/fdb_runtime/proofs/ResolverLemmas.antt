@@ -76,8 +76,8 @@ module _ (splits : List Point) (sent : PartAtFront) (is : IsLastPart splits sent
     is-there verdicts new answer taken within = (
       subst (λ (i : ℕ). i < suc (length splits)) (sym taken.index) within,
       λ works. subst (λ (front : List Entry). IsResolverAt splits front new.index new) (sym is.front_is)
-      (subst (λ (i : ℕ). IsResolverAt splits (is.before ++ is.entry ∷ []) i new) (mine ∙ sym taken.index)
-      (goes-on verdicts new answer taken).1),
+          (subst (λ (i : ℕ). IsResolverAt splits (is.before ++ is.entry ∷ []) i new) (mine ∙ sym taken.index)
+          (goes-on verdicts new answer taken).1),
     )
 
 -- one that is refused a part stays there, or has failed

@@ -1,3 +1,4 @@
+pub mod Issuing
 pub mod Messages
 pub mod RolesAtFronts
 pub mod Turns

@@ -1,2 +1,4 @@
 //! The roles, each with what it has seen of the book.
+pub(crate) mod log;
 pub(crate) mod resolver;
+pub(crate) mod sequencer;

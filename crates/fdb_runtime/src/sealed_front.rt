@@ -1,14 +1,17 @@
-ghost use Rattle.std.specs.Prelude.{◌≡◌, ◌≤◌, [], suc, take, length, slice_get, None};
+ghost use Rattle.std.specs.Prelude.{◌≡◌, ◌<◌, ◌≤◌, [], suc, take, length, slice_get, None};
 ghost use Rattle.std.specs.Option.{option_copied};
 ghost use Rattle.std.specs.Ordering.{nat_cmp};
 ghost use Rattle.fdb_keys.specs.Answers.{Answers, AnswersExactly};
+ghost use Rattle.std.specs.List.{AllByRecursion};
+ghost use Rattle.fdb_txn.specs.declared.entry.Move.{Move as AMove};
 ghost use Rattle.fdb_txn.specs.book.Book.{last_version};
 ghost use Rattle.fdb_txn.specs.book.History.{AreEntries};
 ghost use Rattle.fdb_book.specs.Fronts.{IsPrefix};
+ghost use Rattle.fdb_runtime.specs.Issuing.{AppendsTwice};
 ghost use Rattle.fdb_runtime.specs.Turns.{front_fault, HasOneMore};
 
 use crate::name::ClusterName;
-use fdb_book::{Book, Front, agree, empty};
+use fdb_book::{Book, Front, agree, append_and_share, empty};
 use fdb_keys::Refusal;
 use fdb_txn::Entry;
 use std::alloc::Global;
@@ -90,6 +93,26 @@ impl<B: ClusterName> SealedFront<B> {
         Ok(SealedFront {
             front: self.front.cut(len)?,
         })
+    }
+
+    /// Appends an entry to the book behind the front, and gives the longer front twice. Refused as `Chain` where the
+    /// entry doesn't go on from the front, as `Repeated` where an id of its transactions stands there twice, as
+    /// `BookFull`, as `NoMemory`, and as `Taken` where another entry stands in the book. It takes the time of a copy of
+    /// a number for each session.
+    pub(crate) fn append(
+        &self,
+        alloc: Global,
+        book: &Book<B>,
+        entry: Entry,
+    ) -> Result<(Self, Self), Refusal>
+        requires { AllByRecursion (λ (move : AMove). move.to < suc (length B.config.resolver_splits)) entry.moves }
+        ensures { AppendsTwice (length B.cells) self.now entry result }
+    {
+        let _ = entry.batch.as_slice();
+        match append_and_share(alloc, book, &self.front, entry) {
+            Ok((front, share)) => Ok((SealedFront { front }, SealedFront { front: share })),
+            Err(refused) => Err(refused.why),
+        }
     }
 
     /// Compares how many entries two fronts of the database show. The longer one begins with the shorter one.

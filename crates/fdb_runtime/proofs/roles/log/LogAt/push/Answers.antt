@@ -1,0 +1,45 @@
+use Rattle.std.proofs.Common.{◌≡◌, ◌∙◌, refl, sym, ap, subst, ℕ, List, inl, inr, ⊎_elim}
+use Rattle.fdb_txn.specs.declared.entry.Entry.{Entry}
+use Rattle.fdb_log.specs.declared.message.LogAck.{LogAck}
+use Rattle.fdb_log.specs.Logs.{Log, push_fault, HasFailed}
+use Rattle.fdb_core.proofs.common.FaultLemmas.{answers-fault, given-fault}
+use Rattle.fdb_runtime.specs.RolesAtFronts.{LogAtFront}
+use Rattle.fdb_runtime.specs.Turns.{front_fault, HasOneMore}
+use Rattle.fdb_runtime.proofs.TurnLemmas.{where-refused, refused-by-role}
+use Rattle.fdb_runtime.proofs.LogLemmas.{IsLogThere, rises, log-there, log-stays, takes-its-own}
+use Rattle.fdb_runtime.proofs.roles.log.LogAt.push.Goals as goal
+
+pub push-requires : goal.push-requires
+push-requires g c = rises g.B.ClusterName.config _ c.message.invariant c.check_next.ensures.entries
+
+pub invariant_of-self : goal.invariant_of-self
+invariant_of-self g c =
+    (log-stays g.B.ClusterName.config c.self.inside.front c.self.inside.core c.push.new.self
+    (push_fault c.self.inside.core c.message.inside.message) c.in_err-ack.ensures.refused
+    c.in_err-ack.ensures.failed c.self.invariant).0
+
+pub returns-in_err-ack-clause-answers : goal.returns-in_err-ack-clause-answers
+returns-in_err-ack-clause-answers g c = ?
+
+pub returns-in_err-ack-clause-refused : goal.returns-in_err-ack-clause-refused
+returns-in_err-ack-clause-refused g c =
+    where-refused c.from_residual-in_err-ack.result _ (⊎_elim
+    (λ same. inl (ap (λ (core : Log). record { front = c.self.inside.front; core = core }) same ∙ c.self.view_is))
+    (λ fails. inr (refl, fails))
+    (log-stays g.B.ClusterName.config c.self.inside.front c.self.inside.core c.push.new.self
+    (push_fault c.self.inside.core c.message.inside.message) c.in_err-ack.ensures.refused
+    c.in_err-ack.ensures.failed c.self.invariant).1)
+
+pub invariant_of-self-2 : goal.invariant_of-self-2
+invariant_of-self-2 g c =
+    let config = g.B.ClusterName.config in
+    let core = c.self.inside.core in
+    let message = c.message.inside.message in
+    let more = (given-fault (front_fault c.self.inside.front c.message.inside.front) _
+    (λ _. HasOneMore c.self.inside.front c.message.inside.front) c.in_ok-check_next.ensures.answers).1 in
+    let took = answers-fault (push_fault core message) c.in_ok-ack.ack
+    (λ (ack : LogAck). ack ≡ record { log = core.log; index = message.index }) c.in_ok-ack.ensures.answers in
+    let own = takes-its-own core message took.0 in
+    subst (λ (front : List Entry). IsLogThere config front c.push.new.self) (sym c.in_ok-front.ensures)
+    (log-there config _ c.message.invariant c.check_next.ensures.entries c.self.inside.front more core
+    c.push.new.self (c.self.invariant.1 own.1) own.0 c.in_ok-ack.ensures.taken c.self.invariant.0)

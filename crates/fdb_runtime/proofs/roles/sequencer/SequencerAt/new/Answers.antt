@@ -1,0 +1,12 @@
+use Rattle.std.proofs.Common.{◌≡◌}
+use Rattle.fdb_sequencer.specs.Sequencer.{Sequencer, new_fault, fresh}
+use Rattle.fdb_core.proofs.common.FaultLemmas.{answers-fault}
+use Rattle.fdb_runtime.proofs.IssueLemmas.{starts}
+use Rattle.fdb_runtime.proofs.roles.sequencer.SequencerAt.new.Goals as goal
+
+pub invariant_of-result : goal.invariant_of-result
+invariant_of-result g c =
+    starts g.B.ClusterName.config c.in_ok-front.front c.in_ok-core.core c.args.proxies c.args.resolvers
+    c.in_ok-front.ensures (answers-fault (new_fault c.args.proxies c.args.resolvers 0) c.in_ok-core.core
+    (λ (core : Sequencer). core ≡ fresh c.args.proxies c.args.resolvers 0) c.in_ok-core.ensures).1
+    c.requires.proxies c.requires.resolvers

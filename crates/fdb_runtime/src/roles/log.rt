@@ -1,0 +1,104 @@
+ghost use Rattle.std.specs.Prelude.{◌≡◌, ◌⊎◌, [], suc, length, OnOk, OnErr};
+ghost use Rattle.fdb_keys.specs.Answers.{Answers, AnswersExactly};
+ghost use Rattle.fdb_log.specs.Logs.{IsNewLog, config_fault, push_fault, tag_fault, peek_fault, peek_of, HasTaken};
+ghost use Rattle.fdb_log.specs.Logs.{HasFailed, HasPopped};
+ghost use Rattle.fdb_runtime.specs.Turns.{front_fault, AnswersInTurn};
+
+use crate::messages::log_message::LogMessage;
+use crate::messages::peek_message::PeekMessage;
+use crate::name::ClusterName;
+use crate::sealed_front::SealedFront;
+use fdb_book::Book;
+use fdb_keys::Refusal;
+use fdb_log::{LogAck, LogCore};
+use std::alloc::Global;
+use std::marker::Model;
+
+/// A log, which took the entries of its front.
+#[derive(Drop)]
+pub(crate) struct LogAt<B: ClusterName> {
+    front: SealedFront<B>,
+    core: LogCore,
+}
+
+impl<B: ClusterName> Model for LogAt<B> {
+    ghost use Rattle.std.specs.Prelude.{◌≡◌, ◌<◌, false};
+    ghost use Rattle.fdb_core.specs.headline.RoleLaws.{IsLogAt};
+    ghost use Rattle.fdb_runtime.specs.RolesAtFronts.{LogAtFront};
+
+    ghost Value = { LogAtFront };
+
+    ghost view = { λ at. record { front = at.front; core = at.core } };
+
+    ghost invariant = { λ at. (at.core.log < B.config.logs)
+        × (at.core.is_failed ≡ false → IsLogAt B.config at.front at.core.log at.core) };
+}
+
+impl<B: ClusterName> LogAt<B> {
+    /// The log with the number, which took nothing. There are as many logs as the configuration says, and a tag for
+    /// each of its shards. Refused as `BadConfig` where there is no log with the number, or the configuration has no
+    /// legal numbers of logs and shards, and as `NoMemory`.
+    pub(crate) fn new(
+        alloc: Global,
+        book: &Book<B>,
+        log: u32,
+        logs: u32,
+        tags: u32,
+    ) -> Result<Self, Refusal>
+        requires logs { logs ≡ B.config.logs }
+        requires tags { tags ≡ suc (length B.config.shard_splits) }
+        ensures { Answers result (config_fault log logs tags)
+            (λ at. (at.front ≡ []) × IsNewLog log logs tags at.core) }
+    {
+        let core = LogCore::new(alloc, log, logs, tags)?;
+        let front = SealedFront::empty(alloc, book)?;
+        Ok(LogAt { front, core })
+    }
+
+    /// The front whose entries it took, lent.
+    pub(crate) fn front(&self) -> &SealedFront<B>
+        ensures { result.now ≡ self.now.front }
+    {
+        &self.front
+    }
+
+    /// Takes its message of the next entry. Refused as `Stale` where it took the message's entry before, as `NotYet`
+    /// with the own last version where an entry in between is missing, as the core refuses the message, and as
+    /// `NoMemory`. It stays where it was unless memory ran out in the core, after which it has failed.
+    pub(crate) fn push(&mut self, message: &LogMessage<B>) -> Result<LogAck, Refusal>
+        ensures answers { AnswersInTurn result (front_fault self.old.front message.now.front)
+            (push_fault self.old.core message.now.message)
+            (λ ack. ack ≡ record { log = self.old.core.log; index = message.now.message.index }) }
+        ensures next { OnOk result (self.new.front ≡ message.now.front) }
+        ensures taken { OnOk result (HasTaken self.old.core message.now.message self.new.core) }
+        ensures refused { OnErr result ((self.new ≡ self.old)
+            ⊎ ((self.new.front ≡ self.old.front) × HasFailed self.old.core self.new.core)) }
+    {
+        self.front.check_next(&message.front)?;
+        let front = message.front.share()?;
+        let ack = self.core.push(&message.message)?;
+        self.front = front;
+        Ok(ack)
+    }
+
+    /// The first `limit` of the tag's messages after a version, with the log's front. A limit of 0 gives none. Refused
+    /// as the core refuses, and as `NoMemory`.
+    pub(crate) fn peek(&self, tag: u32, after: u64, limit: u32) -> Result<PeekMessage<B>, Refusal>
+        ensures { Answers result (peek_fault self.now.core tag after)
+            (λ given. (given.front ≡ self.now.front) × (given.peek ≡ peek_of self.now.core tag after limit)) }
+    {
+        let peek = self.core.peek(tag, after, limit)?;
+        let front = self.front.share()?;
+        Ok(PeekMessage { front, peek })
+    }
+
+    /// Drops the tag's messages through a version. It takes no memory. Refused as the core refuses.
+    pub(crate) fn pop(&mut self, tag: u32, through: u64) -> Result<(), Refusal>
+        ensures answers { AnswersExactly result (tag_fault self.old.core tag through)
+            (λ _. HasPopped self.old.core tag through self.new.core) }
+        ensures stays { self.new.front ≡ self.old.front }
+        ensures refused { OnErr result (self.new ≡ self.old) }
+    {
+        self.core.pop(tag, through)
+    }
+}
