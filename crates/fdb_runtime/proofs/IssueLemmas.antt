@@ -1,13 +1,13 @@
 -- A sequencer that appends to the book itself.
-use Rattle.std.proofs.Common.{◌≡◌, ◌∙◌, ◌<◌, ◌≤◌, refl, sym, ap, subst, ℕ, suc, List, [], ◌∷◌, ◌++◌, Option, Some, None}
-use Rattle.std.proofs.Common.{arith, Bool, true, false, inl, inr, ◌⊎◌, Result, Ok, Err, OnErr, ⊎_elim}
+use Rattle.std.proofs.Common.{◌≡◌, ◌∙◌, ◌<◌, refl, sym, ap, subst, ℕ, suc, List, [], ◌∷◌, ◌++◌, Option, Some, None}
+use Rattle.std.proofs.Common.{Bool, true, false, inl, inr, Result, Ok, Err, OnErr, ⊎_elim}
 use Rattle.std.specs.Prelude.{◌&&◌, ◌==◌, nat_lt, length, if◌then◌else◌}
 use Rattle.std.specs.List.{AllByRecursion, list_all}
 use Rattle.std.proofs.lemmas.Bool.{and_parts, eqb-true, ltb-true}
 use Rattle.std.proofs.lemmas.List.{append_assoc}
 use Rattle.fdb_keys.specs.Answers.{Answers, AnswersExactly}
 use Rattle.fdb_keys.specs.declared.refusal.Refusal.{Refusal}
-use Rattle.fdb_keys.specs.declared.refusal.Refusal.TheVariants.{Chain, NoMemory, Taken}
+use Rattle.fdb_keys.specs.declared.refusal.Refusal.TheVariants.{Chain}
 use Rattle.fdb_keys.specs.declared.refusal.Refused.{Refused}
 use Rattle.fdb_txn.specs.declared.entry.Entry.{Entry}
 use Rattle.fdb_txn.specs.declared.entry.Move.{Move}
@@ -15,7 +15,7 @@ use Rattle.fdb_txn.specs.book.Book.{last_version}
 use Rattle.fdb_txn.specs.book.History.{AreEntries, IsSealed}
 use Rattle.fdb_txn.specs.book.Transactions.{Transaction, NamesWrites}
 use Rattle.fdb_txn.proofs.book.HistoryLemmas.{entries_go_on}
-use Rattle.fdb_book.specs.Appending.{goes_on, ids_fault, append_fault, Appends, AppendsAndShares}
+use Rattle.fdb_book.specs.Appending.{goes_on, ids_fault, append_fault, AppendsAndShares}
 use Rattle.fdb_book.specs.Ids.{repeated_place}
 use Rattle.fdb_sequencer.specs.declared.ticket.Ticket.{Ticket}
 use Rattle.fdb_sequencer.specs.Moves.{Dated, dated}
@@ -31,7 +31,7 @@ use Rattle.fdb_core.proofs.headline.RoleLaws.{sequencer_goes_on}
 use Rattle.fdb_core.proofs.headline.RoleStartLaws.{sequencer_starts, sequencer_reports, sequencer_moves}
 use Rattle.fdb_core.proofs.refinement.BookLemmas.{last-push}
 use Rattle.fdb_core.proofs.refinement.MoveLemmas.{dated_moves-push}
-use Rattle.fdb_runtime.specs.Issuing.{IsAppendRefused, IsIssueRefused, AppendsTwice, AnswersIssue}
+use Rattle.fdb_runtime.specs.Issuing.{IsAppendRefused}
 
 abbrev pub ReadBelow : ℕ → List Transaction → Type 0
 ReadBelow version batch = AllByRecursion (λ (t : Transaction). t.read < version) batch

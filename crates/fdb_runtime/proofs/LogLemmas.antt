@@ -10,6 +10,7 @@ use Rattle.fdb_txn.specs.declared.entry.Entry.{Entry}
 use Rattle.fdb_txn.specs.book.Book.{seen_of}
 use Rattle.fdb_txn.specs.book.History.{AreEntries}
 use Rattle.fdb_txn.specs.Turn.{turn_fault}
+use Rattle.fdb_log.specs.declared.message.LogAck.{LogAck}
 use Rattle.fdb_log.specs.declared.message.LogMsg.{LogMsg}
 use Rattle.fdb_log.specs.Logs.{Log, push_fault, tag_fault, HasTaken, HasPopped, HasFailed}
 use Rattle.fdb_storage.specs.LogMessages.{log_message}
@@ -19,13 +20,18 @@ use Rattle.fdb_core.proofs.headline.RoleLaws.{log_goes_on}
 use Rattle.fdb_core.proofs.headline.RoleStartLaws.{log_pops}
 use Rattle.fdb_core.proofs.refinement.ResolvingLemmas.{follows}
 use Rattle.fdb_runtime.specs.Messages.{LogMsgAtFront, IsLastMessage}
-use Rattle.fdb_runtime.specs.Turns.{HasOneMore}
-use Rattle.fdb_runtime.proofs.TurnLemmas.{same-front}
+use Rattle.fdb_runtime.specs.RolesAtFronts.{LogAtFront}
+use Rattle.fdb_runtime.specs.Turns.{front_fault, HasOneMore, AnswersInTurn}
+use Rattle.fdb_runtime.proofs.TurnLemmas.{same-front, refused-by-role}
 
 -- what is known of a log at a front: it is there unless it has failed
 abbrev pub IsLogThere : Config → List Entry → Log → Type 0
 IsLogThere config front core =
     (core.log < config.logs) × (core.is_failed ≡ false → IsLogAt config front core.log core)
+
+-- what the log answers that takes the message
+abbrev pub IsAck : LogAtFront → LogMsgAtFront → LogAck → Type 0
+IsAck at sent ack = ack ≡ record { log = at.core.log; index = sent.message.index }
 
 module _ (config : Config) (sent : LogMsgAtFront) (is : IsLastMessage config sent)
     (entries : AreEntries (suc (length config.resolver_splits)) 0 sent.front) where
@@ -57,8 +63,8 @@ module _ (config : Config) (sent : LogMsgAtFront) (is : IsLastMessage config sen
       let next = log_goes_on config is.before is.entry old.log old sent.message entries-here at_before its in (
         subst (λ (l : ℕ). l < config.logs) (sym taken.same.log) within,
         λ works. subst (λ (front : List Entry). IsLogAt config front new.log new) (sym is.front_is)
-        (subst (λ (l : ℕ). IsLogAt config (is.before ++ is.entry ∷ []) l new) (sym taken.same.log)
-        (next.1 new taken)),
+            (subst (λ (l : ℕ). IsLogAt config (is.before ++ is.entry ∷ []) l new) (sym taken.same.log)
+            (next.1 new taken)),
       )
 
 -- one that is refused a message stays there, or has failed
@@ -110,5 +116,26 @@ log-popped {T} config front tag through old new (Ok given) answers same there =
     by_fault None is popped = (
       subst (λ (l : ℕ). l < config.logs) (sym popped.same.log) there.0,
       λ works. subst (λ (l : ℕ). IsLogAt config front l new) (sym popped.same.log)
-      (log_pops config front old.log tag through old new (there.1 (works_by old.is_failed refl is)) is popped),
+          (log_pops config front old.log tag through old new (there.1 (works_by old.is_failed refl is)) is popped),
     )
+
+-- A push in its turn, that the log refuses: what it answers, and what it leaves.
+module _ (old now : LogAtFront) (same : old ≡ now) where
+  pub refused-push : (sent there : LogMsgAtFront) (why : Refusal) → sent ≡ there
+      → front_fault old.front sent.front ≡ None
+      → Answers (Err why) (push_fault old.core sent.message) (IsAck old sent)
+      → AnswersInTurn (Err why) (front_fault now.front there.front) (push_fault now.core there.message)
+      (IsAck now there)
+  refused-push sent there why is next answers =
+      subst (λ (at : LogAtFront). AnswersInTurn (Err why) (front_fault at.front there.front)
+      (push_fault at.core there.message) (IsAck at there)) same
+      (subst (λ (message : LogMsgAtFront). AnswersInTurn (Err why) (front_fault old.front message.front)
+      (push_fault old.core message.message) (IsAck old message)) is
+      (refused-by-role (front_fault old.front sent.front) (push_fault old.core sent.message) (IsAck old sent) why
+      (IsAck old sent) next answers))
+
+  pub left-by-push : (new : Log) → ((new ≡ old.core) ⊎ HasFailed old.core new)
+      → ((record { front = old.front; core = new } ≡ now) ⊎ ((old.front ≡ now.front) × HasFailed now.core new))
+  left-by-push new (inl stays) = inl (ap (λ (core : Log). record { front = old.front; core = core }) stays ∙ same)
+  left-by-push new (inr fails) =
+      inr (ap (λ (at : LogAtFront). at.front) same, subst (λ (at : LogAtFront). HasFailed at.core new) same fails)

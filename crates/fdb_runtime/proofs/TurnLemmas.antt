@@ -1,9 +1,9 @@
 -- A front with one entry more.
-use Rattle.std.proofs.Common.{◌≡◌, ◌∙◌, refl, sym, ap, ap₂, ℕ, suc, List, [], ◌∷◌, ◌++◌, length, Option, Some, None}
+use Rattle.std.proofs.Common.{◌≡◌, refl, sym, ap, ap₂, suc, List, [], ◌∷◌, ◌++◌, length, Option, Some, None}
 use Rattle.std.proofs.Common.{Result, Ok, Err, OnErr, arith, inl, inr, ◌⊎◌}
 use Rattle.std.proofs.lemmas.Bool.{lt-leb, le-ltb}
 use Rattle.std.proofs.lemmas.List.{length-append}
-use Rattle.fdb_keys.specs.Answers.{Answers, AnswersExactly}
+use Rattle.fdb_keys.specs.Answers.{Answers}
 use Rattle.fdb_keys.specs.declared.refusal.Refusal.{Refusal}
 use Rattle.fdb_keys.specs.declared.refusal.Refusal.TheVariants.{NoMemory}
 use Rattle.fdb_txn.specs.declared.entry.Entry.{Entry}
@@ -50,24 +50,11 @@ pub where-refused : {T E : Type 0} (result : Result T E) (P : Type 0) → P → 
 where-refused (Ok given) P holds = tt
 where-refused (Err why) P holds = holds
 
--- What a call in turn answers that is refused by the turn, for memory, or by its role.
-module _ {T : Type 0} (turn own : Option Refusal) (P : T → Type 0) (why : Refusal) where
-  pub refused-by-turn : {U : Type 0} (Q : U → Type 0) → AnswersExactly {T = U} (Err why) turn Q
-      → AnswersInTurn {T = T} (Err why) turn own P
-  refused-by-turn {U} Q answers = by_fault turn answers
-    where
-      by_fault : (fault : Option Refusal) → AnswersExactly {T = U} (Err why) fault Q
-          → AnswersInTurn {T = T} (Err why) fault own P
-      by_fault (Some fault) is = is
-      by_fault None is = absurd is
-
-  pub refused-for-memory : turn ≡ None → why ≡ NoMemory → AnswersInTurn {T = T} (Err why) turn own P
-  refused-for-memory next lacks = rw next (inl lacks)
-
-  pub refused-by-role : {U : Type 0} (Q : U → Type 0) → turn ≡ None → Answers {T = U} (Err why) own Q
-      → AnswersInTurn {T = T} (Err why) turn own P
-  refused-by-role {U} Q next answers = rw next (by_fault own answers)
-    where
-      by_fault : (fault : Option Refusal) → Answers {T = U} (Err why) fault Q → (why ≡ NoMemory) ⊎ (fault ≡ Some why)
-      by_fault (Some fault) is = inr (ap (λ (it : Refusal). Some it) (sym is))
-      by_fault None is = inl is
+-- a call in its turn that its role refused is refused as the role says, or for memory
+pub refused-by-role : {T U : Type 0} (turn own : Option Refusal) (P : T → Type 0) (why : Refusal) (Q : U → Type 0)
+    → turn ≡ None → Answers {T = U} (Err why) own Q → AnswersInTurn {T = T} (Err why) turn own P
+refused-by-role {T} {U} turn own P why Q next answers = rw next (by_fault own answers)
+  where
+    by_fault : (fault : Option Refusal) → Answers {T = U} (Err why) fault Q → (why ≡ NoMemory) ⊎ (fault ≡ Some why)
+    by_fault (Some fault) is = inr (ap (λ (it : Refusal). Some it) (sym is))
+    by_fault None is = inl is

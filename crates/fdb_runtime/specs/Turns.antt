@@ -1,5 +1,5 @@
 -- When a role takes a message: what it has seen and what it is told of are fronts of one book.
-use Rattle.std.specs.Prelude.{◌≡◌, ◌++◌, ℕ, suc, nat_le, nat_lt, List, [], ◌∷◌, length, Option, Some, None}
+use Rattle.std.specs.Prelude.{◌≡◌, ◌++◌, suc, nat_le, nat_lt, List, [], ◌∷◌, length, Option, Some, None}
 use Rattle.std.specs.Prelude.{◌⊎◌, Result, Ok, Err, if◌then◌else◌}
 use Rattle.fdb_keys.specs.declared.refusal.Refusal.{Refusal}
 use Rattle.fdb_keys.specs.declared.refusal.Refusal.TheVariants.{NotYet, Stale, NoMemory}

@@ -95,10 +95,10 @@ impl<B: ClusterName> SealedFront<B> {
         })
     }
 
-    /// Appends an entry to the book behind the front, and gives the longer front twice. Refused as `Chain` where the
-    /// entry doesn't go on from the front, as `Repeated` where an id of its transactions stands there twice, as
-    /// `BookFull`, as `NoMemory`, and as `Taken` where another entry stands in the book. It takes the time of a copy of
-    /// a number for each session.
+    /// Appends an entry to the book behind the front, and gives the longer front twice, once to keep and once to hand
+    /// on. Refused as `Chain` where the entry doesn't go on from the front or has a transaction that didn't read below
+    /// it, as `Repeated` where an id stands in the front or earlier in the entry, as `BookFull`, as `NoMemory`, and as
+    /// `Taken` where another entry stands in the book. It takes the time of a copy of one number for each session.
     pub(crate) fn append(
         &self,
         alloc: Global,

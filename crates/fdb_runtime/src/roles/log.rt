@@ -63,8 +63,9 @@ impl<B: ClusterName> LogAt<B> {
     }
 
     /// Takes its message of the next entry. Refused as `Stale` where it took the message's entry before, as `NotYet`
-    /// with the own last version where an entry in between is missing, as the core refuses the message, and as
-    /// `NoMemory`. It stays where it was unless memory ran out in the core, after which it has failed.
+    /// with the version of the last entry that it took where one in between is missing, as `Unknown` where the message
+    /// is another log's, as `Failed` once it has failed, and as `NoMemory`. It stays where it was, unless memory ran
+    /// out for the message: then it has failed. It takes the time of a copy of the message.
     pub(crate) fn push(&mut self, message: &LogMessage<B>) -> Result<LogAck, Refusal>
         ensures answers { AnswersInTurn result (front_fault self.old.front message.now.front)
             (push_fault self.old.core message.now.message)
@@ -82,7 +83,9 @@ impl<B: ClusterName> LogAt<B> {
     }
 
     /// The first `limit` of the tag's messages after a version, with the log's front. A limit of 0 gives none. Refused
-    /// as the core refuses, and as `NoMemory`.
+    /// as `Failed` once it has failed, as `BadConfig` where the tag isn't kept here or the version is above that of the
+    /// last entry taken, as `TransactionTooOld` where it is below the one through which the tag was popped, and as
+    /// `NoMemory`.
     pub(crate) fn peek(&self, tag: u32, after: u64, limit: u32) -> Result<PeekMessage<B>, Refusal>
         ensures { Answers result (peek_fault self.now.core tag after)
             (λ given. (given.front ≡ self.now.front) × (given.peek ≡ peek_of self.now.core tag after limit)) }
@@ -92,7 +95,8 @@ impl<B: ClusterName> LogAt<B> {
         Ok(PeekMessage { front, peek })
     }
 
-    /// Drops the tag's messages through a version. It takes no memory. Refused as the core refuses.
+    /// Drops the tag's messages through a version. It takes no memory. Refused as `Failed` once it has failed, and as
+    /// `BadConfig` where the tag isn't kept here or the version is above that of the last entry taken.
     pub(crate) fn pop(&mut self, tag: u32, through: u64) -> Result<(), Refusal>
         ensures answers { AnswersExactly result (tag_fault self.old.core tag through)
             (λ _. HasPopped self.old.core tag through self.new.core) }

@@ -62,10 +62,10 @@ impl<B: ClusterName> SequencerAt<B> {
     /// Gives the proxy's batch its entry: plans a ticket, appends the ticket's entry to the book, and accepts the
     /// ticket. It answers the ticket with the front that has the entry last, which the sequencer keeps too.
     ///
-    /// Refused as the core refuses the plan; then as `Chain` where a transaction of the batch read at the ticket's
-    /// version or above it, as `Repeated` where an id stands in the book before or twice in the batch, as `BookFull`,
-    /// as `NoMemory`, and as `Taken`, which never comes where the sequencer alone appends. Then nothing changes. It
-    /// takes the time of a copy of a number for each session, and of the pending moves.
+    /// Refused as `SequencerCore::plan` refuses; then as `Chain` where a transaction of the batch read at the ticket's
+    /// version or above it, as `Repeated` where an id stands in the book or earlier in the batch, as `BookFull`, as
+    /// `NoMemory`, and as `Taken`, where someone else appended to the book. Then nothing changes, and the batch is
+    /// dropped. It takes the time of a copy of the moves that the proxy hasn't had, and of one number for each session.
     pub(crate) fn issue(
         &mut self,
         alloc: Global,
@@ -102,8 +102,8 @@ impl<B: ClusterName> SequencerAt<B> {
         Ok((self.core.committed(), front))
     }
 
-    /// Takes the report that the entries up to the version are committed. It takes no memory. Refused as the core
-    /// refuses, and then nothing changes.
+    /// Takes the report that the entries up to the version are committed. It takes no memory. Refused as `BadConfig`
+    /// where the version is above the last one that was issued, and then nothing changes.
     pub(crate) fn report(&mut self, version: u64) -> Result<(), Refusal>
         ensures answers { AnswersExactly result (report_fault self.old.core version)
             (λ _. self.new ≡ record { front = self.old.front; core = reporting self.old.core version }) }
@@ -112,8 +112,8 @@ impl<B: ClusterName> SequencerAt<B> {
         self.core.report(version)
     }
 
-    /// Makes a move, which takes effect at the next entry's version. Refused as the core refuses, and then nothing
-    /// changes.
+    /// Makes a move, which takes effect at the next entry's version. Refused as `BadConfig` where there is no such
+    /// resolver or the range is empty, as `MovesFull` after 65,536 moves, and as `NoMemory`. Then nothing changes.
     pub(crate) fn move_to(&mut self, one_move: Move) -> Result<(), Refusal>
         ensures answers { Answers result (move_fault self.old.core one_move)
             (λ _. self.new ≡ record { front = self.old.front; core = moving self.old.core one_move }) }

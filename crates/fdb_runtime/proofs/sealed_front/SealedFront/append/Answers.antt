@@ -1,4 +1,4 @@
-use Rattle.std.proofs.Common.{◌≡◌, ◌∙◌, refl, sym, ap, subst, suc, length, List}
+use Rattle.std.proofs.Common.{◌∙◌, sym, subst, suc, length, List}
 use Rattle.fdb_txn.specs.declared.entry.Entry.{Entry}
 use Rattle.fdb_txn.specs.book.History.{AreEntries}
 use Rattle.fdb_book.specs.Appending.{append_fault}

@@ -1,5 +1,4 @@
-use Rattle.std.proofs.Common.{◌≡◌, suc, length, sym, subst, List}
-use Rattle.fdb_txn.specs.declared.entry.Entry.{Entry}
+use Rattle.std.proofs.Common.{suc, length, sym, subst}
 use Rattle.fdb_txn.specs.book.History.{AreEntries}
 use Rattle.fdb_core.proofs.refinement.BookLemmas.{entries-take}
 use Rattle.fdb_runtime.proofs.sealed_front.SealedFront.cut.Goals as goal

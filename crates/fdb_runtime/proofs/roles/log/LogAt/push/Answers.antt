@@ -1,12 +1,13 @@
-use Rattle.std.proofs.Common.{◌≡◌, ◌∙◌, refl, sym, ap, subst, ℕ, List, inl, inr, ⊎_elim}
+use Rattle.std.proofs.Common.{◌≡◌, sym, subst, List}
+use Rattle.std.proofs.lemmas.Result.{err_from_is_err_and}
 use Rattle.fdb_txn.specs.declared.entry.Entry.{Entry}
 use Rattle.fdb_log.specs.declared.message.LogAck.{LogAck}
-use Rattle.fdb_log.specs.Logs.{Log, push_fault, HasFailed}
+use Rattle.fdb_log.specs.Logs.{push_fault}
 use Rattle.fdb_core.proofs.common.FaultLemmas.{answers-fault, given-fault}
-use Rattle.fdb_runtime.specs.RolesAtFronts.{LogAtFront}
 use Rattle.fdb_runtime.specs.Turns.{front_fault, HasOneMore}
-use Rattle.fdb_runtime.proofs.TurnLemmas.{where-refused, refused-by-role}
-use Rattle.fdb_runtime.proofs.LogLemmas.{IsLogThere, rises, log-there, log-stays, takes-its-own}
+use Rattle.fdb_runtime.proofs.TurnLemmas.{where-refused}
+use Rattle.fdb_runtime.proofs.LogLemmas.{IsLogThere, rises, log-there, log-stays, takes-its-own, refused-push}
+use Rattle.fdb_runtime.proofs.LogLemmas.{left-by-push}
 use Rattle.fdb_runtime.proofs.roles.log.LogAt.push.Goals as goal
 
 pub push-requires : goal.push-requires
@@ -19,13 +20,20 @@ invariant_of-self g c =
     c.in_err-ack.ensures.failed c.self.invariant).0
 
 pub returns-in_err-ack-clause-answers : goal.returns-in_err-ack-clause-answers
-returns-in_err-ack-clause-answers g c = ?
+returns-in_err-ack-clause-answers g c =
+    let next = given-fault (front_fault c.self.inside.front c.message.inside.front) _
+    (λ _. HasOneMore c.self.inside.front c.message.inside.front) c.in_ok-check_next.ensures.answers in
+    let left = err_from_is_err_and c.from_residual-in_err-ack.result c.from_residual-in_err-ack.ensures.1 in
+    rw (left.1, left.2)
+    (refused-push (record { front = c.self.inside.front; core = c.self.inside.core }) c.args.self.now c.self.view_is
+    (record { front = c.message.inside.front; message = c.message.inside.message }) c.args.message.now
+    c.in_err-ack.field-0.0 c.message.view_is next.0 c.in_err-ack.ensures.answers)
 
 pub returns-in_err-ack-clause-refused : goal.returns-in_err-ack-clause-refused
 returns-in_err-ack-clause-refused g c =
-    where-refused c.from_residual-in_err-ack.result _ (⊎_elim
-    (λ same. inl (ap (λ (core : Log). record { front = c.self.inside.front; core = core }) same ∙ c.self.view_is))
-    (λ fails. inr (refl, fails))
+    where-refused c.from_residual-in_err-ack.result _
+    (left-by-push (record { front = c.self.inside.front; core = c.self.inside.core }) c.args.self.now c.self.view_is
+    c.push.new.self
     (log-stays g.B.ClusterName.config c.self.inside.front c.self.inside.core c.push.new.self
     (push_fault c.self.inside.core c.message.inside.message) c.in_err-ack.ensures.refused
     c.in_err-ack.ensures.failed c.self.invariant).1)

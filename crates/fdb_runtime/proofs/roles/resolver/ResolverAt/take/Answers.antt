@@ -1,11 +1,8 @@
-use Rattle.std.proofs.Common.{◌≡◌, ◌∙◌, sym, ap, subst, List, Result, Ok, Err, OnErr, ⊎_elim, inl, inr}
-use Rattle.std.specs.Prelude.{◌⊎◌}
-use Rattle.fdb_keys.specs.declared.refusal.Refusal.{Refusal}
+use Rattle.std.proofs.Common.{◌∙◌, sym, ap, subst, List, ⊎_elim, inl, inr}
 use Rattle.fdb_txn.specs.declared.entry.Entry.{Entry}
 use Rattle.fdb_resolver.specs.Resolvers.{Resolver, part_fault, IsAnswer}
 use Rattle.fdb_core.proofs.common.FaultLemmas.{answers-fault, given-fault}
 use Rattle.fdb_runtime.specs.Messages.{AreLastVerdicts}
-use Rattle.fdb_runtime.specs.RolesAtFronts.{ResolverAtFront}
 use Rattle.fdb_runtime.specs.Turns.{front_fault, HasOneMore}
 use Rattle.fdb_runtime.proofs.TurnLemmas.{where-refused}
 use Rattle.fdb_runtime.proofs.ResolverLemmas.{sent-part, stays, takes-own, says, is-there, IsThere}
