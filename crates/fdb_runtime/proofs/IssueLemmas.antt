@@ -83,7 +83,8 @@ one-entry-more resolvers capacity book entry entries none names targets =
 
 -- an append that is refused
 pub append-refused : (capacity : ℕ) (book : List Entry) (entry : Entry) (refused : Refused (Option (List Entry)))
-    → AppendsAndShares capacity book entry (Err refused) → IsAppendRefused (append_fault capacity book entry) refused.why
+    → AppendsAndShares capacity book entry (Err refused)
+    → IsAppendRefused (append_fault capacity book entry) refused.why
 append-refused capacity book entry refused answers = by_fault (append_fault capacity book entry) refl answers
   where
     by_fault : (fault : Option Refusal) → append_fault capacity book entry ≡ fault

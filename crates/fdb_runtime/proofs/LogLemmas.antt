@@ -1,6 +1,7 @@
 -- A log that takes its message of the next entry.
-use Rattle.std.proofs.Common.{◌≡◌, ◌∙◌, ◌<◌, refl, sym, ap, subst, ℕ, suc, List, [], ◌∷◌, ◌++◌, length, Option, Some, None}
-use Rattle.std.proofs.Common.{arith, Bool, true, false, not, inl, inr, ◌⊎◌, IsSome, IsNone, Result, Ok, Err, OnErr}
+use Rattle.std.proofs.Common.{◌≡◌, ◌∙◌, ◌<◌, refl, sym, ap, subst, ℕ, suc, List, [], ◌∷◌, ◌++◌, length, Option, Some}
+use Rattle.std.proofs.Common.{None, arith, Bool, true, false, not, inl, inr, ◌⊎◌, IsSome, IsNone, Result, Ok, Err}
+use Rattle.std.proofs.Common.{OnErr}
 use Rattle.std.specs.Prelude.{◌==◌, if◌then◌else◌}
 use Rattle.std.proofs.lemmas.Bool.{eqb-true, true≢false}
 use Rattle.fdb_keys.specs.Answers.{Answers, AnswersExactly}
