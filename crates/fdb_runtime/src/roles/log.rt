@@ -1,4 +1,4 @@
-ghost use Rattle.std.specs.Prelude.{◌≡◌, ◌⊎◌, [], suc, length, OnOk, OnErr};
+ghost use Rattle.std.specs.Prelude.{◌≡◌, ◌⊎◌, [], suc, length, IsSome, OnOk, OnErr};
 ghost use Rattle.fdb_keys.specs.Answers.{Answers, AnswersExactly};
 ghost use Rattle.fdb_log.specs.Logs.{IsNewLog, config_fault, push_fault, tag_fault, peek_fault, peek_of, HasTaken};
 ghost use Rattle.fdb_log.specs.Logs.{HasFailed, HasPopped};
@@ -72,6 +72,8 @@ impl<B: ClusterName> LogAt<B> {
             (λ ack. ack ≡ record { log = self.old.core.log; index = message.now.message.index }) }
         ensures next { OnOk result (self.new.front ≡ message.now.front) }
         ensures taken { OnOk result (HasTaken self.old.core message.now.message self.new.core) }
+        ensures other_turn { IsSome (front_fault self.old.front message.now.front) → self.new ≡ self.old }
+        ensures unfit { IsSome (push_fault self.old.core message.now.message) → self.new ≡ self.old }
         ensures refused { OnErr result ((self.new ≡ self.old)
             ⊎ ((self.new.front ≡ self.old.front) × HasFailed self.old.core self.new.core)) }
     {
