@@ -1,4 +1,5 @@
 pub mod TurnLemmas
 pub mod ResolverLemmas
-pub mod LogLemmas
 pub mod IssueLemmas
+pub mod LogLemmas
+pub mod ShardLemmas

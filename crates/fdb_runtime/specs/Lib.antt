@@ -1,4 +1,5 @@
 pub mod Issuing
 pub mod Messages
 pub mod RolesAtFronts
+pub mod ShardsAtFronts
 pub mod Turns

@@ -2,3 +2,4 @@
 pub(crate) mod log;
 pub(crate) mod resolver;
 pub(crate) mod sequencer;
+pub(crate) mod shard;
