@@ -3,3 +3,4 @@ pub mod ResolverLemmas
 pub mod IssueLemmas
 pub mod LogLemmas
 pub mod ShardLemmas
+pub mod ShardViewLemmas

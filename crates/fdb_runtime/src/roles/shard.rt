@@ -18,6 +18,8 @@ use fdb_txn::check_turn;
 use std::alloc::Global;
 use std::marker::Model;
 
+pub(crate) mod view;
+
 /// A shard, which applied the entries of its front. Its tag is kept beside the core, which doesn't tell it.
 #[derive(Drop)]
 pub(crate) struct ShardAt<B: ClusterName> {
