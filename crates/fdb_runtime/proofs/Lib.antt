@@ -1,3 +1,4 @@
+pub mod GatheringLemmas
 pub mod TurnLemmas
 pub mod ResolverLemmas
 pub mod IssueLemmas

@@ -1,4 +1,5 @@
 pub mod Issuing
+pub mod Gatherings
 pub mod Messages
 pub mod RolesAtFronts
 pub mod ShardViews

@@ -18,6 +18,7 @@ use fdb_txn::check_turn;
 use std::alloc::Global;
 use std::marker::Model;
 
+pub(crate) mod gathering;
 pub(crate) mod view;
 
 /// A shard, which applied the entries of its front. Its tag is kept beside the core, which doesn't tell it.
