@@ -1,9 +1,10 @@
 -- A resolver that takes its part of the next entry.
 use Rattle.std.proofs.Common.{◌≡◌, ◌∙◌, ◌<◌, refl, sym, ap, subst, ℕ, suc, List, [], ◌∷◌, ◌++◌, length, Option, Some, None}
-use Rattle.std.proofs.Common.{arith, Bool, true, false, not, inl, inr, ◌⊎◌, IsSome, IsNone}
+use Rattle.std.proofs.Common.{arith, Bool, true, false, not, inl, inr, ◌⊎◌, IsSome, IsNone, Err}
 use Rattle.std.specs.Prelude.{◌==◌, if◌then◌else◌}
 use Rattle.std.proofs.lemmas.Bool.{eqb-true, true≢false}
 use Rattle.fdb_keys.specs.Points.{Point}
+use Rattle.fdb_keys.specs.Answers.{Answers}
 use Rattle.fdb_keys.specs.declared.refusal.Refusal.{Refusal}
 use Rattle.fdb_keys.specs.declared.refusal.Refusal.TheVariants.{Unknown, Failed}
 use Rattle.fdb_txn.specs.declared.entry.Entry.{Entry}
@@ -18,9 +19,10 @@ use Rattle.fdb_proxy.specs.Verdicts.{moves_through, verdicts_on}
 use Rattle.fdb_core.specs.refinement.Resolving.{IsResolverAt}
 use Rattle.fdb_core.proofs.headline.RoleLaws.{resolver_goes_on}
 use Rattle.fdb_core.proofs.refinement.ResolvingLemmas.{is-part, follows}
-use Rattle.fdb_runtime.specs.Messages.{PartAtFront, IsLastPart, AreLastVerdicts, position_after}
-use Rattle.fdb_runtime.specs.Turns.{HasOneMore}
-use Rattle.fdb_runtime.proofs.TurnLemmas.{same-front}
+use Rattle.fdb_runtime.specs.Messages.{PartAtFront, IsLastPart, VerdictsAtFront, AreLastVerdicts, position_after}
+use Rattle.fdb_runtime.specs.RolesAtFronts.{ResolverAtFront}
+use Rattle.fdb_runtime.specs.Turns.{front_fault, HasOneMore, AnswersInTurn}
+use Rattle.fdb_runtime.proofs.TurnLemmas.{same-front, refused-by-role}
 
 -- what is known of a resolver at a front: it is there unless it has failed
 abbrev pub IsThere : List Point → List Entry → Resolver → Type 0
@@ -82,7 +84,7 @@ module _ (splits : List Point) (sent : PartAtFront) (is : IsLastPart splits sent
 -- one that is refused a part stays there, or has failed
 pub stays : (splits : List Point) (front : List Entry) (old new : Resolver) (fault : Option Refusal)
     → (IsSome fault → new ≡ old) → (IsNone fault → HasFailed old new) → IsThere splits front old
-    → IsThere splits front new × ((new ≡ old) ⊎ (new.is_failed ≡ true))
+    → IsThere splits front new × ((new ≡ old) ⊎ HasFailed old new)
 stays splits front old new (Some why) same fails there =
     (subst (IsThere splits front) (sym (same refl)) there, inl (same refl))
 stays splits front old new None same fails there =
@@ -91,8 +93,31 @@ stays splits front old new None same fails there =
         subst (λ (i : ℕ). i < suc (length splits)) (sym failed.index) there.0,
         λ works. absurd (true≢false (sym failed.fails ∙ works)),
       ),
-      inr failed.fails,
+      inr failed,
     )
+
+-- The resolver before the call, as it is within and as who calls sees it.
+module _ (old now : ResolverAtFront) (same : old ≡ now) where
+  -- a part in its turn that the core refuses is refused so
+  pub refused-take : (sent there : PartAtFront) (why : Refusal) (P : VerdictsAtFront → Type 0) → sent ≡ there
+      → front_fault old.front sent.front ≡ None
+      → Answers (Err why) (part_fault old.core sent.part) (IsAnswer old.core sent.part)
+      → AnswersInTurn (Err why) (front_fault now.front there.front) (part_fault now.core there.part) P
+  refused-take sent there why P is next answers =
+      subst (λ (at : ResolverAtFront). AnswersInTurn (Err why) (front_fault at.front there.front)
+      (part_fault at.core there.part) P) same
+      (subst (λ (message : PartAtFront). AnswersInTurn (Err why) (front_fault old.front message.front)
+      (part_fault old.core message.part) P) is
+      (refused-by-role (front_fault old.front sent.front) (part_fault old.core sent.part) P why
+      (IsAnswer old.core sent.part) next answers))
+
+  pub left-by-take : (new : Resolver) → ((new ≡ old.core) ⊎ HasFailed old.core new)
+      → ((record { front = old.front; core = new } ≡ now) ⊎ ((old.front ≡ now.front) × HasFailed now.core new))
+  left-by-take new (inl stays) = inl (ap (λ (core : Resolver). record { front = old.front; core = core }) stays ∙ same)
+  left-by-take new (inr fails) = inr (
+    ap (λ (at : ResolverAtFront). at.front) same,
+    subst (λ (at : ResolverAtFront). HasFailed at.core new) same fails,
+  )
 
 -- one that isn't refused a part works, and the part is its own
 pub takes-own : (old : Resolver) (part : Part) → part_fault old part ≡ None

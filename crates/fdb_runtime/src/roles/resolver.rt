@@ -1,6 +1,7 @@
-ghost use Rattle.std.specs.Prelude.{◌≡◌, ◌<◌, ◌⊎◌, [], suc, true, length, None, IfOk, OnOk, OnErr};
+ghost use Rattle.std.specs.Prelude.{◌≡◌, ◌<◌, ◌⊎◌, [], suc, length, None, IsSome, IfOk, OnOk, OnErr};
 ghost use Rattle.fdb_keys.specs.Answers.{Answers};
-ghost use Rattle.fdb_resolver.specs.Resolvers.{HasFailed};
+ghost use Rattle.fdb_resolver.specs.Resolvers.{part_fault, IsAnswer, HasTaken, HasFailed};
+ghost use Rattle.fdb_runtime.specs.Turns.{front_fault, AnswersInTurn};
 
 use crate::messages::part_message::PartMessage;
 use crate::messages::verdict_message::VerdictMessage;
@@ -45,13 +46,19 @@ impl<B: ClusterName> ResolverAt<B> {
     }
 
     /// Takes its part of the next entry, and answers what the rule says of it. Refused as `Stale` where it took the
-    /// message's entry before, as `NotYet` where an entry in between is missing, as the core refuses the part, and as
-    /// `NoMemory`. It stays where it was unless memory ran out in the core, after which it has failed.
+    /// message's entry before, as `NotYet` with the version of the last entry that it took where one in between is
+    /// missing, as `Unknown` where the part is another resolver's, as `Failed` once it has failed, and as `NoMemory`. It
+    /// stays where it was, unless memory ran out for the verdicts: then it has failed.
     pub(crate) fn take(&mut self, message: &PartMessage<B>) -> Result<VerdictMessage<B>, Refusal>
-        ensures sent { IfOk result (λ sent. (sent.front ≡ message.now.front)
-            × (sent.verdicts.resolver ≡ self.old.core.index)) }
+        ensures answers { AnswersInTurn result (front_fault self.old.front message.now.front)
+            (part_fault self.old.core message.now.part) (λ sent. (sent.front ≡ message.now.front)
+            × IsAnswer self.old.core message.now.part sent.verdicts) }
         ensures next { OnOk result (self.new.front ≡ message.now.front) }
-        ensures refused { OnErr result ((self.new ≡ self.old) ⊎ (self.new.core.is_failed ≡ true)) }
+        ensures taken { IfOk result (λ sent. HasTaken self.old.core message.now.part sent.verdicts self.new.core) }
+        ensures other_turn { IsSome (front_fault self.old.front message.now.front) → self.new ≡ self.old }
+        ensures unfit { IsSome (part_fault self.old.core message.now.part) → self.new ≡ self.old }
+        ensures refused { OnErr result ((self.new ≡ self.old)
+            ⊎ ((self.new.front ≡ self.old.front) × HasFailed self.old.core self.new.core)) }
     {
         self.front.check_next(&message.front)?;
         let front = message.front.share()?;

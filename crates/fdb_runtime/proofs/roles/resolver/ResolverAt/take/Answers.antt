@@ -1,11 +1,13 @@
-use Rattle.std.proofs.Common.{◌∙◌, sym, ap, subst, List, ⊎_elim, inl, inr}
+use Rattle.std.proofs.Common.{sym, subst, List}
+use Rattle.std.proofs.lemmas.Result.{err_from_is_err_and}
 use Rattle.fdb_txn.specs.declared.entry.Entry.{Entry}
-use Rattle.fdb_resolver.specs.Resolvers.{Resolver, part_fault, IsAnswer}
+use Rattle.fdb_resolver.specs.Resolvers.{part_fault, IsAnswer}
 use Rattle.fdb_core.proofs.common.FaultLemmas.{answers-fault, given-fault}
 use Rattle.fdb_runtime.specs.Messages.{AreLastVerdicts}
 use Rattle.fdb_runtime.specs.Turns.{front_fault, HasOneMore}
 use Rattle.fdb_runtime.proofs.TurnLemmas.{where-refused}
 use Rattle.fdb_runtime.proofs.ResolverLemmas.{sent-part, stays, takes-own, says, is-there, IsThere}
+use Rattle.fdb_runtime.proofs.ResolverLemmas.{refused-take, left-by-take}
 use Rattle.fdb_runtime.proofs.roles.resolver.ResolverAt.take.Goals as goal
 
 pub take-requires : goal.take-requires
@@ -18,11 +20,21 @@ invariant_of-self g c =
     (part_fault c.self.inside.core c.message.inside.part) c.in_err-verdicts.ensures.refused
     c.in_err-verdicts.ensures.failed c.self.invariant).0
 
+pub returns-in_err-verdicts-clause-answers : goal.returns-in_err-verdicts-clause-answers
+returns-in_err-verdicts-clause-answers g c =
+    let next = given-fault (front_fault c.self.inside.front c.message.inside.front) _
+    (λ _. HasOneMore c.self.inside.front c.message.inside.front) c.in_ok-check_next.ensures.answers in
+    let left = err_from_is_err_and c.from_residual-in_err-verdicts.result c.from_residual-in_err-verdicts.ensures.1 in
+    rw (left.1, left.2)
+    (refused-take (record { front = c.self.inside.front; core = c.self.inside.core }) c.args.self.now c.self.view_is
+    (record { front = c.message.inside.front; part = c.message.inside.part }) c.args.message.now
+    c.in_err-verdicts.field-0.0 _ c.message.view_is next.0 c.in_err-verdicts.ensures.answers)
+
 pub returns-in_err-verdicts-clause-refused : goal.returns-in_err-verdicts-clause-refused
 returns-in_err-verdicts-clause-refused g c =
-    where-refused c.from_residual-in_err-verdicts.result _ (⊎_elim
-    (λ same. inl (ap (λ (core : Resolver). record { front = c.self.inside.front; core = core }) same ∙ c.self.view_is))
-    (λ fails. inr fails)
+    where-refused c.from_residual-in_err-verdicts.result _
+    (left-by-take (record { front = c.self.inside.front; core = c.self.inside.core }) c.args.self.now c.self.view_is
+    c.take.new.self
     (stays g.B.ClusterName.config.resolver_splits c.self.inside.front c.self.inside.core c.take.new.self
     (part_fault c.self.inside.core c.message.inside.part) c.in_err-verdicts.ensures.refused
     c.in_err-verdicts.ensures.failed c.self.invariant).1)
