@@ -1,12 +1,10 @@
-//! The roles of the transaction system as running threads: sessions of a database begin transactions, read, write and
-//! commit, and get receipts.
+//! The roles of the transaction system, each with what it has seen of a book that they share: what the locks and the
+//! threads of a running database are to hold.
 #![tactic(auto)]
 
-mod gate;
 mod messages;
 mod name;
 mod roles;
 mod sealed_front;
 
-pub use gate::{Gate, NoGate, Role};
 pub use name::ClusterName;
