@@ -3,5 +3,6 @@ pub mod TurnLemmas
 pub mod ResolverLemmas
 pub mod IssueLemmas
 pub mod LogLemmas
+pub mod SessionLemmas
 pub mod ShardLemmas
 pub mod ShardViewLemmas

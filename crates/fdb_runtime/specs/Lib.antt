@@ -1,7 +1,9 @@
 pub mod Issuing
 pub mod Gatherings
 pub mod Messages
+pub mod Receipts
 pub mod RolesAtFronts
+pub mod Sessions
 pub mod ShardViews
 pub mod ShardsAtFronts
 pub mod Turns

@@ -4,7 +4,9 @@
 
 mod messages;
 mod name;
+mod receipt;
 mod roles;
 mod sealed_front;
+mod session_state;
 
 pub use name::ClusterName;

@@ -1,0 +1,85 @@
+ghost use Rattle.std.specs.Prelude.{◌≡◌, suc, length};
+ghost use Rattle.fdb_txn.specs.book.History.{IsBook};
+ghost use Rattle.fdb_runtime.specs.Receipts.{IsReceipt};
+
+use crate::name::ClusterName;
+use crate::sealed_front::SealedFront;
+use fdb_book::Front;
+use fdb_client::Transcript;
+use fdb_txn::Spot;
+use std::marker::Model;
+
+/// What a session gets for a commit: where the transaction stands in the book, what it did and was answered, and a
+/// front of the book that shows it there.
+#[derive(Drop)]
+pub struct Receipt<B: ClusterName> {
+    front: SealedFront<B>,
+    spot: Spot,
+    transcript: Transcript,
+}
+
+impl<B: ClusterName> Model for Receipt<B> {
+    ghost use Rattle.fdb_runtime.specs.Receipts.{ReceiptAtFront, IsReceipt};
+
+    ghost Value = { ReceiptAtFront };
+
+    ghost view = { λ receipt. record {
+      front = receipt.front;
+      spot = receipt.spot;
+      transcript = receipt.transcript;
+    } };
+
+    ghost invariant = { λ receipt. IsReceipt B.config.resolver_splits (record {
+      front = receipt.front;
+      spot = receipt.spot;
+      transcript = receipt.transcript;
+    }) };
+}
+
+impl<B: ClusterName> Receipt<B> {
+    /// The receipt of a transaction that stands at the spot. It takes no memory.
+    pub(crate) fn new(front: SealedFront<B>, spot: Spot, transcript: Transcript) -> Self
+        requires { IsReceipt B.config.resolver_splits
+            (record { front = front; spot = spot; transcript = transcript }) }
+        ensures { result ≡ record { front = front; spot = spot; transcript = transcript } }
+    {
+        Receipt {
+            front,
+            spot,
+            transcript,
+        }
+    }
+
+    /// What the session had seen of the book: a book, on which `serial_check` may be called. It takes no memory.
+    pub fn front(&self) -> &Front<B>
+        ensures value { result.now ≡ self.now.front }
+        ensures book { IsBook (suc (length B.config.resolver_splits)) result.now }
+    {
+        let front = self.front.front();
+        front.len();
+        front
+    }
+
+    // The same with what is known of its entries.
+    pub(crate) fn sealed_front(&self) -> &SealedFront<B>
+        ensures value { result.now ≡ self.now.front }
+        ensures receipt { IsReceipt B.config.resolver_splits self.now }
+    {
+        &self.front
+    }
+
+    /// Where the transaction stands: it is serialized there. It takes no memory.
+    pub fn spot(&self) -> Spot
+        ensures value { result ≡ self.now.spot }
+        ensures receipt { IsReceipt B.config.resolver_splits self.now }
+    {
+        self.spot
+    }
+
+    /// The transaction's id, its read version, and its operations with their replies. It takes no memory.
+    pub fn transcript(&self) -> &Transcript
+        ensures { result.now ≡ self.now.transcript }
+    {
+        &self.transcript
+    }
+}
