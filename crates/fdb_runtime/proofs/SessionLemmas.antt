@@ -47,3 +47,12 @@ pub where-given : {T : Type 0} (result : Result T Refusal) (x : T) (P : T → Ty
     → Answers result None (λ given. given ≡ x) → P x → IfOk result P
 where-given (Ok given) x P is holds = subst P (sym is) holds
 where-given (Err why) x P is holds = tt
+
+-- A session whose front grows, and whose mark the new front reaches, is one there.
+pub grown : (splits : List Point) (resolvers number next mark : ℕ) (short long : List Entry)
+    (current : Option Transcript) → AreEntries resolvers 0 long → IsPrefix short long → mark ≤ last_version long
+    → IfSome current (IsOpenAt splits number next short)
+    → (mark ≤ last_version long) × IfSome current (IsOpenAt splits number next long)
+grown splits resolvers number next mark short long (Some transcript) entries begins reached is =
+    (reached, stays-open splits resolvers number next short long transcript entries begins is)
+grown splits resolvers number next mark short long None entries begins reached is = (reached, tt)

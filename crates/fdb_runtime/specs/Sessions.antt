@@ -1,10 +1,10 @@
 -- What a session owns: what it has seen of the book, its mark, and its open transaction.
 use Rattle.std.specs.Prelude.{◌≡◌, ◌<◌, ◌≤◌, ◌==◌, ℕ, suc, max, nat_lt, List, length, Option, Some, None, IfSome}
-use Rattle.std.specs.Prelude.{Result, Err, []}
+use Rattle.std.specs.Prelude.{[]}
 use Rattle.std.specs.Prelude.{if◌then◌else◌}
 use Rattle.fdb_keys.specs.Points.{Point}
 use Rattle.fdb_keys.specs.declared.refusal.Refusal.{Refusal}
-use Rattle.fdb_keys.specs.declared.refusal.Refusal.TheVariants.{Exhausted, NoTransaction}
+use Rattle.fdb_keys.specs.declared.refusal.Refusal.TheVariants.{Exhausted}
 use Rattle.fdb_txn.specs.declared.entry.Entry.{Entry}
 use Rattle.fdb_txn.specs.book.Book.{seen_of, last_version}
 use Rattle.fdb_txn.specs.rules.SerialMap.{serial_map_at}
@@ -66,8 +66,3 @@ learning it receipt = record it {
 -- with another open transaction, or none
 abbrev pub with_current : Session → Option Transcript → Session
 with_current it current = record it { current = current }
-
--- A session without an open transaction refuses the call, and else it answers so.
-abbrev pub OfOpen : {T : Type 0} → Option Transcript → Result T Refusal → (Transcript → Type 0) → Type 0
-OfOpen None result P = result ≡ Err NoTransaction
-OfOpen (Some transcript) result P = P transcript

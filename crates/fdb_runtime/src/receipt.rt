@@ -1,4 +1,6 @@
-ghost use Rattle.std.specs.Prelude.{◌≡◌, suc, length};
+ghost use Rattle.std.specs.Prelude.{◌≡◌, ◌≤◌, suc, length};
+ghost use Rattle.fdb_txn.specs.book.Book.{last_version};
+ghost use Rattle.fdb_core.specs.headline.RealTime.{spot_version};
 ghost use Rattle.fdb_txn.specs.book.History.{IsBook};
 ghost use Rattle.fdb_runtime.specs.Receipts.{IsReceipt};
 
@@ -74,6 +76,17 @@ impl<B: ClusterName> Receipt<B> {
         ensures receipt { IsReceipt B.config.resolver_splits self.now }
     {
         self.spot
+    }
+
+    // The version of the spot, which the front has come to.
+    pub(crate) fn version(&self) -> u64
+        ensures value { result ≡ spot_version self.now.spot }
+        ensures reached { result ≤ last_version self.now.front }
+    {
+        match self.spot {
+            Spot::Entry { version, .. } => version,
+            Spot::ReadOnly { version } => version,
+        }
     }
 
     /// The transaction's id, its read version, and its operations with their replies. It takes no memory.

@@ -1,12 +1,15 @@
 ghost use Rattle.std.specs.Prelude.{◌≡◌, ◌≤◌, max, [], None, Some, IfOk, OnOk, OnErr};
+ghost use Rattle.std.specs.Option.{option_map};
 ghost use Rattle.fdb_keys.specs.Answers.{Answers};
 ghost use Rattle.fdb_mutations.specs.Mutations.{mutation_fault};
 ghost use Rattle.fdb_txn.specs.book.Book.{last_version};
 ghost use Rattle.fdb_book.specs.Fronts.{IsPrefix};
 ghost use Rattle.fdb_client.specs.TxnState.{with_op};
+ghost use Rattle.fdb_client.specs.declared.program.Transcript.{Transcript};
 ghost use Rattle.fdb_client.specs.declared.program.Op.TheVariants as operation;
 ghost use Rattle.fdb_client.specs.declared.program.Reply.TheVariants as answer;
-ghost use Rattle.fdb_runtime.specs.Sessions.{longer, begin_fault, beginning, learning, with_current, OfOpen};
+ghost use Rattle.fdb_runtime.specs.Sessions.{longer, begin_fault, beginning, learning, with_current};
+ghost use Rattle.fdb_core.specs.refinement.Sessions.{OfOpen};
 
 use crate::messages::grant_message::GrantMessage;
 use crate::name::ClusterName;
@@ -16,7 +19,7 @@ use fdb_book::Book;
 use fdb_client::Txn;
 use fdb_keys::{KeyRange, Refusal};
 use fdb_mutations::Mutation;
-use fdb_txn::{Spot, TxnId};
+use fdb_txn::TxnId;
 use std::alloc::Global;
 use std::marker::Model;
 
@@ -38,6 +41,17 @@ fn share_longer<B: ClusterName>(
     } else {
         own.share()
     }
+}
+
+// Buffers a copy of the mutation, which is checked before the copy takes memory.
+fn write_copy(txn: &mut Txn, mutation: &Mutation) -> Result<(), Refusal>
+    ensures answers { Answers result (mutation_fault mutation.now)
+        (λ _. txn.new ≡ with_op txn.old (operation.Write mutation.now) answer.Done) }
+    ensures refused { OnErr result (txn.new ≡ txn.old) }
+{
+    mutation.check()?;
+    let mutation = mutation.clone()?;
+    txn.write(mutation)
 }
 
 /// What a session owns: what it has seen of the book, the greatest version that it knows of a receipt, and its open
@@ -117,5 +131,79 @@ impl<B: ClusterName> SessionState<B> {
         self.next_number += 1;
         self.current = Some(txn);
         Ok(read_version)
+    }
+
+    /// The version that the open transaction reads at, if there is one. It takes no memory.
+    pub(crate) fn read_version(&self) -> Option<u64>
+        ensures { result ≡ option_map (λ (transcript : Transcript). transcript.read_version) self.now.current }
+    {
+        match &self.current {
+            Some(txn) => Some(txn.read_version()),
+            None => None,
+        }
+    }
+
+    /// What the session has seen of the book. It takes no memory.
+    pub(crate) fn front(&self) -> &SealedFront<B>
+        ensures { result.now ≡ self.now.front }
+    {
+        &self.front
+    }
+
+    /// The open transaction buffers a copy of the mutation. Refused as `NoTransaction` where none is open, else as `Txn::write`
+    /// refuses it; then nothing changes.
+    pub(crate) fn write(&mut self, mutation: &Mutation) -> Result<(), Refusal>
+        ensures answers { OfOpen self.old.current result (λ transcript. Answers result (mutation_fault mutation.now)
+            (λ _. self.new
+            ≡ with_current self.old (Some (with_op transcript (operation.Write mutation.now) answer.Done)))) }
+        ensures refused { OnErr result (self.new ≡ self.old) }
+    {
+        match &mut self.current {
+            Some(txn) => write_copy(txn, mutation),
+            None => Err(Refusal::NoTransaction),
+        }
+    }
+
+    /// The open transaction adds the range to its read set, whole. Refused as `NoTransaction` where none is open, and
+    /// as `NoMemory`; then nothing changes.
+    pub(crate) fn add_read(&mut self, range: &KeyRange) -> Result<(), Refusal>
+        ensures answers { OfOpen self.old.current result (λ transcript. Answers result None
+            (λ _. self.new
+            ≡ with_current self.old (Some (with_op transcript (operation.AddRead range.now) answer.Done)))) }
+        ensures refused { OnErr result (self.new ≡ self.old) }
+    {
+        match &mut self.current {
+            Some(txn) => txn.add_read(range),
+            None => Err(Refusal::NoTransaction),
+        }
+    }
+
+    /// The open transaction adds the range to its write set, whole. Refused as `NoTransaction` where none is open, and
+    /// as `NoMemory`; then nothing changes.
+    pub(crate) fn add_write(&mut self, range: &KeyRange) -> Result<(), Refusal>
+        ensures answers { OfOpen self.old.current result (λ transcript. Answers result None
+            (λ _. self.new
+            ≡ with_current self.old (Some (with_op transcript (operation.AddWrite range.now) answer.Done)))) }
+        ensures refused { OnErr result (self.new ≡ self.old) }
+    {
+        match &mut self.current {
+            Some(txn) => txn.add_write(range),
+            None => Err(Refusal::NoTransaction),
+        }
+    }
+
+    /// Learns of a receipt of the database: the front becomes the longer of both, and the mark the greater of itself
+    /// and the version of the receipt's spot. Refused only as `NoMemory`, and then nothing changes.
+    pub(crate) fn learn(&mut self, receipt: &Receipt<B>) -> Result<(), Refusal>
+        ensures answers { Answers result None (λ _. self.new ≡ learning self.old receipt.now) }
+        ensures begins { OnOk result (IsPrefix self.old.front self.new.front) }
+        ensures refused { OnErr result (self.new ≡ self.old) }
+    {
+        let front = share_longer(&self.front, receipt.sealed_front())?;
+        let _ = front.front();
+        let version = receipt.version();
+        self.front = front;
+        self.mark = u64::max(self.mark, version);
+        Ok(())
     }
 }
