@@ -1,4 +1,4 @@
-ghost use Rattle.std.specs.Prelude.{◌≡◌, ◌≤◌, max, [], None, Some, IfOk, OnOk, OnErr};
+ghost use Rattle.std.specs.Prelude.{◌≡◌, ◌≤◌, max, [], None, Some, IfOk, IfSome, OnOk, OnErr};
 ghost use Rattle.std.specs.Option.{option_map};
 ghost use Rattle.fdb_keys.specs.Answers.{Answers};
 ghost use Rattle.fdb_mutations.specs.Mutations.{mutation_fault};
@@ -8,20 +8,21 @@ ghost use Rattle.fdb_client.specs.TxnState.{with_op};
 ghost use Rattle.fdb_client.specs.declared.program.Transcript.{Transcript};
 ghost use Rattle.fdb_client.specs.declared.program.Op.TheVariants as operation;
 ghost use Rattle.fdb_client.specs.declared.program.Reply.TheVariants as answer;
-ghost use Rattle.fdb_runtime.specs.Sessions.{longer, begin_fault, beginning, learning, with_current};
-ghost use Rattle.fdb_core.specs.refinement.Sessions.{OfOpen};
+ghost use Rattle.fdb_runtime.specs.Sessions.{longer, begin_fault, beginning, learning, with_current, IsOpenAt};
+ghost use Rattle.fdb_core.specs.refinement.Sessions.{OfOpen, Finishes};
 
 use crate::messages::grant_message::GrantMessage;
 use crate::name::ClusterName;
 use crate::receipt::Receipt;
 use crate::sealed_front::SealedFront;
 use fdb_book::Book;
-use fdb_client::Txn;
+use fdb_client::{Finished, Txn};
 use fdb_keys::{KeyRange, Refusal};
 use fdb_mutations::Mutation;
 use fdb_txn::TxnId;
 use std::alloc::Global;
 use std::marker::Model;
+use std::mem;
 
 // The longer of two fronts, once more. Refused only as `NoMemory`.
 fn share_longer<B: ClusterName>(
@@ -52,6 +53,33 @@ fn write_copy(txn: &mut Txn, mutation: &Mutation) -> Result<(), Refusal>
     mutation.check()?;
     let mutation = mutation.clone()?;
     txn.write(mutation)
+}
+
+// Finishes what is open, if anything is, which stays open where that is refused.
+fn finish_current(current: &mut Option<Txn>) -> Result<Finished, Refusal>
+    ensures answers { OfOpen current.old result (Finishes result) }
+    ensures ended { OnOk result (current.new ≡ None) }
+    ensures refused { OnErr result (current.new ≡ current.old) }
+{
+    match mem::replace(current, None) {
+        Some(txn) => finish_or_keep(current, txn),
+        None => Err(Refusal::NoTransaction),
+    }
+}
+
+// Finishes the transaction, which is kept where that is refused.
+fn finish_or_keep(current: &mut Option<Txn>, txn: Txn) -> Result<Finished, Refusal>
+    ensures answers { Finishes result txn }
+    ensures ended { OnOk result (current.new ≡ current.old) }
+    ensures kept { OnErr result (current.new ≡ Some txn) }
+{
+    match txn.finish() {
+        Ok(finished) => Ok(finished),
+        Err(refused) => {
+            *current = Some(refused.back);
+            Err(refused.why)
+        }
+    }
 }
 
 /// What a session owns: what it has seen of the book, the greatest version that it knows of a receipt, and its open
@@ -205,5 +233,18 @@ impl<B: ClusterName> SessionState<B> {
         self.front = front;
         self.mark = u64::max(self.mark, version);
         Ok(())
+    }
+
+    /// Finishes the open transaction, and answers what is left to do of it; none is open then. What it was answered
+    /// stands on the front. Refused as `NoTransaction` where none is open, as `TransactionTooLarge` where what is to be
+    /// committed has more than 10,000,000 bytes, and as `NoMemory`; then nothing changes.
+    pub(crate) fn finish(&mut self) -> Result<Finished, Refusal>
+        ensures answers { OfOpen self.old.current result (Finishes result) }
+        ensures opened { IfSome self.old.current
+            (IsOpenAt B.config.resolver_splits self.old.number self.old.next_number self.old.front) }
+        ensures ended { OnOk result (self.new ≡ with_current self.old None) }
+        ensures refused { OnErr result (self.new ≡ self.old) }
+    {
+        finish_current(&mut self.current)
     }
 }
