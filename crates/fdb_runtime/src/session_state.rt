@@ -1,11 +1,18 @@
 ghost use Rattle.std.specs.Prelude.{◌≡◌, ◌≤◌, max, [], None, Some, IfOk, IfSome, OnOk, OnErr};
 ghost use Rattle.std.specs.Option.{option_map};
-ghost use Rattle.fdb_keys.specs.Answers.{Answers};
+ghost use Rattle.fdb_keys.specs.Answers.{Answers, AnswersOrHandsBack};
+ghost use Rattle.std.specs.FinMap.{get};
+ghost use Rattle.std.specs.Prelude.{if◌then◌else◌};
+ghost use Rattle.fdb_txn.specs.book.Book.{seen_of};
+ghost use Rattle.fdb_txn.specs.rules.SerialMap.{serial_map_at};
+ghost use Rattle.fdb_txn.specs.declared.spot.Spot.TheVariants as spot;
+ghost use Rattle.fdb_core.specs.headline.Headline.{WroteNothing};
+ghost use Rattle.fdb_client.specs.Programs.{program, copy, decided};
 ghost use Rattle.fdb_mutations.specs.Mutations.{mutation_fault};
 ghost use Rattle.fdb_txn.specs.book.Book.{last_version};
 ghost use Rattle.fdb_book.specs.Fronts.{IsPrefix};
 ghost use Rattle.fdb_client.specs.TxnState.{with_op};
-ghost use Rattle.fdb_client.specs.declared.program.Transcript.{Transcript};
+ghost use Rattle.fdb_client.specs.declared.program.Transcript.{Transcript as ATranscript};
 ghost use Rattle.fdb_client.specs.declared.program.Op.TheVariants as operation;
 ghost use Rattle.fdb_client.specs.declared.program.Reply.TheVariants as answer;
 ghost use Rattle.fdb_runtime.specs.Sessions.{longer, begin_fault, beginning, learning, with_current, IsOpenAt};
@@ -16,10 +23,11 @@ use crate::name::ClusterName;
 use crate::receipt::Receipt;
 use crate::sealed_front::SealedFront;
 use fdb_book::Book;
-use fdb_client::{Finished, Txn};
-use fdb_keys::{KeyRange, Refusal};
+use bytes::Bytes;
+use fdb_client::{Finished, Snapshot, Transcript, Txn};
+use fdb_keys::{Key, KeyRange, Refusal, Refused};
 use fdb_mutations::Mutation;
-use fdb_txn::TxnId;
+use fdb_txn::{Spot, TxnId};
 use std::alloc::Global;
 use std::marker::Model;
 use std::mem;
@@ -163,7 +171,7 @@ impl<B: ClusterName> SessionState<B> {
 
     /// The version that the open transaction reads at, if there is one. It takes no memory.
     pub(crate) fn read_version(&self) -> Option<u64>
-        ensures { result ≡ option_map (λ (transcript : Transcript). transcript.read_version) self.now.current }
+        ensures { result ≡ option_map (λ (transcript : ATranscript). transcript.read_version) self.now.current }
     {
         match &self.current {
             Some(txn) => Some(txn.read_version()),
@@ -246,5 +254,57 @@ impl<B: ClusterName> SessionState<B> {
         ensures refused { OnErr result (self.new ≡ self.old) }
     {
         finish_current(&mut self.current)
+    }
+
+    /// The receipt of a transaction of the session that wrote nothing, at its read version on the session's front.
+    /// Refused only as `NoMemory`, which hands the transcript back.
+    pub(crate) fn receipt_of_read_only(
+        &self,
+        transcript: Transcript,
+    ) -> Result<Receipt<B>, Refused<Transcript>>
+        requires opened { IsOpenAt B.config.resolver_splits self.now.number self.now.next_number self.now.front
+            transcript }
+        requires nothing { WroteNothing transcript }
+        ensures { AnswersOrHandsBack result transcript None (λ receipt. receipt ≡ record {
+          front = self.now.front;
+          spot = spot.ReadOnly transcript.read_version;
+          transcript = transcript;
+        }) }
+    {
+        match self.front.share() {
+            Ok(front) => {
+                let version = transcript.read_version;
+                Ok(Receipt::new(front, Spot::ReadOnly { version }, transcript))
+            }
+            Err(why) => Err(Refused {
+                why,
+                back: transcript,
+            }),
+        }
+    }
+
+    /// The value of the key after the open transaction's own writes, on the serial map of the front at the read
+    /// version, noted with the operation. Refused as `NoTransaction` where none is open, else as `Txn::get` is; then
+    /// nothing changes.
+    pub(crate) fn get<S: Snapshot>(
+        &mut self,
+        snapshot: &S,
+        key: &Key,
+        is_snapshot: bool,
+    ) -> Result<Option<Bytes>, Refusal>
+        requires version { IfSome self.old.current (λ transcript. S.at snapshot.now ≡ transcript.read_version) }
+        requires run { IfSome self.old.current (λ transcript. S.map snapshot.now
+            ≡ serial_map_at B.config.resolver_splits transcript.read_version (seen_of self.old.front).places) }
+        ensures answers { OfOpen self.old.current result (λ transcript. Answers result
+            (if decided (program transcript.ops) key.now then None else S.key_fault snapshot.now key.now)
+            (λ value. (value ≡ get (copy (S.map snapshot.now) (program transcript.ops)) key.now)
+            × (self.new ≡ with_current self.old
+            (Some (with_op transcript (operation.Get key.now is_snapshot) (answer.Value value)))))) }
+        ensures refused { OnErr result (self.new ≡ self.old) }
+    {
+        match &mut self.current {
+            Some(txn) => txn.get(snapshot, key, is_snapshot),
+            None => Err(Refusal::NoTransaction),
+        }
     }
 }
