@@ -9,6 +9,7 @@ ghost use Rattle.fdb_txn.specs.declared.spot.Spot.TheVariants as spot;
 ghost use Rattle.fdb_core.specs.headline.Headline.{WroteNothing};
 ghost use Rattle.fdb_client.specs.Programs.{program, copy, decided};
 ghost use Rattle.fdb_mutations.specs.Mutations.{mutation_fault};
+ghost use Rattle.fdb_mutations.specs.PairLaws.{given_of};
 ghost use Rattle.fdb_txn.specs.book.Book.{last_version};
 ghost use Rattle.fdb_book.specs.Fronts.{IsPrefix};
 ghost use Rattle.fdb_client.specs.TxnState.{with_op};
@@ -25,7 +26,7 @@ use crate::sealed_front::SealedFront;
 use fdb_book::Book;
 use bytes::Bytes;
 use fdb_client::{Finished, Snapshot, Transcript, Txn};
-use fdb_keys::{Key, KeyRange, Refusal, Refused};
+use fdb_keys::{Items, Key, KeyRange, Refusal, Refused};
 use fdb_mutations::Mutation;
 use fdb_txn::{Spot, TxnId};
 use std::alloc::Global;
@@ -304,6 +305,33 @@ impl<B: ClusterName> SessionState<B> {
     {
         match &mut self.current {
             Some(txn) => txn.get(snapshot, key, is_snapshot),
+            None => Err(Refusal::NoTransaction),
+        }
+    }
+
+    /// The pairs of the range after the open transaction's own writes, on the serial map of the front at the read
+    /// version, as `Txn::get_range` gives them, noted with the operation. Refused as `NoTransaction` where none is
+    /// open, else as `Txn::get_range` is; then nothing changes.
+    pub(crate) fn get_range<S: Snapshot>(
+        &mut self,
+        snapshot: &S,
+        range: &KeyRange,
+        limit: u32,
+        reverse: bool,
+        is_snapshot: bool,
+    ) -> Result<Items<(Key, Bytes)>, Refusal>
+        requires version { IfSome self.old.current (λ transcript. S.at snapshot.now ≡ transcript.read_version) }
+        requires run { IfSome self.old.current (λ transcript. S.map snapshot.now
+            ≡ serial_map_at B.config.resolver_splits transcript.read_version (seen_of self.old.front).places) }
+        ensures answers { OfOpen self.old.current result (λ transcript. Answers result
+            (S.range_fault snapshot.now range.now)
+            (λ pairs. (pairs ≡ given_of (copy (S.map snapshot.now) (program transcript.ops)) range.now limit reverse)
+            × (self.new ≡ with_current self.old (Some (with_op transcript
+            (operation.Range range.now limit reverse is_snapshot) (answer.Pairs pairs)))))) }
+        ensures refused { OnErr result (self.new ≡ self.old) }
+    {
+        match &mut self.current {
+            Some(txn) => txn.get_range(snapshot, range, limit, reverse, is_snapshot),
             None => Err(Refusal::NoTransaction),
         }
     }
