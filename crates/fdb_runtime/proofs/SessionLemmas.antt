@@ -1,6 +1,6 @@
 -- What stays of a session where its front grows.
-use Rattle.std.proofs.Common.{◌≡◌, ◌∙◌, refl, sym, ap, subst, ◌≤◌, ℕ, suc, List, [], ◌++◌, length, Option, Some, None}
-use Rattle.std.proofs.Common.{le_of_lt, arith}
+use Rattle.std.proofs.Common.{◌≡◌, sym, subst, ◌≤◌, ℕ, List, [], Option, Some, None}
+use Rattle.std.proofs.Common.{arith}
 use Rattle.std.specs.Prelude.{IfSome, IfOk, Result, Ok, Err}
 use Rattle.std.proofs.lemmas.List.{append-nil}
 use Rattle.fdb_keys.specs.Answers.{Answers}
@@ -8,14 +8,14 @@ use Rattle.fdb_keys.specs.Points.{Point}
 use Rattle.fdb_keys.specs.declared.refusal.Refusal.{Refusal}
 use Rattle.fdb_mutations.specs.Maps.{Map}
 use Rattle.fdb_txn.specs.declared.entry.Entry.{Entry}
-use Rattle.fdb_txn.specs.book.Book.{seen_of, last_version}
+use Rattle.fdb_txn.specs.book.Book.{last_version}
 use Rattle.fdb_txn.specs.book.History.{AreEntries, AreLinked}
 use Rattle.fdb_book.specs.Fronts.{IsPrefix}
 use Rattle.fdb_client.specs.declared.program.Transcript.{Transcript}
 use Rattle.fdb_core.specs.headline.Headline.{AnsweredOn}
 use Rattle.fdb_core.proofs.headline.FrontLaws.{fronts_have_one_run}
 use Rattle.fdb_core.proofs.refinement.RunLaws.{entries-linked, front-version}
-use Rattle.fdb_runtime.specs.Sessions.{Session, IsSession, IsOpenAt}
+use Rattle.fdb_runtime.specs.Sessions.{IsOpenAt}
 
 -- a front begins with itself
 pub begins-itself : (front : List Entry) → IsPrefix front front

@@ -23,8 +23,8 @@ use crate::messages::grant_message::GrantMessage;
 use crate::name::ClusterName;
 use crate::receipt::Receipt;
 use crate::sealed_front::SealedFront;
-use fdb_book::Book;
 use bytes::Bytes;
+use fdb_book::Book;
 use fdb_client::{Finished, Snapshot, Transcript, Txn};
 use fdb_keys::{Items, Key, KeyRange, Refusal, Refused};
 use fdb_mutations::Mutation;
@@ -143,11 +143,7 @@ impl<B: ClusterName> SessionState<B> {
     /// Opens a transaction without operations, at the greater of the granted version and the mark, and answers that
     /// version, which the front then reaches. One that was open is abandoned. Refused as `Exhausted` once all numbers
     /// but the greatest one are used, and as `NoMemory`; then nothing changes.
-    pub(crate) fn begin(
-        &mut self,
-        alloc: Global,
-        granted: &GrantMessage<B>,
-    ) -> Result<u64, Refusal>
+    pub(crate) fn begin(&mut self, alloc: Global, granted: &GrantMessage<B>) -> Result<u64, Refusal>
         ensures answers { Answers result (begin_fault self.old) (λ version.
             (version ≡ max granted.now.committed self.old.mark) × (self.new ≡ beginning self.old granted.now)) }
         ensures begins { OnOk result (IsPrefix self.old.front self.new.front) }

@@ -12,9 +12,10 @@ returns-then-len-clause-reaches g c =
     omega (arith, c.if-len.true, c.len.ensures, c.len-2.ensures) in
     where-given c.share.result c.args.theirs.now
     (λ (front : List Entry). (last_version c.args.own.now ≤ last_version front)
-    × (last_version c.args.theirs.now ≤ last_version front)) c.share.ensures
-    (reaches resolvers c.args.own.now c.args.theirs.now c.front-2.ensures.entries (c.agree.ensures.shorter fewer),
-    omega arith)
+    × (last_version c.args.theirs.now ≤ last_version front)) c.share.ensures (
+      reaches resolvers c.args.own.now c.args.theirs.now c.front-2.ensures.entries (c.agree.ensures.shorter fewer),
+      omega arith,
+    )
 
 pub returns-else-len-clause-begins : goal.returns-else-len-clause-begins
 returns-else-len-clause-begins g c =
@@ -31,6 +32,7 @@ returns-else-len-clause-reaches g c =
     omega (arith, c.if-len.false, c.len.ensures, c.len-2.ensures) in
     where-given c.share-else-len.result c.args.own.now
     (λ (front : List Entry). (last_version c.args.own.now ≤ last_version front)
-    × (last_version c.args.theirs.now ≤ last_version front)) c.share-else-len.ensures
-    (omega arith,
-    reaches resolvers c.args.theirs.now c.args.own.now c.front.ensures.entries (c.agree.ensures.longer more))
+    × (last_version c.args.theirs.now ≤ last_version front)) c.share-else-len.ensures (
+      omega arith,
+      reaches resolvers c.args.theirs.now c.args.own.now c.front.ensures.entries (c.agree.ensures.longer more),
+    )

@@ -1,4 +1,4 @@
-use Rattle.std.proofs.Common.{◌≤◌, suc, length, subst, sym, ap, ◌≡◌, ◌∙◌, arith, List}
+use Rattle.std.proofs.Common.{◌≤◌, suc, length, subst, sym, arith, List}
 use Rattle.fdb_txn.specs.declared.entry.Entry.{Entry}
 use Rattle.fdb_txn.specs.book.Book.{last_version}
 use Rattle.fdb_runtime.proofs.SessionLemmas.{grown}
@@ -13,7 +13,13 @@ invariant_of-self g c =
     subst (λ (seen : List Entry). c.version-version.result ≤ last_version seen) (sym c.sealed_front.ensures.value)
     c.version-version.ensures.reached in
     let mark : c.max-self-inside.result ≤ last_version front =
-    omega (arith, c.max-self-inside.ensures, c.self.invariant.0, version, c.in_ok-front.ensures.reaches.0,
-    c.in_ok-front.ensures.reaches.1) in
+    omega (
+      arith,
+      c.max-self-inside.ensures,
+      c.self.invariant.0,
+      version,
+      c.in_ok-front.ensures.reaches.0,
+      c.in_ok-front.ensures.reaches.1,
+    ) in
     grown splits (suc (length splits)) own.number own.next_number c.max-self-inside.result own.front front own.current
     c.front.ensures.entries c.in_ok-front.ensures.begins.0 mark c.self.invariant.1
