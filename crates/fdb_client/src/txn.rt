@@ -145,8 +145,8 @@ impl Txn {
         self.state.add_write(range)
     }
 
-    /// Whether the transaction's own writes decide the key: then a read of the key asks no snapshot. It takes no memory,
-    /// and O(log n) time for n keys and ranges that they hold.
+    /// Whether the transaction's own writes decide the key: then a read of the key asks no snapshot. It takes no
+    /// memory, and O(log n) time for n keys and ranges that they hold.
     pub fn decides(&self, key: &Key) -> bool
         ensures { result ≡ decided (program self.now.ops) key.now }
     {

@@ -1,6 +1,6 @@
 -- A resolver that takes its part of the next entry.
-use Rattle.std.proofs.Common.{◌≡◌, ◌∙◌, ◌<◌, refl, sym, ap, subst, ℕ, suc, List, [], ◌∷◌, ◌++◌, length, Option, Some, None}
-use Rattle.std.proofs.Common.{arith, Bool, true, false, not, inl, inr, ◌⊎◌, IsSome, IsNone, Err}
+use Rattle.std.proofs.Common.{◌≡◌, ◌∙◌, ◌<◌, refl, sym, ap, subst, ℕ, suc, List, [], ◌∷◌, ◌++◌, length, Option, Some}
+use Rattle.std.proofs.Common.{None, arith, Bool, true, false, not, inl, inr, ◌⊎◌, IsSome, IsNone, Err}
 use Rattle.std.specs.Prelude.{◌==◌, if◌then◌else◌}
 use Rattle.std.proofs.lemmas.Bool.{eqb-true, true≢false}
 use Rattle.fdb_keys.specs.Points.{Point}

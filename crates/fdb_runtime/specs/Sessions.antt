@@ -1,7 +1,6 @@
 -- What a session owns: what it has seen of the book, its mark, and its open transaction.
 use Rattle.std.specs.Prelude.{◌≡◌, ◌<◌, ◌≤◌, ◌==◌, ℕ, suc, max, nat_lt, List, length, Option, Some, None, IfSome}
-use Rattle.std.specs.Prelude.{[]}
-use Rattle.std.specs.Prelude.{if◌then◌else◌}
+use Rattle.std.specs.Prelude.{[], if◌then◌else◌}
 use Rattle.fdb_keys.specs.Points.{Point}
 use Rattle.fdb_keys.specs.declared.refusal.Refusal.{Refusal}
 use Rattle.fdb_keys.specs.declared.refusal.Refusal.TheVariants.{Exhausted}

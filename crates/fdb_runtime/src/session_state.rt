@@ -183,8 +183,8 @@ impl<B: ClusterName> SessionState<B> {
         &self.front
     }
 
-    /// The open transaction buffers a copy of the mutation. Refused as `NoTransaction` where none is open, else as `Txn::write`
-    /// refuses it; then nothing changes.
+    /// The open transaction buffers a copy of the mutation. Refused as `NoTransaction` where none is open, else as
+    /// `Txn::write` refuses it; then nothing changes.
     pub(crate) fn write(&mut self, mutation: &Mutation) -> Result<(), Refusal>
         ensures answers { OfOpen self.old.current result (λ transcript. Answers result (mutation_fault mutation.now)
             (λ _. self.new

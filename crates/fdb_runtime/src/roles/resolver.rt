@@ -47,8 +47,8 @@ impl<B: ClusterName> ResolverAt<B> {
 
     /// Takes its part of the next entry, and answers what the rule says of it. Refused as `Stale` where it took the
     /// message's entry before, as `NotYet` with the version of the last entry that it took where one in between is
-    /// missing, as `Unknown` where the part is another resolver's, as `Failed` once it has failed, and as `NoMemory`. It
-    /// stays where it was, unless memory ran out for the verdicts: then it has failed.
+    /// missing, as `Unknown` where the part is another resolver's, as `Failed` once it has failed, and as `NoMemory`.
+    /// It stays where it was, unless memory ran out for the verdicts: then it has failed.
     pub(crate) fn take(&mut self, message: &PartMessage<B>) -> Result<VerdictMessage<B>, Refusal>
         ensures answers { AnswersInTurn result (front_fault self.old.front message.now.front)
             (part_fault self.old.core message.now.part) (λ sent. (sent.front ≡ message.now.front)
