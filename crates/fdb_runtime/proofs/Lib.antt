@@ -1,3 +1,4 @@
+pub mod CommitProxyLemmas
 pub mod GatheringLemmas
 pub mod TurnLemmas
 pub mod ResolverLemmas

@@ -1,3 +1,4 @@
+pub mod CommitProxiesAtFronts
 pub mod Issuing
 pub mod Gatherings
 pub mod Messages

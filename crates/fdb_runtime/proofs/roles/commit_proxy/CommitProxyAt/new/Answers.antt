@@ -1,0 +1,10 @@
+use Rattle.fdb_proxy.specs.CommitProxies.{new_fault}
+use Rattle.fdb_core.proofs.common.FaultLemmas.{answers-fault}
+use Rattle.fdb_runtime.proofs.CommitProxyLemmas.{begins}
+use Rattle.fdb_runtime.proofs.roles.commit_proxy.CommitProxyAt.new.Goals as goal
+
+pub invariant_of-result : goal.invariant_of-result
+invariant_of-result g c =
+    begins g.B.ClusterName.config c.args.config.now c.args.index c.in_ok-front.front c.in_ok-core.core.proxy
+    c.in_ok-front.ensures c.requires
+    (answers-fault (new_fault c.args.index c.args.config.now) c.in_ok-core.core _ c.in_ok-core.ensures).1

@@ -1,0 +1,115 @@
+ghost use Rattle.std.specs.Prelude.{◌≡◌, ◌≤◌, ⊤, true, [], take, map, OnErr};
+ghost use Rattle.fdb_keys.specs.Answers.{Answers, AnswersOrHandsBack, AnswersExactlyOrHandsBack};
+ghost use Rattle.fdb_txn.specs.Limits.{place_limit};
+ghost use Rattle.fdb_txn.specs.book.Transactions.{Transaction};
+ghost use Rattle.fdb_proxy.specs.CommitProxies.{new_fault, IsNewProxy, failed_fault, submit_fault, submitting};
+ghost use Rattle.fdb_proxy.specs.CommitProxies.{seal_fault, sealing, unsealing};
+
+use crate::name::ClusterName;
+use crate::sealed_front::SealedFront;
+use fdb_book::Book;
+use fdb_keys::{Items, Refusal, Refused};
+use fdb_proxy::{CommitCore, Config};
+use fdb_txn::{Batch, Sealed, TxnId};
+use std::alloc::Global;
+use std::marker::Model;
+
+/// A commit proxy, which has the entries of its front. The last one is that of its last ticket.
+#[derive(Drop)]
+pub(crate) struct CommitProxyAt<B: ClusterName> {
+    front: SealedFront<B>,
+    core: CommitCore,
+}
+
+impl<B: ClusterName> Model for CommitProxyAt<B> {
+    ghost use Rattle.fdb_runtime.specs.CommitProxiesAtFronts.{CommitProxyAtFront, IsThere};
+
+    ghost Value = { CommitProxyAtFront };
+
+    ghost view = { λ at. record { front = at.front; core = at.core } };
+
+    ghost invariant = { λ at. IsThere B.config at.front at.core.proxy };
+}
+
+impl<B: ClusterName> CommitProxyAt<B> {
+    /// The commit proxy with the number, which has no entry, and where nobody waits. Refused as `BadConfig` where the
+    /// configuration isn't legal and where it has no proxy with the number, and as `NoMemory`.
+    pub(crate) fn new(
+        alloc: Global,
+        book: &Book<B>,
+        index: u32,
+        config: &Config,
+    ) -> Result<Self, Refusal>
+        requires { config.now ≡ B.config }
+        ensures { Answers result (new_fault index config.now)
+            (λ at. (at.front ≡ []) × IsNewProxy index config.now at.core.proxy) }
+    {
+        let core = CommitCore::new(alloc, index, config)?;
+        let front = SealedFront::empty(alloc, book)?;
+        Ok(CommitProxyAt { front, core })
+    }
+
+    /// Makes room for one more request, so that a `submit` that comes next takes no memory. Nothing else changes.
+    /// Refused as `Failed`, and as `NoMemory`.
+    pub(crate) fn reserve(&mut self) -> Result<(), Refusal>
+        ensures answers { Answers result (failed_fault self.old.core.proxy) (λ _. 1 ≤ self.new.core.spare) }
+        ensures same { self.new.core.proxy ≡ self.old.core.proxy }
+        ensures front { self.new.front ≡ self.old.front }
+    {
+        self.core.reserve()
+    }
+
+    /// Takes a request, which waits for a batch after those that wait already. It takes no memory where there is room
+    /// for one more. Refused as `Failed`, as `Repeated` where a request of its id is in flight or waits, with the place
+    /// of that one, and as `NoMemory`. A refusal hands the request back, and nothing changes but the room.
+    pub(crate) fn submit(&mut self, sealed: Sealed) -> Result<(), Refused<Sealed>>
+        ensures answers { AnswersOrHandsBack result sealed (submit_fault self.old.core.proxy sealed)
+            (λ _. self.new.core.proxy ≡ submitting self.old.core.proxy sealed) }
+        ensures room { 1 ≤ self.old.core.spare → AnswersExactlyOrHandsBack result sealed
+            (submit_fault self.old.core.proxy sealed) (λ _. ⊤) }
+        ensures refused { OnErr result (self.new.core.proxy ≡ self.old.core.proxy) }
+        ensures front { self.new.front ≡ self.old.front }
+    {
+        self.core.submit(sealed)
+    }
+
+    /// The first 4,096 of those that wait, in order, become the batch in flight, all of them where there are no more.
+    /// Answers a copy of it. Refused as `Failed`, as `WrongState` where a batch is in flight already, and as
+    /// `NoMemory`, and then nothing changes but the room.
+    pub(crate) fn seal(&mut self) -> Result<Batch, Refusal>
+        ensures answers { Answers result (seal_fault self.old.core.proxy)
+            (λ batch. (batch ≡ take place_limit self.old.core.proxy.waiting)
+            × (self.new.core.proxy ≡ sealing self.old.core.proxy)) }
+        ensures refused { OnErr result (self.new.core.proxy ≡ self.old.core.proxy) }
+        ensures front { self.new.front ≡ self.old.front }
+    {
+        self.core.seal()
+    }
+
+    /// Gives up a sealed batch, which has no entry yet: its requests wait again, before all others. At every other stage
+    /// nothing changes but the room. It takes no memory, and O(1) time.
+    pub(crate) fn unseal(&mut self)
+        ensures proxy { self.new.core.proxy ≡ unsealing self.old.core.proxy }
+        ensures front { self.new.front ≡ self.old.front }
+    {
+        self.core.unseal();
+    }
+
+    /// Drops those that wait, and answers their ids in order. Those in flight stay and aren't named. It takes no memory,
+    /// and O(n) time for n requests, ranges and mutations that are dropped.
+    pub(crate) fn refuse_all(&mut self) -> Items<TxnId>
+        ensures ids { result ≡ map (λ (t : Transaction). t.id) self.old.core.proxy.waiting }
+        ensures left { self.new.core.proxy ≡ record self.old.core.proxy { waiting = [] } }
+        ensures front { self.new.front ≡ self.old.front }
+    {
+        self.core.refuse_all()
+    }
+
+    /// The proxy has failed from now on. It takes no memory, and O(1) time.
+    pub(crate) fn fail(&mut self)
+        ensures proxy { self.new.core.proxy ≡ record self.old.core.proxy { is_failed = true } }
+        ensures front { self.new.front ≡ self.old.front }
+    {
+        self.core.fail();
+    }
+}
