@@ -2,27 +2,23 @@
 use Rattle.std.proofs.Common.{◌≡◌, ◌∙◌, refl, sym, subst, ℕ, Bool, true, false, List, [], take, Result, Ok, Err, OnErr}
 use Rattle.std.proofs.lemmas.Bool.{true≢false}
 use Rattle.fdb_txn.specs.declared.entry.Entry.{Entry}
+use Rattle.fdb_log.specs.declared.message.LogAck.{LogAck}
 use Rattle.fdb_txn.specs.book.Transactions.{Transaction}
 use Rattle.fdb_proxy.specs.declared.config.Config.{Config}
 use Rattle.fdb_proxy.specs.CommitProxies.{CommitProxy, ProxyWithRoom, IsNewProxy, is_sealed, seal_fault}
-use Rattle.fdb_proxy.specs.CommitProxies.{submitting, sealing, unsealing}
+use Rattle.fdb_proxy.specs.CommitProxies.{sealing, unsealing, logged_fault, with_logged}
 use Rattle.fdb_core.specs.headline.ProxyStages.{IsCommitProxyAt}
-use Rattle.fdb_keys.specs.Answers.{Answers}
+use Rattle.fdb_keys.specs.Answers.{Answers, AnswersExactly}
 use Rattle.fdb_keys.specs.declared.refusal.Refusal.{Refusal}
 use Rattle.fdb_txn.specs.Limits.{place_limit}
-use Rattle.fdb_core.proofs.common.FaultLemmas.{answers-fault}
-use Rattle.fdb_core.proofs.headline.ProxyLaws.{requests_come_and_go, new_proxies_have_no_entry}
+use Rattle.fdb_core.proofs.common.FaultLemmas.{answers-fault, given-fault}
+use Rattle.fdb_core.proofs.headline.ProxyLaws.{requests_come_and_go, new_proxies_have_no_entry, proxies_hear_logs}
 use Rattle.fdb_runtime.specs.CommitProxiesAtFronts.{IsThere}
 
 -- what changes nothing leaves it there
 pub stays : (config : Config) (front : List Entry) (old new : CommitProxy) → new ≡ old → IsThere config front old
     → IsThere config front new
 stays config front old new same there = subst (IsThere config front) (sym same) there
-
-pub submits : (config : Config) (front : List Entry) (old new : CommitProxy) (t : Transaction)
-    → new ≡ submitting old t → IsThere config front old → IsThere config front new
-submits config front old new t same there =
-    subst (IsThere config front) (sym same) (λ works. (requests_come_and_go config front old (there works)).0 t)
 
 pub seals : (config : Config) (front : List Entry) (old new : CommitProxy)
     → new ≡ sealing old → IsThere config front old → IsThere config front new
@@ -52,6 +48,17 @@ seals-or-stays config front old new (Ok batch) answers refused there =
     seals config front old.proxy new.proxy (answers-fault (seal_fault old.proxy) batch _ answers).1.1 there
 seals-or-stays config front old new (Err why) answers refused there =
     stays config front old.proxy new.proxy refused there
+
+-- a log's acknowledgement that is taken, or not
+pub logged-or-stays : (config : Config) (front : List Entry) (old new : ProxyWithRoom) (ack : LogAck)
+    → {T : Type 0} → (result : Result T Refusal)
+    → AnswersExactly result (logged_fault old.proxy ack) (λ _. new.proxy ≡ with_logged old.proxy ack)
+    → OnErr result (new ≡ old) → IsThere config front old.proxy → IsThere config front new.proxy
+logged-or-stays config front old new ack (Ok done) answers refused there =
+    subst (IsThere config front) (sym (given-fault (logged_fault old.proxy ack) done _ answers).1)
+    (λ works. proxies_hear_logs config front old.proxy ack (there works))
+logged-or-stays config front old new ack (Err why) answers refused there =
+    subst (λ (core : ProxyWithRoom). IsThere config front core.proxy) (sym refused) there
 
 -- a batch that is given up, or isn't there
 pub unseals : (config : Config) (front : List Entry) (old new : CommitProxy)

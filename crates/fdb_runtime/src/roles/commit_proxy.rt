@@ -1,14 +1,16 @@
-ghost use Rattle.std.specs.Prelude.{◌≡◌, ◌≤◌, ⊤, true, [], take, map, OnErr};
-ghost use Rattle.fdb_keys.specs.Answers.{Answers, AnswersOrHandsBack, AnswersExactlyOrHandsBack};
+ghost use Rattle.std.specs.Prelude.{◌≡◌, ◌==◌, ◌≤◌, ⊤, true, not, [], take, map, length, OnErr};
+ghost use Rattle.fdb_keys.specs.Answers.{Answers, AnswersExactly, AnswersOrHandsBack, AnswersExactlyOrHandsBack};
 ghost use Rattle.fdb_txn.specs.Limits.{place_limit};
 ghost use Rattle.fdb_txn.specs.book.Transactions.{Transaction};
 ghost use Rattle.fdb_proxy.specs.CommitProxies.{new_fault, IsNewProxy, failed_fault, submit_fault, submitting};
-ghost use Rattle.fdb_proxy.specs.CommitProxies.{seal_fault, sealing, unsealing};
+ghost use Rattle.fdb_proxy.specs.CommitProxies.{seal_fault, sealing, unsealing, logged_fault, with_logged};
+ghost use Rattle.fdb_proxy.specs.CommitProxies.{all_logged_fault};
 
 use crate::name::ClusterName;
 use crate::sealed_front::SealedFront;
 use fdb_book::Book;
 use fdb_keys::{Items, Refusal, Refused};
+use fdb_log::LogAck;
 use fdb_proxy::{CommitCore, Config};
 use fdb_txn::{Batch, Sealed, TxnId};
 use std::alloc::Global;
@@ -86,8 +88,8 @@ impl<B: ClusterName> CommitProxyAt<B> {
         self.core.seal()
     }
 
-    /// Gives up a sealed batch, which has no entry yet: its requests wait again, before all others. At every other stage
-    /// nothing changes but the room. It takes no memory, and O(1) time.
+    /// Gives up a sealed batch, which has no entry yet: its requests wait again, before all others. At every other
+    /// stage nothing changes but the room. It takes no memory, and O(1) time.
     pub(crate) fn unseal(&mut self)
         ensures proxy { self.new.core.proxy ≡ unsealing self.old.core.proxy }
         ensures front { self.new.front ≡ self.old.front }
@@ -95,8 +97,8 @@ impl<B: ClusterName> CommitProxyAt<B> {
         self.core.unseal();
     }
 
-    /// Drops those that wait, and answers their ids in order. Those in flight stay and aren't named. It takes no memory,
-    /// and O(n) time for n requests, ranges and mutations that are dropped.
+    /// Drops those that wait, and answers their ids in order. Those in flight stay and aren't named. It takes no
+    /// memory, and O(n) time for n requests, ranges and mutations that are dropped.
     pub(crate) fn refuse_all(&mut self) -> Items<TxnId>
         ensures ids { result ≡ map (λ (t : Transaction). t.id) self.old.core.proxy.waiting }
         ensures left { self.new.core.proxy ≡ record self.old.core.proxy { waiting = [] } }
@@ -111,5 +113,38 @@ impl<B: ClusterName> CommitProxyAt<B> {
         ensures front { self.new.front ≡ self.old.front }
     {
         self.core.fail();
+    }
+
+    /// Takes a log's acknowledgement. It takes no memory. Refused as `Failed`, and as `Stale` unless the batch waits
+    /// for it; then nothing changes.
+    pub(crate) fn logged(&mut self, ack: LogAck) -> Result<(), Refusal>
+        ensures answers { AnswersExactly result (logged_fault self.old.core.proxy ack)
+            (λ _. self.new.core.proxy ≡ with_logged self.old.core.proxy ack) }
+        ensures front { self.new.front ≡ self.old.front }
+        ensures refused { OnErr result (self.new.core.proxy ≡ self.old.core.proxy) }
+    {
+        self.core.logged(ack)
+    }
+
+    /// Whether all logs have acknowledged the batch. It takes no memory. Refused as `Failed`, as `WrongState` unless
+    /// the batch is decided and isn't done, and as `NotYet` with the least log whose acknowledgement hasn't come.
+    pub(crate) fn all_logged(&self) -> Result<(), Refusal>
+        ensures { AnswersExactly result (all_logged_fault self.now.core.proxy) (λ _. ⊤) }
+    {
+        self.core.all_logged()
+    }
+
+    /// The front whose entries it has, lent.
+    pub(crate) fn front(&self) -> &SealedFront<B>
+        ensures { result.now ≡ self.now.front }
+    {
+        &self.front
+    }
+
+    /// Whether a request waits for a batch. It takes no memory, and O(1) time.
+    pub(crate) fn waits(&self) -> bool
+        ensures { result ≡ not (length self.now.core.proxy.waiting == 0) }
+    {
+        self.core.waits()
     }
 }
