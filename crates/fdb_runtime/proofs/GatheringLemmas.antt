@@ -19,6 +19,7 @@ use Rattle.fdb_keys.proofs.InsertionLemmas.{in_range-empty}
 use Rattle.fdb_keys.proofs.WithinLemmas.{within-points}
 use Rattle.fdb_mutations.specs.Maps.{Map}
 use Rattle.fdb_mutations.specs.Pairs.{first_of, pairs_in}
+use Rattle.fdb_mutations.proofs.PairsLemmas.{same_values}
 use Rattle.fdb_storage.specs.Shards.{part_fault, serving_fault, HasCopied}
 use Rattle.fdb_proxy.specs.declared.config.Config.{Config}
 use Rattle.fdb_client.specs.Pages.{IsPage}
@@ -188,6 +189,14 @@ module _ (config : Config) (it : Gathering) (copy : Map)
       (λ x inside. let held = gathered it range none x inside in
       has x held.0 ∙ cond-false (in_range it.left x) None (get (run_of config it.version it.front) x) held.1)
       is
+
+  -- and all of its pairs are those of the serial map
+  pub pairs-are : (range : Range) (pairs : List (Point × List ℕ)) → fault_of it range ≡ None
+      → pairs ≡ pairs_in copy range false → pairs ≡ pairs_in (run_of config it.version it.front) range false
+  pairs-are range pairs none is =
+      is ∙ same_values copy (run_of config it.version it.front) range false
+      (λ x inside. let held = gathered it range none x inside in
+      has x held.0 ∙ cond-false (in_range it.left x) None (get (run_of config it.version it.front) x) held.1)
 
 -- Once a shard that holds the begin of what is left gave its part, the rest is left.
 module _ (config : Config) (it : Gathering) (at : ShardAtFront) (there : IsThere config at)

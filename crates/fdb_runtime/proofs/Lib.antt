@@ -5,5 +5,6 @@ pub mod ResolverLemmas
 pub mod IssueLemmas
 pub mod LogLemmas
 pub mod SessionLemmas
+pub mod SettlingLemmas
 pub mod ShardLemmas
 pub mod ShardViewLemmas

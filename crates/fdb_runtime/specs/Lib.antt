@@ -1,8 +1,10 @@
 pub mod CommitProxiesAtFronts
+pub mod Endings
 pub mod Issuing
 pub mod Gatherings
 pub mod Messages
 pub mod Receipts
+pub mod Records
 pub mod RolesAtFronts
 pub mod Sessions
 pub mod ShardViews

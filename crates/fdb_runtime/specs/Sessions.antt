@@ -1,16 +1,19 @@
 -- What a session owns: what it has seen of the book, its mark, and its open transaction.
-use Rattle.std.specs.Prelude.{◌≡◌, ◌<◌, ◌≤◌, ◌==◌, ℕ, suc, max, nat_lt, List, length, Option, Some, None, IfSome}
-use Rattle.std.specs.Prelude.{[], if◌then◌else◌}
+use Rattle.std.specs.Prelude.{◌≡◌, ◌<◌, ◌≤◌, ◌==◌, ◌⊎◌, ℕ, suc, max, nat_lt, List, length, Option, Some, None, IfSome}
+use Rattle.std.specs.Prelude.{[], if◌then◌else◌, Result, Ok, Err}
 use Rattle.fdb_keys.specs.Points.{Point}
 use Rattle.fdb_keys.specs.declared.refusal.Refusal.{Refusal}
-use Rattle.fdb_keys.specs.declared.refusal.Refusal.TheVariants.{Exhausted}
+use Rattle.fdb_keys.specs.declared.refusal.Refusal.TheVariants.{Exhausted, CommitUnknownResult}
+use Rattle.fdb_keys.specs.declared.refusal.Refused.{Refused}
 use Rattle.fdb_txn.specs.declared.entry.Entry.{Entry}
+use Rattle.fdb_txn.specs.declared.spot.Spot.{Spot}
 use Rattle.fdb_txn.specs.book.Book.{seen_of, last_version}
 use Rattle.fdb_txn.specs.rules.SerialMap.{serial_map_at}
 use Rattle.fdb_client.specs.declared.program.Transcript.{Transcript}
 use Rattle.fdb_core.specs.headline.Headline.{AnsweredOn}
 use Rattle.fdb_core.specs.headline.RealTime.{spot_version}
-use Rattle.fdb_runtime.specs.Receipts.{GrantAtFront, ReceiptAtFront}
+use Rattle.fdb_runtime.specs.Receipts.{GrantAtFront, ReceiptAtFront, OutcomeAtFront}
+use Rattle.fdb_runtime.specs.Receipts.{IsToldOf, spot_told, settle_fault}
 
 -- the open transaction is seen as its transcript
 pub record Session : Type 0 where
@@ -65,3 +68,32 @@ learning it receipt = record it {
 -- with another open transaction, or none
 abbrev pub with_current : Session → Option Transcript → Session
 with_current it current = record it { current = current }
+
+-- it has seen a front of the book
+abbrev pub seeing : Session → List Entry → Session
+seeing it front = record it { front = longer it.front front }
+
+-- it has heard that its transaction is committed
+abbrev pub settling : Session → OutcomeAtFront → Session
+settling it told = record it {
+  front = longer it.front told.front;
+  mark = max it.mark (last_version told.front);
+}
+
+-- What a session hears of its transaction: that it is committed, with the longer front and its spot there, or why it
+-- isn't, where it is told of it. Else, or where memory runs out, that isn't known.
+abbrev pub Hears : Session → OutcomeAtFront → Transcript → Result (List Entry × Spot) Refusal → Session → Type 0
+Hears it told transcript (Ok given) new =
+    IsToldOf told transcript × (settle_fault told.outcome ≡ None) × (given.0 ≡ longer it.front told.front)
+    × (given.1 ≡ spot_told told) × (new ≡ settling it told)
+Hears it told transcript (Err why) new =
+    (IsToldOf told transcript × (settle_fault told.outcome ≡ Some why) × (new ≡ seeing it told.front))
+    ⊎ ((why ≡ CommitUnknownResult) × (new ≡ it))
+
+-- it is given its receipt, or what it submitted is handed back
+abbrev pub Settles
+    : Session → OutcomeAtFront → Transcript → Result ReceiptAtFront (Refused Transcript) → Session → Type 0
+Settles it told transcript (Ok receipt) new =
+    (receipt.transcript ≡ transcript) × Hears it told transcript (Ok (receipt.front, receipt.spot)) new
+Settles it told transcript (Err refused) new =
+    (refused.back ≡ transcript) × Hears it told transcript (Err refused.why) new

@@ -5,6 +5,7 @@
 mod messages;
 mod name;
 mod receipt;
+mod record;
 mod roles;
 mod sealed_front;
 mod session_state;

@@ -1,7 +1,7 @@
 ghost use Rattle.std.specs.Prelude.{◌≡◌, ◌≤◌, suc, length};
 ghost use Rattle.fdb_txn.specs.book.Book.{last_version};
 ghost use Rattle.fdb_core.specs.headline.RealTime.{spot_version};
-ghost use Rattle.fdb_txn.specs.book.History.{IsBook};
+ghost use Rattle.fdb_txn.specs.book.History.{IsBook, AreEntries};
 ghost use Rattle.fdb_runtime.specs.Receipts.{IsReceipt};
 
 use crate::name::ClusterName;
@@ -56,6 +56,7 @@ impl<B: ClusterName> Receipt<B> {
     pub fn front(&self) -> &Front<B>
         ensures value { result.now ≡ self.now.front }
         ensures book { IsBook (suc (length B.config.resolver_splits)) result.now }
+        ensures entries { AreEntries (suc (length B.config.resolver_splits)) 0 result.now }
     {
         let front = self.front.front();
         front.len();

@@ -1,12 +1,10 @@
 ghost use Rattle.std.specs.Prelude.{◌≡◌, ◌≤◌, max, [], None, Some, IfOk, IfSome, OnOk, OnErr};
 ghost use Rattle.std.specs.Option.{option_map};
-ghost use Rattle.fdb_keys.specs.Answers.{Answers, AnswersOrHandsBack};
+ghost use Rattle.fdb_keys.specs.Answers.{Answers};
 ghost use Rattle.std.specs.FinMap.{get};
 ghost use Rattle.std.specs.Prelude.{if◌then◌else◌};
 ghost use Rattle.fdb_txn.specs.book.Book.{seen_of};
 ghost use Rattle.fdb_txn.specs.rules.SerialMap.{serial_map_at};
-ghost use Rattle.fdb_txn.specs.declared.spot.Spot.TheVariants as spot;
-ghost use Rattle.fdb_core.specs.headline.Headline.{WroteNothing};
 ghost use Rattle.fdb_client.specs.Programs.{program, copy, decided};
 ghost use Rattle.fdb_mutations.specs.Mutations.{mutation_fault};
 ghost use Rattle.fdb_mutations.specs.PairLaws.{given_of};
@@ -16,8 +14,8 @@ ghost use Rattle.fdb_client.specs.TxnState.{with_op};
 ghost use Rattle.fdb_client.specs.declared.program.Transcript.{Transcript as ATranscript};
 ghost use Rattle.fdb_client.specs.declared.program.Op.TheVariants as operation;
 ghost use Rattle.fdb_client.specs.declared.program.Reply.TheVariants as answer;
-ghost use Rattle.fdb_runtime.specs.Sessions.{longer, begin_fault, beginning, learning, with_current, IsOpenAt};
-ghost use Rattle.fdb_core.specs.refinement.Sessions.{OfOpen, Finishes};
+ghost use Rattle.fdb_runtime.specs.Sessions.{longer, begin_fault, beginning, learning, with_current};
+ghost use Rattle.fdb_core.specs.refinement.Sessions.{OfOpen};
 
 use crate::messages::grant_message::GrantMessage;
 use crate::name::ClusterName;
@@ -25,13 +23,14 @@ use crate::receipt::Receipt;
 use crate::sealed_front::SealedFront;
 use bytes::Bytes;
 use fdb_book::Book;
-use fdb_client::{Finished, Snapshot, Transcript, Txn};
-use fdb_keys::{Items, Key, KeyRange, Refusal, Refused};
+use fdb_client::{Snapshot, Txn};
+use fdb_keys::{Items, Key, KeyRange, Refusal};
 use fdb_mutations::Mutation;
-use fdb_txn::{Spot, TxnId};
+use fdb_txn::TxnId;
 use std::alloc::Global;
 use std::marker::Model;
-use std::mem;
+
+pub(crate) mod settling;
 
 // The longer of two fronts, once more. Refused only as `NoMemory`.
 fn share_longer<B: ClusterName>(
@@ -62,33 +61,6 @@ fn write_copy(txn: &mut Txn, mutation: &Mutation) -> Result<(), Refusal>
     mutation.check()?;
     let mutation = mutation.clone()?;
     txn.write(mutation)
-}
-
-// Finishes what is open, if anything is, which stays open where that is refused.
-fn finish_current(current: &mut Option<Txn>) -> Result<Finished, Refusal>
-    ensures answers { OfOpen current.old result (Finishes result) }
-    ensures ended { OnOk result (current.new ≡ None) }
-    ensures refused { OnErr result (current.new ≡ current.old) }
-{
-    match mem::replace(current, None) {
-        Some(txn) => finish_or_keep(current, txn),
-        None => Err(Refusal::NoTransaction),
-    }
-}
-
-// Finishes the transaction, which is kept where that is refused.
-fn finish_or_keep(current: &mut Option<Txn>, txn: Txn) -> Result<Finished, Refusal>
-    ensures answers { Finishes result txn }
-    ensures ended { OnOk result (current.new ≡ current.old) }
-    ensures kept { OnErr result (current.new ≡ Some txn) }
-{
-    match txn.finish() {
-        Ok(finished) => Ok(finished),
-        Err(refused) => {
-            *current = Some(refused.back);
-            Err(refused.why)
-        }
-    }
 }
 
 /// What a session owns: what it has seen of the book, the greatest version that it knows of a receipt, and its open
@@ -238,46 +210,6 @@ impl<B: ClusterName> SessionState<B> {
         self.front = front;
         self.mark = u64::max(self.mark, version);
         Ok(())
-    }
-
-    /// Finishes the open transaction, and answers what is left to do of it; none is open then. What it was answered
-    /// stands on the front. Refused as `NoTransaction` where none is open, as `TransactionTooLarge` where what is to be
-    /// committed has more than 10,000,000 bytes, and as `NoMemory`; then nothing changes.
-    pub(crate) fn finish(&mut self) -> Result<Finished, Refusal>
-        ensures answers { OfOpen self.old.current result (Finishes result) }
-        ensures opened { IfSome self.old.current
-            (IsOpenAt B.config.resolver_splits self.old.number self.old.next_number self.old.front) }
-        ensures ended { OnOk result (self.new ≡ with_current self.old None) }
-        ensures refused { OnErr result (self.new ≡ self.old) }
-    {
-        finish_current(&mut self.current)
-    }
-
-    /// The receipt of a transaction of the session that wrote nothing, at its read version on the session's front.
-    /// Refused only as `NoMemory`, which hands the transcript back.
-    pub(crate) fn receipt_of_read_only(
-        &self,
-        transcript: Transcript,
-    ) -> Result<Receipt<B>, Refused<Transcript>>
-        requires opened { IsOpenAt B.config.resolver_splits self.now.number self.now.next_number self.now.front
-            transcript }
-        requires nothing { WroteNothing transcript }
-        ensures { AnswersOrHandsBack result transcript None (λ receipt. receipt ≡ record {
-          front = self.now.front;
-          spot = spot.ReadOnly transcript.read_version;
-          transcript = transcript;
-        }) }
-    {
-        match self.front.share() {
-            Ok(front) => {
-                let version = transcript.read_version;
-                Ok(Receipt::new(front, Spot::ReadOnly { version }, transcript))
-            }
-            Err(why) => Err(Refused {
-                why,
-                back: transcript,
-            }),
-        }
     }
 
     /// The value of the key after the open transaction's own writes, on the serial map of the front at the read

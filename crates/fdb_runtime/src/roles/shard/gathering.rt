@@ -1,17 +1,19 @@
 // What shards have of a range, gathered from one after another, so that none is held while another one is waited for.
-ghost use Rattle.std.specs.Prelude.{◌≡◌, ◌≤◌, None, IsTrue};
+ghost use Rattle.std.specs.Prelude.{◌≡◌, ◌≤◌, false, None, IsTrue};
 ghost use Rattle.fdb_keys.specs.Answers.{Answers};
 ghost use Rattle.fdb_keys.specs.Ranges.{in_range, is_empty_range, ranges_meet};
+ghost use Rattle.fdb_mutations.specs.Pairs.{pairs_in};
 ghost use Rattle.fdb_storage.specs.Shards.{part_fault};
 ghost use Rattle.fdb_txn.specs.book.Book.{last_version};
 ghost use Rattle.fdb_runtime.specs.Gatherings.{gather_fault, range_fault, rest_after, with_part_of};
+ghost use Rattle.fdb_runtime.specs.ShardViews.{run_of};
 
 use crate::name::ClusterName;
 use crate::roles::shard::ShardAt;
 use crate::sealed_front::SealedFront;
 use bytes::Bytes;
 use fdb_client::{Page, Snapshot};
-use fdb_keys::{Key, KeyRange, Refusal};
+use fdb_keys::{Items, Key, KeyRange, Refusal};
 use fdb_mutations::{PlainMap, copied};
 use std::alloc::Global;
 use std::marker::Model;
@@ -133,6 +135,34 @@ impl<'a, B: ClusterName> Gathering<'a, B> {
         ensures { result.now ≡ self.now.left }
     {
         &self.left
+    }
+
+    /// The reader's front. It takes no memory, and O(1) time.
+    pub(crate) fn front(&self) -> &SealedFront<B>
+        ensures value { result.now ≡ self.now.front }
+        ensures reached { self.now.version ≤ last_version self.now.front }
+    {
+        self.front
+    }
+
+    /// The range of which it is gathered. It takes no memory, and O(1) time.
+    pub(crate) fn range(&self) -> &KeyRange
+        ensures { result.now ≡ self.now.range }
+    {
+        self.range
+    }
+
+    /// All pairs of a range in key order, as they stand on the serial map. Refused as `KeyOutsideLegalRange` where some
+    /// of it isn't gathered, and as `NoMemory`. It takes O(p) time for p pairs gathered.
+    pub(crate) fn pairs(&self, range: &KeyRange) -> Result<Items<(Key, Bytes)>, Refusal>
+        ensures { Answers result (range_fault self.now range.now) (λ pairs. pairs
+            ≡ pairs_in (run_of B.config self.now.version self.now.front) range.now false) }
+    {
+        if !range.is_within(self.range) || range.meets(&self.left) {
+            return Err(Refusal::KeyOutsideLegalRange);
+        }
+        let pairs = self.map.range(range, 0, false)?;
+        Ok(pairs)
     }
 
     /// Whether all of the range is gathered: then the range isn't refused. It takes no memory, and O(1) time.
