@@ -1,17 +1,28 @@
-ghost use Rattle.std.specs.Prelude.{◌≡◌, ◌==◌, ◌≤◌, ⊤, true, not, [], take, map, length, OnErr};
+ghost use Rattle.std.specs.Prelude.{◌≡◌, ◌==◌, ◌≤◌, ⊤, true, not, [], take, map, length, None, IfOk, OnErr};
 ghost use Rattle.fdb_keys.specs.Answers.{Answers, AnswersExactly, AnswersOrHandsBack, AnswersExactlyOrHandsBack};
 ghost use Rattle.fdb_txn.specs.Limits.{place_limit};
 ghost use Rattle.fdb_txn.specs.book.Transactions.{Transaction};
 ghost use Rattle.fdb_proxy.specs.CommitProxies.{new_fault, IsNewProxy, failed_fault, submit_fault, submitting};
 ghost use Rattle.fdb_proxy.specs.CommitProxies.{seal_fault, sealing, unsealing, logged_fault, with_logged};
-ghost use Rattle.fdb_proxy.specs.CommitProxies.{all_logged_fault};
+ghost use Rattle.fdb_proxy.specs.CommitProxies.{all_logged_fault, is_idle, parts_fault, parts_in, with_verdict};
+ghost use Rattle.fdb_proxy.specs.CommitProxies.{decide_fault, deciding, messages_fault, messages_of, done_fault};
+ghost use Rattle.fdb_proxy.specs.CommitProxies.{answers_in, finishing};
+ghost use Rattle.fdb_owners.specs.Ownership.{resolvers_of};
+ghost use Rattle.fdb_runtime.specs.CommitProxiesAtFronts.{hear_fault, AreLastParts, AreLastMessages, AreOutcomes};
+ghost use Rattle.fdb_runtime.specs.Messages.{IsLastPart, IsLastMessage};
+ghost use Rattle.fdb_runtime.specs.Receipts.{IsOutcome};
 
+use crate::messages::log_message::LogMessage;
+use crate::messages::outcome_message::OutcomeMessage;
+use crate::messages::part_message::PartMessage;
+use crate::messages::verdict_message::VerdictMessage;
 use crate::name::ClusterName;
 use crate::sealed_front::SealedFront;
 use fdb_book::Book;
 use fdb_keys::{Items, Refusal, Refused};
-use fdb_log::LogAck;
-use fdb_proxy::{CommitCore, Config};
+use fdb_log::{LogAck, LogMsg};
+use fdb_proxy::{CommitCore, Config, Outcome};
+use fdb_resolver::Part;
 use fdb_txn::{Batch, Sealed, TxnId};
 use std::alloc::Global;
 use std::marker::Model;
@@ -146,5 +157,134 @@ impl<B: ClusterName> CommitProxyAt<B> {
         ensures { result ≡ not (length self.now.core.proxy.waiting == 0) }
     {
         self.core.waits()
+    }
+
+    /// Whether no batch is in flight. It takes no memory, and O(1) time.
+    pub(crate) fn is_idle(&self) -> bool
+        ensures { result ≡ is_idle self.now.core.proxy.stage }
+    {
+        self.core.is_idle()
+    }
+
+    /// Whether the proxy has failed. It takes no memory, and O(1) time.
+    pub(crate) fn is_failed(&self) -> bool
+        ensures { result ≡ self.now.core.proxy.is_failed }
+    {
+        self.core.is_failed()
+    }
+
+    /// How many resolvers it asks. It takes no memory, and O(1) time.
+    pub(crate) fn resolvers(&self) -> u32
+        ensures { result ≡ resolvers_of self.now.core.proxy.owners }
+    {
+        self.core.resolvers()
+    }
+
+    /// How many requests are in the batch in flight, 0 where there is none. It takes no memory, and O(1) time.
+    pub(crate) fn in_flight(&self) -> usize
+        ensures { result ≡ length self.now.core.proxy.batch }
+    {
+        self.core.batch().len()
+    }
+
+    /// What each resolver is asked about the batch, one part for each of them in order: its part of the front's last
+    /// entry. Refused as `Failed`, as `WrongState` unless the batch waits for verdicts, and as `NoMemory`.
+    pub(crate) fn parts(&self) -> Result<Items<Part>, Refusal>
+        ensures answers { Answers result (parts_fault self.now.core.proxy)
+            (λ parts. parts ≡ parts_in self.now.core.proxy.stage) }
+        ensures sent { IfOk result (AreLastParts B.config self.now.front) }
+    {
+        self.core.parts()
+    }
+
+    /// What the resolver of a part is sent: the part, with a share of the front. Refused only as `NoMemory`.
+    pub(crate) fn part_message(&self, part: Part) -> Result<PartMessage<B>, Refusal>
+        requires { IsLastPart B.config.resolver_splits (record { front = self.now.front; part = part }) }
+        ensures { Answers result None (λ sent. sent ≡ record { front = self.now.front; part = part }) }
+    {
+        let front = self.front.share()?;
+        Ok(PartMessage { front, part })
+    }
+
+    /// Takes a resolver's verdicts. It takes no memory. Refused as `Stale` where they come with a front of another
+    /// length than the own one, else as `CommitCore::verdict` refuses them; then nothing changes.
+    pub(crate) fn hear(&mut self, message: VerdictMessage<B>) -> Result<(), Refusal>
+        ensures answers { AnswersExactly result (hear_fault self.old.front self.old.core.proxy message)
+            (λ _. self.new.core.proxy ≡ with_verdict self.old.core.proxy message.verdicts) }
+        ensures front { self.new.front ≡ self.old.front }
+        ensures refused { OnErr result (self.new ≡ self.old) }
+    {
+        self.front.agree(&message.front);
+        if message.front.len() != self.front.len() {
+            return Err(Refusal::Stale);
+        }
+        self.core.verdict(message.verdicts)
+    }
+
+    /// Decides the batch by the verdicts that came. Refused as `Failed`, as `WrongState` unless the batch waits for
+    /// verdicts, as `NotYet` with the least resolver that is asked about some place and whose verdicts haven't come,
+    /// and as `NoMemory`. Then nothing changes.
+    pub(crate) fn decide(&mut self) -> Result<(), Refusal>
+        ensures answers { Answers result (decide_fault self.old.core.proxy)
+            (λ _. self.new.core.proxy ≡ deciding self.old.core.proxy) }
+        ensures front { self.new.front ≡ self.old.front }
+        ensures refused { OnErr result (self.new ≡ self.old) }
+    {
+        let _ = self.front.front();
+        let _outcomes = self.core.decide()?;
+        Ok(())
+    }
+
+    /// The message of the batch for each log: that of the front's last entry. Refused as `Failed`, as `WrongState`
+    /// unless the batch is decided and isn't done, and as `NoMemory`.
+    pub(crate) fn messages(&self) -> Result<Items<LogMsg>, Refusal>
+        ensures answers { Answers result (messages_fault self.now.core.proxy)
+            (λ messages. messages ≡ messages_of self.now.core.proxy) }
+        ensures sent { IfOk result (AreLastMessages B.config self.now.front) }
+    {
+        self.core.messages()
+    }
+
+    /// What a log is sent: its message, with a share of the front. Refused only as `NoMemory`.
+    pub(crate) fn log_message(&self, message: LogMsg) -> Result<LogMessage<B>, Refusal>
+        requires { IsLastMessage B.config (record { front = self.now.front; message = message }) }
+        ensures { Answers result None (λ sent. sent ≡ record { front = self.now.front; message = message }) }
+    {
+        let front = self.front.share()?;
+        Ok(LogMessage { front, message })
+    }
+
+    /// The batch is done: answers the id of each transaction with what became of it, by place, which is what the rule
+    /// says of the front's last entry. The next batch may be sealed. It takes no memory. Refused as `Failed`, and as
+    /// `WrongState` unless all logs have acknowledged the batch. Then nothing changes.
+    pub(crate) fn done(&mut self) -> Result<Items<(TxnId, Outcome)>, Refusal>
+        ensures answers { AnswersExactly result (done_fault self.old.core.proxy) (λ answers.
+            (answers ≡ answers_in self.old.core.proxy.stage)
+            × (self.new.core.proxy ≡ finishing self.old.core.proxy)) }
+        ensures told { IfOk result (AreOutcomes B.config self.old.front) }
+        ensures front { self.new.front ≡ self.old.front }
+        ensures refused { OnErr result (self.new.core.proxy ≡ self.old.core.proxy) }
+    {
+        self.core.done()
+    }
+
+    /// What the session of a place of the front's last entry is told: what became of it, with a share of the front.
+    /// Refused only as `NoMemory`.
+    pub(crate) fn outcome_message(
+        &self,
+        place: u32,
+        outcome: Outcome,
+    ) -> Result<OutcomeMessage<B>, Refusal>
+        requires { IsOutcome B.config.resolver_splits
+            (record { front = self.now.front; place = place; outcome = outcome }) }
+        ensures { Answers result None
+            (λ told. told ≡ record { front = self.now.front; place = place; outcome = outcome }) }
+    {
+        let front = self.front.share()?;
+        Ok(OutcomeMessage {
+            front,
+            place,
+            outcome,
+        })
     }
 }
