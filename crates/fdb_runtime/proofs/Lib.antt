@@ -8,3 +8,4 @@ pub mod SessionLemmas
 pub mod SettlingLemmas
 pub mod ShardLemmas
 pub mod ShardViewLemmas
+pub mod TicketingLemmas

@@ -9,4 +9,5 @@ pub mod RolesAtFronts
 pub mod Sessions
 pub mod ShardViews
 pub mod ShardsAtFronts
+pub mod Ticketing
 pub mod Turns

@@ -11,21 +11,26 @@ ghost use Rattle.fdb_owners.specs.Ownership.{resolvers_of};
 ghost use Rattle.fdb_runtime.specs.CommitProxiesAtFronts.{hear_fault, AreLastParts, AreLastMessages, AreOutcomes};
 ghost use Rattle.fdb_runtime.specs.Messages.{IsLastPart, IsLastMessage};
 ghost use Rattle.fdb_runtime.specs.Receipts.{IsOutcome};
+ghost use Rattle.fdb_runtime.specs.Ticketing.{AnswersTicket, LeftByTicket};
 
 use crate::messages::log_message::LogMessage;
 use crate::messages::outcome_message::OutcomeMessage;
 use crate::messages::part_message::PartMessage;
 use crate::messages::verdict_message::VerdictMessage;
 use crate::name::ClusterName;
+use crate::roles::commit_proxy::ticketing::is_ticket_of;
 use crate::sealed_front::SealedFront;
 use fdb_book::Book;
 use fdb_keys::{Items, Refusal, Refused};
 use fdb_log::{LogAck, LogMsg};
 use fdb_proxy::{CommitCore, Config, Outcome};
 use fdb_resolver::Part;
+use fdb_sequencer::Ticket;
 use fdb_txn::{Batch, Sealed, TxnId};
 use std::alloc::Global;
 use std::marker::Model;
+
+pub(crate) mod ticketing;
 
 /// A commit proxy, which has the entries of its front. The last one is that of its last ticket.
 #[derive(Drop)]
@@ -286,5 +291,29 @@ impl<B: ClusterName> CommitProxyAt<B> {
             place,
             outcome,
         })
+    }
+
+    /// Learns the ticket of the batch in flight, with the front whose last entry the batch has. Nothing is taken on
+    /// trust: it is compared with the front, and the front with the own one. Refused as `Failed`; as `Unknown` unless
+    /// the front goes on behind the own one, its last entry has the ticket's number, version and previous version and
+    /// the batch's transactions, and the ticket tells the moves of all entries behind the own front; as `WrongState`
+    /// unless a batch is sealed; then nothing changes but the room. Refused as `NoMemory`, and then the proxy has
+    /// failed and keeps the batch. It takes O(n) time for n ranges and mutations of the batch, moves of the ticket, and
+    /// entries behind the own front, and what the core takes to learn.
+    pub(crate) fn learn(&mut self, ticket: &Ticket, front: SealedFront<B>) -> Result<(), Refusal>
+        ensures answers { AnswersTicket result self.old ticket.now front }
+        ensures left { LeftByTicket result self.old ticket.now front self.new }
+    {
+        if self.core.is_failed() {
+            return Err(Refusal::Failed);
+        }
+        if !is_ticket_of(&self.front, &front, self.core.batch(), ticket) {
+            return Err(Refusal::Unknown);
+        }
+        self.front.agree(&front);
+        let _ = front.front();
+        self.core.learn(ticket)?;
+        self.front = front;
+        Ok(())
     }
 }

@@ -1,0 +1,65 @@
+-- Which ticket a commit proxy learns beside its front: that of the last entry of a longer front.
+use Rattle.std.specs.Prelude.{◌≡◌, ◌==◌, ◌≤◌, ◌&&◌, ◌⊎◌, ℕ, Bool, false, List, drop, length, Option, Some, None, Result, Ok, Err}
+use Rattle.std.specs.Cmp.Lexicographic.{pointwise}
+use Rattle.fdb_keys.specs.declared.refusal.Refusal.{Refusal}
+use Rattle.fdb_keys.specs.declared.refusal.Refusal.TheVariants.{NoMemory, Unknown}
+use Rattle.fdb_txn.specs.Equality.{sealed_eq}
+use Rattle.fdb_txn.specs.declared.entry.Entry.{Entry}
+use Rattle.fdb_txn.specs.book.Transactions.{Transaction}
+use Rattle.fdb_sequencer.specs.declared.ticket.Ticket.{Ticket}
+use Rattle.fdb_sequencer.specs.Equality.{dated_eq}
+use Rattle.fdb_sequencer.specs.Moves.{Dated}
+use Rattle.fdb_proxy.specs.CommitProxies.{learn_fault, HasLearntTicket, HasFailed}
+use Rattle.fdb_core.specs.headline.ProxyLaws.{IsLastEntry}
+use Rattle.fdb_core.specs.machine.SequencerSteps.{dated_moves}
+use Rattle.fdb_runtime.specs.CommitProxiesAtFronts.{CommitProxyAtFront}
+
+-- the ticket is that of the entry with the number, which has the batch
+pub record IsOfEntry (number : ℕ) (entry : Entry) (batch : List Transaction) (ticket : Ticket) : Type 0 where
+  pub index : ticket.index ≡ number
+  pub version : ticket.version ≡ entry.version
+  pub prev : ticket.prev ≡ entry.prev
+  pub places : entry.batch ≡ batch
+
+-- whether it is
+abbrev pub is_of_entry : ℕ → Entry → List Transaction → Ticket → Bool
+is_of_entry number entry batch ticket =
+    (ticket.index == number) && (ticket.version == entry.version) && (ticket.prev == entry.prev)
+    && pointwise sealed_eq entry.batch batch
+
+-- The ticket is that of the front's last entry, which lies behind the own front and has the batch, and it tells the
+-- moves of all entries behind the own front.
+pub record IsTicketOf (own front : List Entry) (batch : List Transaction) (ticket : Ticket) : Type 0 where
+  pub entry : Entry
+  pub last : IsLastEntry front ticket.index entry
+  pub behind : length own ≤ ticket.index
+  pub its : IsOfEntry ticket.index entry batch ticket
+  pub moves : ticket.moves ≡ dated_moves (drop (length own) front)
+
+-- something is left of dated moves, and that is these
+abbrev pub are_left : Option (List Dated) → List Dated → Bool
+are_left None more = false
+are_left (Some left) more = pointwise dated_eq left more
+
+-- Whether a ticket is learnt that came with a front: a proxy that works refuses as unknown one that isn't its batch's
+-- with that front, and else the core answers.
+abbrev pub AnswersTicket : {T : Type 0} → Result T Refusal → CommitProxyAtFront → Ticket → List Entry → Type 0
+AnswersTicket (Ok given) at ticket front =
+    IsTicketOf at.front front at.core.proxy.batch ticket × (learn_fault at.core.proxy ticket ≡ None)
+AnswersTicket (Err why) at ticket front =
+    ((why ≡ Unknown) × (at.core.proxy.is_failed ≡ false)
+    × (IsTicketOf at.front front at.core.proxy.batch ticket → ⊥))
+    ⊎ (learn_fault at.core.proxy ticket ≡ Some why)
+    ⊎ ((why ≡ NoMemory) × IsTicketOf at.front front at.core.proxy.batch ticket
+    × (learn_fault at.core.proxy ticket ≡ None))
+
+-- What is left where a ticket came with a front: the proxy has learnt it at that front; or memory ran out, and it has
+-- failed; or nothing has changed.
+abbrev pub LeftByTicket : {T : Type 0} → Result T Refusal → CommitProxyAtFront → Ticket → List Entry
+    → CommitProxyAtFront → Type 0
+LeftByTicket (Ok given) old ticket front new =
+    (new.front ≡ front) × HasLearntTicket old.core.proxy ticket new.core.proxy
+LeftByTicket (Err NoMemory) old ticket front new =
+    (new.front ≡ old.front) × HasFailed old.core.proxy ticket new.core.proxy
+LeftByTicket (Err why) old ticket front new =
+    (new.front ≡ old.front) × (new.core.proxy ≡ old.core.proxy)
