@@ -281,7 +281,8 @@ same-length own theirs count prefix = by_rest prefix.0 prefix.1
     by_rest (entry ∷ rest) is = absurd (omega (arith, count, ap length is, length-append own (entry ∷ rest)))
 
 -- verdicts that are taken, or not
-pub hears-or-stays : {T : Type 0} (config : Config) (own : List Entry) (old new : ProxyWithRoom) (sent : VerdictsAtFront)
+pub hears-or-stays : {T : Type 0} (config : Config) (own : List Entry) (old new : ProxyWithRoom)
+    (sent : VerdictsAtFront)
     → (result : Result T Refusal) → IsThere config own old.proxy → AreLastVerdicts config.resolver_splits sent
     → sent.front ≡ own
     → AnswersExactly result (verdict_fault old.proxy sent.verdicts)

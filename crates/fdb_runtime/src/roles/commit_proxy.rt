@@ -293,13 +293,15 @@ impl<B: ClusterName> CommitProxyAt<B> {
         })
     }
 
-    /// Learns the ticket of the batch in flight, with the front whose last entry the batch has. Nothing is taken on
-    /// trust: it is compared with the front, and the front with the own one. Refused as `Failed`; as `Unknown` unless
-    /// the front goes on behind the own one, its last entry has the ticket's number, version and previous version and
-    /// the batch's transactions, and the ticket tells the moves of all entries behind the own front; as `WrongState`
-    /// unless a batch is sealed; then nothing changes but the room. Refused as `NoMemory`, and then the proxy has
-    /// failed and keeps the batch. It takes O(n) time for n ranges and mutations of the batch, moves of the ticket, and
-    /// entries behind the own front, and what the core takes to learn.
+    /// Learns the ticket of the batch in flight, with the front whose last entry the batch has. Nothing is known of
+    /// either: the ticket is compared with the front, and the front with the own one.
+    ///
+    /// Refused as `Failed`; as `Unknown` unless the front goes on behind the own one, its last entry has the ticket's
+    /// number, version and previous version and the transactions of the batch, and the ticket tells the moves of all
+    /// entries behind the own front; and as `WrongState` unless a batch is sealed. Then nothing changes but the room. A
+    /// ticket that was learnt before is unknown, so none is `Stale`. Refused as `NoMemory` too: then the proxy has
+    /// failed, and keeps the batch, whose entry stands. It takes O(n) time for n ranges and mutations of the batch,
+    /// moves of the ticket, and entries behind the own front, beside what the core takes.
     pub(crate) fn learn(&mut self, ticket: &Ticket, front: SealedFront<B>) -> Result<(), Refusal>
         ensures answers { AnswersTicket result self.old ticket.now front }
         ensures left { LeftByTicket result self.old ticket.now front self.new }
