@@ -1,6 +1,7 @@
 -- A ticket that came with a front is compared with the front's last entry, and learnt.
 use Rattle.std.proofs.Common.{◌≡◌, ◌∙◌, refl, sym, ap, ap₂, subst, ℕ, zero, suc, ◌+◌, ◌≤◌, Bool, true, false, List}
-use Rattle.std.proofs.Common.{[], ◌∷◌, ◌++◌, take, drop, length, slice_get, Option, Some, None, arith, IsSome, IsNone}
+use Rattle.std.proofs.Common.{[], ◌∷◌, ◌++◌, take, drop, length, slice_get, Option, Some, None, arith, Err}
+use Rattle.std.proofs.Common.{IsSome, IsNone}
 use Rattle.std.specs.Prelude.{if◌then◌else◌, ◌&&◌}
 use Rattle.std.specs.Bool.{Decides}
 use Rattle.std.specs.Cmp.Lexicographic.{pointwise}
@@ -10,8 +11,9 @@ use Rattle.std.proofs.lemmas.Bool.Decides.{Decides-and, Decides-eqb}
 use Rattle.std.proofs.lemmas.List.{take-append-drop, drop-append-le}
 use Rattle.std.proofs.lemmas.Option.{same_Some}
 use Rattle.fdb_keys.specs.Equality.{items_eq_decides}
+use Rattle.fdb_keys.specs.Answers.{Answers}
 use Rattle.fdb_keys.specs.declared.refusal.Refusal.{Refusal}
-use Rattle.fdb_keys.specs.declared.refusal.Refusal.TheVariants.{WrongState}
+use Rattle.fdb_keys.specs.declared.refusal.Refusal.TheVariants.{NoMemory, WrongState}
 use Rattle.fdb_txn.specs.Equality.{sealed_eq, sealed_eq_decides}
 use Rattle.fdb_txn.specs.declared.entry.Entry.{Entry}
 use Rattle.fdb_txn.specs.book.History.{AreEntries}
@@ -29,7 +31,7 @@ use Rattle.fdb_core.specs.refinement.CommitProxies.{entry_of}
 use Rattle.fdb_core.proofs.headline.ProxyLaws.{proxies_learn_their_tickets}
 use Rattle.fdb_core.proofs.refinement.BookLemmas.{take-take}
 use Rattle.fdb_runtime.specs.CommitProxiesAtFronts.{IsThere}
-use Rattle.fdb_runtime.specs.Ticketing.{is_of_entry, IsTicketOf, are_left}
+use Rattle.fdb_runtime.specs.Ticketing.{is_of_entry, IsTicketOf, are_left, AnswersTicket}
 use Rattle.fdb_runtime.proofs.CommitProxyLemmas.{front-is, before-count}
 
 -- the ticket of a front's last entry, which comes to a proxy with fewer entries
@@ -91,8 +93,29 @@ module _ (config : Config) (own front : List Entry) (proxy : CommitProxy) (ticke
       let law = proxies_learn_their_tickets config own between proxy its at entries-there number moves-there in
       record { targets = law.0.targets; rising = law.0.rising; later = law.0.later }
 
-  pub learns : learn_fault proxy ticket ≡ (if is_sealed proxy.stage then None else Some WrongState)
+  learns : learn_fault proxy ticket ≡ (if is_sealed proxy.stage then None else Some WrongState)
   learns = (proxies_learn_their_tickets config own between proxy its at entries-there number moves-there).1
+
+  -- the core refuses it only as it does where no batch is sealed, or for memory
+  pub refused-as : (T : Type 0) (why : Refusal) (P : T → Type 0)
+      → Answers {T = T} (Err why) (learn_fault proxy ticket) P
+      → AnswersTicket {T = T} (Err why) own front proxy ticket
+  refused-as T why P answers = by_stage (is_sealed proxy.stage) refl
+    where
+      fault-at : (sealed : Bool) → is_sealed proxy.stage ≡ sealed
+          → Answers {T = T} (Err why) (if sealed then None else Some WrongState) P
+      fault-at sealed stage = subst (λ (f : Option Refusal). Answers {T = T} (Err why) f P)
+          (learns ∙ ap (λ (test : Bool). if test then None else Some WrongState) stage) answers
+
+      by_stage : (sealed : Bool) → is_sealed proxy.stage ≡ sealed
+          → AnswersTicket {T = T} (Err why) own front proxy ticket
+      by_stage true stage =
+          let lacks : why ≡ NoMemory = fault-at true stage in
+          let none : learn_fault proxy ticket ≡ None =
+          learns ∙ ap (λ (test : Bool). if test then None else Some WrongState) stage in
+          rw lacks (none, is)
+      by_stage false stage =
+          let wrong : why ≡ WrongState = fault-at false stage in rw wrong (at.works, is, stage)
 
   its-learnt : (new : CommitProxy) → HasLearntTicket proxy ticket new → HasLearntTicket proxy its new
   its-learnt new learnt = record {

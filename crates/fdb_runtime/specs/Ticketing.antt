@@ -1,16 +1,16 @@
 -- Which ticket a commit proxy learns beside its front: that of the last entry of a longer front.
-use Rattle.std.specs.Prelude.{◌≡◌, ◌==◌, ◌≤◌, ◌&&◌, ◌⊎◌, ℕ, Bool, false, List, drop, length, Option, Some, None}
+use Rattle.std.specs.Prelude.{◌≡◌, ◌==◌, ◌≤◌, ◌&&◌, ℕ, Bool, true, false, List, drop, length, Option, Some, None}
 use Rattle.std.specs.Prelude.{Result, Ok, Err}
 use Rattle.std.specs.Cmp.Lexicographic.{pointwise}
 use Rattle.fdb_keys.specs.declared.refusal.Refusal.{Refusal}
-use Rattle.fdb_keys.specs.declared.refusal.Refusal.TheVariants.{NoMemory, Unknown}
+use Rattle.fdb_keys.specs.declared.refusal.Refusal.TheVariants.{NoMemory, Unknown, Failed, WrongState}
 use Rattle.fdb_txn.specs.Equality.{sealed_eq}
 use Rattle.fdb_txn.specs.declared.entry.Entry.{Entry}
 use Rattle.fdb_txn.specs.book.Transactions.{Transaction}
 use Rattle.fdb_sequencer.specs.declared.ticket.Ticket.{Ticket}
 use Rattle.fdb_sequencer.specs.Equality.{dated_eq}
 use Rattle.fdb_sequencer.specs.Moves.{Dated}
-use Rattle.fdb_proxy.specs.CommitProxies.{learn_fault, HasLearntTicket, HasFailed}
+use Rattle.fdb_proxy.specs.CommitProxies.{CommitProxy, is_sealed, learn_fault, HasLearntTicket, HasFailed}
 use Rattle.fdb_core.specs.headline.ProxyLaws.{IsLastEntry}
 use Rattle.fdb_core.specs.machine.SequencerSteps.{dated_moves}
 use Rattle.fdb_runtime.specs.CommitProxiesAtFronts.{CommitProxyAtFront}
@@ -42,17 +42,19 @@ abbrev pub are_left : Option (List Dated) → List Dated → Bool
 are_left None more = false
 are_left (Some left) more = pointwise dated_eq left more
 
--- Whether a ticket is learnt that came with a front: a proxy that works refuses as unknown one that isn't its batch's
--- with that front, and else the core answers.
-abbrev pub AnswersTicket : {T : Type 0} → Result T Refusal → CommitProxyAtFront → Ticket → List Entry → Type 0
-AnswersTicket (Ok given) at ticket front =
-    IsTicketOf at.front front at.core.proxy.batch ticket × (learn_fault at.core.proxy ticket ≡ None)
-AnswersTicket (Err why) at ticket front =
-    ((why ≡ Unknown) × (at.core.proxy.is_failed ≡ false)
-    × (IsTicketOf at.front front at.core.proxy.batch ticket → ⊥))
-    ⊎ (learn_fault at.core.proxy ticket ≡ Some why)
-    ⊎ ((why ≡ NoMemory) × IsTicketOf at.front front at.core.proxy.batch ticket
-    × (learn_fault at.core.proxy ticket ≡ None))
+-- Whether a ticket is learnt that came with a front: a proxy that works, and has sealed the batch, learns its ticket
+-- unless memory runs out; it refuses every other ticket as unknown.
+abbrev pub AnswersTicket : {T : Type 0} → Result T Refusal → (own front : List Entry) → CommitProxy → Ticket → Type 0
+AnswersTicket (Ok given) own front proxy ticket =
+    (learn_fault proxy ticket ≡ None) × IsTicketOf own front proxy.batch ticket
+AnswersTicket (Err Failed) own front proxy ticket = proxy.is_failed ≡ true
+AnswersTicket (Err Unknown) own front proxy ticket =
+    (proxy.is_failed ≡ false) × (IsTicketOf own front proxy.batch ticket → ⊥)
+AnswersTicket (Err WrongState) own front proxy ticket =
+    (proxy.is_failed ≡ false) × IsTicketOf own front proxy.batch ticket × (is_sealed proxy.stage ≡ false)
+AnswersTicket (Err NoMemory) own front proxy ticket =
+    (learn_fault proxy ticket ≡ None) × IsTicketOf own front proxy.batch ticket
+AnswersTicket (Err why) own front proxy ticket = ⊥
 
 -- What is left where a ticket came with a front: the proxy has learnt it at that front; or memory ran out, and it has
 -- failed; or nothing has changed.

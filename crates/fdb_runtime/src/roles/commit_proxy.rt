@@ -303,7 +303,7 @@ impl<B: ClusterName> CommitProxyAt<B> {
     /// failed, and keeps the batch, whose entry stands. It takes O(n) time for n ranges and mutations of the batch,
     /// moves of the ticket, and entries behind the own front, beside what the core takes.
     pub(crate) fn learn(&mut self, ticket: &Ticket, front: SealedFront<B>) -> Result<(), Refusal>
-        ensures answers { AnswersTicket result self.old ticket.now front }
+        ensures answers { AnswersTicket result self.old.front front self.old.core.proxy ticket.now }
         ensures left { LeftByTicket result self.old ticket.now front self.new }
     {
         if self.core.is_failed() {

@@ -1,9 +1,10 @@
-use Rattle.std.proofs.Common.{◌∙◌, sym, subst, List}
+use Rattle.std.proofs.Common.{◌≡◌, ◌∙◌, sym, subst, rules, List, Err}
 use Rattle.fdb_txn.specs.book.Transactions.{Transaction}
 use Rattle.fdb_proxy.specs.CommitProxies.{learn_fault}
 use Rattle.fdb_core.proofs.common.FaultLemmas.{answers-fault}
-use Rattle.fdb_runtime.specs.Ticketing.{IsTicketOf}
-use Rattle.fdb_runtime.proofs.TicketingLemmas.{may-learn, is-there, refused-there}
+use Rattle.fdb_runtime.specs.CommitProxiesAtFronts.{CommitProxyAtFront}
+use Rattle.fdb_runtime.specs.Ticketing.{IsTicketOf, AnswersTicket}
+use Rattle.fdb_runtime.proofs.TicketingLemmas.{may-learn, is-there, refused-as, refused-there}
 use Rattle.fdb_runtime.proofs.roles.commit_proxy.CommitProxyAt.learn.Goals as goal
 
 pub learn-requires : goal.learn-requires
@@ -19,6 +20,19 @@ pub invariant_of-self : goal.invariant_of-self
 invariant_of-self g c =
     refused-there g.B.ClusterName.config c.self.inside.front c.self.inside.core.proxy c.learn.new.self.proxy
     c.args.ticket.now c.self.invariant c.in_err-learn.ensures.refused c.in_err-learn.ensures.failed
+
+pub returns-in_err-learn-clause-answers : goal.returns-in_err-learn-clause-answers
+returns-in_err-learn-clause-answers g c =
+    let is : IsTicketOf c.self.inside.front c.args.front c.self.inside.core.proxy.batch c.args.ticket.now =
+    subst (λ (places : List Transaction). IsTicketOf c.self.inside.front c.args.front places c.args.ticket.now)
+    c.batch.ensures.value (c.is_ticket_of.ensures.0 c.if-not-is_ticket_of.false) in
+    let same : c.from_residual.result ≡ Err c.in_err-learn.field-0.0 = search rules in
+    subst (λ (at : CommitProxyAtFront).
+    AnswersTicket c.from_residual.result at.front c.args.front at.core.proxy c.args.ticket.now) c.self.view_is
+    (rw same (refused-as g.B.ClusterName.config c.self.inside.front c.args.front c.self.inside.core.proxy
+    c.args.ticket.now is c.agree.ensures.shorter c.front-2.ensures.entries
+    (c.self.invariant (sym c.is_failed.ensures ∙ c.if-is_failed.false)) _ c.in_err-learn.field-0.0 _
+    c.in_err-learn.ensures.answers))
 
 pub invariant_of-self-2 : goal.invariant_of-self-2
 invariant_of-self-2 g c =
