@@ -219,10 +219,10 @@ impl<B: ClusterName> CommitProxyAt<B> {
         ensures front { self.new.front ≡ self.old.front }
         ensures refused { OnErr result (self.new ≡ self.old) }
     {
-        self.front.agree(&message.front);
         if message.front.len() != self.front.len() {
             return Err(Refusal::Stale);
         }
+        self.front.agree(&message.front);
         self.core.verdict(message.verdicts)
     }
 
