@@ -3,6 +3,7 @@ pub mod Endings
 pub mod Issuing
 pub mod Gatherings
 pub mod Messages
+pub mod Reading
 pub mod Receipts
 pub mod Records
 pub mod RolesAtFronts

@@ -32,6 +32,8 @@ use std::marker::Model;
 
 pub(crate) mod settling;
 
+mod reading;
+
 // The longer of two fronts, once more. Refused only as `NoMemory`.
 fn share_longer<B: ClusterName>(
     own: &SealedFront<B>,

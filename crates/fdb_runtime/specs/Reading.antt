@@ -1,0 +1,26 @@
+-- What a session reads at shards.
+use Rattle.std.specs.Prelude.{ℕ, ◌==◌, ◌&&◌, Bool, false, List, length, Option, Some, None, if◌then◌else◌}
+use Rattle.fdb_keys.specs.Points.{Point}
+use Rattle.fdb_keys.specs.Ranges.{is_empty_range}
+use Rattle.fdb_keys.specs.declared.refusal.Refusal.{Refusal}
+use Rattle.fdb_keys.specs.declared.refusal.Refusal.TheVariants.{Stale, KeyOutsideLegalRange}
+use Rattle.fdb_txn.specs.declared.entry.Entry.{Entry}
+use Rattle.fdb_runtime.specs.Gatherings.{Gathering}
+use Rattle.fdb_client.specs.Programs.{program, decided}
+use Rattle.fdb_client.specs.declared.program.Transcript.{Transcript}
+
+-- whether the own writes of an open transaction decide a key, if one is open
+abbrev pub own_writes_decide : Option Transcript → Point → Bool
+own_writes_decide None key = false
+own_writes_decide (Some transcript) key = decided (program transcript.ops) key
+
+-- why a front is no share of a session's: it is longer or shorter
+abbrev pub share_fault : (own theirs : List Entry) → Option Refusal
+share_fault own theirs = if length own == length theirs then None else Some Stale
+
+-- why a gathering isn't read at a version by who has a front: it is at another one or by another one, or isn't done
+abbrev pub gathering_fault : List Entry → ℕ → Gathering → Option Refusal
+gathering_fault own version it =
+    if it.version == version && length own == length it.front
+    then (if is_empty_range it.left then None else Some KeyOutsideLegalRange)
+    else Some Stale
