@@ -1,5 +1,5 @@
 // What a session reads at shards: on the serial map of its own front, whatever front a shard has.
-ghost use Rattle.std.specs.Prelude.{◌≡◌, ◌≤◌, ◌==◌, length, None, Some, Err, IfOk, IfSome, IsTrue, OnOk, OnErr};
+ghost use Rattle.std.specs.Prelude.{◌≡◌, ◌≤◌, ◌==◌, ⊤, length, None, Some, Err, IfOk, IfSome, IsTrue, OnOk, OnErr};
 ghost use Rattle.std.specs.FinMap.{get};
 ghost use Rattle.fdb_keys.specs.Answers.{Answers, AnswersExactly};
 ghost use Rattle.fdb_keys.specs.declared.refusal.Refusal.TheVariants.{NoTransaction};
@@ -65,8 +65,8 @@ impl<B: ClusterName> SessionState<B> {
 
     /// The value of the key after the open transaction's own writes, on the serial map of the session's front at the
     /// read version, noted with the operation. The shard is asked where the own writes don't decide the key. Refused as
-    /// `NoTransaction` where none is open; else, where the shard is asked, as the shard refuses a read of the key at
-    /// that version; and as `NoMemory`. Then nothing changes.
+    /// `NoTransaction` where none is open, as `NoMemory`, and, where the shard is asked, as the shard refuses a read of
+    /// the key at that version. Then nothing changes. It takes what `Txn::get` takes, and a read of the shard.
     pub(crate) fn get_at(
         &mut self,
         kept: &ShardAt<B>,
@@ -87,8 +87,8 @@ impl<B: ClusterName> SessionState<B> {
     }
 
     /// The value of the key that the open transaction's own writes decide, which no shard is asked for, noted with the
-    /// operation. Refused as `NoTransaction` where none is open, as `KeyOutsideLegalRange` where its writes don't
-    /// decide the key, and as `NoMemory`. Then nothing changes.
+    /// operation. Refused as `NoTransaction` where none is open, as `NoMemory`, and as `KeyOutsideLegalRange` where its
+    /// writes don't decide the key. Then nothing changes. It takes what `Txn::get` takes.
     pub(crate) fn get_decided(
         &mut self,
         alloc: Global,
@@ -112,7 +112,7 @@ impl<B: ClusterName> SessionState<B> {
 
     /// Nothing is gathered of the range yet, for the open transaction to read it; the front is a share of the
     /// session's. Refused as `NoTransaction` where none is open, as `Stale` where the front is not as long as the
-    /// session's, and as `NoMemory`.
+    /// session's, and as `NoMemory`. It takes the time of a copy of the range.
     pub(crate) fn gathering<'a>(
         &self,
         alloc: Global,
@@ -160,7 +160,7 @@ impl<B: ClusterName> SessionState<B> {
     /// front at the read version, as `Txn::get_range` gives them, noted with the operation. Refused as `NoTransaction`
     /// where none is open, as `Stale` where the gathering is at another version than its read version or its front is
     /// not as long as the session's, as `KeyOutsideLegalRange` where the gathering isn't done, and as `NoMemory`. Then
-    /// nothing changes.
+    /// nothing changes. It takes what `Txn::get_range` takes, and asks no shard.
     pub(crate) fn get_range_of(
         &mut self,
         gathering: &Gathering<B>,
@@ -174,6 +174,8 @@ impl<B: ClusterName> SessionState<B> {
             × (self.new ≡ with_current self.old (Some (with_op transcript
             (operation.Range gathering.now.range limit reverse is_snapshot) (answer.Pairs pairs)))))) }
         ensures none { self.old.current ≡ None → result ≡ Err NoTransaction }
+        ensures fault { IfSome self.old.current (λ transcript. Answers result
+            (gathering_fault self.old.front transcript.read_version gathering.now) (λ _. ⊤)) }
         ensures refused { OnErr result (self.new ≡ self.old) }
     {
         self.check_gathering(gathering)?;
