@@ -1,6 +1,7 @@
 pub mod CommitProxyLemmas
 pub mod GatheringLemmas
 pub mod TurnLemmas
+pub mod ReadingLemmas
 pub mod ResolverLemmas
 pub mod IssueLemmas
 pub mod LogLemmas

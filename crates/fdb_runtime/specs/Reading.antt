@@ -1,9 +1,10 @@
 -- What a session reads at shards.
-use Rattle.std.specs.Prelude.{ℕ, ◌==◌, ◌&&◌, Bool, false, List, length, Option, Some, None, if◌then◌else◌}
+use Rattle.std.specs.Prelude.{◌≡◌, ◌⊎◌, ℕ, ◌==◌, ◌&&◌, Bool, false, List, length, Option, Some, None, Result, Ok, Err}
+use Rattle.std.specs.Prelude.{if◌then◌else◌}
 use Rattle.fdb_keys.specs.Points.{Point}
 use Rattle.fdb_keys.specs.Ranges.{is_empty_range}
 use Rattle.fdb_keys.specs.declared.refusal.Refusal.{Refusal}
-use Rattle.fdb_keys.specs.declared.refusal.Refusal.TheVariants.{Stale, KeyOutsideLegalRange}
+use Rattle.fdb_keys.specs.declared.refusal.Refusal.TheVariants.{NoMemory, Stale, KeyOutsideLegalRange}
 use Rattle.fdb_txn.specs.declared.entry.Entry.{Entry}
 use Rattle.fdb_runtime.specs.Gatherings.{Gathering}
 use Rattle.fdb_client.specs.Programs.{program, decided}
@@ -24,3 +25,8 @@ gathering_fault own version it =
     if it.version == version && length own == length it.front
     then (if is_empty_range it.left then None else Some KeyOutsideLegalRange)
     else Some Stale
+
+-- The call is refused where there is a fault, with that fault unless memory ran out first, and else only as NoMemory.
+abbrev pub RefusedBy : {T : Type 0} → Result T Refusal → Option Refusal → Type 0
+RefusedBy (Ok given) fault = fault ≡ None
+RefusedBy (Err why) fault = (why ≡ NoMemory) ⊎ (fault ≡ Some why)

@@ -1,18 +1,20 @@
 // What a session reads at shards: on the serial map of its own front, whatever front a shard has.
 ghost use Rattle.std.specs.Prelude.{◌≡◌, ◌≤◌, ◌==◌, ⊤, length, None, Some, Err, IfOk, IfSome, IsTrue, OnOk, OnErr};
+ghost use Rattle.std.specs.Prelude.{if◌then◌else◌};
 ghost use Rattle.std.specs.FinMap.{get};
 ghost use Rattle.fdb_keys.specs.Answers.{Answers, AnswersExactly};
-ghost use Rattle.fdb_keys.specs.declared.refusal.Refusal.TheVariants.{NoTransaction};
+ghost use Rattle.fdb_keys.specs.declared.refusal.Refusal.TheVariants.{NoTransaction, KeyOutsideLegalRange};
 ghost use Rattle.fdb_txn.specs.book.Book.{seen_of, last_version};
 ghost use Rattle.fdb_txn.specs.rules.SerialMap.{serial_map_at};
-ghost use Rattle.fdb_client.specs.Programs.{program, copy};
+ghost use Rattle.fdb_storage.specs.Shards.{key_fault};
+ghost use Rattle.fdb_client.specs.Programs.{program, copy, decided};
 ghost use Rattle.fdb_client.specs.TxnState.{with_op};
 ghost use Rattle.fdb_client.specs.declared.program.Op.TheVariants as operation;
 ghost use Rattle.fdb_client.specs.declared.program.Reply.TheVariants as answer;
 ghost use Rattle.fdb_core.specs.refinement.Sessions.{OfOpen};
 ghost use Rattle.fdb_mutations.specs.PairLaws.{given_of};
 ghost use Rattle.fdb_runtime.specs.Gatherings.{range_fault};
-ghost use Rattle.fdb_runtime.specs.Reading.{own_writes_decide, share_fault, gathering_fault};
+ghost use Rattle.fdb_runtime.specs.Reading.{own_writes_decide, share_fault, gathering_fault, RefusedBy};
 ghost use Rattle.fdb_runtime.specs.Sessions.{with_current};
 
 use crate::name::ClusterName;
@@ -79,6 +81,9 @@ impl<B: ClusterName> SessionState<B> {
             × (self.new ≡ with_current self.old
             (Some (with_op transcript (operation.Get key.now is_snapshot) (answer.Value value)))))) }
         ensures none { self.old.current ≡ None → result ≡ Err NoTransaction }
+        ensures fault { IfSome self.old.current (λ transcript. RefusedBy result
+            (if decided (program transcript.ops) key.now then None
+            else key_fault kept.now.shard key.now transcript.read_version)) }
         ensures refused { OnErr result (self.new ≡ self.old) }
     {
         let (version, front) = self.share_open()?;
@@ -101,6 +106,8 @@ impl<B: ClusterName> SessionState<B> {
             × (self.new ≡ with_current self.old
             (Some (with_op transcript (operation.Get key.now is_snapshot) (answer.Value value)))))) }
         ensures none { self.old.current ≡ None → result ≡ Err NoTransaction }
+        ensures fault { IfSome self.old.current (λ transcript. RefusedBy result
+            (if decided (program transcript.ops) key.now then None else Some KeyOutsideLegalRange)) }
         ensures refused { OnErr result (self.new ≡ self.old) }
     {
         let (version, front) = self.share_open()?;

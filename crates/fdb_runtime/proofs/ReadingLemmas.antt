@@ -1,0 +1,77 @@
+-- Why a read at shards is refused.
+use Rattle.std.proofs.Common.{◌≡◌, ◌∙◌, refl, sym, ap, inl, inr, ◌⊎◌, ℕ, Bool, true, false, ◌&&◌, not, List}
+use Rattle.std.proofs.Common.{Option, Some, None, Result, Ok, Err}
+use Rattle.std.specs.Prelude.{IfSome, if◌then◌else◌}
+use Rattle.fdb_keys.specs.Answers.{Answers}
+use Rattle.fdb_keys.specs.Points.{Point}
+use Rattle.fdb_keys.specs.Ranges.{Range, in_range}
+use Rattle.fdb_keys.specs.declared.refusal.Refusal.{Refusal}
+use Rattle.fdb_keys.specs.declared.refusal.Refusal.TheVariants.{NoMemory, KeyOutsideLegalRange}
+use Rattle.fdb_txn.specs.declared.entry.Entry.{Entry}
+use Rattle.fdb_storage.specs.Shards as shards
+use Rattle.fdb_client.specs.Programs.{program, decided}
+use Rattle.fdb_client.specs.declared.program.Transcript.{Transcript}
+use Rattle.fdb_core.specs.refinement.Sessions.{OfOpen}
+use Rattle.fdb_runtime.specs.Gatherings as gathered
+use Rattle.fdb_runtime.specs.Gatherings.{Gathering}
+use Rattle.fdb_runtime.specs.Reading.{RefusedBy}
+use Rattle.fdb_runtime.specs.ShardViews.{ShardView, key_fault}
+use Rattle.fdb_runtime.specs.ShardsAtFronts.{ShardAtFront}
+
+-- where memory ran out, nothing is said of a fault
+pub ran-out : (current : Option Transcript) (why : Refusal) (fault : Transcript → Option Refusal)
+    → why ≡ NoMemory → IfSome current (λ transcript. (why ≡ NoMemory) ⊎ (fault transcript ≡ Some why))
+ran-out (Some transcript) why fault lacks = inl lacks
+ran-out None why fault lacks = tt
+
+-- nor where it ran out in a call on the open transaction that has no other fault
+pub open-ran-out : (T : Type 0) (current : Option Transcript) (why : Refusal) (fault : Transcript → Option Refusal)
+    → OfOpen {T = T} current (Err why) (λ transcript. why ≡ NoMemory)
+    → IfSome current (λ transcript. (why ≡ NoMemory) ⊎ (fault transcript ≡ Some why))
+open-ran-out T (Some transcript) why fault lacks = inl lacks
+open-ran-out T None why fault answers = tt
+
+-- a call is refused by its fault
+refused-by : {T : Type 0} (result : Result T Refusal) (asked fault : Option Refusal) (P : T → Type 0)
+    → asked ≡ fault → Answers result asked P → RefusedBy result fault
+refused-by (Ok value) None fault P is answers = sym is
+refused-by (Ok value) (Some why) fault P is answers = absurd answers
+refused-by (Err why) None fault P is answers = inl answers
+refused-by (Err why) (Some other) fault P is answers =
+    inr (sym is ∙ ap (λ (it : Refusal). Some it) (sym answers))
+
+-- what a read answers by a fault it is refused by
+pub read-refused : {T : Type 0} (current : Option Transcript) (result : Result T Refusal)
+    (asked fault : Transcript → Option Refusal) (P : Transcript → T → Type 0)
+    → IfSome current (λ transcript. asked transcript ≡ fault transcript)
+    → OfOpen current result (λ transcript. Answers result (asked transcript) (P transcript))
+    → IfSome current (λ transcript. RefusedBy result (fault transcript))
+read-refused None result asked fault P same answers = tt
+read-refused (Some transcript) result asked fault P same answers =
+    refused-by result (asked transcript) (fault transcript) (P transcript) same answers
+
+-- a shard that is asked at the version of a share refuses as at the read version
+pub shard-fault : (current : Option Transcript) (at : ShardAtFront) (view : ShardView) (own : List Entry)
+    (shared : ℕ × List Entry) (key : Point) → view ≡ record { version = shared.0; front = shared.1; kept = at }
+    → OfOpen {T = ℕ × List Entry} current (Ok shared) (λ transcript. shared ≡ (transcript.read_version, own))
+    → IfSome current (λ transcript. (if decided (program transcript.ops) key then None else key_fault view key)
+    ≡ (if decided (program transcript.ops) key then None else shards.key_fault at.shard key transcript.read_version))
+shard-fault None at view own shared key is same = tt
+shard-fault (Some transcript) at view own shared key is same =
+    ap (λ (it : ShardView). if decided (program transcript.ops) key then None else key_fault it key) is
+    ∙ ap (λ (it : ℕ × List Entry). if decided (program transcript.ops) key then None
+    else shards.key_fault at.shard key it.0) same
+
+-- a gathering of which nothing is gathered refuses each key
+pub nothing-fault : (current : Option Transcript) (it : Gathering) (key : Point) → it.left ≡ it.range
+    → IfSome current (λ transcript. (if decided (program transcript.ops) key then None else gathered.key_fault it key)
+    ≡ (if decided (program transcript.ops) key then None else Some KeyOutsideLegalRange))
+nothing-fault None it key all = tt
+nothing-fault (Some transcript) it key all =
+    ap (λ (fault : Option Refusal). if decided (program transcript.ops) key then None else fault)
+    (ap (λ (left : Range). if in_range it.range key && not (in_range left key) then None
+    else Some KeyOutsideLegalRange) all ∙ by_test (in_range it.range key))
+  where
+    by_test : (b : Bool) → (if b && not b then None else Some KeyOutsideLegalRange) ≡ Some KeyOutsideLegalRange
+    by_test true = refl
+    by_test false = refl
