@@ -37,6 +37,13 @@ impl Blank {
         let cells = Arc::new(alloc, empty_cells(alloc, capacity)?)?;
         Ok(Blank { cells })
     }
+
+    /// How many entries there is room for. It takes no memory, and O(1) time.
+    pub fn capacity(&self) -> usize
+        ensures { result ≡ length self.now }
+    {
+        self.cells.len()
+    }
 }
 
 fn empty_cells(alloc: Global, count: u32) -> Result<Vec<OnceBox<Entry>>, AllocError>
