@@ -1,7 +1,9 @@
+pub mod CommitLemmas
 pub mod CommitProxyLemmas
 pub mod GatheringLemmas
 pub mod TurnLemmas
 pub mod ReadingLemmas
+pub mod ReplyLemmas
 pub mod ResolverLemmas
 pub mod IssueLemmas
 pub mod LogLemmas

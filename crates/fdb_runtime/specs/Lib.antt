@@ -1,4 +1,5 @@
 pub mod CommitProxiesAtFronts
+pub mod Databases
 pub mod Endings
 pub mod Issuing
 pub mod Gatherings
@@ -12,3 +13,5 @@ pub mod ShardViews
 pub mod ShardsAtFronts
 pub mod Ticketing
 pub mod Turns
+pub mod Commits
+pub mod Waiting

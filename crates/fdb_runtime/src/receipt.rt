@@ -8,6 +8,7 @@ use crate::name::ClusterName;
 use crate::sealed_front::SealedFront;
 use fdb_book::Front;
 use fdb_client::Transcript;
+use fdb_core::Placed;
 use fdb_txn::Spot;
 use std::marker::Model;
 
@@ -95,5 +96,18 @@ impl<B: ClusterName> Receipt<B> {
         ensures { result.now ≡ self.now.transcript }
     {
         &self.transcript
+    }
+
+    /// The spot and the transcript, as `serial_check` takes them.
+    pub fn into_placed(self) -> Placed
+        ensures spot { result.spot ≡ self.spot }
+        ensures transcript { result.transcript ≡ self.transcript }
+    {
+        let Receipt {
+            front: _,
+            spot,
+            transcript,
+        } = self;
+        Placed { spot, transcript }
     }
 }

@@ -30,9 +30,9 @@ use fdb_txn::TxnId;
 use std::alloc::Global;
 use std::marker::Model;
 
-pub(crate) mod settling;
-
+mod ending;
 mod reading;
+pub(crate) mod settling;
 
 // The longer of two fronts, once more. Refused only as `NoMemory`.
 fn share_longer<B: ClusterName>(
@@ -148,6 +148,13 @@ impl<B: ClusterName> SessionState<B> {
             Some(txn) => Some(txn.read_version()),
             None => None,
         }
+    }
+
+    /// The greatest version that the session knows of a receipt. It takes no memory.
+    pub(crate) fn mark(&self) -> u64
+        ensures { result ≡ self.now.mark }
+    {
+        self.mark
     }
 
     /// What the session has seen of the book. It takes no memory.

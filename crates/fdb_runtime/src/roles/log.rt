@@ -62,6 +62,20 @@ impl<B: ClusterName> LogAt<B> {
         &self.front
     }
 
+    /// The version of the last entry that it took, 0 at first. It takes no memory, and O(1) time.
+    pub(crate) fn version(&self) -> u64
+        ensures { result ≡ self.now.core.last }
+    {
+        self.core.version()
+    }
+
+    /// Whether memory ran out in `push`. It takes no memory, and O(1) time.
+    pub(crate) fn is_failed(&self) -> bool
+        ensures { result ≡ self.now.core.is_failed }
+    {
+        self.core.is_failed()
+    }
+
     /// Takes its message of the next entry. Refused as `Stale` where it took the message's entry before, as `NotYet`
     /// with the version of the last entry that it took where one in between is missing, as `Unknown` where the message
     /// is another log's, as `Failed` once it has failed, and as `NoMemory`. It stays where it was, unless memory ran

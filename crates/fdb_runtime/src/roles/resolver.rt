@@ -1,5 +1,6 @@
 ghost use Rattle.std.specs.Prelude.{◌≡◌, ◌<◌, ◌⊎◌, [], suc, length, None, IsSome, IfOk, OnOk, OnErr};
 ghost use Rattle.fdb_keys.specs.Answers.{Answers};
+ghost use Rattle.fdb_txn.specs.book.Book.{last_version};
 ghost use Rattle.fdb_resolver.specs.Resolvers.{part_fault, IsAnswer, HasTaken, HasFailed};
 ghost use Rattle.fdb_runtime.specs.Turns.{front_fault, AnswersInTurn};
 
@@ -43,6 +44,13 @@ impl<B: ClusterName> ResolverAt<B> {
             front: SealedFront::empty(alloc, book)?,
             core: ResolverCore::new(alloc, index),
         })
+    }
+
+    /// The version of the last entry that it took, 0 at first. It takes no memory, and O(1) time.
+    pub(crate) fn version(&self) -> u64
+        ensures { result ≡ last_version self.now.front }
+    {
+        self.front.version()
     }
 
     /// Takes its part of the next entry, and answers what the rule says of it. Refused as `Stale` where it took the

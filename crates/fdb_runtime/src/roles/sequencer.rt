@@ -93,6 +93,13 @@ impl<B: ClusterName> SequencerAt<B> {
         Ok((ticket, share))
     }
 
+    /// The greatest version that was reported. It takes no memory, and O(1) time.
+    pub(crate) fn committed(&self) -> u64
+        ensures { result ≡ self.now.core.committed }
+    {
+        self.core.committed()
+    }
+
     /// The greatest version that was reported, with a front that reaches it. Refused only as `NoMemory`.
     pub(crate) fn granted(&self) -> Result<(u64, SealedFront<B>), Refusal>
         ensures { Answers result None (λ granted. (granted.0 ≡ self.now.core.committed)

@@ -49,9 +49,9 @@ impl<B: ClusterName> SessionState<B> {
         }
     }
 
-    // The version that the open transaction reads at, and the front once more, which reaches it. Refused as
-    // `NoTransaction` where none is open, and as `NoMemory`.
-    fn share_open(&self) -> Result<(u64, SealedFront<B>), Refusal>
+    /// The version that the open transaction reads at, and the front once more, which reaches it. Refused as
+    /// `NoTransaction` where none is open, and as `NoMemory`.
+    pub(crate) fn share_open(&self) -> Result<(u64, SealedFront<B>), Refusal>
         ensures answers { OfOpen self.now.current result (λ transcript. Answers result None
             (λ shared. shared ≡ (transcript.read_version, self.now.front))) }
         ensures reached { IfOk result (λ shared. shared.0 ≤ last_version shared.1) }

@@ -1,0 +1,29 @@
+/// A thread of the database that calls a gate.
+#[derive(Clone, Copy, PartialEq, Eq, Debug)]
+pub enum Role {
+    /// The resolver with the number.
+    Resolver(u32),
+    /// The commit proxy with the number.
+    CommitProxy(u32),
+}
+
+/// What a database calls where its threads come to an entry, so that a test may hold them back or see them pass. No
+/// lock is held at the calls, and a gate that never returns holds its thread for ever.
+pub trait Gate: Send + Sync + Drop {
+    /// The role is about to do what it does for the entry with the number: a resolver takes its part, a commit proxy,
+    /// which has learnt the entry's ticket, asks the resolvers.
+    fn before(&self, role: Role, entry: u32);
+
+    /// The role has done what it does for the entry: a resolver took its part, a commit proxy answered its clients.
+    fn after(&self, role: Role, entry: u32);
+}
+
+/// A gate that does nothing, for use.
+#[derive(Drop)]
+pub struct NoGate;
+
+impl Gate for NoGate {
+    fn before(&self, _role: Role, _entry: u32) {}
+
+    fn after(&self, _role: Role, _entry: u32) {}
+}

@@ -1,0 +1,317 @@
+ghost use Rattle.std.specs.Prelude.{◌≡◌, ◌≤◌, [], suc, None, Some, Err, IfOk, IfSome, OnOk, OnErr};
+ghost use Rattle.std.specs.FinMap.{get};
+ghost use Rattle.fdb_keys.specs.declared.refusal.Refusal.TheVariants.{NoTransaction};
+ghost use Rattle.fdb_mutations.specs.PairLaws.{given_of};
+ghost use Rattle.fdb_txn.specs.book.Book.{seen_of};
+ghost use Rattle.fdb_txn.specs.rules.SerialMap.{serial_map_at};
+ghost use Rattle.fdb_client.specs.Programs.{program, copy};
+ghost use Rattle.fdb_book.specs.Fronts.{IsPrefix};
+ghost use Rattle.fdb_keys.specs.Answers.{Answers};
+ghost use Rattle.fdb_txn.specs.book.Book.{last_version};
+ghost use Rattle.fdb_mutations.specs.Mutations.{mutation_fault};
+ghost use Rattle.fdb_client.specs.TxnState.{with_op};
+ghost use Rattle.fdb_client.specs.declared.program.Op.TheVariants as operation;
+ghost use Rattle.fdb_client.specs.declared.program.Reply.TheVariants as answer;
+ghost use Rattle.fdb_core.specs.refinement.Sessions.{OfOpen};
+ghost use Rattle.fdb_runtime.specs.Commits.{CommitAnswers};
+ghost use Rattle.fdb_runtime.specs.Sessions.{learning, with_current};
+
+use crate::messages::grant_message::GrantMessage;
+use crate::name::ClusterName;
+use crate::receipt::Receipt;
+use crate::roles::shard::gathering::Gathering;
+use crate::sealed_front::SealedFront;
+use crate::session_state::SessionState;
+use crate::session_state::settling::Ended;
+use crate::shared::Shared;
+use crate::shared::shard::SharedShard;
+use crate::threads::channel::roomy;
+use crate::threads::reply::{CommitReply, GrantReply};
+use crate::threads::request::{BeginRequest, CommitRequest};
+use bytes::Bytes;
+use crossbeam_channel::Receiver;
+use fdb_client::Transcript;
+use fdb_keys::{Items, Key, KeyRange, Refusal, Refused};
+use fdb_mutations::Mutation;
+use std::alloc::Global;
+use std::marker::Model;
+use std::sync::{Arc, Wait};
+
+/// Who runs transactions on a database, one at a time. It owns its share of what the database's threads share, so it
+/// may move to a thread of its own, and outlive the database: then it is refused as `Closed`.
+///
+/// Contracts see its number, the number of its next transaction, what it has seen of the book, its mark, which is the
+/// greatest version that it knows of a receipt, and the transcript of its open transaction, if there is one.
+#[derive(Drop)]
+pub struct Session<B: ClusterName> {
+    number: u32,
+    shared: Arc<Shared<B>>,
+    state: SessionState<B>,
+}
+
+impl<B: ClusterName> Model for Session<B> {
+    ghost use Rattle.fdb_runtime.specs.Sessions.{Session as Seen};
+
+    ghost Value = { Seen };
+
+    ghost view = { λ it. it.state };
+}
+
+impl<B: ClusterName> Session<B> {
+    // The session of the number, which has seen nothing and began nothing.
+    pub(crate) fn new(alloc: Global, number: u32, shared: Arc<Shared<B>>) -> Result<Self, Refusal>
+        ensures { Answers result None (λ it. it
+            ≡ record { number = number; next_number = 0; front = []; mark = 0; current = None }) }
+    {
+        let state = SessionState::new(alloc, shared.book(), number)?;
+        Ok(Session {
+            number,
+            shared,
+            state,
+        })
+    }
+
+    /// Opens a transaction, and answers the version that it reads at: a committed one that isn't below the mark. One
+    /// that was open is abandoned. It waits for a read-version proxy.
+    ///
+    /// Refused as `Exhausted` once all numbers of transactions are used, as `Closed` once the database is closed, as
+    /// `Failed`, and as `NoMemory`; then nothing changes.
+    pub fn begin<R: Wait>(&mut self, rt: &R, alloc: Global) -> Result<u64, Refusal>
+        ensures version { IfOk result (λ version.
+            (self.old.mark ≤ version) × (version ≤ last_version self.new.front)) }
+        ensures begins { IfOk result (λ version. IsPrefix self.old.front self.new.front) }
+        ensures opened { IfOk result (λ version. self.new ≡ record self.old {
+          next_number = suc self.old.next_number;
+          front = self.new.front;
+          current = Some (record {
+            id = record { session = self.old.number; number = self.old.next_number };
+            read_version = version;
+            ops = [];
+          });
+        }) }
+        ensures refused { OnErr result (self.new ≡ self.old) }
+    {
+        let granted = self.ask_version(rt, alloc)?;
+        self.state.begin(alloc, &granted)
+    }
+
+    // Asks its read-version proxy.
+    fn ask_version<R: Wait>(&self, rt: &R, alloc: Global) -> Result<GrantMessage<B>, Refusal> {
+        let inboxes = self.shared.begins();
+        if inboxes.is_empty() {
+            return Err(Refusal::Failed);
+        }
+        let inbox = &inboxes[self.number as usize % inboxes.len()];
+        let (to, from) = roomy(rt, alloc, 1)?;
+        let request = BeginRequest {
+            session: self.number,
+            mark: self.state.mark(),
+            reply: to,
+        };
+        if let Err(refused) = inbox.put(rt, request) {
+            return Err(refused.why);
+        }
+        match from.recv(rt) {
+            Ok(Some(GrantReply::Granted(granted))) => Ok(granted),
+            Ok(Some(GrantReply::Refused(why))) => Err(why),
+            _ => Err(Refusal::Failed),
+        }
+    }
+
+    /// The open transaction buffers a copy of the mutation. It waits for nobody. Refused as `NoTransaction` where none
+    /// is open, as `ValueTooLarge` and `BadOperand` where the mutation isn't legal, and as `NoMemory`; then nothing
+    /// changes.
+    pub fn write(&mut self, mutation: &Mutation) -> Result<(), Refusal>
+        ensures answers { OfOpen self.old.current result (λ transcript. Answers result (mutation_fault mutation.now)
+            (λ _. self.new
+            ≡ with_current self.old (Some (with_op transcript (operation.Write mutation.now) answer.Done)))) }
+        ensures refused { OnErr result (self.new ≡ self.old) }
+    {
+        self.state.write(mutation)
+    }
+
+    /// The open transaction adds the range to its read set, whole. It waits for nobody. Refused as `NoTransaction`
+    /// where none is open, and as `NoMemory`; then nothing changes.
+    pub fn add_read(&mut self, range: &KeyRange) -> Result<(), Refusal>
+        ensures answers { OfOpen self.old.current result (λ transcript. Answers result None
+            (λ _. self.new
+            ≡ with_current self.old (Some (with_op transcript (operation.AddRead range.now) answer.Done)))) }
+        ensures refused { OnErr result (self.new ≡ self.old) }
+    {
+        self.state.add_read(range)
+    }
+
+    /// The open transaction adds the range to its write set, whole. It waits for nobody. Refused as `NoTransaction`
+    /// where none is open, and as `NoMemory`; then nothing changes.
+    pub fn add_write(&mut self, range: &KeyRange) -> Result<(), Refusal>
+        ensures answers { OfOpen self.old.current result (λ transcript. Answers result None
+            (λ _. self.new
+            ≡ with_current self.old (Some (with_op transcript (operation.AddWrite range.now) answer.Done)))) }
+        ensures refused { OnErr result (self.new ≡ self.old) }
+    {
+        self.state.add_write(range)
+    }
+
+    /// Learns of a receipt of the database: what the session has seen becomes the longer of both fronts, and the mark
+    /// the greater of itself and the version of the receipt's spot. It waits for nobody. Refused only as `NoMemory`,
+    /// and then nothing changes.
+    pub fn learn(&mut self, receipt: &Receipt<B>) -> Result<(), Refusal>
+        ensures answers { Answers result None (λ _. self.new ≡ learning self.old receipt.now) }
+        ensures begins { OnOk result (IsPrefix self.old.front self.new.front) }
+        ensures refused { OnErr result (self.new ≡ self.old) }
+    {
+        self.state.learn(receipt)
+    }
+
+    /// The value of the key after the open transaction's own writes: on the serial map of what the session has seen of
+    /// the book, at the transaction's read version. It is noted in the transcript. A snapshot read conflicts with
+    /// nobody, and is promised nothing else. It waits for the key's shard, unless the own writes decide the key.
+    ///
+    /// Refused as `NoTransaction` where none is open, as `TransactionTooOld` where the shard doesn't serve the version
+    /// any more, as `Closed` once the database is closed, as `Failed`, and as `NoMemory`; then nothing changes. It takes
+    /// the time of one `Shard::get` under the shard's lock, and of a share of a front.
+    pub fn get<R: Wait>(
+        &mut self,
+        rt: &R,
+        alloc: Global,
+        key: &Key,
+        is_snapshot: bool,
+    ) -> Result<Option<Bytes>, Refusal>
+        ensures answered { IfOk result (λ value. IfSome self.old.current (λ transcript.
+            (value ≡ get (copy (serial_map_at B.config.resolver_splits transcript.read_version
+            (seen_of self.old.front).places) (program transcript.ops)) key.now)
+            × (self.new ≡ with_current self.old
+            (Some (with_op transcript (operation.Get key.now is_snapshot) (answer.Value value)))))) }
+        ensures none { self.old.current ≡ None → result ≡ Err NoTransaction }
+        ensures refused { OnErr result (self.new ≡ self.old) }
+    {
+        let Some(version) = self.state.read_version() else {
+            return Err(Refusal::NoTransaction);
+        };
+        if self.state.decides(key) {
+            return self.state.get_decided(alloc, key, is_snapshot);
+        }
+        let Some(shard) = self.shared.shard(self.shared.tag_of(key)) else {
+            return Err(Refusal::Failed);
+        };
+        let kept = shard.at_version(rt, version)?;
+        self.state.get_at(&kept.at, key, is_snapshot)
+    }
+
+    /// The pairs of the range after the open transaction's own writes, the first `limit` of them in key order, from the
+    /// last one backwards where `reverse`, and all where `limit` is 0: on the serial map of what the session has seen
+    /// of the book, at the transaction's read version. It is noted in the transcript. It waits for the shards that the
+    /// range meets, one after another, and copies what they have of the range, whatever the limit.
+    ///
+    /// Refused as `get` is; then nothing changes.
+    pub fn get_range<R: Wait>(
+        &mut self,
+        rt: &R,
+        alloc: Global,
+        range: &KeyRange,
+        limit: u32,
+        reverse: bool,
+        is_snapshot: bool,
+    ) -> Result<Items<(Key, Bytes)>, Refusal>
+        ensures answered { IfOk result (λ pairs. IfSome self.old.current (λ transcript.
+            (pairs ≡ given_of (copy (serial_map_at B.config.resolver_splits transcript.read_version
+            (seen_of self.old.front).places) (program transcript.ops)) range.now limit reverse)
+            × (self.new ≡ with_current self.old (Some (with_op transcript
+            (operation.Range range.now limit reverse is_snapshot) (answer.Pairs pairs)))))) }
+        ensures none { self.old.current ≡ None → result ≡ Err NoTransaction }
+        ensures refused { OnErr result (self.new ≡ self.old) }
+    {
+        let (version, front) = self.state.share_open()?;
+        let gathering = gather(rt, alloc, &*self.shared, version, &front, range)?;
+        self.state
+            .get_range_of(&gathering, limit, reverse, is_snapshot)
+    }
+
+    /// Commits the open transaction, and gives its receipt, after which none is open. What wrote nothing is committed
+    /// at its read version, by the session alone. Everything else waits for the session's commit proxy.
+    ///
+    /// Refused as `NoTransaction` where none is open, as `TransactionTooLarge` where it has more than 10,000,000 bytes,
+    /// and as `NoMemory` before it is submitted; then nothing changes, and none is handed back. Every other refusal
+    /// ends the transaction and hands its transcript back: `NotCommitted` where another one wrote what it read, and
+    /// `TransactionTooOld` where it read at too old a version, which both may be tried anew; `BookFull`, `Exhausted`,
+    /// `Repeated` and `Chain` where it got no entry, `Closed` once the database is closed, and `Failed`. It has no
+    /// effect after any of these. After `CommitUnknownResult` it may have been committed or not.
+    pub fn commit<R: Wait>(
+        &mut self,
+        rt: &R,
+        alloc: Global,
+    ) -> Result<Receipt<B>, Refused<Option<Transcript>>>
+        ensures { CommitAnswers B.config self.old result self.new }
+    {
+        let (to, from) = match roomy(rt, alloc, 1) {
+            Ok(ends) => ends,
+            Err(why) => return Err(Refused { why, back: None }),
+        };
+        match self.state.finish_or_receipt() {
+            Ok(Ended::Acknowledged(receipt)) => Ok(self.state.acknowledge(receipt)),
+            Ok(Ended::ToCommit(sealed, transcript)) => {
+                let told = self.submit(rt, CommitRequest { sealed, reply: to }, &from);
+                self.state.end(alloc, self.shared.limit(), transcript, told)
+            }
+            Err(why) => Err(Refused { why, back: None }),
+        }
+    }
+
+    // What its commit proxy tells of the request.
+    fn submit<R: Wait>(
+        &self,
+        rt: &R,
+        request: CommitRequest<B>,
+        from: &Receiver<Option<CommitReply<B>>>,
+    ) -> CommitReply<B> {
+        let inboxes = self.shared.commits();
+        if inboxes.is_empty() {
+            return CommitReply::Refused(Refusal::Failed);
+        }
+        let inbox = &inboxes[self.number as usize % inboxes.len()];
+        if let Err(refused) = inbox.put(rt, request) {
+            return CommitReply::Refused(refused.why);
+        }
+        match from.recv(rt) {
+            Ok(Some(reply)) => reply,
+            _ => CommitReply::Refused(Refusal::CommitUnknownResult),
+        }
+    }
+}
+
+// What shards have of the range, those that it meets in the order of their ranges. None is held while another one is
+// waited for.
+fn gather<'a, B: ClusterName, R: Wait>(
+    rt: &R,
+    alloc: Global,
+    shared: &Shared<B>,
+    version: u64,
+    front: &'a SealedFront<B>,
+    range: &'a KeyRange,
+) -> Result<Gathering<'a, B>, Refusal>
+    requires { version ≤ last_version front.now }
+    ensures { IfOk result (λ it. it.range ≡ range.now) }
+{
+    let shards = shared.shards_from(alloc, range)?;
+    let mut gathering = Gathering::new(alloc, version, front, range)?;
+    for shard in shards {
+        if gathering.is_done() {
+            break;
+        }
+        gathering = gather_more(rt, shard, version, gathering)?;
+    }
+    Ok(gathering)
+}
+
+// With what the shard has of it once it has come to the version.
+fn gather_more<'a, B: ClusterName, R: Wait>(
+    rt: &R,
+    shard: &SharedShard<B>,
+    version: u64,
+    gathering: Gathering<'a, B>,
+) -> Result<Gathering<'a, B>, Refusal>
+    ensures { IfOk result (λ it. it.range ≡ gathering.entry.range) }
+{
+    let kept = shard.at_version(rt, version)?;
+    gathering.take(&kept.at)
+}

@@ -1,0 +1,300 @@
+//! What the threads of a database and its sessions share.
+ghost use Rattle.std.specs.Prelude.{◌≡◌, ⊤, suc, length, None, IfOk};
+ghost use Rattle.fdb_keys.specs.Answers.{Answers, AnswersExactly};
+ghost use Rattle.fdb_proxy.specs.Configs.{config_fault};
+
+use crate::messages::grant_message::GrantMessage;
+use crate::name::ClusterName;
+use crate::roles::log::LogAt;
+use crate::roles::sequencer::SequencerAt;
+use crate::roles::shard::ShardAt;
+use crate::sealed_front::SealedFront;
+use crate::threads::request::{BeginRequest, CommitRequest};
+use fdb_book::Book;
+use fdb_keys::{Key, KeyRange, Refusal};
+use fdb_proxy::Config;
+use fdb_sequencer::Ticket;
+use fdb_storage::ShardMap;
+use fdb_txn::Batch;
+use inbox::SharedInbox;
+use log::SharedLog;
+use shard::SharedShard;
+use std::alloc::Global;
+use std::sync::{Mutex, Wait};
+
+pub(crate) mod inbox;
+pub(crate) mod log;
+pub(crate) mod shard;
+
+/// What all threads of a database and its sessions share. Each lock in it is taken with no other one held.
+#[derive(Drop)]
+pub(crate) struct Shared<B: ClusterName> {
+    pub(crate) alloc: Global,
+    book: Book<B>,
+    // How many entries the book may have.
+    limit: u32,
+    advance: u64,
+    sequencer: Mutex<SequencerAt<B>>,
+    shard_map: ShardMap,
+    logs: Vec<SharedLog<B>>,
+    shards: Vec<SharedShard<B>>,
+    commits: Vec<SharedInbox<CommitRequest<B>>>,
+    begins: Vec<SharedInbox<BeginRequest<B>>>,
+    ghost limited: { limit ≡ B.config.book },
+}
+
+impl<B: ClusterName> Shared<B> {
+    /// The state of a database in which nothing happened. Refused as `BadConfig` where the configuration isn't legal,
+    /// and as `NoMemory`.
+    pub(crate) fn new(
+        alloc: Global,
+        book: Book<B>,
+        config: &Config,
+        advance: u64,
+    ) -> Result<Self, Refusal>
+        requires { config.now ≡ B.config }
+        ensures { Answers result (config_fault config.now) (λ _. ⊤) }
+    {
+        let (resolvers, tags) = resolvers_and_shards(config)?;
+        Self::of_roles(alloc, book, config, advance, resolvers, tags)
+    }
+
+    // The same where the configuration is legal, with so many resolvers and shards. Refused only as `NoMemory`.
+    fn of_roles(
+        alloc: Global,
+        book: Book<B>,
+        config: &Config,
+        advance: u64,
+        resolvers: u32,
+        tags: u32,
+    ) -> Result<Self, Refusal>
+        requires config { config.now ≡ B.config }
+        requires legal { config_fault B.config ≡ None }
+        requires resolvers { resolvers ≡ suc (length B.config.resolver_splits) }
+        requires tags { tags ≡ suc (length B.config.shard_splits) }
+        ensures { Answers result None (λ _. ⊤) }
+    {
+        let sequencer = SequencerAt::new(alloc, &book, config.proxies, resolvers)?;
+        let (commits, begins) = make_all_inboxes(alloc, config.proxies)?;
+        let (shard_map, logs, shards) = make_logs_and_shards(alloc, &book, config, tags)?;
+        Ok(Shared {
+            alloc,
+            book,
+            limit: config.book,
+            advance,
+            sequencer: Mutex::new(sequencer),
+            shard_map,
+            logs,
+            shards,
+            commits,
+            begins,
+        })
+    }
+
+    /// How many entries the book may have.
+    pub(crate) fn limit(&self) -> u32
+        ensures { result ≡ B.config.book }
+    {
+        self.limit
+    }
+
+    /// The book that all see fronts of.
+    pub(crate) fn book(&self) -> &Book<B> {
+        &self.book
+    }
+
+    /// Gives the proxy's batch its entry, as `SequencerAt::issue` does and refuses.
+    pub(crate) fn issue<R: Wait>(
+        &self,
+        rt: &R,
+        proxy: u32,
+        batch: Batch,
+    ) -> Result<(Ticket, SealedFront<B>), Refusal> {
+        self.sequencer
+            .lock(rt)
+            .issue(self.alloc, &self.book, proxy, self.advance, batch)
+    }
+
+    /// Tells the sequencer that the entries up to the version are committed. Refused as `SequencerAt::report` refuses
+    /// it.
+    pub(crate) fn report<R: Wait>(&self, rt: &R, version: u64) -> Result<(), Refusal> {
+        self.sequencer.lock(rt).report(version)
+    }
+
+    /// The greatest version that was reported. It takes no memory.
+    pub(crate) fn committed<R: Wait>(&self, rt: &R) -> u64 {
+        self.sequencer.lock(rt).committed()
+    }
+
+    /// The greatest version that was reported, with a front that reaches it. Refused only as `NoMemory`.
+    pub(crate) fn granted<R: Wait>(&self, rt: &R) -> Result<GrantMessage<B>, Refusal> {
+        let (committed, front) = self.sequencer.lock(rt).granted()?;
+        Ok(GrantMessage { front, committed })
+    }
+
+    /// The log with the number, if there is one.
+    pub(crate) fn log(&self, number: u32) -> Option<&SharedLog<B>> {
+        self.logs.get(number as usize)
+    }
+
+    /// All logs.
+    pub(crate) fn logs(&self) -> &[SharedLog<B>] {
+        self.logs.as_slice()
+    }
+
+    /// The log that keeps the shard's messages, if there is one.
+    pub(crate) fn log_of(&self, tag: u32) -> Option<&SharedLog<B>> {
+        let count = self.logs.len();
+        if count == 0 {
+            return None;
+        }
+        self.logs.get(tag as usize % count)
+    }
+
+    /// The shard with the tag, if there is one.
+    pub(crate) fn shard(&self, tag: u32) -> Option<&SharedShard<B>> {
+        self.shards.get(tag as usize)
+    }
+
+    /// All shards, in the order of their ranges.
+    pub(crate) fn shards(&self) -> &[SharedShard<B>] {
+        self.shards.as_slice()
+    }
+
+    /// The shards from the one on that has the range's begin, in the order of their ranges, none where that is no key.
+    /// Refused only as `NoMemory`.
+    pub(crate) fn shards_from(
+        &self,
+        alloc: Global,
+        range: &KeyRange,
+    ) -> Result<&[SharedShard<B>], Refusal> {
+        if range.begin().is_empty() {
+            return Ok(self.shards.as_slice());
+        }
+        match Key::new(alloc, range.begin()) {
+            Ok(begin) => Ok(
+                self.shards
+                    .get(self.tag_of(&begin) as usize..)
+                    .unwrap_or(&[]),
+            ),
+            Err(Refusal::NoMemory) => Err(Refusal::NoMemory),
+            Err(_) => Ok(&[]),
+        }
+    }
+
+    /// The tag of the shard that has the key.
+    pub(crate) fn tag_of(&self, key: &Key) -> u32 {
+        self.shard_map.shard_of(key)
+    }
+
+    /// The inboxes of the commit proxies.
+    pub(crate) fn commits(&self) -> &[SharedInbox<CommitRequest<B>>] {
+        self.commits.as_slice()
+    }
+
+    /// The inboxes of the read-version proxies.
+    pub(crate) fn begins(&self) -> &[SharedInbox<BeginRequest<B>>] {
+        self.begins.as_slice()
+    }
+}
+
+/// How many resolvers and how many shards there are. Refused as `BadConfig` where the configuration isn't legal. It
+/// takes no memory.
+pub(crate) fn resolvers_and_shards(config: &Config) -> Result<(u32, u32), Refusal>
+    ensures answers { AnswersExactly result (config_fault config.now) (λ _. ⊤) }
+    ensures counts { IfOk result (λ counts. (counts.0 ≡ suc (length config.now.resolver_splits))
+        × (counts.1 ≡ suc (length config.now.shard_splits))) }
+{
+    config.check()?;
+    let resolvers = config.resolver_splits.len() as u32 + 1;
+    let shards = config.shard_splits.len() as u32 + 1;
+    Ok((resolvers, shards))
+}
+
+// The map of the shards, the logs and the shards, which took nothing. Refused only as `NoMemory`.
+fn make_logs_and_shards<B: ClusterName>(
+    alloc: Global,
+    book: &Book<B>,
+    config: &Config,
+    tags: u32,
+) -> Result<(ShardMap, Vec<SharedLog<B>>, Vec<SharedShard<B>>), Refusal>
+    requires config { config.now ≡ B.config }
+    requires legal { config_fault B.config ≡ None }
+    requires tags { tags ≡ suc (length B.config.shard_splits) }
+    ensures answers { Answers result None (λ _. ⊤) }
+    ensures map { IfOk result (λ made. made.0 ≡ B.config.shard_splits) }
+{
+    let shard_map = ShardMap::new(alloc, config.shard_splits.as_slice())?;
+    let logs = make_logs(alloc, book, config.logs, tags)?;
+    let shards = make_shards(alloc, book, &shard_map, tags)?;
+    Ok((shard_map, logs, shards))
+}
+
+// The logs, each of which took nothing. Refused only as `NoMemory`.
+fn make_logs<B: ClusterName>(
+    alloc: Global,
+    book: &Book<B>,
+    logs: u32,
+    tags: u32,
+) -> Result<Vec<SharedLog<B>>, Refusal>
+    requires legal { config_fault B.config ≡ None }
+    requires logs { logs ≡ B.config.logs }
+    requires tags { tags ≡ suc (length B.config.shard_splits) }
+    ensures { Answers result None (λ _. ⊤) }
+{
+    let mut made = Vec::with_capacity(alloc, logs as usize)?;
+    for number in 0..logs {
+        let at = LogAt::new(alloc, book, number, logs, tags)?;
+        made.push(SharedLog::new(at))?;
+    }
+    Ok(made)
+}
+
+// The shards, each of which applied nothing. Refused only as `NoMemory`.
+fn make_shards<B: ClusterName>(
+    alloc: Global,
+    book: &Book<B>,
+    map: &ShardMap,
+    tags: u32,
+) -> Result<Vec<SharedShard<B>>, Refusal>
+    requires map { map.now ≡ B.config.shard_splits }
+    requires tags { tags ≡ suc (length B.config.shard_splits) }
+    ensures { Answers result None (λ _. ⊤) }
+{
+    let mut made = Vec::with_capacity(alloc, tags as usize)?;
+    for tag in 0..tags {
+        let range = map.range(tag)?;
+        let at = ShardAt::new(alloc, book, tag, range)?;
+        made.push(SharedShard::new(at))?;
+    }
+    Ok(made)
+}
+
+// The inboxes of the proxies of both kinds. Refused only as `NoMemory`.
+fn make_all_inboxes<B: ClusterName>(
+    alloc: Global,
+    proxies: u32,
+) -> Result<
+    (
+        Vec<SharedInbox<CommitRequest<B>>>,
+        Vec<SharedInbox<BeginRequest<B>>>,
+    ),
+    Refusal,
+>
+    ensures { Answers result None (λ _. ⊤) }
+{
+    let commits = make_inboxes(alloc, proxies)?;
+    let begins = make_inboxes(alloc, proxies)?;
+    Ok((commits, begins))
+}
+
+// An inbox for each proxy. Refused only as `NoMemory`.
+fn make_inboxes<T: Drop>(alloc: Global, proxies: u32) -> Result<Vec<SharedInbox<T>>, Refusal>
+    ensures { Answers result None (λ _. ⊤) }
+{
+    let mut made = Vec::with_capacity(alloc, proxies as usize)?;
+    for _made in 0..proxies {
+        made.push(SharedInbox::new(alloc))?;
+    }
+    Ok(made)
+}

@@ -1,0 +1,118 @@
+use crate::messages::grant_message::GrantMessage;
+use crate::name::ClusterName;
+use crate::shared::Shared;
+use crate::threads::channel::reply_with;
+use crate::threads::reply::GrantReply;
+use crate::threads::request::BeginRequest;
+use crossbeam_channel::Sender;
+use fdb_keys::Refusal;
+use fdb_proxy::GrvCore;
+use std::alloc::Global;
+use std::collections::VecDeque;
+use std::sync::Wait;
+
+/// Refuses all of them.
+pub(crate) fn refuse_begins<B: ClusterName, R: Wait>(
+    rt: &R,
+    asked: Vec<BeginRequest<B>>,
+    why: Refusal,
+) {
+    for request in asked {
+        reply_with(rt, &request.reply, GrantReply::Refused(why));
+    }
+}
+
+// What one is told whose read version this is. Refused where the front doesn't reach it.
+fn grant_of<B: ClusterName>(granted: &GrantMessage<B>, version: u64) -> GrantReply<B> {
+    if version > granted.front.version() {
+        return GrantReply::Refused(Refusal::Failed);
+    }
+    match granted.front.share() {
+        Ok(front) => GrantReply::Granted(GrantMessage {
+            front,
+            committed: version,
+        }),
+        Err(why) => GrantReply::Refused(why),
+    }
+}
+
+/// What a read-version proxy's thread has: the proxy, and who waits for its answers, in the order of asking.
+#[derive(Drop)]
+pub(crate) struct ReadVersionWorker<B: ClusterName> {
+    core: GrvCore,
+    replies: VecDeque<Sender<Option<GrantReply<B>>>>,
+}
+
+impl<B: ClusterName> ReadVersionWorker<B> {
+    /// Nobody has asked. It takes no memory.
+    pub(crate) fn new(alloc: Global) -> Self {
+        ReadVersionWorker {
+            core: GrvCore::new(alloc),
+            replies: VecDeque::new(alloc),
+        }
+    }
+
+    /// Answers who asks for a read version, until the inbox ends.
+    pub(crate) fn run<R: Wait>(self, rt: &R, shared: &Shared<B>, number: usize) {
+        let mut worker = self;
+        let Some(inbox) = shared.begins().get(number) else {
+            return;
+        };
+        for _ in rt.forever() {
+            let (asked, ended) = inbox.next(rt);
+            worker.turn(rt, shared, asked);
+            if ended.is_some() {
+                return;
+            }
+        }
+    }
+
+    // Answers all who asked, with one grant of the sequencer.
+    fn turn<R: Wait>(&mut self, rt: &R, shared: &Shared<B>, asked: Vec<BeginRequest<B>>) {
+        for request in asked {
+            self.take(rt, request);
+        }
+        match shared.granted(rt) {
+            Ok(granted) => self.grant(rt, &granted),
+            Err(why) => self.refuse(rt, why),
+        }
+    }
+
+    // Takes a request, which is refused at once where memory runs out.
+    fn take<R: Wait>(&mut self, rt: &R, request: BeginRequest<B>) {
+        let BeginRequest {
+            session,
+            mark,
+            reply,
+        } = request;
+        if self.core.ask(session, mark).is_err() {
+            reply_with(rt, &reply, GrantReply::Refused(Refusal::NoMemory));
+            return;
+        }
+        if let Err(failed) = self.replies.push_back(reply) {
+            reply_with(rt, &failed.value, GrantReply::Refused(Refusal::NoMemory));
+        }
+    }
+
+    // Answers all who asked, in the order of asking.
+    fn grant<R: Wait>(&mut self, rt: &R, granted: &GrantMessage<B>) {
+        let versions = self.core.grant(granted.committed);
+        for &(_session, version) in versions.as_slice() {
+            let Some(reply) = self.replies.pop_front() else {
+                return;
+            };
+            reply_with(rt, &reply, grant_of(granted, version));
+        }
+    }
+
+    // Refuses all who asked.
+    fn refuse<R: Wait>(&mut self, rt: &R, why: Refusal) {
+        let versions = self.core.grant(0);
+        for _version in versions.as_slice() {
+            let Some(reply) = self.replies.pop_front() else {
+                return;
+            };
+            reply_with(rt, &reply, GrantReply::Refused(why));
+        }
+    }
+}

@@ -1,0 +1,25 @@
+use crate::messages::grant_message::GrantMessage;
+use crate::messages::outcome_message::OutcomeMessage;
+use crate::name::ClusterName;
+use crate::sealed_front::SealedFront;
+use fdb_keys::Refusal;
+
+/// What a session is told that asked for a commit.
+#[derive(Drop)]
+pub(crate) enum CommitReply<B: ClusterName> {
+    /// What became of it.
+    Outcome(OutcomeMessage<B>),
+    /// It has no entry, as the book is full, which the front shows.
+    Full(SealedFront<B>),
+    /// It is refused.
+    Refused(Refusal),
+}
+
+/// What a session is told that asked for a read version.
+#[derive(Drop)]
+pub(crate) enum GrantReply<B: ClusterName> {
+    /// A committed version.
+    Granted(GrantMessage<B>),
+    /// It is refused.
+    Refused(Refusal),
+}

@@ -1,0 +1,52 @@
+use crate::name::ClusterName;
+use crate::shared::Shared;
+use crate::shared::log::SharedLog;
+use crate::shared::shard::SharedShard;
+use fdb_keys::Refusal;
+use fdb_txn::WINDOW;
+use std::sync::Wait;
+
+// How many messages a shard pulls at once.
+const PULL_LIMIT: u32 = 256;
+
+/// Pulls what the log keeps for the shard until the log has ended and has no more, or the shard fails.
+pub(crate) fn run_shard<B: ClusterName, R: Wait>(rt: &R, shared: &Shared<B>, tag: u32) {
+    let Some(shard) = shared.shard(tag) else {
+        return;
+    };
+    let Some(log) = shared.log_of(tag) else {
+        return shard.end(rt, Refusal::Failed);
+    };
+    for _ in rt.forever() {
+        match pull(rt, shard, log, tag) {
+            Ok(true) => forget(rt, shared, shard),
+            Ok(false) => return shard.end(rt, log.ended(rt).unwrap_or(Refusal::Failed)),
+            Err(_) => return shard.end(rt, Refusal::Failed),
+        }
+    }
+}
+
+// Pulls and applies some messages, and drops them at the log. Answers whether there were any.
+fn pull<B: ClusterName, R: Wait>(
+    rt: &R,
+    shard: &SharedShard<B>,
+    log: &SharedLog<B>,
+    tag: u32,
+) -> Result<bool, Refusal> {
+    let after = shard.version(rt);
+    let given = log.peek(rt, tag, after, PULL_LIMIT)?;
+    if given.peek.messages.is_empty() {
+        return Ok(false);
+    }
+    shard.apply(rt, &given)?;
+    log.pop(rt, tag, given.peek.through)?;
+    Ok(true)
+}
+
+// Forgets versions that are too old to be read at.
+fn forget<B: ClusterName, R: Wait>(rt: &R, shared: &Shared<B>, shard: &SharedShard<B>) {
+    let floor = shared.committed(rt).saturating_sub(WINDOW);
+    if 0 < floor && floor <= shard.version(rt) {
+        let _ = shard.forget(rt, floor);
+    }
+}
