@@ -24,6 +24,8 @@ mod random;
 #[cfg(test)]
 mod resolving;
 #[cfg(test)]
+mod running;
+#[cfg(test)]
 mod sequencing;
 #[cfg(test)]
 mod storage;

@@ -1,0 +1,184 @@
+// Clients in threads of their own, each with keys that no other one writes, and one sum that all add to.
+ghost use Rattle.std.specs.Prelude.{◌≡◌};
+
+use crate::making::{coded, count_config, keys_of, same};
+use crate::running::{byte_of, receipt_of, write};
+use bytes::Bytes;
+use fdb_book::Blank;
+use fdb_keys::{Key, Refusal};
+use fdb_mutations::Mutation;
+use fdb_runtime::{ClusterName, Config, Database, NoGate, Record, Session};
+use std::alloc::Global;
+use std::marker::Brand;
+use std::process::Abort;
+use std::sync::{Arc, Wait};
+use std::test::Fail;
+use std::thread;
+use std::thread::{JoinHandle, Threads};
+
+const CLIENTS: u8 = 4;
+
+const ROUNDS: u8 = 10;
+// How many keys a client has.
+const KEYS: usize = 5;
+
+const SUM: &[u8] = b"sum";
+// How many transactions there are, and how many pairs in the end.
+const TRANSACTIONS: u8 = 200;
+
+const PAIRS: usize = 21;
+
+// What a client's keys have, as it was acknowledged.
+type Model = [Option<u8>; KEYS];
+
+// How the keys begin that a client has. They lie on several shards and resolvers.
+const LETTERS: [u8; KEYS] = [b'a', b'f', b'k', b'p', b'u'];
+
+// One transaction: the client reads a key and writes it, and adds to the sum.
+fn play_round<B: ClusterName, R: Wait>(
+    rt: &R,
+    alloc: Global,
+    session: &mut Session<B>,
+    key: &[u8],
+    round: u8,
+) -> Result<Option<u8>, Refusal> {
+    session.begin(rt, alloc)?;
+    let seen = byte_of(rt, alloc, session, key)?;
+    write(session, Mutation::set(alloc, key, &[round]))?;
+    write(session, Mutation::add(alloc, SUM, &[1]))?;
+    let _receipt = receipt_of(session.commit(rt, alloc))?;
+    Ok(seen)
+}
+
+// All transactions of a client: what its keys have then, and whether each read was what was acknowledged last.
+fn play_client<B: ClusterName, R: Wait>(
+    rt: &R,
+    alloc: Global,
+    session: Session<B>,
+    client: u8,
+) -> Result<(Model, bool), Refusal> {
+    let mut session = session;
+    let mut model = [None; KEYS];
+    let mut is_known = true;
+    for round in 0..ROUNDS {
+        for (letter, value) in LETTERS.iter().zip(&mut model) {
+            let seen = play_round(rt, alloc, &mut session, &[*letter, client], round)?;
+            is_known = is_known && seen == *value;
+            *value = Some(round);
+        }
+    }
+    Ok((model, is_known))
+}
+
+type Client = JoinHandle<Result<(Model, bool), Refusal>>;
+
+// Starts all clients.
+fn start_clients<
+    B: ClusterName + Send + Sync + 'static,
+    R: Threads + Wait + Abort + Copy + Send + Sync + 'static,
+>(
+    rt: &R,
+    alloc: Global,
+    database: &mut Database<B>,
+    clients: &mut Vec<Client>,
+) -> Result<(), Refusal> {
+    for client in 0..CLIENTS {
+        clients.reserve(1)?;
+        let session = database.session(alloc)?;
+        let handle = *rt;
+        let Ok(thread) = thread::spawn(rt, move || play_client(&handle, alloc, session, client))
+        else {
+            return Err(Refusal::NoMemory);
+        };
+        clients.push(thread)?;
+    }
+    Ok(())
+}
+
+// What each client's keys have, and whether all reads were what they were to be.
+fn join_clients<R: Threads>(
+    rt: &R,
+    alloc: Global,
+    clients: Vec<Client>,
+) -> Result<(Vec<Model>, bool), Refusal> {
+    let mut models = Vec::new(alloc);
+    let mut are_known = true;
+    for client in clients {
+        let (model, is_known) = client.join(rt)?;
+        models.push(model)?;
+        are_known = are_known && is_known;
+    }
+    Ok((models, are_known))
+}
+
+// Whether the record has the pair.
+fn has_pair(pairs: &[(Key, Bytes)], key: &[u8], value: u8) -> bool {
+    pairs.iter().any(|(at, bytes)| at.bytes() == key && bytes.as_slice() == [value].as_slice())
+}
+
+// Whether a client's keys have what it was acknowledged last.
+fn has_model(pairs: &[(Key, Bytes)], client: u8, model: &Model) -> bool {
+    LETTERS.iter().zip(model).all(|(letter, value)| match value {
+        Some(value) => has_pair(pairs, &[*letter, client], *value),
+        None => false,
+    })
+}
+
+// The same of all clients.
+fn has_all(pairs: &[(Key, Bytes)], models: &[Model]) -> bool {
+    (0..CLIENTS)
+        .zip(models)
+        .all(|(client, model)| has_model(pairs, client, model))
+}
+
+// How many transactions and pairs the record has, whether the sum is that of all that were acknowledged, and whether
+// all keys have what was acknowledged last.
+fn told_of<B: ClusterName>(
+    record: Result<Record<B>, Refusal>,
+    models: &[Model],
+) -> Result<(usize, usize, bool, bool), Refusal> {
+    let record = record?;
+    let mut count = 0;
+    for entry in record.front().entries()? {
+        count = entry.batch.as_slice().len().saturating_add(count);
+    }
+    let pairs = record.pairs();
+    let is_sum = has_pair(pairs, SUM, TRANSACTIONS);
+    Ok((count, pairs.len(), is_sum, has_all(pairs, models)))
+}
+
+fn count<
+    B: ClusterName + Send + Sync + 'static,
+    R: Threads + Wait + Abort + Copy + Send + Sync + 'static,
+>(rt: &R, alloc: Global, blank: Blank, config: &Config) -> Result<(), Refusal>
+    requires cells { blank ≡ B.cells }
+    requires config { config.now ≡ B.config }
+{
+    let gate = Arc::new(alloc, NoGate)?;
+    let mut database: Database<B> = Database::start(rt, alloc, blank, config, 1_000, &gate)?;
+    let mut clients = Vec::new(alloc);
+    let started = start_clients(rt, alloc, &mut database, &mut clients);
+    let joined = join_clients(rt, alloc, clients);
+    let record = database.close(rt);
+    same(rt, coded(started), Ok(()));
+    let (models, are_known) = joined?;
+    same(rt, are_known, true);
+    let told = told_of(record, models.as_slice());
+    same(
+        rt,
+        coded(told),
+        Ok((usize::from(TRANSACTIONS), PAIRS, true, true)),
+    );
+    Ok(())
+}
+
+#[test]
+fn four_clients_read_what_they_wrote(rt: HostRuntime) -> Result<(), Fail> {
+    let alloc = rt.alloc();
+    let mut config = count_config(alloc, 3, 2, 1_000);
+    config.resolver_splits = keys_of(alloc, &[b"b", b"l", b"s"])?;
+    config.shard_splits = keys_of(alloc, &[b"k", b"t"])?;
+    let blank = Blank::new(alloc, 1_000)?;
+    count::<Brand, HostRuntime>(&rt, alloc, blank, &config)?;
+    Ok(())
+}
