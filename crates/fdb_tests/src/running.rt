@@ -10,9 +10,37 @@ mod transfers;
 use fdb_core::serial_check;
 use fdb_keys::{Key, Refusal, Refused};
 use fdb_mutations::Mutation;
-use fdb_runtime::{ClusterName, Config, Receipt, Session, Transcript};
+use fdb_runtime::{ClusterName, Config, Database, Receipt, Session, Spot, Transcript};
 use std::alloc::Global;
 use std::sync::Wait;
+
+/// The next two sessions. What is told to both has them lent, so that no exit on its way drops any.
+pub(crate) fn two_sessions<B: ClusterName + Send + Sync + 'static>(
+    alloc: Global,
+    database: &mut Database<B>,
+) -> Result<(Session<B>, Session<B>), Refusal> {
+    let first = database.session(alloc)?;
+    match database.session(alloc) {
+        Ok(second) => Ok((first, second)),
+        Err(why) => Err(why),
+    }
+}
+
+/// Commits the write of one byte to the key, and gives its spot.
+pub(crate) fn put<B: ClusterName, R: Wait>(
+    rt: &R,
+    alloc: Global,
+    session: &mut Session<B>,
+    key: &[u8],
+    value: u8,
+) -> Result<Spot, Refusal> {
+    session.begin(rt, alloc)?;
+    write(session, Mutation::set(alloc, key, &[value]))?;
+    match session.commit(rt, alloc) {
+        Ok(receipt) => Ok(receipt.spot()),
+        Err(refused) => Err(refused.why),
+    }
+}
 
 /// The session writes the key, to the mutation that is made.
 pub(crate) fn write<B: ClusterName>(

@@ -2,10 +2,10 @@
 ghost use Rattle.std.specs.Prelude.{◌≡◌};
 
 use crate::making::{coded, count_config, keys_of, rising_keys, same};
-use crate::running::{byte_of, is_serial, receipt_of, write};
-use fdb_keys::{Items, Key, KeyRange, Refusal};
+use crate::running::{byte_of, is_serial, put, receipt_of, two_sessions, write};
+use fdb_keys::{KeyRange, Refusal};
 use fdb_mutations::Mutation;
-use fdb_runtime::{Blank, ClusterName, Config, Database, NoGate, Receipt, Session, Spot};
+use fdb_runtime::{Blank, ClusterName, Config, Database, NoGate, Session, Spot};
 use std::alloc::Global;
 use std::marker::Brand;
 use std::process::Abort;
@@ -13,65 +13,70 @@ use std::sync::{Arc, Wait};
 use std::test::Fail;
 use std::thread::Threads;
 
-// Commits one write of the session's own.
-fn put<B: ClusterName, R: Wait>(
-    rt: &R,
-    alloc: Global,
-    session: &mut Session<B>,
-    key: &[u8],
-    value: u8,
-) -> Result<Receipt<B>, Refusal> {
-    session.begin(rt, alloc)?;
-    write(session, Mutation::set(alloc, key, &[value]))?;
-    receipt_of(session.commit(rt, alloc))
-}
-
 // A session sees at once what another one committed, though nobody told it.
-fn see_others<B: ClusterName + Send + Sync + 'static, R: Wait + Abort>(
+fn see_other<B: ClusterName, R: Wait + Abort>(
     rt: &R,
     alloc: Global,
-    database: &mut Database<B>,
+    writer: &mut Session<B>,
+    reader: &mut Session<B>,
 ) -> Result<(), Refusal> {
-    let mut writer = database.session(alloc)?;
-    let mut reader = database.session(alloc)?;
-    let receipt = put(rt, alloc, &mut writer, b"k", 1)?;
+    let spot = put(rt, alloc, writer, b"k", 1)?;
     let version = reader.begin(rt, alloc)?;
-    let is_seen = match receipt.spot() {
+    let is_seen = match spot {
         Spot::Entry { version: at, .. } => version >= at,
         Spot::ReadOnly { .. } => false,
     };
     same(rt, is_seen, true);
-    same(
-        rt,
-        coded(byte_of(rt, alloc, &mut reader, b"k")),
-        Ok(Some(1)),
-    );
+    same(rt, coded(byte_of(rt, alloc, reader, b"k")), Ok(Some(1)));
     Ok(())
 }
 
+// The code of the session's commit, and whether its transcript is handed back.
+fn refused_commit<B: ClusterName, R: Wait>(
+    rt: &R,
+    alloc: Global,
+    session: &mut Session<B>,
+) -> (u32, bool) {
+    match session.commit(rt, alloc) {
+        Ok(_receipt) => (0, false),
+        Err(refused) => (refused.why.code(), refused.back.is_some()),
+    }
+}
+
 // A transaction that is turned down leaves nothing: another one wrote what it had read.
-fn turn_down<B: ClusterName + Send + Sync + 'static, R: Wait + Abort>(
+fn turn_down<B: ClusterName, R: Wait + Abort>(
+    rt: &R,
+    alloc: Global,
+    first: &mut Session<B>,
+    late: &mut Session<B>,
+) -> Result<(), Refusal> {
+    put(rt, alloc, first, b"x", 1)?;
+    late.begin(rt, alloc)?;
+    same(rt, coded(byte_of(rt, alloc, late, b"x")), Ok(Some(1)));
+    put(rt, alloc, first, b"x", 2)?;
+    write(late, Mutation::set(alloc, b"x", &[3]))?;
+    same(rt, refused_commit(rt, alloc, late), (1020, true));
+    // Nothing is open then.
+    same(rt, coded(byte_of(rt, alloc, late, b"x")), Err(9015));
+    late.begin(rt, alloc)?;
+    same(rt, coded(byte_of(rt, alloc, late, b"x")), Ok(Some(2)));
+    Ok(())
+}
+
+// Both, on two sessions.
+fn tell_both<B: ClusterName + Send + Sync + 'static, R: Wait + Abort>(
     rt: &R,
     alloc: Global,
     database: &mut Database<B>,
 ) -> Result<(), Refusal> {
-    let mut late = database.session(alloc)?;
-    let mut first = database.session(alloc)?;
-    let _before = put(rt, alloc, &mut first, b"x", 1)?;
-    late.begin(rt, alloc)?;
-    same(rt, coded(byte_of(rt, alloc, &mut late, b"x")), Ok(Some(1)));
-    let _between = put(rt, alloc, &mut first, b"x", 2)?;
-    write(&mut late, Mutation::set(alloc, b"x", &[3]))?;
-    let (code, is_back) = match late.commit(rt, alloc) {
-        Ok(_receipt) => (0, false),
-        Err(refused) => (refused.why.code(), refused.back.is_some()),
-    };
-    same(rt, (code, is_back), (1020, true));
-    // Nothing is open then.
-    same(rt, coded(byte_of(rt, alloc, &mut late, b"x")), Err(9015));
-    late.begin(rt, alloc)?;
-    same(rt, coded(byte_of(rt, alloc, &mut late, b"x")), Ok(Some(2)));
-    Ok(())
+    match two_sessions(alloc, database) {
+        Ok((mut first, mut second)) => {
+            let seen = see_other(rt, alloc, &mut first, &mut second);
+            let turned_down = turn_down(rt, alloc, &mut first, &mut second);
+            seen.and(turned_down)
+        }
+        Err(why) => Err(why),
+    }
 }
 
 // A transaction of the kind with the number: blind, one that reads a key, one that reads a range, one that only reads,
@@ -122,6 +127,22 @@ fn commit_kind<B: ClusterName, R: Wait>(
 }
 
 // The same of one of each kind.
+fn commit_five<B: ClusterName, R: Wait>(
+    rt: &R,
+    alloc: Global,
+    config: &Config,
+    session: &mut Session<B>,
+) -> Result<[(bool, bool); 5], Refusal>
+    requires { config.now ≡ B.config }
+{
+    let mut told = [(false, false); 5];
+    for (kind, told) in (0..5).zip(&mut told) {
+        *told = commit_kind(rt, alloc, config, session, kind)?;
+    }
+    Ok(told)
+}
+
+// The same, in a session of its own.
 fn commit_kinds<B: ClusterName + Send + Sync + 'static, R: Wait>(
     rt: &R,
     alloc: Global,
@@ -130,12 +151,10 @@ fn commit_kinds<B: ClusterName + Send + Sync + 'static, R: Wait>(
 ) -> Result<[(bool, bool); 5], Refusal>
     requires { config.now ≡ B.config }
 {
-    let mut session = database.session(alloc)?;
-    let mut told = [(false, false); 5];
-    for (kind, told) in (0..5).zip(&mut told) {
-        *told = commit_kind(rt, alloc, config, &mut session, kind)?;
+    match database.session(alloc) {
+        Ok(mut session) => commit_five(rt, alloc, config, &mut session),
+        Err(why) => Err(why),
     }
-    Ok(told)
 }
 
 fn use_kinds<
@@ -148,8 +167,7 @@ fn use_kinds<
     let gate = Arc::new(alloc, NoGate)?;
     let mut database: Database<B> = Database::start(rt, alloc, blank, config, 100, &gate)?;
     let kinds = commit_kinds(rt, alloc, config, &mut database);
-    let seen = see_others(rt, alloc, &mut database);
-    let turned_down = turn_down(rt, alloc, &mut database);
+    let told = tell_both(rt, alloc, &mut database);
     let record = database.close(rt);
     let wanted = [
         (true, true),
@@ -159,8 +177,7 @@ fn use_kinds<
         (true, true),
     ];
     same(rt, coded(kinds), Ok(wanted));
-    same(rt, coded(seen), Ok(()));
-    same(rt, coded(turned_down), Ok(()));
+    same(rt, coded(told), Ok(()));
     // Four entries of the kinds that write, one, two, and one that was turned down.
     same(rt, coded(length_of(record)), Ok(8));
     Ok(())
@@ -208,7 +225,7 @@ fn fill_book<
 
 fn code_of_commit<B: ClusterName, R: Wait>(rt: &R, alloc: Global, session: &mut Session<B>) -> u32 {
     match put(rt, alloc, session, b"k", 1) {
-        Ok(_receipt) => 0,
+        Ok(_spot) => 0,
         Err(why) => why.code(),
     }
 }

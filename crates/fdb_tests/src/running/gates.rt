@@ -2,10 +2,9 @@
 ghost use Rattle.std.specs.Prelude.{◌≡◌};
 
 use crate::making::{coded, count_config, keys_of, same};
-use crate::running::{byte_of, receipt_of, write};
+use crate::running::{byte_of, put, two_sessions};
 use fdb_book::Blank;
-use fdb_keys::{Items, Refusal};
-use fdb_mutations::Mutation;
+use fdb_keys::Refusal;
 use fdb_runtime::{ClusterName, Config, Database, Gate, Role, Session};
 use fdb_txn::Spot;
 use std::alloc::Global;
@@ -120,24 +119,33 @@ fn commit_one<B: ClusterName, R: Wait>(
     session: &mut Session<B>,
     key: &[u8],
 ) -> Result<(u32, u64), Refusal> {
-    session.begin(rt, alloc)?;
-    write(session, Mutation::set(alloc, key, &[1]))?;
-    let receipt = receipt_of(session.commit(rt, alloc))?;
-    match receipt.spot() {
+    match put(rt, alloc, session, key, 1)? {
         Spot::Entry { index, version, .. } => Ok((index, version)),
         Spot::ReadOnly { version } => Ok((u32::MAX, version)),
     }
 }
 
 // Two transactions, one after another.
-fn commit_two<
-    B: ClusterName + Send + Sync + 'static,
-    R: Threads + Wait + Abort + Clock + Copy + Send + Sync + Drop + 'static,
->(rt: &R, alloc: Global, database: &mut Database<B>) -> Result<[(u32, u64); 2], Refusal> {
-    let mut session = database.session(alloc)?;
-    let first = commit_one(rt, alloc, &mut session, b"a")?;
-    let second = commit_one(rt, alloc, &mut session, b"z")?;
+fn commit_two<B: ClusterName, R: Wait>(
+    rt: &R,
+    alloc: Global,
+    session: &mut Session<B>,
+) -> Result<[(u32, u64); 2], Refusal> {
+    let first = commit_one(rt, alloc, session, b"a")?;
+    let second = commit_one(rt, alloc, session, b"z")?;
     Ok([first, second])
+}
+
+// The same in a session of its own.
+fn commit_alone<B: ClusterName + Send + Sync + 'static, R: Wait>(
+    rt: &R,
+    alloc: Global,
+    database: &mut Database<B>,
+) -> Result<[(u32, u64); 2], Refusal> {
+    match database.session(alloc) {
+        Ok(mut session) => commit_two(rt, alloc, &mut session),
+        Err(why) => Err(why),
+    }
 }
 
 fn cross<
@@ -156,7 +164,7 @@ fn cross<
         },
     )?;
     let mut database: Database<B> = Database::start(rt, alloc, blank, config, 100, &gate)?;
-    let told = commit_two(rt, alloc, &mut database);
+    let told = commit_alone(rt, alloc, &mut database);
     let record = database.close(rt);
     same(rt, coded(told), Ok([(0, 100), (1, 200)]));
     same(rt, record.is_ok(), true);
@@ -175,18 +183,30 @@ fn two_resolvers_wait_for_each_other(rt: HostRuntime) -> Result<(), Fail> {
 }
 
 // Two sessions commit at once. The entries are 0 and 1, in either order.
-fn commit_at_once<
-    B: ClusterName + Send + Sync + 'static,
-    R: Threads + Wait + Abort + Clock + Copy + Send + Sync + Drop + 'static,
->(rt: &R, alloc: Global, database: &mut Database<B>) -> Result<u32, Refusal> {
-    let mut first = database.session(alloc)?;
-    let mut second = database.session(alloc)?;
+fn commit_at_once<B: ClusterName + Send + Sync + 'static, R: Threads + Wait + Sync>(
+    rt: &R,
+    alloc: Global,
+    first: &mut Session<B>,
+    second: &mut Session<B>,
+) -> Result<u32, Refusal> {
     let (one, two) = thread::join(
         rt,
-        || commit_one(rt, alloc, &mut first, b"a"),
-        || commit_one(rt, alloc, &mut second, b"z"),
+        || commit_one(rt, alloc, first, b"a"),
+        || commit_one(rt, alloc, second, b"z"),
     );
     Ok(one?.0.wrapping_add(two?.0))
+}
+
+// The same with sessions of the database.
+fn commit_both<B: ClusterName + Send + Sync + 'static, R: Threads + Wait + Sync>(
+    rt: &R,
+    alloc: Global,
+    database: &mut Database<B>,
+) -> Result<u32, Refusal> {
+    match two_sessions(alloc, database) {
+        Ok((mut first, mut second)) => commit_at_once(rt, alloc, &mut first, &mut second),
+        Err(why) => Err(why),
+    }
 }
 
 fn meet<
@@ -205,7 +225,7 @@ fn meet<
         },
     )?;
     let mut database: Database<B> = Database::start(rt, alloc, blank, config, 100, &gate)?;
-    let told = commit_at_once(rt, alloc, &mut database);
+    let told = commit_both(rt, alloc, &mut database);
     let record = database.close(rt);
     same(rt, coded(told), Ok(1));
     same(rt, record.is_ok(), true);
@@ -240,20 +260,40 @@ type Meanwhile = ([(u32, u64); 2], (bool, u64, Option<u8>));
 
 fn commit_and_read<
     B: ClusterName + Send + Sync + 'static,
-    R: Threads + Wait + Abort + Clock + Copy + Send + Sync + Drop + 'static,
+    C: Clock + Send + Sync + Drop,
+    R: Threads + Wait + Sync,
 >(
     rt: &R,
     alloc: Global,
-    gate: &HeldProxy<R>,
-    database: &mut Database<B>,
+    gate: &HeldProxy<C>,
+    writer: &mut Session<B>,
+    reader: &mut Session<B>,
 ) -> Result<Meanwhile, Refusal> {
-    let mut reader = database.session(alloc)?;
     let (read, committed) = thread::join(
         rt,
-        || read_meanwhile(rt, alloc, gate, &mut reader),
-        || commit_two(rt, alloc, database),
+        || read_meanwhile(rt, alloc, gate, reader),
+        || commit_two(rt, alloc, writer),
     );
     Ok((committed?, read?))
+}
+
+// The same with sessions of the database.
+fn use_both<
+    B: ClusterName + Send + Sync + 'static,
+    C: Clock + Send + Sync + Drop,
+    R: Threads + Wait + Sync,
+>(
+    rt: &R,
+    alloc: Global,
+    gate: &HeldProxy<C>,
+    database: &mut Database<B>,
+) -> Result<Meanwhile, Refusal> {
+    match two_sessions(alloc, database) {
+        Ok((mut writer, mut reader)) => {
+            commit_and_read(rt, alloc, gate, &mut writer, &mut reader)
+        }
+        Err(why) => Err(why),
+    }
 }
 
 fn hold<
@@ -273,7 +313,7 @@ fn hold<
         },
     )?;
     let mut database: Database<B> = Database::start(rt, alloc, blank, config, 100, &gate)?;
-    let told = commit_and_read(rt, alloc, &*gate, &mut database);
+    let told = use_both(rt, alloc, &*gate, &mut database);
     let record = database.close(rt);
     same(
         rt,

@@ -1,11 +1,11 @@
 // One session or several, on one thread.
 ghost use Rattle.std.specs.Prelude.{◌≡◌};
 
-use crate::making::{code_of, coded, count_config, same};
-use crate::running::{byte_of, receipt_of, write};
+use crate::making::{coded, count_config, same};
+use crate::running::{byte_of, two_sessions, write};
 use bytes::Bytes;
 use fdb_book::Blank;
-use fdb_keys::{Items, Key, KeyRange, Refusal};
+use fdb_keys::{Key, KeyRange, Refusal};
 use fdb_mutations::Mutation;
 use fdb_runtime::{ClusterName, Config, Database, NoGate, Record, Session};
 use fdb_txn::Spot;
@@ -28,32 +28,69 @@ fn numbers_of_spot(spot: Spot) -> (Option<(u32, u32)>, u64) {
     }
 }
 
+// The first session commits the key, and tells the second one. Gives the numbers of the spot.
+fn commit_and_tell<B: ClusterName, R: Wait>(
+    rt: &R,
+    alloc: Global,
+    first: &mut Session<B>,
+    second: &mut Session<B>,
+) -> Result<(Option<(u32, u32)>, u64), Refusal> {
+    write(first, Mutation::set(alloc, b"a", &[7]))?;
+    match first.commit(rt, alloc) {
+        Ok(receipt) => match second.learn(&receipt) {
+            Ok(()) => Ok(numbers_of_spot(receipt.spot())),
+            Err(why) => Err(why),
+        },
+        Err(refused) => Err(refused.why),
+    }
+}
+
+// Whether the session reads just the pair in the range.
+fn reads_pair<B: ClusterName, R: Wait>(
+    rt: &R,
+    alloc: Global,
+    session: &mut Session<B>,
+    range: &KeyRange,
+) -> Result<bool, Refusal> {
+    match session.get_range(rt, alloc, range, 0, false, false) {
+        Ok(pairs) => Ok(is_pair(pairs.as_slice(), b"a", 7)),
+        Err(why) => Err(why),
+    }
+}
+
 // What two sessions are told, of which the second learns the first one's receipt.
+fn tell<B: ClusterName, R: Wait + Abort>(
+    rt: &R,
+    alloc: Global,
+    first: &mut Session<B>,
+    second: &mut Session<B>,
+    range: &KeyRange,
+) {
+    same(rt, coded(byte_of(rt, alloc, first, b"a")), Err(9015));
+    same(rt, coded(first.begin(rt, alloc)), Ok(0));
+    let spot = commit_and_tell(rt, alloc, first, second);
+    same(rt, coded(spot), Ok((Some((0, 0)), 100)));
+    same(rt, coded(second.begin(rt, alloc)), Ok(100));
+    same(rt, coded(byte_of(rt, alloc, second, b"a")), Ok(Some(7)));
+    same(rt, coded(reads_pair(rt, alloc, second, range)), Ok(true));
+    same(rt, coded(second.add_read(range)), Ok(()));
+    same(rt, coded(second.add_write(range)), Ok(()));
+}
+
+// The same with sessions of the database.
 fn tell_two<B: ClusterName + Send + Sync + 'static, R: Wait + Abort>(
     rt: &R,
     alloc: Global,
     database: &mut Database<B>,
 ) -> Result<(), Refusal> {
-    let mut first = database.session(alloc)?;
-    let mut second = database.session(alloc)?;
-    same(rt, coded(byte_of(rt, alloc, &mut first, b"a")), Err(9015));
-    same(rt, coded(first.begin(rt, alloc)), Ok(0));
-    write(&mut first, Mutation::set(alloc, b"a", &[7]))?;
-    let receipt = receipt_of(first.commit(rt, alloc))?;
-    same(rt, numbers_of_spot(receipt.spot()), (Some((0, 0)), 100));
-    second.learn(&receipt)?;
-    same(rt, coded(second.begin(rt, alloc)), Ok(100));
-    same(
-        rt,
-        coded(byte_of(rt, alloc, &mut second, b"a")),
-        Ok(Some(7)),
-    );
     let range = KeyRange::new(alloc, b"a", b"b")?;
-    let pairs = second.get_range(rt, alloc, &range, 0, false, false)?;
-    same(rt, is_pair(pairs.as_slice(), b"a", 7), true);
-    same(rt, coded(second.add_read(&range)), Ok(()));
-    same(rt, coded(second.add_write(&range)), Ok(()));
-    Ok(())
+    match two_sessions(alloc, database) {
+        Ok((mut first, mut second)) => {
+            tell(rt, alloc, &mut first, &mut second, &range);
+            Ok(())
+        }
+        Err(why) => Err(why),
+    }
 }
 
 // Whether this is the one pair.

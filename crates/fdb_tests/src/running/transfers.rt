@@ -83,7 +83,27 @@ fn transfer<B: ClusterName, R: Wait>(
     Err(Refusal::NotCommitted)
 }
 
-/// Two sessions: the first one gives an account five units, and tells the second one, which then moves three of them.
+/// The one session gives an account five units, and tells the other one, which then moves three of them.
+fn give_and_move<B: ClusterName, R: Wait>(
+    rt: &R,
+    alloc: Global,
+    giver: &mut Session<B>,
+    mover: &mut Session<B>,
+) -> Result<(), Refusal> {
+    giver.begin(rt, alloc)?;
+    put_amount(alloc, giver, b"alice", 5)?;
+    let told = match giver.commit(rt, alloc) {
+        Ok(receipt) => mover.learn(&receipt),
+        Err(refused) => Err(refused.why),
+    };
+    told?;
+    for _unit in 0..3 {
+        transfer(rt, alloc, mover, b"alice", b"bob")?;
+    }
+    Ok(())
+}
+
+/// The same with two sessions of the database.
 fn play<B: ClusterName + Send + Sync + 'static, R: Wait>(
     rt: &R,
     alloc: Global,
@@ -91,16 +111,7 @@ fn play<B: ClusterName + Send + Sync + 'static, R: Wait>(
 ) -> Result<(), Refusal> {
     let mut giver = database.session(alloc)?;
     let mut mover = database.session(alloc)?;
-    giver.begin(rt, alloc)?;
-    put_amount(alloc, &mut giver, b"alice", 5)?;
-    match giver.commit(rt, alloc) {
-        Ok(receipt) => mover.learn(&receipt)?,
-        Err(refused) => return Err(refused.why),
-    }
-    for _unit in 0..3 {
-        transfer(rt, alloc, &mut mover, b"alice", b"bob")?;
-    }
-    Ok(())
+    give_and_move(rt, alloc, &mut giver, &mut mover)
 }
 
 /// Starts a database, plays on it, and closes it whatever came of that.
