@@ -1,4 +1,7 @@
 use Rattle.fdb_tests.proofs.running.commits.commits_of_all_kinds.Given as goal
 
-abbrev pub ghosts-use_kinds : goal.ghosts-use_kinds
-ghosts-use_kinds g a = record { cells = a.blank; config = a.config.now }
+abbrev pub ghosts-use_kinds-B-BookName : goal.ghosts-use_kinds-B-BookName
+ghosts-use_kinds-B-BookName g a = record { cells = a.blank }
+
+abbrev pub ghosts-use_kinds-B-ClusterName : goal.ghosts-use_kinds-B-ClusterName
+ghosts-use_kinds-B-ClusterName g a = record { config = a.config.now }

@@ -1,4 +1,7 @@
 use Rattle.fdb_tests.proofs.running.counters.four_clients_read_what_they_wrote.Given as goal
 
-abbrev pub ghosts-count : goal.ghosts-count
-ghosts-count g a = record { cells = a.blank; config = a.config.now }
+abbrev pub ghosts-count-B-BookName : goal.ghosts-count-B-BookName
+ghosts-count-B-BookName g a = record { cells = a.blank }
+
+abbrev pub ghosts-count-B-ClusterName : goal.ghosts-count-B-ClusterName
+ghosts-count-B-ClusterName g a = record { config = a.config.now }

@@ -1,4 +1,7 @@
 use Rattle.fdb_tests.proofs.running.sessions.two_sessions_of_one_of_each_role.Given as goal
 
-abbrev pub ghosts-run_two : goal.ghosts-run_two
-ghosts-run_two g a = record { cells = a.blank; config = a.config.now }
+abbrev pub ghosts-run_two-B-BookName : goal.ghosts-run_two-B-BookName
+ghosts-run_two-B-BookName g a = record { cells = a.blank }
+
+abbrev pub ghosts-run_two-B-ClusterName : goal.ghosts-run_two-B-ClusterName
+ghosts-run_two-B-ClusterName g a = record { config = a.config.now }
