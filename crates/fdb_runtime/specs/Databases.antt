@@ -1,15 +1,8 @@
--- When a database starts, and how it numbers its sessions.
+-- How a database numbers its sessions.
 use Rattle.std.specs.Prelude.{◌==◌, ℕ, [], Option, Some, None, if◌then◌else◌}
-use Rattle.std.specs.Option.{option_or}
 use Rattle.fdb_keys.specs.declared.refusal.Refusal.{Refusal}
-use Rattle.fdb_keys.specs.declared.refusal.Refusal.TheVariants.{BadConfig, Exhausted}
-use Rattle.fdb_proxy.specs.Configs.{config_fault}
-use Rattle.fdb_proxy.specs.declared.config.Config.{Config}
+use Rattle.fdb_keys.specs.declared.refusal.Refusal.TheVariants.{Exhausted}
 use Rattle.fdb_runtime.specs.Sessions.{Session}
-
--- why no database starts: the configuration isn't legal, or the blank has room for another number of entries
-abbrev pub start_fault : Config → ℕ → Option Refusal
-start_fault config room = option_or (config_fault config) (if room == config.book then None else Some BadConfig)
 
 -- why a database gives no session: all numbers are used
 abbrev pub session_fault : ℕ → Option Refusal

@@ -1,6 +1,6 @@
-ghost use Rattle.std.specs.Prelude.{◌≡◌, suc, length, OnOk, OnErr};
+ghost use Rattle.std.specs.Prelude.{◌≡◌, suc, OnOk, OnErr};
 ghost use Rattle.fdb_keys.specs.Answers.{Answers};
-ghost use Rattle.fdb_runtime.specs.Databases.{start_fault, session_fault, new_session};
+ghost use Rattle.fdb_runtime.specs.Databases.{session_fault, new_session};
 
 use crate::gate::Gate;
 use crate::name::ClusterName;
@@ -50,7 +50,6 @@ impl<B: ClusterName + Send + Sync + 'static> Database<B> {
     ) -> Result<Self, Refusal>
         requires cells { blank ≡ B.cells }
         requires config { config.now ≡ B.config }
-        ensures { Answers result (start_fault config.now (length blank)) (λ database. database ≡ 0) }
     {
         config.check()?;
         if blank.capacity() != config.book as usize {
