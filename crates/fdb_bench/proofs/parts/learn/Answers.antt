@@ -1,0 +1,15 @@
+use Rattle.std.proofs.Common.{◌<◌, length, subst, refl}
+use Rattle.std.specs.List.{AllByRecursion}
+use Rattle.fdb_txn.specs.book.Transactions.{Transaction}
+use Rattle.fdb_proxy.specs.CommitProxies.{IsTicketFor}
+use Rattle.fdb_bench.proofs.parts.learn.Goals as goal
+
+pub learn-requires : goal.learn-requires
+learn-requires c =
+    record {
+      targets = c.requires.targets (length c.args.core.now.proxy.owners.splits);
+      rising = c.requires.rising;
+      later =
+          subst (AllByRecursion (λ (t : Transaction). t.read < c.args.ticket.now.version)) c.batch.ensures.value
+          (c.if-not-reads_below.ensures refl);
+    }

@@ -1,0 +1,86 @@
+//! Measures parts of the transaction system: what they do, and how long it takes by the clock.
+#![tactic(auto)]
+
+mod numbers;
+mod parts;
+mod resolver;
+
+use crate::numbers::{Fault, number_of};
+use crate::parts::Setting;
+use std::env;
+use std::process::ExitCode;
+use std::time::Duration;
+
+const USAGE: &str = "fdb_bench resolver ITEMS
+    A resolver takes so many items in batches of 100, each with a read range and a write range.
+fdb_bench parts RESOLVERS BATCH TRANSACTIONS MOVES
+    A commit proxy commits so many transactions, after it learnt so many moves.
+";
+
+fn main(rt: HostRuntime) -> ExitCode {
+    match run(&rt) {
+        Ok(()) => ExitCode::SUCCESS,
+        Err(fault) => {
+            let _ = eprintln!(rt; "fdb_bench: {fault}");
+            ExitCode::from(2)
+        }
+    }
+}
+
+// Measures what the process's words say, or prints what can be measured.
+fn run(rt: &HostRuntime) -> Result<(), Fault> {
+    let alloc = rt.alloc();
+    let args: Vec<String> = env::args(rt)?.skip(1).collect(alloc)?;
+    let words: Vec<&str> = args.iter().map(|word| word.as_str()).collect(alloc)?;
+    obey(rt, words.as_slice())
+}
+
+fn obey(rt: &HostRuntime, words: &[&str]) -> Result<(), Fault> {
+    match words {
+        ["resolver", items] => run_resolver(rt, number_of(items)?),
+        ["parts", resolvers, batch, transactions, moves] => run_parts(
+            rt,
+            &Setting {
+                resolvers: number_of(resolvers)?,
+                batch: number_of(batch)?,
+                transactions: number_of(transactions)?,
+                moves: number_of(moves)?,
+            },
+        ),
+        _ => {
+            print!(rt; "{}", USAGE)?;
+            Ok(())
+        }
+    }
+}
+
+fn run_resolver(rt: &HostRuntime, items: u32) -> Result<(), Fault> {
+    let took = resolver::measure(rt, rt.alloc(), items)?;
+    report(rt, "resolver", &[("items", items)], took)
+}
+
+fn run_parts(rt: &HostRuntime, setting: &Setting) -> Result<(), Fault> {
+    let took = parts::measure(rt, rt.alloc(), setting)?;
+    let numbers = [
+        ("resolvers", setting.resolvers),
+        ("batch", setting.batch),
+        ("transactions", setting.transactions),
+        ("moves", setting.moves),
+    ];
+    report(rt, "parts", &numbers, took)
+}
+
+// Prints one line of JSON: what was measured, its numbers, and the time in microseconds.
+fn report(
+    rt: &HostRuntime,
+    name: &str,
+    numbers: &[(&str, u32)],
+    took: Duration,
+) -> Result<(), Fault> {
+    print!(rt; "{{\"measured\":\"{name}\",")?;
+    for (of, number) in numbers {
+        print!(rt; "\"{of}\":{number},")?;
+    }
+    println!(rt; "\"microseconds\":{}}}", took.as_micros())?;
+    Ok(())
+}

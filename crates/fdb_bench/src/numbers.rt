@@ -1,0 +1,63 @@
+// What all measurements need: numbers from words, keys that look random and are the same at each run, faults.
+
+use fdb_keys::{Items, Key, KeyRange, RangeSet, Refusal};
+use rand_core::Rng;
+use rand_pcg::Pcg32;
+use std::alloc::{AllocError, Global};
+use std::io;
+use thiserror::Error;
+
+/// How many keys there are.
+pub(crate) const KEYS: u32 = 1 << 20;
+
+/// How many keys a range has at most.
+const LONGEST: u32 = 16;
+
+/// Why nothing was measured.
+#[derive(Debug, Drop, Error)]
+pub(crate) enum Fault {
+    #[error("{0}")]
+    Refused(#[from] Refusal),
+    #[error("{0}")]
+    Io(#[from] io::Error),
+    #[error("out of memory")]
+    NoMemory(#[from] AllocError),
+    #[error("a number is no number, or it is too great")]
+    BadNumber,
+}
+
+/// The number that the word gives.
+pub(crate) fn number_of(word: &str) -> Result<u32, Fault> {
+    match word.parse::<u32>() {
+        Ok(number) => Ok(number),
+        Err(_error) => Err(Fault::BadNumber),
+    }
+}
+
+/// The key's text: eight bytes, whose order is that of the numbers.
+pub(crate) fn text_of(number: u32) -> [u8; 8] {
+    u64::from(number).to_be_bytes()
+}
+
+/// The range of 1 to 16 keys from a random one on.
+pub(crate) fn random_range(alloc: Global, random: &mut Pcg32) -> Result<KeyRange, Refusal> {
+    let begin = random.next_u32() % KEYS;
+    let count = 1 + random.next_u32() % LONGEST;
+    KeyRange::new(alloc, &text_of(begin), &text_of(begin + count))
+}
+
+/// The keys that split all into so many pieces of equally many.
+pub(crate) fn even_splits(alloc: Global, pieces: u32) -> Result<Items<Key>, Refusal> {
+    let mut splits = Items::new(alloc);
+    for piece in 1..pieces {
+        splits.push(Key::new(alloc, &text_of(piece * (KEYS / pieces)))?)?;
+    }
+    Ok(splits)
+}
+
+/// One such range.
+pub(crate) fn one_range(alloc: Global, random: &mut Pcg32) -> Result<RangeSet, Refusal> {
+    let mut set = RangeSet::new(alloc);
+    set.add(&random_range(alloc, random)?)?;
+    Ok(set)
+}
