@@ -1,1 +1,7 @@
+pub mod AssignLemmas
+pub mod BreaksLemmas
+pub mod PartsLemmas
+pub mod PiecesLemmas
+pub mod SweepLemmas
+pub mod ThroughoutLemmas
 pub mod VersionsLemmas

@@ -1,1 +1,4 @@
+pub mod Breakpoints
+pub mod Examples
+pub mod Pieces
 pub mod Versions

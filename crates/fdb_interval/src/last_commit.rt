@@ -1,49 +1,78 @@
-use crate::marks::{Mark, drop_through, is_any_newer};
+use crate::breakpoints::{assign, count_above, is_any_newer};
+use crate::sweeping::sweep;
+use bytes::Bytes;
 use fdb_keys::{KeyRange, Refusal};
 use std::alloc::Global;
+use std::collections::BTreeMap;
 use std::marker::Model;
+
+// How many breakpoints an expiry looks at for each mark since the last one, and how many more. A mark makes at most
+// two. So where as many die as are made, no more than half of those that are kept die in one round over all.
+const LOOKS_FOR_A_MARK: u64 = 4;
+
+const LOOKS: u64 = 8;
 
 /// For each point of the keys the version of the last write that was marked there, 0 where there was none.
 #[derive(Drop)]
 pub struct LastCommit {
-    marks: Vec<Mark>,
+    alloc: Global,
+    // Versions up to it count as 0.
+    floor: u64,
+    // The version that goes from each point up to the next one.
+    breaks: BTreeMap<Bytes, u64>,
+    // How many marks there were since the last expiry, and where that one stopped looking for dead breakpoints.
+    marked: u64,
+    cursor: Bytes,
 }
 
 impl Model for LastCommit {
-    ghost use Rattle.std.specs.Prelude.{List};
-    ghost use Rattle.fdb_interval.specs.declared.marks.Mark.{Mark};
+    ghost use Rattle.std.specs.Prelude.{◌≤◌};
+    ghost use Rattle.fdb_interval.specs.Breakpoints.{Breakpoints, last_version, AreJoined};
 
-    ghost Value = { List Mark };
+    ghost Value = { Breakpoints };
 
-    ghost view = { λ last. last.marks.items };
+    ghost view = { λ last. record { floor = last.floor; breaks = last.breaks.entries } };
+
+    ghost invariant = { λ last. AreJoined last.floor 0 last.breaks.entries
+        × (last_version 0 last.breaks.entries ≤ last.floor) };
 }
 
 impl LastCommit {
-    ghost use Rattle.std.specs.Prelude.{◌≡◌, ◌<◌, ◌≤◌, ◌↔◌, IsTrue, true, None, OnErr, if◌then◌else◌};
+    ghost use Rattle.std.specs.Prelude.{◌≡◌, ◌<◌, ◌≤◌, ◌↔◌, IsTrue, true, None, OnErr, List, length};
+    ghost use Rattle.std.specs.Prelude.{if◌then◌else◌};
     ghost use Rattle.fdb_keys.specs.Answers.{Answers};
-    ghost use Rattle.fdb_keys.specs.Points.{Point};
+    ghost use Rattle.fdb_keys.specs.Points.{Point, point_lt};
     ghost use Rattle.fdb_keys.specs.Ranges.{in_range};
-    ghost use Rattle.fdb_interval.specs.Versions.{version_at, forgetting};
+    ghost use Rattle.fdb_interval.specs.Pieces.{Piece, ArePieces};
+    ghost use Rattle.fdb_interval.specs.Versions.{version_at, forgetting, piece_count};
 
     /// Nothing is marked: each point has version 0. It takes no memory.
     pub fn new(alloc: Global) -> Self
         ensures { (x : Point) → version_at result x ≡ 0 }
     {
         LastCommit {
-            marks: Vec::new(alloc),
+            alloc,
+            floor: 0,
+            breaks: BTreeMap::new(alloc),
+            marked: 0,
+            cursor: Bytes::new(),
         }
     }
 
-    /// Whether some point of the range has a version above `version`. An empty range has no point. It
-    /// takes no memory.
+    /// Whether some point of the range has a version above `version`. An empty range has no point. It takes
+    /// O(log n) for the n pieces, and O(1) for each piece that meets the range. It takes no memory.
     pub fn newer_than(&self, range: &KeyRange, version: u64) -> bool
         ensures { IsTrue result ↔ ((x : Point) × (in_range range.now x ≡ true) × (version < version_at self.now x)) }
     {
-        is_any_newer(self.marks.as_slice(), range, version)
+        if range.is_empty() {
+            return false;
+        }
+        is_any_newer(&self.breaks, range, version.max(self.floor))
     }
 
     /// Marks each point of the range with `version`, which no point's version may exceed. Other points keep
-    /// theirs. Refused only as `NoMemory`, and then nothing changes.
+    /// theirs. It takes O(log n) for the n pieces, and as much for each piece that the range swallows. Refused
+    /// only as `NoMemory`, and then nothing changes.
     pub fn mark(&mut self, range: &KeyRange, version: u64) -> Result<(), Refusal>
         requires { (x : Point) → version_at self.old x ≤ version }
         ensures answers { Answers result None
@@ -51,19 +80,59 @@ impl LastCommit {
             → version_at self.new x ≡ (if in_range range.now x then version else version_at self.old x)) }
         ensures err { OnErr result (self.new ≡ self.old) }
     {
-        if range.is_empty() {
+        if range.is_empty() || version == 0 {
             return Ok(());
         }
-        let range = range.clone()?;
-        self.marks.push(Mark { range, version })?;
+        if version <= self.floor {
+            return self.mark_anew(range, version);
+        }
+        assign(self.alloc, &mut self.breaks, range, version)?;
+        self.marked = self.marked.saturating_add(1);
+        Ok(())
+    }
+
+    // Marks the range where every version is forgotten.
+    fn mark_anew(&mut self, range: &KeyRange, version: u64) -> Result<(), Refusal>
+        requires some { IsTrue (point_lt range.now.begin range.now.end) }
+        requires above { 0 < version }
+        ensures answers { Answers result None
+            (λ _. (x : Point) → version_at self.new x ≡ (if in_range range.now x then version else 0)) }
+        ensures err { OnErr result (self.new ≡ self.old) }
+    {
+        let mut breaks = BTreeMap::new(self.alloc);
+        assign(self.alloc, &mut breaks, range, version)?;
+        self.floor = 0;
+        self.breaks = breaks;
         Ok(())
     }
 
     /// Forgets the versions up to `version`: a point with such a version has 0, and each greater version
-    /// stays as it is. It takes no memory.
+    /// stays as it is. It takes O(m log n) for the m marks since the last expiry and the n pieces. No more than about
+    /// twice as many breakpoints are kept as the pieces have. It takes memory for a moment, and leaves more for the
+    /// next expiry where there is none.
     pub fn expire(&mut self, version: u64)
         ensures { (x : Point) → version_at self.new x ≡ forgetting version (version_at self.old) x }
     {
-        drop_through(&mut self.marks, version);
+        self.floor = self.floor.max(version);
+        let steps = self
+            .marked
+            .saturating_mul(LOOKS_FOR_A_MARK)
+            .saturating_add(LOOKS);
+        sweep(
+            self.alloc,
+            &mut self.breaks,
+            &mut self.cursor,
+            self.floor,
+            steps,
+        );
+        self.marked = 0;
+    }
+
+    /// The number of maximal ranges with one version other than 0. It takes O(n) for the n pieces, and no memory.
+    pub fn pieces(&self) -> usize
+        ensures count { result ≡ piece_count self.now }
+        ensures pieces { (pieces : List Piece) × ArePieces (version_at self.now) pieces × (result ≡ length pieces) }
+    {
+        count_above(&self.breaks, self.floor)
     }
 }

@@ -1,15 +1,21 @@
-use Rattle.std.proofs.Common.{◌≡◌, [], ◌∷◌, ◌++◌, true, rules}
-use Rattle.fdb_keys.specs.Ranges.{is_empty_range}
-use Rattle.fdb_interval.proofs.VersionsLemmas.{version_at-mark, version_at-empty}
+use Rattle.std.proofs.Common.{◌≡◌, sym, true, rules}
+use Rattle.std.proofs.lemmas.Bool.{cond-false}
+use Rattle.fdb_keys.specs.Ranges.{in_range, is_empty_range}
+use Rattle.fdb_keys.proofs.InsertionLemmas.{in_range-empty}
+use Rattle.fdb_interval.specs.Versions.{version_at}
+use Rattle.fdb_interval.proofs.VersionsLemmas.{marked-none}
 use Rattle.fdb_interval.proofs.last_commit.LastCommit.mark.Goals as goal
+use Rattle.fdb_interval.proofs.last_commit.LastCommit.mark.Goals.{then-is_empty-via-then-is_empty}
+use Rattle.fdb_interval.proofs.last_commit.LastCommit.mark.Goals.{then-is_empty-via-else-is_empty+then-version-eq0}
 
 pub returns-then-is_empty-clause-answers : goal.returns-then-is_empty-clause-answers
-returns-then-is_empty-clause-answers c =
-    let empty : is_empty_range c.args.range.now ≡ true = search rules in
-    λ x. version_at-empty c.args.range.now x c.args.version _ empty
-
-pub returns-clause-answers : goal.returns-clause-answers
-returns-clause-answers c =
-    let pushed : c.push.new.self.items ≡ c.args.self.now ++ record
-    { range = c.args.range.now; version = c.args.version } ∷ [] = search rules in
-    λ x. version_at-mark c.args.self.now c.push.new.self.items c.args.range.now c.args.version x pushed (c.requires x)
+returns-then-is_empty-clause-answers c = λ x.
+    let held = version_at c.args.self.now x in
+    elim c.then-is_empty.branch [
+      | then-is_empty-via-then-is_empty w ↦
+          let empty : is_empty_range c.args.range.now ≡ true = search rules in
+          sym (cond-false _ _ _ (in_range-empty c.args.range.now x empty))
+      | then-is_empty-via-else-is_empty+then-version-eq0 w ↦
+          let none : c.args.version ≡ 0 = search rules in
+          marked-none c.args.version held (in_range c.args.range.now x) none (c.requires x)
+    ]
