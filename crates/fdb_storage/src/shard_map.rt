@@ -31,11 +31,12 @@ impl Model for ShardMap {
 }
 
 impl ShardMap {
-    ghost use Rattle.std.specs.Prelude.{◌≡◌, ◌≤◌, ℕ, true, length, None, filter, IsTrue, IfOk};
+    ghost use Rattle.std.specs.Prelude.{◌≡◌, ◌≤◌, ◌<◌, ℕ, true, false, length, None, filter, IsTrue, IfOk};
     ghost use Rattle.fdb_keys.specs.Answers.{Answers};
+    ghost use Rattle.fdb_keys.specs.Points.{point_lt};
     ghost use Rattle.fdb_keys.specs.Ranges.{in_range, ranges_meet};
     ghost use Rattle.fdb_txn.specs.rules.Owners.{first_owner};
-    ghost use Rattle.fdb_txn.specs.rules.Splits.{piece, piece_fault, splits_fault};
+    ghost use Rattle.fdb_txn.specs.rules.Splits.{end_of_keys, piece, piece_fault, splits_fault};
     ghost use Rattle.fdb_txn.specs.Limits.{shard_limit};
     ghost use Rattle.fdb_storage.specs.ShardMaps.{shards_of, tags_of};
 
@@ -71,7 +72,7 @@ impl ShardMap {
         }
     }
 
-    /// The number of the shard that holds the key.
+    /// The number of the shard that holds the key, in O(log n) comparisons for n shards. It takes no memory.
     pub fn shard_of(&self, key: &Key) -> u32
         ensures number { result ≡ first_owner self.now key.now }
         ensures within { result ≤ length self.now }
@@ -82,7 +83,20 @@ impl ShardMap {
         self.splits.piece_of(key) as u32
     }
 
-    /// The range of the shard with the tag. Refused as `BadConfig` where no shard has it, and as `NoMemory`.
+    /// The number of the shard that holds the range's begin, and so of the first one that the range meets, in O(log n)
+    /// comparisons for n shards. The range meets none before it. It takes no memory.
+    pub fn first_met(&self, range: &KeyRange) -> u32
+        ensures number { result ≡ first_owner self.now range.now.begin }
+        ensures within { result ≤ length self.now }
+        ensures held { point_lt range.now.begin end_of_keys ≡ true
+            → IsTrue (in_range (piece self.now result) range.now.begin) }
+        ensures first { (other : ℕ) → other < result → ranges_meet (piece self.now other) range.now ≡ false }
+    {
+        self.splits.piece_of_text(range.begin()) as u32
+    }
+
+    /// The range of the shard with the tag, in O(1) time beside the copies of its two bounds. Refused as `BadConfig`
+    /// where no shard has it, and as `NoMemory`.
     pub fn range(&self, tag: u32) -> Result<KeyRange, Refusal>
         ensures { Answers result (piece_fault self.now tag) (λ range. range ≡ piece self.now tag) }
     {

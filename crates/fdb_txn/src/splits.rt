@@ -1,9 +1,9 @@
-ghost use Rattle.std.specs.Prelude.{◌≡◌, ◌≤◌, ⊤, ℕ, length, None, IsTrue, IfOk};
+ghost use Rattle.std.specs.Prelude.{◌≡◌, ◌≤◌, ⊤, ℕ, true, not, length, None, IsTrue, IfOk};
 ghost use Rattle.fdb_keys.specs.Answers.{Answers, AnswersExactly};
 ghost use Rattle.fdb_keys.specs.Points.{point_lt};
 ghost use Rattle.fdb_keys.specs.Ranges.{in_range};
 ghost use Rattle.fdb_keys.specs.Texts.{is_bound};
-ghost use Rattle.fdb_txn.specs.rules.Splits.{rise_after, splits_fault, piece_fault, piece, piece_after};
+ghost use Rattle.fdb_txn.specs.rules.Splits.{rise_after, are_splits, end_of_keys, splits_fault, piece_fault, piece};
 ghost use Rattle.fdb_txn.specs.rules.Owners.{first_owner};
 
 use fdb_keys::{Items, Key, KeyRange, Refusal};
@@ -58,7 +58,8 @@ impl Splits {
         self.keys.as_slice()
     }
 
-    /// The number of the piece that the key lies in, counted from 0.
+    /// The number of the piece that the key lies in, counted from 0, in O(log n) comparisons for n splits. It takes no
+    /// memory.
     pub fn piece_of(&self, key: &Key) -> usize
         ensures number { result ≡ first_owner self.now key.now }
         ensures within { result ≤ length self.now }
@@ -69,7 +70,20 @@ impl Splits {
         first_owner(self.keys.as_slice(), key.bytes())
     }
 
-    /// The range of a piece. Refused as `BadConfig` where there is no piece with the number, and as `NoMemory`.
+    /// The number of the piece that the text lies in, as a range's begin, which need be no key: counted from 0, in
+    /// O(log n) comparisons for n splits. A text that no key comes after counts to the last piece. It takes no memory.
+    pub fn piece_of_text(&self, text: &[u8]) -> usize
+        ensures number { result ≡ first_owner self.now text.now }
+        ensures within { result ≤ length self.now }
+        ensures held { point_lt text.now end_of_keys ≡ true → IsTrue (in_range (piece self.now result) text.now) }
+        ensures alone { point_lt text.now end_of_keys ≡ true → (other : ℕ) → other ≤ length self.now
+            → IsTrue (in_range (piece self.now other) text.now) → other ≡ result }
+    {
+        first_owner(self.keys.as_slice(), text)
+    }
+
+    /// The range of a piece, in O(1) time beside the copies of its two bounds. Refused as `BadConfig` where there is
+    /// no piece with the number, and as `NoMemory`.
     pub fn piece(&self, alloc: Global, number: usize) -> Result<KeyRange, Refusal>
         ensures { Answers result (piece_fault self.now number) (λ range. range ≡ piece self.now number) }
     {
@@ -77,48 +91,58 @@ impl Splits {
         if number > keys.len() {
             return Err(Refusal::BadConfig);
         }
-        piece_after(alloc, &[], keys, number)
+        range_of(alloc, keys, number)
     }
 }
 
 // How many of the splits don't come after the text.
 fn first_owner(splits: &[Key], text: &[u8]) -> usize
+    requires { IsTrue (are_splits splits.now) }
     ensures number { result ≡ first_owner splits.now text.now }
     ensures within { result ≤ length splits.now }
 {
-    match splits {
-        [] => 0,
-        [split, others @ ..] => {
-            if is_before(text, split.bytes()) {
-                0
-            } else {
-                1 + first_owner(others, text)
-            }
-        }
-    }
+    splits.partition_point(
+        |split: &Key| -> bool
+            ensures { result ≡ not (point_lt text.entry.now split.now) }
+        { !is_before(text, split.bytes()) },
+    )
 }
 
-// The piece with the number of the keys from a begin on.
-fn piece_after(
-    alloc: Global,
-    begin: &[u8],
-    splits: &[Key],
-    number: usize,
-) -> Result<KeyRange, Refusal>
-    requires legal { IsTrue (is_bound begin.now) }
-    requires rising { IsTrue (rise_after begin.now splits.now) }
-    ensures { Answers result None (λ range. range ≡ piece_after begin.now splits.now number) }
+// The range of the piece with the number.
+fn range_of(alloc: Global, splits: &[Key], number: usize) -> Result<KeyRange, Refusal>
+    requires rising { IsTrue (are_splits splits.now) }
+    requires exists { number ≤ length splits.now }
+    ensures { Answers result None (λ range. range ≡ piece splits.now number) }
 {
-    match splits {
-        [] => KeyRange::new(alloc, begin, &[0xff]),
-        [split, others @ ..] => {
-            if number == 0 {
-                KeyRange::new(alloc, begin, split.bytes())
-            } else {
-                piece_after(alloc, split.bytes(), others, number - 1)
-            }
-        }
+    KeyRange::new(
+        alloc,
+        piece_begin(splits, number),
+        piece_end(splits, number),
+    )
+}
+
+// Where the piece with the number begins.
+fn piece_begin(splits: &[Key], number: usize) -> &[u8]
+    requires { number ≤ length splits.now }
+    ensures value { result.now ≡ (piece splits.now number).begin }
+    ensures legal { IsTrue (is_bound result.now) }
+{
+    if number == 0 {
+        return &[];
     }
+    splits[number - 1].bytes()
+}
+
+// Where it ends.
+fn piece_end(splits: &[Key], number: usize) -> &[u8]
+    requires { number ≤ length splits.now }
+    ensures value { result.now ≡ (piece splits.now number).end }
+    ensures legal { IsTrue (is_bound result.now) }
+{
+    if number == splits.len() {
+        return &[0xff];
+    }
+    splits[number].bytes()
 }
 
 // Whether each key comes after the one before it, and the first after the text.
