@@ -5,6 +5,7 @@ pub mod laws;
 mod learnt;
 mod owners;
 mod parts;
+mod reach;
 
 pub use owners::Owners;
 pub use parts::Owned;

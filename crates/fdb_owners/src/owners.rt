@@ -87,6 +87,10 @@ impl Owners {
 
     /// Each resolver that owns keys of the range at the last version learnt, and so from that version on, with those
     /// keys, by the resolvers' numbers. Refused only as `NoMemory`.
+    ///
+    /// Gone through are the k resolvers from the first to the last of those whose pieces the range meets or ends at and
+    /// of the targets of the moves that it meets: O(log n + m) comparisons for n resolvers and m moves learnt, and for
+    /// each of the k a clipping of the range and a change by each move.
     pub fn writers(&self, range: &KeyRange) -> Result<Items<Owned>, Refusal>
         ensures settled { (x : Point) (v : ℕ) → self.now.last ≤ v
             → owner_at self.now x v ≡ owner_at self.now x self.now.last }
@@ -98,7 +102,7 @@ impl Owners {
 
     /// Each resolver that owned keys of the range at some version above `from` and at most `version`, with those
     /// keys, by the resolvers' numbers. `from` lies below `version`, and not below a version that expired. Refused
-    /// only as `NoMemory`.
+    /// only as `NoMemory`. The same resolvers are gone through as in `writers`, by the moves through `version`.
     pub fn readers(
         &self,
         range: &KeyRange,

@@ -12,6 +12,7 @@ ghost use Rattle.fdb_owners.specs.Ownership.{target_after};
 ghost use Rattle.fdb_owners.specs.Parts.{IsPartBy, AreFirstParts, HasSomeOf};
 
 use crate::learnt::Learnt;
+use crate::reach::{reach_of, with_steps};
 use fdb_keys::{Items, KeyRange, RangeSet, Refusal};
 use fdb_txn::{Move, Splits};
 use std::alloc::Global;
@@ -167,7 +168,8 @@ fn push_part(parts: &mut Items<Owned>, resolver: u32, ranges: RangeSet) -> Resul
     Ok(())
 }
 
-/// The parts of the range of all resolvers that have one after the steps.
+/// The parts of the range of all resolvers that have one after the steps. Only those are gone through that are between
+/// the owners of the range's pieces and the targets of the moves that it meets.
 pub(crate) fn parts_after(
     alloc: Global,
     splits: &Splits,
@@ -179,16 +181,18 @@ pub(crate) fn parts_after(
     ensures { Answers result None (AreFirstParts (suc (length splits.now))
         (λ i x. in_range range.now x && (owner_after steps.now x (first_owner splits.now x) == i))) }
 {
-    let resolvers = splits.as_slice().len() as u32 + 1;
+    let reach = with_steps(reach_of(splits, range), range, steps);
+    let end = reach.last.min(splits.as_slice().len() as u32) + 1;
     let mut parts = Items::new(alloc);
-    for resolver in 0..resolvers {
+    for resolver in reach.first..end {
         let ranges = part_after(alloc, splits, steps, resolver, range)?;
         push_part(&mut parts, resolver, ranges)?;
     }
     Ok(parts)
 }
 
-/// The parts of the range of all resolvers that had one after the steps in `before` or after one of `steps`.
+/// The parts of the range of all resolvers that had one after the steps in `before` or after one of `steps`, of which
+/// the same ones are gone through.
 pub(crate) fn parts_along(
     alloc: Global,
     splits: &Splits,
@@ -202,9 +206,11 @@ pub(crate) fn parts_along(
         (λ i x. in_range range.now x && owns_along steps.now i x
         (owner_after before.now x (first_owner splits.now x)))) }
 {
-    let resolvers = splits.as_slice().len() as u32 + 1;
+    let reach = with_steps(reach_of(splits, range), range, before);
+    let reach = with_steps(reach, range, steps);
+    let end = reach.last.min(splits.as_slice().len() as u32) + 1;
     let mut parts = Items::new(alloc);
-    for resolver in 0..resolvers {
+    for resolver in reach.first..end {
         let part = part_after(alloc, splits, before, resolver, range)?;
         let ranges = part_along(part, steps, resolver, range)?;
         push_part(&mut parts, resolver, ranges)?;

@@ -1,5 +1,6 @@
 pub mod CloneLemmas
 pub mod DecidingLemmas
+pub mod HeldLemmas
 pub mod LoggingLemmas
 pub mod MessageLemmas
 pub mod OutcomeLemmas

@@ -36,7 +36,7 @@ module _ (splits : List Point) (i : ℕ) (place : Place) (spread : Spread) (read
       (or_cases (part_writes splits i place some.0) (part_reads splits i place some.0) some.1))
 
   -- it is asked where one of them has
-  asked : (has_points reads || has_points writes) ≡ true → is_asked splits i place ≡ true
+  pub asked : (has_points reads || has_points writes) ≡ true → is_asked splits i place ≡ true
   asked some = (asked_at_some_point splits i place).1 (⊎_elim
       (λ (some_reads : has_points reads ≡ true).
       let point = point_of-set reads some_reads in (
@@ -48,26 +48,6 @@ module _ (splits : List Point) (i : ℕ) (place : Place) (spread : Spread) (read
       let point = point_of-set writes some_writes in
       (point.0, or_left _ _ (sym (are.writes i point.0) ∙ sym (of_writes point.0) ∙ point.1)))
       (or_cases (has_points reads) (has_points writes) some))
-
-  -- and is sent both
-  pub item_if_asked : (number : ℕ) → (has_points reads || has_points writes) ≡ true
-      → IsItemIfAsked splits i number place (Some (record {
-        place = number;
-        read_version = spread.read_version;
-        has_reads = spread.has_reads;
-        reads = reads;
-        writes = writes;
-      }))
-  item_if_asked number some = (
-    asked some,
-    refl,
-    record {
-      read = are.read;
-      has_reads = are.has_reads;
-      reads = λ x. of_reads x ∙ are.reads i x;
-      writes = λ x. of_writes x ∙ are.writes i x;
-    },
-  )
 
 module _ (splits : List Point) (moves : List Stamped) (i version : ℕ) where
   -- a batch with one place more, of which the resolver is asked

@@ -1,5 +1,6 @@
 -- A transaction, spread over the resolvers that are asked about it.
-use Rattle.std.proofs.Common.{◌≡◌, ◌∙◌, sym, ap, ap₂, refl, ℕ, ◌-◌, ◌<◌, ◌≤◌, max, Bool, true, false, ◌&&◌, ◌||◌, ◌==◌}
+use Rattle.std.proofs.Common.{subst, ◌≡◌, ◌∙◌, sym, ap, ap₂, refl, ℕ, ◌-◌, ◌<◌, ◌≤◌, max, Bool, true, false, ◌&&◌}
+use Rattle.std.proofs.Common.{◌||◌, ◌==◌}
 use Rattle.std.proofs.Common.{List, [], ◌∷◌, ◌++◌, ⊎_elim, arith}
 use Rattle.std.specs.List.{AllByRecursion}
 use Rattle.std.proofs.lemmas.Bool.{cases_Bool, eqb-true, false_from_ne_true, cond-true, cond-false}
@@ -18,7 +19,8 @@ use Rattle.fdb_owners.specs.OwnersLaws.{AgreesWith}
 use Rattle.fdb_owners.specs.Parts.{ranges_of, AreRising, ArePartsOf}
 use Rattle.fdb_owners.proofs.BookLemmas.{owned_by_the_book}
 use Rattle.fdb_proxy.specs.declared.parting.Spread.{Spread}
-use Rattle.fdb_proxy.specs.Spreads.{is_held, IsSpreadOf}
+use Rattle.std.proofs.lemmas.List.Elements.{All-append, All-from_recursion}
+use Rattle.fdb_proxy.specs.Spreads.{is_held, AreOwned, IsSpreadOf}
 
 -- of parts of resolvers with greater numbers resolver i holds none
 none-held : (parts : List Owned) (i : ℕ) (x : Point) → AllByRecursion (λ (part : Owned). i < part.resolver) parts
@@ -69,6 +71,17 @@ spread-next n held found more now range left rest i x all are first adds before 
     regroup false true false true = refl
     regroup false true false false = refl
     regroup false false s h = refl
+
+-- the parts that were found for one range more are owned too
+pub owned-next : (n : ℕ) (held : ℕ → Point → Bool) (found more now : List Owned) → ArePartsOf n held more
+    → now ≡ found ++ more → AreOwned n found → AreOwned n now
+owned-next n held found more now are adds owned =
+    subst (AreOwned n) (sym adds)
+    (All-append (λ (part : Owned). (part.resolver < n) × (has_points part.ranges ≡ true)) found more owned
+    (λ k d within. (
+      All-from_recursion (λ (part : Owned). part.resolver < n) more are.within k d within,
+      All-from_recursion (λ (part : Owned). has_points part.ranges ≡ true) more are.some k d within,
+    )))
 
 -- by owners that agree with a book, the parts are those of the book's place
 pub spread-by_book : (owners : Ownership) (moves : List Stamped) (version : ℕ) (t : Transaction) (spread : Spread)

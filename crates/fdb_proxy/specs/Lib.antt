@@ -6,6 +6,7 @@ pub mod Configs
 pub mod Deciding
 pub mod Examples
 pub mod Flags
+pub mod Held
 pub mod Logging
 pub mod MessageLaws
 pub mod Parting

@@ -1,5 +1,5 @@
 -- A transaction of a batch, spread over the resolvers that are asked about it.
-use Rattle.std.specs.Prelude.{◌≡◌, ℕ, Bool, true, false, ◌&&◌, ◌==◌, List, Option, MatchOption}
+use Rattle.std.specs.Prelude.{◌≡◌, ◌<◌, ℕ, Bool, true, false, ◌&&◌, ◌==◌, List, All, Option, MatchOption}
 use Rattle.std.specs.List.{list_any, AllZip}
 use Rattle.fdb_keys.specs.Points.{Point}
 use Rattle.fdb_keys.specs.Ranges.{in_set}
@@ -16,6 +16,15 @@ use Rattle.fdb_proxy.specs.declared.parting.Spread.{Spread}
 -- the point lies in a part of resolver i
 abbrev pub is_held : List Owned → ℕ → Point → Bool
 is_held parts i x = list_any (λ (part : Owned). (part.resolver == i) && in_set part.ranges x) parts
+
+-- each part is of one of so many resolvers, and has a point
+abbrev pub AreOwned : ℕ → List Owned → Type 0
+AreOwned resolvers = All (λ (part : Owned). (part.resolver < resolvers) × (has_points part.ranges ≡ true))
+
+-- so is each part of the spread
+pub record IsOwned (resolvers : ℕ) (spread : Spread) : Type 0 where
+  pub reads : AreOwned resolvers spread.reads
+  pub writes : AreOwned resolvers spread.writes
 
 -- the parts give each resolver what it is sent of the place
 pub record IsSpreadOf (splits : List Point) (place : Place) (spread : Spread) : Type 0 where

@@ -1,5 +1,8 @@
 // What each resolver is sent of a batch.
-ghost use Rattle.std.specs.Prelude.{◌≡◌, ◌<◌, ◌≤◌, ◌-◌, ◌^◌, ◌&&◌, ◌==◌, ℕ, All, List, length, None};
+ghost use Rattle.std.specs.Prelude.{◌≡◌, ◌<◌, ◌≤◌, ◌-◌, ◌^◌, ◌&&◌, ◌==◌, ◌++◌, ℕ, All, List, length, None, Option};
+ghost use Rattle.std.specs.Prelude.{◌∷◌, [], true, suc, slice_get, Some, IfOk};
+ghost use Rattle.std.specs.Option.{option_to_list};
+ghost use Rattle.std.specs.List.{AllByRecursion};
 ghost use Rattle.fdb_keys.specs.Answers.{Answers};
 ghost use Rattle.fdb_keys.specs.Points.{Point};
 ghost use Rattle.fdb_keys.specs.Ranges.{in_set};
@@ -7,10 +10,12 @@ ghost use Rattle.fdb_txn.specs.book.Book.{Stamped, Place, placed};
 ghost use Rattle.fdb_txn.specs.book.Transactions.{Transaction};
 ghost use Rattle.fdb_txn.specs.rules.Admission.{has_points};
 ghost use Rattle.fdb_txn.specs.rules.Owners.{window};
-ghost use Rattle.fdb_owners.specs.Ownership.{owner_at, owned_between};
+ghost use Rattle.fdb_owners.specs.Ownership.{owner_at, owned_between, resolvers_of};
 ghost use Rattle.fdb_owners.specs.OwnersLaws.{AgreesWith};
-ghost use Rattle.fdb_proxy.specs.Parting.{AreItems, IsPartOf, AreParts};
-ghost use Rattle.fdb_proxy.specs.Spreads.{is_held, IsSpreadOf, AreSpreadsOf, IsItemIfAsked};
+ghost use Rattle.fdb_proxy.specs.Parting.{AreItems, AreParts};
+ghost use Rattle.fdb_proxy.specs.Spreads.{is_held, AreOwned, IsOwned, IsSpreadOf, AreSpreadsOf, IsItemIfAsked};
+ghost use Rattle.fdb_proxy.specs.Held.{Held, with_ranges, with_parts, is_at, IsBelow, IsItemWith, EndsWithItem};
+ghost use Rattle.fdb_proxy.specs.Held.{items_at, IsPartWith};
 
 use crate::position::Position;
 use fdb_keys::{Items, RangeSet, Refusal};
@@ -18,6 +23,13 @@ use fdb_owners::{Owned, Owners};
 use fdb_resolver::{Item, Part};
 use fdb_txn::{Sealed, WINDOW};
 use std::alloc::Global;
+
+// Of which keys of a transaction a part is.
+#[derive(Clone, Copy)]
+enum Kind {
+    Reads,
+    Writes,
+}
 
 // A transaction's reads and writes, in parts of the resolvers that are asked about them.
 #[derive(Drop)]
@@ -44,7 +56,8 @@ fn spread_reads(
 ) -> Result<Items<Owned>, Refusal>
     requires order { from < version }
     requires kept { owners.now.floor ≤ from }
-    ensures { Answers result None (λ parts. (i : ℕ) (x : Point)
+    ensures owned { IfOk result (AreOwned (resolvers_of owners.now)) }
+    ensures held { Answers result None (λ parts. (i : ℕ) (x : Point)
         → is_held parts i x ≡ (in_set reads.now x && owned_between owners.now i x from version)) }
 {
     let mut parts = Vec::new(alloc);
@@ -57,7 +70,8 @@ fn spread_reads(
 
 // The parts of the writes, by who owns them from the last version learnt on.
 fn spread_writes(alloc: Global, owners: &Owners, writes: &RangeSet) -> Result<Items<Owned>, Refusal>
-    ensures { Answers result None (λ parts. (version : ℕ) → owners.now.last ≤ version → (i : ℕ) (x : Point)
+    ensures owned { IfOk result (AreOwned (resolvers_of owners.now)) }
+    ensures held { Answers result None (λ parts. (version : ℕ) → owners.now.last ≤ version → (i : ℕ) (x : Point)
         → is_held parts i x ≡ (in_set writes.now x && (owner_at owners.now x version == i))) }
 {
     let mut parts = Vec::new(alloc);
@@ -73,7 +87,8 @@ fn spread_txn(alloc: Global, owners: &Owners, version: u64, txn: &Sealed) -> Res
     requires later { txn.now.read < version }
     requires learnt { owners.now.last ≤ version }
     requires kept { owners.now.floor ≤ version - window }
-    ensures { Answers result None (λ spread. (moves : List Stamped) → AgreesWith owners.now moves
+    ensures owned { IfOk result (IsOwned (resolvers_of owners.now)) }
+    ensures spread { Answers result None (λ spread. (moves : List Stamped) → AgreesWith owners.now moves
         → IsSpreadOf owners.now.splits (placed version moves txn.now) spread) }
 {
     let read_version = txn.read_version();
@@ -98,7 +113,8 @@ fn spread_batch(
     requires later { All (λ t. t.read < version) batch.now }
     requires learnt { owners.now.last ≤ version }
     requires kept { owners.now.floor ≤ version - window }
-    ensures { Answers result None (λ spreads. (moves : List Stamped) → AgreesWith owners.now moves
+    ensures owned { IfOk result (All (IsOwned (resolvers_of owners.now))) }
+    ensures spread { Answers result None (λ spreads. (moves : List Stamped) → AgreesWith owners.now moves
         → AreSpreadsOf owners.now.splits moves version batch.now spreads) }
 {
     let mut spreads = Items::new(alloc);
@@ -108,84 +124,197 @@ fn spread_batch(
     Ok(spreads)
 }
 
-// The keys of the resolver's parts.
-fn held_by(alloc: Global, parts: &[Owned], resolver: u32) -> Result<RangeSet, Refusal>
-    ensures { Answers result None (λ set. (x : Point) → in_set set x ≡ is_held parts.now resolver x) }
+// Whether the last of the items is of the place.
+fn ends_at(items: &[Item], place: u32) -> bool
+    ensures { result ≡ is_at place (slice_get items.now (length items.now - 1)) }
 {
-    let mut set = RangeSet::new(alloc);
-    for part in parts {
-        if part.resolver == resolver {
-            part.add_to(&mut set)?;
-        }
+    match items.last() {
+        Some(item) => item.place == place,
+        None => false,
     }
-    Ok(set)
 }
 
-// What the resolver is sent of the place, if it is asked about it.
-fn item_of(
+// Where the place's item stands among the resolver's, which end with it. It is made where it isn't there yet.
+fn open_item(
     alloc: Global,
-    resolver: u32,
+    items: &mut Vec<Item>,
     place: u32,
     spread: &Spread,
-) -> Result<Option<Item>, Refusal>
-    ensures { Answers result None (λ item. (splits : List Point) (of : Place) → IsSpreadOf splits of spread.now
-        → IsItemIfAsked splits resolver place of item) }
+) -> Result<usize, Refusal>
+    ensures within { IfOk result (λ index. index < length items.new.items) }
+    ensures answers { Answers result None (λ index. (held : Held) (before : List Item)
+        → AllByRecursion (IsBelow place) before → EndsWithItem place spread.now held before items.old.items
+        → (item : Item) × (items.new.items ≡ before ++ item ∷ []) × (index ≡ length before)
+        × IsItemWith place spread.now held item) }
 {
-    let reads = held_by(alloc, spread.reads.as_slice(), resolver)?;
-    let writes = held_by(alloc, spread.writes.as_slice(), resolver)?;
-    if !has_points(&reads) && !has_points(&writes) {
-        return Ok(None);
+    if !ends_at(items.as_slice(), place) {
+        items.push(Item {
+            place,
+            read_version: spread.read_version,
+            has_reads: spread.has_reads,
+            reads: RangeSet::new(alloc),
+            writes: RangeSet::new(alloc),
+        })?;
     }
-    Ok(Some(Item {
-        place,
-        read_version: spread.read_version,
-        has_reads: spread.has_reads,
-        reads,
-        writes,
-    }))
+    Ok(items.len() - 1)
 }
 
-// What the resolver is sent of all places.
-fn items_of(alloc: Global, resolver: u32, spreads: &[Spread]) -> Result<Items<Item>, Refusal>
-    requires { length spreads.now < 2 ^ 32 }
-    ensures { Answers result None (λ items. (splits : List Point) (moves : List Stamped) (version : ℕ)
-        (batch : List Transaction) → AreSpreadsOf splits moves version batch spreads.now
-        → AreItems splits moves resolver version 0 batch items) }
+// The part's keys come to those of the item.
+fn add_to_item(item: &mut Item, kind: Kind, part: &Owned) -> Result<(), Refusal>
+    ensures { Answers result None (λ _. (place : ℕ) (spread : Spread) (held : Held)
+        → IsItemWith place spread held item.old
+        → IsItemWith place spread (with_ranges kind part.now.ranges held) item.new) }
 {
-    let mut items = Items::new(alloc);
-    for (place, spread) in spreads.iter().enumerate() {
-        if let Some(item) = item_of(alloc, resolver, place as u32, spread)? {
-            items.push(item)?;
-        }
+    match kind {
+        Kind::Reads => part.add_to(&mut item.reads),
+        Kind::Writes => part.add_to(&mut item.writes),
     }
-    Ok(items)
 }
 
-fn part_of(
+// The part comes to the place's item, at the end of the items of the part's resolver.
+fn hold(
     alloc: Global,
-    resolver: u32,
-    position: Position,
-    spreads: &[Spread],
-) -> Result<Part, Refusal>
-    requires { length spreads.now < 2 ^ 32 }
-    ensures { Answers result None (λ part. (splits : List Point) (moves : List Stamped) (batch : List Transaction)
-        → AreSpreadsOf splits moves position.version batch spreads.now
-        → IsPartOf splits moves position batch resolver part) }
+    items: &mut Vec<Item>,
+    place: u32,
+    spread: &Spread,
+    kind: Kind,
+    part: &Owned,
+) -> Result<(), Refusal>
+    requires some { has_points part.now.ranges ≡ true }
+    ensures { Answers result None (λ _. (held : Held) (before : List Item)
+        → AllByRecursion (IsBelow place) before → EndsWithItem place spread.now held before items.old.items
+        → EndsWithItem place spread.now (with_ranges kind part.now.ranges held) before items.new.items) }
 {
-    let items = items_of(alloc, resolver, spreads)?;
-    Ok(Part {
-        resolver,
-        index: position.index,
-        version: position.version,
-        prev: position.prev,
-        items,
-    })
+    let index = open_item(alloc, items, place, spread)?;
+    add_to_item(&mut items[index], kind, part)?;
+    Ok(())
+}
+
+// Each part comes to the items of its resolver.
+fn hold_all(
+    alloc: Global,
+    lists: &mut [Vec<Item>],
+    place: u32,
+    spread: &Spread,
+    kind: Kind,
+    parts: &[Owned],
+) -> Result<(), Refusal>
+    requires owned { AreOwned (length lists.old) parts.now }
+    ensures count { length lists.new ≡ length lists.old }
+    ensures answers { Answers result None (λ _. (i : ℕ) (held : Held) (before : List Item)
+        → i < length lists.old → AllByRecursion (IsBelow place) before
+        → EndsWithItem place spread.now held before (items_at lists.old i)
+        → EndsWithItem place spread.now (with_parts kind parts.now i held) before (items_at lists.new i)) }
+{
+    for part in parts {
+        hold(
+            alloc,
+            &mut lists[part.resolver as usize],
+            place,
+            spread,
+            kind,
+            part,
+        )?;
+    }
+    Ok(())
+}
+
+// Each resolver that is asked about the place has its item after those that it had.
+fn hold_place(
+    alloc: Global,
+    lists: &mut [Vec<Item>],
+    place: u32,
+    spread: &Spread,
+) -> Result<(), Refusal>
+    requires owned { IsOwned (length lists.old) spread.now }
+    ensures count { length lists.new ≡ length lists.old }
+    ensures answers { Answers result None (λ _. (i : ℕ) → i < length lists.old
+        → AllByRecursion (IsBelow place) (items_at lists.old i)
+        → (item : Option Item)
+        × (items_at lists.new i ≡ items_at lists.old i ++ option_to_list item)
+        × AllByRecursion (IsBelow (suc place)) (items_at lists.new i)
+        × ((splits : List Point) (of : Place) → IsSpreadOf splits of spread.now
+        → IsItemIfAsked splits i place of item)) }
+{
+    hold_all(
+        alloc,
+        lists,
+        place,
+        spread,
+        Kind::Reads,
+        spread.reads.as_slice(),
+    )?;
+    hold_all(
+        alloc,
+        lists,
+        place,
+        spread,
+        Kind::Writes,
+        spread.writes.as_slice(),
+    )?;
+    Ok(())
+}
+
+// A list without items for each resolver.
+fn no_items(alloc: Global, resolvers: u32) -> Result<Vec<Vec<Item>>, Refusal>
+    ensures { Answers result None (λ lists. (length lists.items ≡ resolvers)
+        × ((i : ℕ) → i < resolvers → items_at lists.items i ≡ [])) }
+{
+    let mut lists = Vec::new(alloc);
+    for _ in 0..resolvers {
+        lists.push(Vec::new(alloc))?;
+    }
+    Ok(lists)
+}
+
+// What each resolver is sent of all places.
+fn items_of(alloc: Global, resolvers: u32, spreads: &[Spread]) -> Result<Vec<Vec<Item>>, Refusal>
+    requires few { length spreads.now < 2 ^ 32 }
+    requires owned { All (IsOwned resolvers) spreads.now }
+    ensures { Answers result None (λ lists. (length lists.items ≡ resolvers)
+        × ((i : ℕ) → i < resolvers → (splits : List Point) (moves : List Stamped) (version : ℕ)
+        (batch : List Transaction) → AreSpreadsOf splits moves version batch spreads.now
+        → AreItems splits moves i version 0 batch (items_at lists.items i))) }
+{
+    let mut lists = no_items(alloc, resolvers)?;
+    for (place, spread) in spreads.iter().enumerate() {
+        hold_place(alloc, lists.as_mut_slice(), place as u32, spread)?;
+    }
+    Ok(lists)
+}
+
+// The parts of the entry at the position, each of the resolver with its number.
+fn parts_with(
+    alloc: Global,
+    position: Position,
+    lists: Vec<Vec<Item>>,
+) -> Result<Items<Part>, Refusal>
+    requires few { length lists.items < 2 ^ 32 }
+    ensures { Answers result None (λ parts. (length parts ≡ length lists.items)
+        × ((i : ℕ) (part : Part) → slice_get parts i ≡ Some part
+        → IsPartWith position i (items_at lists.items i) part)) }
+{
+    let mut parts = Items::new(alloc);
+    for items in lists {
+        let resolver = parts.len() as u32;
+        parts.push(Part {
+            resolver,
+            index: position.index,
+            version: position.version,
+            prev: position.prev,
+            items: Items::from_vec(items),
+        })?;
+    }
+    Ok(parts)
 }
 
 /// The part of each resolver of the batch at the position, in the order of their numbers, by owners that have learnt
 /// the moves through the position's version and none after it, and have forgotten none from the begin of its window on.
 /// A resolver has an item for each transaction that it is asked about. Each transaction read below the version, and
 /// there are fewer than 2^32 of them. Refused only as `NoMemory`.
+///
+/// The owners tell who owns each range of the batch. What they told is then gone through once, whoever it is for: in
+/// O(n + r) time for n of their parts and r resolvers, beside what adding the parts' ranges to the items' sets takes.
 pub fn parts_of(
     alloc: Global,
     owners: &Owners,
@@ -200,9 +329,7 @@ pub fn parts_of(
         → AreParts owners.now.splits moves position batch.now parts) }
 {
     let spreads = spread_batch(alloc, owners, position.version, batch)?;
-    let mut parts = Items::new(alloc);
-    for resolver in 0..owners.resolvers() {
-        parts.push(part_of(alloc, resolver, position, spreads.as_slice())?)?;
-    }
+    let lists = items_of(alloc, owners.resolvers(), spreads.as_slice())?;
+    let parts = parts_with(alloc, position, lists)?;
     Ok(parts)
 }

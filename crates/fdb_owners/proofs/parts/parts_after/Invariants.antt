@@ -1,4 +1,4 @@
-use Rattle.std.proofs.Common.{◌&&◌, ◌==◌}
+use Rattle.std.proofs.Common.{◌≤◌, suc, length, ◌&&◌, ◌==◌}
 use Rattle.fdb_keys.specs.Ranges.{in_range}
 use Rattle.fdb_txn.specs.rules.Owners.{first_owner}
 use Rattle.fdb_owners.specs.Learnt.{owner_after}
@@ -7,5 +7,9 @@ use Rattle.fdb_owners.proofs.parts.parts_after.Given as goal
 
 abbrev pub invariant-loop-resolver : goal.invariant-loop-resolver
 invariant-loop-resolver l =
-    AreFirstParts l.resolver (λ i x. in_range l.range x && (owner_after l.steps x (first_owner l.splits x) == i))
-    l.parts
+    record {
+      few : l.resolver ≤ suc (length l.splits);
+      parts : AreFirstParts l.resolver
+          (λ i x. in_range l.range x && (owner_after l.steps x (first_owner l.splits x) == i))
+          l.parts;
+    }

@@ -1,39 +1,48 @@
-use Rattle.std.proofs.Common.{◌≡◌, sym, ap, subst, refl, length, length-append, List, arith}
-use Rattle.fdb_resolver.specs.declared.part.Part.{Part}
+use Rattle.std.proofs.Common.{◌≡◌, ◌∙◌, sym, ap, subst, refl, ℕ, ◌<◌, List, length, arith}
+use Rattle.std.specs.List.{All}
+use Rattle.std.proofs.lemmas.Option.{slice_get_within}
+use Rattle.fdb_owners.specs.Ownership.{resolvers_of}
 use Rattle.fdb_proxy.specs.declared.parting.Spread.{Spread}
-use Rattle.fdb_proxy.specs.Parting.{IsPartOf}
-use Rattle.fdb_proxy.specs.Spreads.{AreSpreadsOf}
-use Rattle.fdb_proxy.proofs.PartingLemmas.{parts-next, spreads-length}
+use Rattle.fdb_proxy.specs.Parting.{AreItems}
+use Rattle.fdb_proxy.specs.Spreads.{IsOwned, AreSpreadsOf}
+use Rattle.fdb_proxy.proofs.PartingLemmas.{spreads-length}
 use Rattle.fdb_proxy.proofs.parting.parts_of.Goals as goal
 
-pub part_of-requires : goal.part_of-requires
-part_of-requires c =
+pub items_of-requires-clause-few : goal.items_of-requires-clause-few
+items_of-requires-clause-few c =
     let count : length c.in_ok-spreads.spreads ≡ length c.args.batch.now =
     spreads-length c.args.owners.now.splits c.args.owners.now.moves c.args.position.version c.args.batch.now
-    c.in_ok-spreads.spreads (c.in_ok-spreads.ensures c.args.owners.now.moves (λ x v known. refl)) in
+    c.in_ok-spreads.spreads (c.in_ok-spreads.ensures.spread c.args.owners.now.moves (λ x v known. refl)) in
     omega (arith, c.requires.few, count, ap (λ (spreads : List Spread). length spreads) c.as_slice.ensures)
 
-pub loop-resolver-preserved : goal.loop-resolver-preserved
-loop-resolver-preserved c = (
-  (let longer = simp length-append at (ap (λ (parts : List Part). length parts) c.in_ok-push.ensures.ok) in
-      omega (arith, longer, c.loop-resolver.invariant.0)),
-  λ moves agrees. parts-next (IsPartOf c.args.owners.now.splits moves c.args.position c.args.batch.now)
-      c.loop-resolver.parts c.push.new.self c.loop-resolver.resolver c.in_ok-part_of.field-0 c.in_ok-push.ensures.ok
-      c.loop-resolver.invariant.0 (c.loop-resolver.invariant.1 moves agrees)
-      (c.in_ok-part_of.ensures c.args.owners.now.splits moves c.args.batch.now
-      (subst (AreSpreadsOf c.args.owners.now.splits moves c.args.position.version c.args.batch.now)
-      (sym c.as_slice.ensures) (c.in_ok-spreads.ensures moves agrees))),
-)
+pub items_of-requires-clause-owned : goal.items_of-requires-clause-owned
+items_of-requires-clause-owned c =
+    subst (λ (n : ℕ). All (IsOwned n) c.as_slice.result.now) (sym c.resolvers.ensures)
+    (subst (All (IsOwned (resolvers_of c.args.owners.now))) (sym c.as_slice.ensures) c.in_ok-spreads.ensures.owned)
 
 pub returns : goal.returns
 returns c moves agrees =
+    let splits = c.args.owners.now.splits in
+    let batch = c.args.batch.now in
+    let parts = c.in_ok-parts.parts in
+    let count : length parts ≡ resolvers_of c.args.owners.now =
+    c.in_ok-parts.ensures.0 ∙ c.in_ok-lists.ensures.0 ∙ c.resolvers.ensures in
+    let spreads : AreSpreadsOf splits moves c.args.position.version batch c.as_slice.result.now =
+    subst (AreSpreadsOf splits moves c.args.position.version batch) (sym c.as_slice.ensures)
+    (c.in_ok-spreads.ensures.spread moves agrees) in
     record {
-      count = omega (
-        arith,
-        c.loop-resolver.invariant.0,
-        c.loop-resolver-test.false,
-        c.loop-resolver.auto.resolver-end,
-        c.resolvers-resolver-end.ensures,
-      );
-      each = c.loop-resolver.invariant.1 moves agrees;
+      count = count;
+      each = λ i part there.
+          let with = c.in_ok-parts.ensures.1 i part there in
+          let within : i < c.resolvers.result =
+          (let below = slice_get_within parts i part there in
+          let number = c.resolvers.ensures in omega (arith, below, count, number)) in
+          record {
+            resolver = with.resolver;
+            index = with.index;
+            version = with.version;
+            prev = with.prev;
+            items = subst (AreItems splits moves i c.args.position.version 0 batch) (sym with.items)
+                (c.in_ok-lists.ensures.1 i within splits moves c.args.position.version batch spreads);
+          };
     }

@@ -2,14 +2,17 @@ use Rattle.std.proofs.Common.{◌≡◌, ◌&&◌, ◌||◌, ℕ}
 use Rattle.std.specs.Slice.Iter.{iter_rest}
 use Rattle.fdb_keys.specs.Points.{Point}
 use Rattle.fdb_keys.specs.Ranges.{in_set}
-use Rattle.fdb_owners.specs.Ownership.{owned_between}
-use Rattle.fdb_proxy.specs.Spreads.{is_held}
+use Rattle.fdb_owners.specs.Ownership.{owned_between, resolvers_of}
+use Rattle.fdb_proxy.specs.Spreads.{is_held, AreOwned}
 use Rattle.fdb_proxy.proofs.parting.spread_reads.Given as goal
 
 -- with what is left spread too, all is
 abbrev pub invariant-loop-range : goal.invariant-loop-range
 invariant-loop-range l =
-    (i : ℕ) (x : Point)
-    → (is_held l.parts.items i x || in_set (iter_rest l.range-iterator) x
-    && owned_between l.owners i x l.from l.version)
-    ≡ (in_set l.reads x && owned_between l.owners i x l.from l.version)
+    record {
+      owned : AreOwned (resolvers_of l.owners) l.parts.items;
+      held : (i : ℕ) (x : Point)
+          → (is_held l.parts.items i x || in_set (iter_rest l.range-iterator) x
+          && owned_between l.owners i x l.from l.version)
+          ≡ (in_set l.reads x && owned_between l.owners i x l.from l.version);
+    }
