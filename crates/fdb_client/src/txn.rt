@@ -111,12 +111,14 @@ impl Txn {
             (λ _. self.new ≡ with_op self.old (operation.Write mutation) answer.Done) }
         ensures err { OnErr result (self.new ≡ self.old) }
     {
-        let answer = self.take_write(&mutation);
+        let answer = self.write_copy(&mutation);
         drop(mutation);
         answer
     }
 
-    fn take_write(&mut self, mutation: &Mutation) -> Result<(), Refusal>
+    /// Buffers a copy of the mutation, as `write` buffers the mutation. It is checked before the copy takes memory. It
+    /// takes what `write` takes.
+    pub fn write_copy(&mut self, mutation: &Mutation) -> Result<(), Refusal>
         ensures answers { Answers result (mutation_fault mutation.now)
             (λ _. self.new ≡ with_op self.old (operation.Write mutation.now) answer.Done) }
         ensures err { OnErr result (self.new ≡ self.old) }

@@ -1,10 +1,3 @@
-ghost use Rattle.std.specs.Prelude.{◌≡◌, OnErr};
-ghost use Rattle.fdb_keys.specs.Answers.{Answers};
-ghost use Rattle.fdb_mutations.specs.Mutations.{mutation_fault};
-ghost use Rattle.fdb_client.specs.TxnState.{with_op};
-ghost use Rattle.fdb_client.specs.declared.program.Op.TheVariants as operation;
-ghost use Rattle.fdb_client.specs.declared.program.Reply.TheVariants as answer;
-
 use crate::roles::client::read::{Read, read_by};
 use crate::step::Answered;
 use fdb_client::{Finished, Snapshot, Txn};
@@ -117,7 +110,7 @@ impl Session {
         ensures err { OnErr result (self.new ≡ self.old) }
     {
         match &mut self.state {
-            SessionState::Open(txn) => write_copy(txn, mutation),
+            SessionState::Open(txn) => txn.write_copy(mutation),
             _ => Err(Refusal::NoTransaction),
         }
     }
@@ -177,15 +170,4 @@ impl Session {
             }
         }
     }
-}
-
-// Buffers a copy of the mutation, which is checked before the copy takes memory.
-fn write_copy(txn: &mut Txn, mutation: &Mutation) -> Result<(), Refusal>
-    ensures answers { Answers result (mutation_fault mutation.now)
-        (λ _. txn.new ≡ with_op txn.old (operation.Write mutation.now) answer.Done) }
-    ensures err { OnErr result (txn.new ≡ txn.old) }
-{
-    mutation.check()?;
-    let mutation = mutation.clone()?;
-    txn.write(mutation)
 }

@@ -1,7 +1,7 @@
 use Rattle.std.proofs.Common.{◌≡◌, rules, Err, None}
 use Rattle.fdb_mutations.specs.Mutations.{mutation_fault}
 use Rattle.fdb_client.proofs.FaultLemmas.{checked, faultless}
-use Rattle.fdb_client.proofs.txn.Txn.take_write.Goals as goal
+use Rattle.fdb_client.proofs.txn.Txn.write_copy.Goals as goal
 
 pub returns-in_err-check-clause-answers : goal.returns-in_err-check-clause-answers
 returns-in_err-check-clause-answers c =
