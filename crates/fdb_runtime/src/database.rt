@@ -1,16 +1,21 @@
-ghost use Rattle.std.specs.Prelude.{◌≡◌, suc, OnOk, OnErr};
-ghost use Rattle.fdb_keys.specs.Answers.{Answers};
-ghost use Rattle.fdb_runtime.specs.Databases.{session_fault, new_session};
+ghost use Rattle.std.specs.Prelude.{◌≡◌, ◌⊎◌, ⊤, suc, length, None, OnOk, OnErr, IfErr};
+ghost use Rattle.fdb_keys.specs.Answers.{Answers, AnswersExactly};
+ghost use Rattle.fdb_keys.specs.declared.refusal.Refusal.TheVariants.{Failed, NoMemory};
+ghost use Rattle.fdb_proxy.specs.Configs.{config_fault};
+ghost use Rattle.fdb_runtime.specs.Databases.{start_fault, session_fault, new_session};
 
 use crate::gate::Gate;
+use crate::messages::grant_message::GrantMessage;
 use crate::name::ClusterName;
 use crate::record::{Record, every_key};
 use crate::roles::shard::gathering::Gathering;
 use crate::session::Session;
 use crate::shared::Shared;
-use crate::threads::team::{Team, Workers};
+use crate::shared::shard::SharedShard;
+use crate::threads::team::Team;
+use crate::threads::workers::Workers;
 use fdb_book::{Blank, Book};
-use fdb_keys::Refusal;
+use fdb_keys::{KeyRange, Refusal};
 use fdb_proxy::Config;
 use std::alloc::Global;
 use std::marker::Model;
@@ -50,16 +55,30 @@ impl<B: ClusterName + Send + Sync + 'static> Database<B> {
     ) -> Result<Self, Refusal>
         requires cells { blank ≡ B.cells }
         requires config { config.now ≡ B.config }
+        ensures { Answers result (start_fault config.now (length blank)) (λ database. database ≡ 0) }
     {
-        config.check()?;
-        if blank.capacity() != config.book as usize {
-            return Err(Refusal::BadConfig);
-        }
+        check_start(&blank, config)?;
+        Self::start_legal(rt, alloc, blank, config, advance, gate)
+    }
+
+    // The same where the configuration is legal. Refused only as `NoMemory`.
+    fn start_legal<G: Gate + 'static, R: Threads + Wait + Copy + Send + Sync + 'static>(
+        rt: &R,
+        alloc: Global,
+        blank: Blank,
+        config: &Config,
+        advance: u64,
+        gate: &Arc<G>,
+    ) -> Result<Self, Refusal>
+        requires cells { blank ≡ B.cells }
+        requires config { config.now ≡ B.config }
+        requires legal { config_fault config.now ≡ None }
+        ensures { Answers result None (λ database. database ≡ 0) }
+    {
         let shared = Shared::new(alloc, Book::open(blank), config, advance)?;
         let shared = Arc::new(alloc, shared)?;
-        let workers = Workers::new(rt, &*shared, config)?;
         let mut team = Team::new(alloc);
-        match team.start(rt, &shared, gate, workers) {
+        match start_team(rt, &shared, gate, config, &mut team) {
             Ok(()) => Ok(Database {
                 shared,
                 team,
@@ -94,33 +113,113 @@ impl<B: ClusterName + Send + Sync + 'static> Database<B> {
     /// database is gone whatever is answered.
     ///
     /// Refused as `Failed` where a log or a shard has failed, and as `NoMemory`.
-    pub fn close<R: Threads + Wait>(self, rt: &R) -> Result<Record<B>, Refusal> {
+    pub fn close<R: Threads + Wait>(self, rt: &R) -> Result<Record<B>, Refusal>
+        ensures { IfErr result (λ why. (why ≡ Failed) ⊎ (why ≡ NoMemory)) }
+    {
         let Database {
             shared,
             team,
             sessions: _,
         } = self;
         team.stop(rt, &*shared);
-        record_of(rt, &*shared)
+        match record_of(rt, &*shared) {
+            Ok(record) => Ok(record),
+            Err(why) => Err(lost(why)),
+        }
     }
 }
 
-// What the shards have of every key at the committed version.
+// Why the configuration can't be that of a database on the cells, if it can't: it isn't legal, or there is room for
+// another number of entries. It takes no memory.
+fn check_start(blank: &Blank, config: &Config) -> Result<(), Refusal>
+    ensures answers { AnswersExactly result (start_fault config.now (length blank.now)) (λ _. ⊤) }
+    ensures legal { OnOk result (config_fault config.now ≡ None) }
+{
+    if blank.capacity() != config.book as usize {
+        return Err(Refusal::BadConfig);
+    }
+    config.check()
+}
+
+// Starts all threads. Refused only as `NoMemory`; then some may have been started, and workers of others are gone.
+fn start_team<
+    B: ClusterName + Send + Sync + 'static,
+    G: Gate + 'static,
+    R: Threads + Wait + Copy + Send + Sync + 'static,
+>(
+    rt: &R,
+    shared: &Arc<Shared<B>>,
+    gate: &Arc<G>,
+    config: &Config,
+    team: &mut Team,
+) -> Result<(), Refusal>
+    requires config { config.now ≡ B.config }
+    requires legal { config_fault config.now ≡ None }
+    ensures { Answers result None (λ _. ⊤) }
+{
+    let mut workers = Workers::new(shared.alloc);
+    workers.add_all(rt, &**shared, config)?;
+    team.start(rt, shared, gate, &mut workers)
+}
+
+// What a closed database is refused as that doesn't give its record.
+fn lost(why: Refusal) -> Refusal
+    ensures { (result ≡ Failed) ⊎ (result ≡ NoMemory) }
+{
+    match why {
+        Refusal::NoMemory => Refusal::NoMemory,
+        _ => Refusal::Failed,
+    }
+}
+
+// What the shards have of every key at the committed version, where no log has failed.
 fn record_of<B: ClusterName, R: Wait>(rt: &R, shared: &Shared<B>) -> Result<Record<B>, Refusal> {
+    check_logs(rt, shared)?;
+    let granted = shared.granted(rt)?;
+    record_at(rt, shared, &granted)
+}
+
+// Refused as `Failed` where a log has failed. It takes no memory.
+fn check_logs<B: ClusterName, R: Wait>(rt: &R, shared: &Shared<B>) -> Result<(), Refusal> {
     for log in shared.logs() {
         if log.is_failed(rt) {
             return Err(Refusal::Failed);
         }
     }
-    let granted = shared.granted(rt)?;
+    Ok(())
+}
+
+// What the shards have of every key at a version that was granted.
+fn record_at<B: ClusterName, R: Wait>(
+    rt: &R,
+    shared: &Shared<B>,
+    granted: &GrantMessage<B>,
+) -> Result<Record<B>, Refusal> {
     let range = every_key(shared.alloc)?;
-    let mut gathering = Gathering::new(shared.alloc, granted.committed, &granted.front, &range)?;
-    for shard in shared.shards() {
-        gathering = match gathering.take(&shard.lock(rt).at) {
-            Ok(longer) => longer,
-            Err(Refusal::FutureVersion) => return Err(Refusal::Failed),
-            Err(why) => return Err(why),
-        };
-    }
+    let gathering = gather_all(rt, shared, granted, &range)?;
     Record::of(&gathering)
+}
+
+// What all shards have of the range.
+fn gather_all<'a, B: ClusterName, R: Wait>(
+    rt: &R,
+    shared: &Shared<B>,
+    granted: &'a GrantMessage<B>,
+    range: &'a KeyRange,
+) -> Result<Gathering<'a, B>, Refusal> {
+    let mut gathering = Gathering::new(shared.alloc, granted.committed, &granted.front, range)?;
+    for shard in shared.shards() {
+        gathering = gather_part(rt, shard, gathering)?;
+    }
+    Ok(gathering)
+}
+
+// With what the shard has of it.
+fn gather_part<'a, B: ClusterName, R: Wait>(
+    rt: &R,
+    shard: &SharedShard<B>,
+    gathering: Gathering<'a, B>,
+) -> Result<Gathering<'a, B>, Refusal> {
+    let kept = shard.lock(rt);
+    gathering.take(&kept.at)
 }

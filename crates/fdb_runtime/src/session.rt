@@ -1,10 +1,5 @@
-ghost use Rattle.std.specs.Prelude.{◌≡◌, ◌≤◌, [], suc, None, Some, Err, IfOk, IfSome, OnOk, OnErr};
-ghost use Rattle.std.specs.FinMap.{get};
+ghost use Rattle.std.specs.Prelude.{◌≡◌, ◌≤◌, [], suc, None, Some, Err, IfOk, OnOk, OnErr};
 ghost use Rattle.fdb_keys.specs.declared.refusal.Refusal.TheVariants.{NoTransaction};
-ghost use Rattle.fdb_mutations.specs.PairLaws.{given_of};
-ghost use Rattle.fdb_txn.specs.book.Book.{seen_of};
-ghost use Rattle.fdb_txn.specs.rules.SerialMap.{serial_map_at};
-ghost use Rattle.fdb_client.specs.Programs.{program, copy};
 ghost use Rattle.fdb_book.specs.Fronts.{IsPrefix};
 ghost use Rattle.fdb_keys.specs.Answers.{Answers};
 ghost use Rattle.fdb_txn.specs.book.Book.{last_version};
@@ -14,6 +9,7 @@ ghost use Rattle.fdb_client.specs.declared.program.Op.TheVariants as operation;
 ghost use Rattle.fdb_client.specs.declared.program.Reply.TheVariants as answer;
 ghost use Rattle.fdb_core.specs.refinement.Sessions.{OfOpen};
 ghost use Rattle.fdb_runtime.specs.Commits.{CommitAnswers};
+ghost use Rattle.fdb_runtime.specs.Reading.{HasRead};
 ghost use Rattle.fdb_runtime.specs.Sessions.{learning, with_current};
 
 use crate::messages::grant_message::GrantMessage;
@@ -177,11 +173,8 @@ impl<B: ClusterName> Session<B> {
         key: &Key,
         is_snapshot: bool,
     ) -> Result<Option<Bytes>, Refusal>
-        ensures answered { IfOk result (λ value. IfSome self.old.current (λ transcript.
-            (value ≡ get (copy (serial_map_at B.config.resolver_splits transcript.read_version
-            (seen_of self.old.front).places) (program transcript.ops)) key.now)
-            × (self.new ≡ with_current self.old
-            (Some (with_op transcript (operation.Get key.now is_snapshot) (answer.Value value)))))) }
+        ensures answered { IfOk result (λ value. HasRead B.config.resolver_splits self.old
+            (operation.Get key.now is_snapshot) (answer.Value value) self.new) }
         ensures none { self.old.current ≡ None → result ≡ Err NoTransaction }
         ensures refused { OnErr result (self.new ≡ self.old) }
     {
@@ -213,11 +206,8 @@ impl<B: ClusterName> Session<B> {
         reverse: bool,
         is_snapshot: bool,
     ) -> Result<Items<(Key, Bytes)>, Refusal>
-        ensures answered { IfOk result (λ pairs. IfSome self.old.current (λ transcript.
-            (pairs ≡ given_of (copy (serial_map_at B.config.resolver_splits transcript.read_version
-            (seen_of self.old.front).places) (program transcript.ops)) range.now limit reverse)
-            × (self.new ≡ with_current self.old (Some (with_op transcript
-            (operation.Range range.now limit reverse is_snapshot) (answer.Pairs pairs)))))) }
+        ensures answered { IfOk result (λ pairs. HasRead B.config.resolver_splits self.old
+            (operation.Range range.now limit reverse is_snapshot) (answer.Pairs pairs) self.new) }
         ensures none { self.old.current ≡ None → result ≡ Err NoTransaction }
         ensures refused { OnErr result (self.new ≡ self.old) }
     {
@@ -292,9 +282,8 @@ fn gather<'a, B: ClusterName, R: Wait>(
     requires { version ≤ last_version front.now }
     ensures { IfOk result (λ it. it.range ≡ range.now) }
 {
-    let shards = shared.shards_from(alloc, range)?;
     let mut gathering = Gathering::new(alloc, version, front, range)?;
-    for shard in shards {
+    for shard in shared.shards_from(range) {
         if gathering.is_done() {
             break;
         }

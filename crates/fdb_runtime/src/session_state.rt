@@ -54,17 +54,6 @@ fn share_longer<B: ClusterName>(
     }
 }
 
-// Buffers a copy of the mutation, which is checked before the copy takes memory.
-fn write_copy(txn: &mut Txn, mutation: &Mutation) -> Result<(), Refusal>
-    ensures answers { Answers result (mutation_fault mutation.now)
-        (λ _. txn.new ≡ with_op txn.old (operation.Write mutation.now) answer.Done) }
-    ensures refused { OnErr result (txn.new ≡ txn.old) }
-{
-    mutation.check()?;
-    let mutation = mutation.clone()?;
-    txn.write(mutation)
-}
-
 /// What a session owns: what it has seen of the book, the greatest version that it knows of a receipt, and its open
 /// transaction.
 #[derive(Drop)]
@@ -173,7 +162,7 @@ impl<B: ClusterName> SessionState<B> {
         ensures refused { OnErr result (self.new ≡ self.old) }
     {
         match &mut self.current {
-            Some(txn) => write_copy(txn, mutation),
+            Some(txn) => txn.write_copy(mutation),
             None => Err(Refusal::NoTransaction),
         }
     }

@@ -161,25 +161,11 @@ impl<B: ClusterName> Shared<B> {
         self.shards.as_slice()
     }
 
-    /// The shards from the one on that has the range's begin, in the order of their ranges, none where that is no key.
-    /// Refused only as `NoMemory`.
-    pub(crate) fn shards_from(
-        &self,
-        alloc: Global,
-        range: &KeyRange,
-    ) -> Result<&[SharedShard<B>], Refusal> {
-        if range.begin().is_empty() {
-            return Ok(self.shards.as_slice());
-        }
-        match Key::new(alloc, range.begin()) {
-            Ok(begin) => Ok(
-                self.shards
-                    .get(self.tag_of(&begin) as usize..)
-                    .unwrap_or(&[]),
-            ),
-            Err(Refusal::NoMemory) => Err(Refusal::NoMemory),
-            Err(_) => Ok(&[]),
-        }
+    /// The shards from the one on that has the range's begin, in the order of their ranges, which are those that the
+    /// range may meet. It takes no memory.
+    pub(crate) fn shards_from(&self, range: &KeyRange) -> &[SharedShard<B>] {
+        let first = self.shard_map.first_met(range) as usize;
+        self.shards.get(first..).unwrap_or(&[])
     }
 
     /// The tag of the shard that has the key.

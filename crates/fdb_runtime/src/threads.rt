@@ -7,3 +7,5 @@ pub(crate) mod request;
 pub(crate) mod resolver;
 pub(crate) mod shard;
 pub(crate) mod team;
+pub(crate) mod worker;
+pub(crate) mod workers;

@@ -1,21 +1,16 @@
 // What a session reads at shards: on the serial map of its own front, whatever front a shard has.
 ghost use Rattle.std.specs.Prelude.{◌≡◌, ◌≤◌, ◌==◌, ⊤, length, None, Some, Err, IfOk, IfSome, IsTrue, OnOk, OnErr};
 ghost use Rattle.std.specs.Prelude.{if◌then◌else◌};
-ghost use Rattle.std.specs.FinMap.{get};
 ghost use Rattle.fdb_keys.specs.Answers.{Answers, AnswersExactly};
 ghost use Rattle.fdb_keys.specs.declared.refusal.Refusal.TheVariants.{NoTransaction, KeyOutsideLegalRange};
-ghost use Rattle.fdb_txn.specs.book.Book.{seen_of, last_version};
-ghost use Rattle.fdb_txn.specs.rules.SerialMap.{serial_map_at};
+ghost use Rattle.fdb_txn.specs.book.Book.{last_version};
 ghost use Rattle.fdb_storage.specs.Shards.{key_fault};
-ghost use Rattle.fdb_client.specs.Programs.{program, copy, decided};
-ghost use Rattle.fdb_client.specs.TxnState.{with_op};
+ghost use Rattle.fdb_client.specs.Programs.{program, decided};
 ghost use Rattle.fdb_client.specs.declared.program.Op.TheVariants as operation;
 ghost use Rattle.fdb_client.specs.declared.program.Reply.TheVariants as answer;
 ghost use Rattle.fdb_core.specs.refinement.Sessions.{OfOpen};
-ghost use Rattle.fdb_mutations.specs.PairLaws.{given_of};
 ghost use Rattle.fdb_runtime.specs.Gatherings.{range_fault};
-ghost use Rattle.fdb_runtime.specs.Reading.{own_writes_decide, share_fault, gathering_fault, RefusedBy};
-ghost use Rattle.fdb_runtime.specs.Sessions.{with_current};
+ghost use Rattle.fdb_runtime.specs.Reading.{HasRead, own_writes_decide, share_fault, gathering_fault, RefusedBy};
 
 use crate::name::ClusterName;
 use crate::roles::shard::ShardAt;
@@ -75,11 +70,8 @@ impl<B: ClusterName> SessionState<B> {
         key: &Key,
         is_snapshot: bool,
     ) -> Result<Option<Bytes>, Refusal>
-        ensures answered { IfOk result (λ value. IfSome self.old.current (λ transcript.
-            (value ≡ get (copy (serial_map_at B.config.resolver_splits transcript.read_version
-            (seen_of self.old.front).places) (program transcript.ops)) key.now)
-            × (self.new ≡ with_current self.old
-            (Some (with_op transcript (operation.Get key.now is_snapshot) (answer.Value value)))))) }
+        ensures answered { IfOk result (λ value. HasRead B.config.resolver_splits self.old
+            (operation.Get key.now is_snapshot) (answer.Value value) self.new) }
         ensures none { self.old.current ≡ None → result ≡ Err NoTransaction }
         ensures fault { IfSome self.old.current (λ transcript. RefusedBy result
             (if decided (program transcript.ops) key.now then None
@@ -100,11 +92,8 @@ impl<B: ClusterName> SessionState<B> {
         key: &Key,
         is_snapshot: bool,
     ) -> Result<Option<Bytes>, Refusal>
-        ensures answered { IfOk result (λ value. IfSome self.old.current (λ transcript.
-            (value ≡ get (copy (serial_map_at B.config.resolver_splits transcript.read_version
-            (seen_of self.old.front).places) (program transcript.ops)) key.now)
-            × (self.new ≡ with_current self.old
-            (Some (with_op transcript (operation.Get key.now is_snapshot) (answer.Value value)))))) }
+        ensures answered { IfOk result (λ value. HasRead B.config.resolver_splits self.old
+            (operation.Get key.now is_snapshot) (answer.Value value) self.new) }
         ensures none { self.old.current ≡ None → result ≡ Err NoTransaction }
         ensures fault { IfSome self.old.current (λ transcript. RefusedBy result
             (if decided (program transcript.ops) key.now then None else Some KeyOutsideLegalRange)) }
@@ -175,11 +164,8 @@ impl<B: ClusterName> SessionState<B> {
         reverse: bool,
         is_snapshot: bool,
     ) -> Result<Items<(Key, Bytes)>, Refusal>
-        ensures answered { IfOk result (λ pairs. IfSome self.old.current (λ transcript.
-            (pairs ≡ given_of (copy (serial_map_at B.config.resolver_splits transcript.read_version
-            (seen_of self.old.front).places) (program transcript.ops)) gathering.now.range limit reverse)
-            × (self.new ≡ with_current self.old (Some (with_op transcript
-            (operation.Range gathering.now.range limit reverse is_snapshot) (answer.Pairs pairs)))))) }
+        ensures answered { IfOk result (λ pairs. HasRead B.config.resolver_splits self.old
+            (operation.Range gathering.now.range limit reverse is_snapshot) (answer.Pairs pairs) self.new) }
         ensures none { self.old.current ≡ None → result ≡ Err NoTransaction }
         ensures fault { IfSome self.old.current (λ transcript. Answers result
             (gathering_fault self.old.front transcript.read_version gathering.now) (λ _. ⊤)) }

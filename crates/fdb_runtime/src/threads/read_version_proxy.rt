@@ -4,6 +4,7 @@ use crate::shared::Shared;
 use crate::threads::channel::reply_with;
 use crate::threads::reply::GrantReply;
 use crate::threads::request::BeginRequest;
+use crate::threads::worker::Worker;
 use crossbeam_channel::Sender;
 use fdb_keys::Refusal;
 use fdb_proxy::GrvCore;
@@ -39,28 +40,36 @@ fn grant_of<B: ClusterName>(granted: &GrantMessage<B>, version: u64) -> GrantRep
 /// What a read-version proxy's thread has: the proxy, and who waits for its answers, in the order of asking.
 #[derive(Drop)]
 pub(crate) struct ReadVersionWorker<B: ClusterName> {
+    number: u32,
     core: GrvCore,
     replies: VecDeque<Sender<Option<GrantReply<B>>>>,
 }
 
+impl<B: ClusterName + Send + Sync + 'static> Worker<Shared<B>> for ReadVersionWorker<B> {
+    // Answers who asks for a read version, until the inbox ends.
+    fn run<R: Wait>(self, rt: &R, shared: &Shared<B>) {
+        let mut worker = self;
+        worker.work(rt, shared);
+    }
+}
+
 impl<B: ClusterName> ReadVersionWorker<B> {
-    /// Nobody has asked. It takes no memory.
-    pub(crate) fn new(alloc: Global) -> Self {
+    /// The proxy with the number, which nobody has asked. It takes no memory.
+    pub(crate) fn new(alloc: Global, number: u32) -> Self {
         ReadVersionWorker {
+            number,
             core: GrvCore::new(alloc),
             replies: VecDeque::new(alloc),
         }
     }
 
-    /// Answers who asks for a read version, until the inbox ends.
-    pub(crate) fn run<R: Wait>(self, rt: &R, shared: &Shared<B>, number: usize) {
-        let mut worker = self;
-        let Some(inbox) = shared.begins().get(number) else {
+    fn work<R: Wait>(&mut self, rt: &R, shared: &Shared<B>) {
+        let Some(inbox) = shared.begins().get(self.number as usize) else {
             return;
         };
         for _ in rt.forever() {
             let (asked, ended) = inbox.next(rt);
-            worker.turn(rt, shared, asked);
+            self.turn(rt, shared, asked);
             if ended.is_some() {
                 return;
             }

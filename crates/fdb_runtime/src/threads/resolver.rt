@@ -60,34 +60,50 @@ impl<B: ClusterName> ResolverWorker<B> {
     /// Answers parts until all commit proxies have ended, one of them has failed, or the resolver itself fails.
     pub(crate) fn run<R: Wait, G: Gate>(self, rt: &R, gate: &G) {
         let mut worker = self;
+        worker.work(rt, gate);
+    }
+
+    fn work<R: Wait, G: Gate>(&mut self, rt: &R, gate: &G) {
         for _ in rt.forever() {
-            let Ok(Some(sent)) = worker.parts.recv(rt) else {
+            let Ok(Some(sent)) = self.parts.recv(rt) else {
                 return;
             };
-            if worker.turn(rt, gate, sent).is_err() {
+            if self.turn(rt, gate, sent).is_err() {
                 return;
             }
         }
     }
 
-    // Keeps the part until its turn, and answers all parts whose turn has come. A part that came before is dropped.
+    // Keeps the part until its turn, and answers all parts whose turn has come.
     fn turn<R: Wait, G: Gate>(
         &mut self,
         rt: &R,
         gate: &G,
         sent: SentPart<B>,
     ) -> Result<(), Refusal> {
+        self.keep(sent)?;
+        self.answer_ready(rt, gate)
+    }
+
+    // Keeps the part until its turn. One that came before is dropped.
+    fn keep(&mut self, sent: SentPart<B>) -> Result<(), Refusal> {
         let prev = sent.message.part.prev;
-        if let Err(refused) = self.early.put(prev, sent)
-            && refused.why != Refusal::Stale
-        {
-            return Err(refused.why);
+        match self.early.put(prev, sent) {
+            Ok(()) => Ok(()),
+            Err(refused) if refused.why == Refusal::Stale => Ok(()),
+            Err(refused) => Err(refused.why),
         }
+    }
+
+    // Answers all parts whose turn has come.
+    fn answer_ready<R: Wait, G: Gate>(&mut self, rt: &R, gate: &G) -> Result<(), Refusal> {
         for _ in rt.forever() {
             let Some(ready) = self.early.ready(self.at.version()) else {
                 break;
             };
-            self.answer(rt, gate, &ready)?;
+            let answered = self.answer(rt, gate, &ready);
+            drop(ready);
+            answered?;
         }
         Ok(())
     }

@@ -2,6 +2,7 @@ use crate::name::ClusterName;
 use crate::shared::Shared;
 use crate::shared::log::SharedLog;
 use crate::shared::shard::SharedShard;
+use crate::threads::worker::Worker;
 use fdb_keys::Refusal;
 use fdb_txn::WINDOW;
 use std::sync::Wait;
@@ -9,8 +10,20 @@ use std::sync::Wait;
 // How many messages a shard pulls at once.
 const PULL_LIMIT: u32 = 256;
 
-/// Pulls what the log keeps for the shard until the log has ended and has no more, or the shard fails.
-pub(crate) fn run_shard<B: ClusterName, R: Wait>(rt: &R, shared: &Shared<B>, tag: u32) {
+/// The thread of the shard with the tag, which stands among what all threads share.
+#[derive(Drop)]
+pub(crate) struct ShardWorker {
+    pub(crate) tag: u32,
+}
+
+impl<B: ClusterName> Worker<Shared<B>> for ShardWorker {
+    // Pulls what the log keeps for the shard until the log has ended and has no more, or the shard fails.
+    fn run<R: Wait>(self, rt: &R, shared: &Shared<B>) {
+        run_shard(rt, shared, self.tag);
+    }
+}
+
+fn run_shard<B: ClusterName, R: Wait>(rt: &R, shared: &Shared<B>, tag: u32) {
     let Some(shard) = shared.shard(tag) else {
         return;
     };
