@@ -70,36 +70,28 @@ impl<R> Limited<R> {
     }
 }
 
-impl<R: Source> Limited<R> {
-    ghost use Rattle.fdb_sim.specs.Streams.{IsLimitedErrorAfter, read_limit};
+impl<R: Source> Source for Limited<R> {
+    ghost use Rattle.fdb_sim.specs.Streams.{IsLimitedError, IsLimitedErrorAfter, read_limit};
+
+    ghost remaining = { λ limited. R.remaining limited.reader };
+
+    ghost errors = { IsLimitedError R.errors };
 
     // Reads as the reader does and counts the read, as long as there were fewer than the limit; from then on each is
     // refused, and nothing changes.
-    fn read_within(&mut self, buffer: &mut [u8]) -> io::Result<usize>
+    fn read(&mut self, buffer: &mut [u8]) -> io::Result<usize>
         ensures bound { ReadsAtMost result buffer.new }
         ensures bytes { ReadConsumes (R.remaining self.old.reader) (R.remaining self.new.reader) result buffer.new }
         ensures counted { self.old.reads < read_limit → self.new.reads ≡ 1 + self.old.reads }
         ensures given_up { read_limit ≤ self.old.reads → self.new ≡ self.old }
         ensures answered { IfOk result (λ _. self.old.reads < read_limit) }
-        ensures errors { IfErr result (IsLimitedErrorAfter self.old.reads R.errors) }
+        ensures limited { IfErr result (IsLimitedErrorAfter self.old.reads R.errors) }
     {
         if self.reads >= READ_LIMIT {
             return Err(io::Error::other("the input did not end"));
         }
         self.reads += 1;
         self.reader.read(buffer)
-    }
-}
-
-impl<R: Source> Source for Limited<R> {
-    ghost use Rattle.fdb_sim.specs.Streams.{IsLimitedError};
-
-    ghost remaining = { λ limited. R.remaining limited.reader };
-
-    ghost errors = { IsLimitedError R.errors };
-
-    fn read(&mut self, buffer: &mut [u8]) -> io::Result<usize> {
-        self.read_within(buffer)
     }
 }
 
