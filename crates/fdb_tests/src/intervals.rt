@@ -66,7 +66,43 @@ fn first_wrongs(alloc: Global) -> Result<[Option<usize>; 2], Refusal> {
     Ok([of_marked, first_wrong(&last, alloc, EXPIRED.as_slice())])
 }
 
+// How many pieces there are at first, after the two marks, and after the expiry of the first one.
+fn pieces_on_the_way(alloc: Global) -> Result<[usize; 3], Refusal> {
+    let mut last = two_marks(alloc)?;
+    let of_marked = last.pieces();
+    last.expire(100);
+    Ok([LastCommit::new(alloc).pieces(), of_marked, last.pieces()])
+}
+
+// The keys of both ranges are marked with 200.
+fn marked_alike(alloc: Global, first: &KeyRange, second: &KeyRange) -> Result<LastCommit, Refusal> {
+    let mut last = LastCommit::new(alloc);
+    last.mark(first, 200)?;
+    last.mark(second, 200)?;
+    Ok(last)
+}
+
+// How many pieces two ranges that touch are with one version, whether the second one's is seen, and how many are left
+// once all is expired.
+fn pieces_that_touch(alloc: Global) -> Result<(usize, bool, usize), Refusal> {
+    let (first, second) = both(
+        KeyRange::new(alloc, b"c", b"e"),
+        KeyRange::new(alloc, b"a", b"c"),
+    )?;
+    let mut last = marked_alike(alloc, &first, &second)?;
+    let of_marked = last.pieces();
+    let is_seen = is_newer(&last, alloc, b"a", b"b", 199)?;
+    last.expire(200);
+    Ok((of_marked, is_seen, last.pieces()))
+}
+
 #[test]
 fn later_marks_win_and_versions_above_the_expired_one_are_kept(rt: HostRuntime) {
     same(&rt, first_wrongs(rt.alloc()), Ok([None, None]));
+}
+
+#[test]
+fn equal_neighbours_are_one_piece_and_expired_ones_are_none(rt: HostRuntime) {
+    same(&rt, pieces_on_the_way(rt.alloc()), Ok([0, 2, 1]));
+    same(&rt, pieces_that_touch(rt.alloc()), Ok((1, true, 0)));
 }

@@ -235,6 +235,14 @@ pub fn are_ranges(ranges: &[KeyRange], bounds: &[(&[u8], &[u8])]) -> bool {
             .all(|(range, (begin, end))| has_bounds(range, begin, end))
 }
 
+/// Whether these are just the pairs of the keys and the values, which have one byte each.
+pub fn are_pairs(pairs: &[(Key, Bytes)], wanted: &[(u8, u8)]) -> bool {
+    pairs.len() == wanted.len()
+        && pairs.iter().zip(wanted).all(|(pair, (key, value))| {
+            pair.0.bytes() == [*key].as_slice() && pair.1.as_slice() == [*value].as_slice()
+        })
+}
+
 /// Whether the value equals its copy.
 pub fn equals_copy<T: PartialEq + Drop>(value: &T, copy: Result<T, AllocError>) -> bool {
     match copy {

@@ -4,26 +4,50 @@ ghost use Rattle.std.specs.Prelude.{◌≡◌};
 mod commits;
 mod counters;
 mod gates;
+mod growths;
+mod reads;
 mod sessions;
 mod transfers;
 
-use fdb_core::serial_check;
-use fdb_keys::{Key, Refusal, Refused};
+use crate::making::{are_pairs, both, made_of};
+use fdb_core::{CheckFault, serial_check};
+use fdb_keys::{Key, KeyRange, Refusal, Refused};
 use fdb_mutations::Mutation;
-use fdb_runtime::{ClusterName, Config, Database, Receipt, Session, Spot, Transcript};
+use fdb_runtime::{ClusterName, Config, Database, Receipt, Record, Session, Spot, Transcript};
 use std::alloc::Global;
+use std::marker::Brand;
+use std::process::Abort;
 use std::sync::Wait;
+use std::thread::Threads;
+use std::time::Clock;
 
-/// The next two sessions. What is told to both has them lent, so that no exit on its way drops any.
-pub(crate) fn two_sessions<B: ClusterName + Send + Sync + 'static>(
+/// What runs a database in threads, tells the time, and stops a test that fails.
+pub(crate) trait Host: Threads + Wait + Abort + Clock + Copy + Send + Sync + Drop + 'static {}
+
+impl<R: Threads + Wait + Abort + Clock + Copy + Send + Sync + Drop + 'static> Host for R {}
+
+/// Names a database that runs.
+pub(crate) trait Named: ClusterName + Send + Sync + 'static {}
+
+impl Named for Brand {}
+
+/// Why a test couldn't go on, if so.
+pub(crate) type Done = Result<(), Refusal>;
+
+/// The next two sessions. What is told to both has them lent, so that no exit on the way drops any. No closure takes
+/// them: the prover doesn't state a bound that names what runs over a database's name.
+pub(crate) fn two_sessions<B: Named>(
     alloc: Global,
     database: &mut Database<B>,
 ) -> Result<(Session<B>, Session<B>), Refusal> {
-    let first = database.session(alloc)?;
-    match database.session(alloc) {
-        Ok(second) => Ok((first, second)),
-        Err(why) => Err(why),
-    }
+    both(database.session(alloc), database.session(alloc))
+}
+
+/// How many entries the record has.
+pub(crate) fn length_of<B: ClusterName>(
+    record: Result<Record<B>, Refusal>,
+) -> Result<usize, Refusal> {
+    Ok(record?.front().len())
 }
 
 /// Commits the write of one byte to the key, and gives its spot.
@@ -47,9 +71,18 @@ pub(crate) fn write<B: ClusterName>(
     session: &mut Session<B>,
     mutation: Result<Mutation, Refusal>,
 ) -> Result<(), Refusal> {
-    match mutation {
-        Ok(mutation) => session.write(&mutation),
-        Err(why) => Err(why),
+    made_of(mutation, |mutation| session.write(mutation))
+}
+
+/// The code of the session's commit, 0 where there is a receipt, and whether its transcript is handed back.
+pub(crate) fn commit_code<B: ClusterName, R: Wait>(
+    rt: &R,
+    alloc: Global,
+    session: &mut Session<B>,
+) -> (u32, bool) {
+    match session.commit(rt, alloc) {
+        Ok(_receipt) => (0, false),
+        Err(refused) => (refused.why.code(), refused.back.is_some()),
     }
 }
 
@@ -70,11 +103,72 @@ pub(crate) fn byte_of<B: ClusterName, R: Wait>(
     session: &mut Session<B>,
     key: &[u8],
 ) -> Result<Option<u8>, Refusal> {
+    byte_by(rt, alloc, session, key, false)
+}
+
+/// The same by a snapshot read.
+pub(crate) fn snapshot_of<B: ClusterName, R: Wait>(
+    rt: &R,
+    alloc: Global,
+    session: &mut Session<B>,
+    key: &[u8],
+) -> Result<Option<u8>, Refusal> {
+    byte_by(rt, alloc, session, key, true)
+}
+
+fn byte_by<B: ClusterName, R: Wait>(
+    rt: &R,
+    alloc: Global,
+    session: &mut Session<B>,
+    key: &[u8],
+    is_snapshot: bool,
+) -> Result<Option<u8>, Refusal> {
     let key = Key::new(alloc, key)?;
-    match session.get(rt, alloc, &key, false)? {
+    match session.get(rt, alloc, &key, is_snapshot)? {
         Some(value) => Ok(value.as_slice().first().copied()),
         None => Ok(None),
     }
+}
+
+/// Where a range begins and ends, how many pairs are asked for, whether from its end; its pairs then.
+pub(crate) type Asked = (&'static [u8], &'static [u8], u32, bool, &'static [(u8, u8)]);
+
+/// Whether the session reads just these pairs.
+pub(crate) fn reads_just<B: ClusterName, R: Wait>(
+    rt: &R,
+    alloc: Global,
+    session: &mut Session<B>,
+    asked: &Asked,
+    is_snapshot: bool,
+) -> Result<bool, Refusal> {
+    let (begin, end, limit, reverse, wanted) = *asked;
+    let range = KeyRange::new(alloc, begin, end)?;
+    match session.get_range(rt, alloc, &range, limit, reverse, is_snapshot) {
+        Ok(pairs) => Ok(are_pairs(pairs.as_slice(), wanted)),
+        Err(why) => Err(why),
+    }
+}
+
+/// The session adds the keys from a to y to what its transaction reads.
+pub(crate) fn add_read<B: ClusterName>(
+    alloc: Global,
+    session: &mut Session<B>,
+) -> Result<(), Refusal> {
+    made_of(
+        KeyRange::new(alloc, b"a", b"z"),
+        |range| session.add_read(range),
+    )
+}
+
+/// The same of what it writes.
+pub(crate) fn add_write<B: ClusterName>(
+    alloc: Global,
+    session: &mut Session<B>,
+) -> Result<(), Refusal> {
+    made_of(
+        KeyRange::new(alloc, b"a", b"z"),
+        |range| session.add_write(range),
+    )
 }
 
 /// Whether the receipt's transaction is serialized where it says on the receipt's front.
@@ -90,6 +184,7 @@ pub(crate) fn is_serial<B: ClusterName>(
     let placed = [receipt.into_placed()];
     match serial_check(alloc, config, entries.as_slice(), &placed) {
         Ok(count) => Ok(count == 1),
+        Err(CheckFault::NoMemory) => Err(Refusal::NoMemory),
         Err(_fault) => Ok(false),
     }
 }

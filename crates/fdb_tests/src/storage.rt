@@ -2,7 +2,9 @@
 ghost use Rattle.std.specs.Prelude.{IfOk};
 ghost use Rattle.fdb_log.specs.Peeks.{IsPeek};
 
-use crate::making::{Splits, after, both, code_of, has_bounds, made_of, push, same, splits_of};
+use crate::making::{
+    Splits, after, are_pairs, both, code_of, has_bounds, made_of, push, same, splits_of,
+};
 use bytes::Bytes;
 use fdb_keys::{Items, Key, KeyRange, Refusal};
 use fdb_log::{Peek, TagMsg};
@@ -110,13 +112,6 @@ fn get(shard: &Shard, alloc: Global, key: &[u8], version: u64) -> Result<Option<
     let key = Key::new(alloc, key)?;
     let value = shard.get(&key, version)?;
     Ok(only_byte(value.as_ref()))
-}
-
-fn are_pairs(pairs: &[(Key, Bytes)], wanted: &[(u8, u8)]) -> bool {
-    pairs.len() == wanted.len()
-        && pairs.iter().zip(wanted).all(|(pair, (key, value))| {
-            pair.0.bytes() == [*key].as_slice() && pair.1.as_slice() == [*value].as_slice()
-        })
 }
 
 // Which page of the keys from a on.
@@ -433,17 +428,23 @@ fn shard_of(shards: &ShardMap, alloc: Global, key: &[u8]) -> Result<u32, Refusal
     Ok(shards.shard_of(&key))
 }
 
+// The first shard that the range from the begin to the end of the keys meets.
+fn first_met(shards: &ShardMap, alloc: Global, begin: &[u8]) -> Result<u32, Refusal> {
+    let range = KeyRange::new(alloc, begin, &[0xff])?;
+    Ok(shards.first_met(&range))
+}
+
 // Whether the shard has the keys from the begin up to the end.
 fn has_range(shards: &ShardMap, index: u32, begin: &[u8], end: &[u8]) -> Result<bool, Refusal> {
     let range = shards.range(index)?;
     Ok(has_bounds(&range, begin, end))
 }
 
-// The shards of l and m.
-type Parted = [Result<u32, Refusal>; 2];
+// The shards of l and m, and those where ranges begin that begin just after l, at m and behind all keys.
+type Parted = [Result<u32, Refusal>; 5];
 
-// Of the shards of the keys below m and of those from m on: whether mutations have their tags, the shards of l and m,
-// and what the ranges of the second shard and of one more are.
+// Of the shards of the keys below m and of those from m on: whether mutations have their tags, the shards of keys and
+// of the begins of ranges, and what the ranges of the second shard and of one more are.
 fn parted(alloc: Global) -> Result<(bool, Parted, [Result<bool, Refusal>; 2]), Refusal> {
     let shards = shards(alloc, Splits::Keys(&[b"m"]))?;
     Ok((
@@ -451,6 +452,9 @@ fn parted(alloc: Global) -> Result<(bool, Parted, [Result<bool, Refusal>; 2]), R
         [
             shard_of(&shards, alloc, b"l"),
             shard_of(&shards, alloc, b"m"),
+            first_met(&shards, alloc, b"l\0"),
+            first_met(&shards, alloc, b"m"),
+            first_met(&shards, alloc, &[0xff]),
         ],
         [
             has_range(&shards, 1, b"m", &[0xff]),
@@ -471,7 +475,8 @@ static SPLITS: [(Splits, u32); 4] = [
 fn shards_part_the_keys_at_splits(rt: HostRuntime) {
     let alloc = rt.alloc();
     let ranges = [Ok(true), Err(Refusal::BadConfig)];
-    same(&rt, parted(alloc), Ok((true, [Ok(0), Ok(1)], ranges)));
+    let shards_of = [Ok(0), Ok(1), Ok(0), Ok(1), Ok(1)];
+    same(&rt, parted(alloc), Ok((true, shards_of, ranges)));
     for (splits, code) in SPLITS.as_slice() {
         same(&rt, code_of(shards(alloc, *splits)), *code);
     }

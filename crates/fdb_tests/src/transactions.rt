@@ -153,7 +153,7 @@ fn split_codes(alloc: Global, texts: &[&[u8]], most: usize) -> Result<[u32; 2], 
     })
 }
 
-// Whether the key lies in the piece of the number, which has the bounds.
+// Whether the key lies in the piece of the number, also as a range's begin, and the piece has the bounds.
 fn is_piece(
     alloc: Global,
     splits: &Splits,
@@ -164,7 +164,11 @@ fn is_piece(
     ask_both(
         Key::new(alloc, key),
         splits.piece(alloc, number),
-        |key, range| { splits.piece_of(key) == number && has_bounds(range, bounds[0], bounds[1]) },
+        |key, range| {
+            splits.piece_of(key) == number
+                && splits.piece_of_text(key.bytes()) == number
+                && has_bounds(range, bounds[0], bounds[1])
+        },
     )
 }
 

@@ -3,8 +3,8 @@
 use super::cut_snapshot::CutSnapshot;
 use super::marks::{Marks, only, span};
 use super::steps::{Asked, Change, KEYS, Step, Text};
-use super::{add_read, add_write, begin, get, mutation_of, range, write};
-use crate::making::{apply, both};
+use super::{add_read, add_write, begin, get, mutation_of, range};
+use crate::making::{apply, both, made_of};
 use crate::random::Random;
 use fdb_client::Txn;
 use fdb_keys::{Key, KeyRange, Refusal};
@@ -64,7 +64,10 @@ impl Plain {
     fn write(&mut self, txn: &mut Txn, alloc: Global, change: Change) -> Result<bool, Refusal> {
         self.marks.change(change);
         apply(&mut self.copy, mutation_of(alloc, change))?;
-        write(txn, mutation_of(alloc, change))?;
+        made_of(
+            mutation_of(alloc, change),
+            |mutation| txn.write_copy(mutation),
+        )?;
         Ok(true)
     }
 

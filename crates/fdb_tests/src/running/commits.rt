@@ -1,9 +1,14 @@
 // What becomes of commits, on one thread.
 ghost use Rattle.std.specs.Prelude.{◌≡◌};
 
-use crate::making::{coded, count_config, keys_of, rising_keys, same};
-use crate::running::{byte_of, is_serial, put, receipt_of, two_sessions, write};
-use fdb_keys::{KeyRange, Refusal};
+use crate::making::{
+    Splits, code_of, coded, count_config, keys_of, made_of, same, split_config, splits_of,
+};
+use crate::running::{
+    Asked, Done, Host, Named, add_read, add_write, byte_of, commit_code, is_serial, length_of, put,
+    reads_just, receipt_of, two_sessions, write,
+};
+use fdb_keys::Refusal;
 use fdb_mutations::Mutation;
 use fdb_runtime::{Blank, ClusterName, Config, Database, NoGate, Session, Spot};
 use std::alloc::Global;
@@ -11,7 +16,6 @@ use std::marker::Brand;
 use std::process::Abort;
 use std::sync::{Arc, Wait};
 use std::test::Fail;
-use std::thread::Threads;
 
 // A session sees at once what another one committed, though nobody told it.
 fn see_other<B: ClusterName, R: Wait + Abort>(
@@ -31,18 +35,6 @@ fn see_other<B: ClusterName, R: Wait + Abort>(
     Ok(())
 }
 
-// The code of the session's commit, and whether its transcript is handed back.
-fn refused_commit<B: ClusterName, R: Wait>(
-    rt: &R,
-    alloc: Global,
-    session: &mut Session<B>,
-) -> (u32, bool) {
-    match session.commit(rt, alloc) {
-        Ok(_receipt) => (0, false),
-        Err(refused) => (refused.why.code(), refused.back.is_some()),
-    }
-}
-
 // A transaction that is turned down leaves nothing: another one wrote what it had read.
 fn turn_down<B: ClusterName, R: Wait + Abort>(
     rt: &R,
@@ -55,7 +47,7 @@ fn turn_down<B: ClusterName, R: Wait + Abort>(
     same(rt, coded(byte_of(rt, alloc, late, b"x")), Ok(Some(1)));
     put(rt, alloc, first, b"x", 2)?;
     write(late, Mutation::set(alloc, b"x", &[3]))?;
-    same(rt, refused_commit(rt, alloc, late), (1020, true));
+    same(rt, commit_code(rt, alloc, late), (1020, true));
     // Nothing is open then.
     same(rt, coded(byte_of(rt, alloc, late, b"x")), Err(9015));
     late.begin(rt, alloc)?;
@@ -63,21 +55,8 @@ fn turn_down<B: ClusterName, R: Wait + Abort>(
     Ok(())
 }
 
-// Both, on two sessions.
-fn tell_both<B: ClusterName + Send + Sync + 'static, R: Wait + Abort>(
-    rt: &R,
-    alloc: Global,
-    database: &mut Database<B>,
-) -> Result<(), Refusal> {
-    match two_sessions(alloc, database) {
-        Ok((mut first, mut second)) => {
-            let seen = see_other(rt, alloc, &mut first, &mut second);
-            let turned_down = turn_down(rt, alloc, &mut first, &mut second);
-            seen.and(turned_down)
-        }
-        Err(why) => Err(why),
-    }
-}
+// The last pair, once b and c are 1.
+const LAST: Asked = (b"a", b"z", 1, true, &[(b'c', 1)]);
 
 // A transaction of the kind with the number: blind, one that reads a key, one that reads a range, one that only reads,
 // and one that has a write range alone.
@@ -87,7 +66,6 @@ fn fill<B: ClusterName, R: Wait>(
     session: &mut Session<B>,
     kind: u8,
 ) -> Result<(), Refusal> {
-    let range = KeyRange::new(alloc, b"a", b"z")?;
     match kind {
         0 => write(session, Mutation::set(alloc, b"b", &[1])),
         1 => {
@@ -95,14 +73,14 @@ fn fill<B: ClusterName, R: Wait>(
             write(session, Mutation::add(alloc, b"c", &[1]))
         }
         2 => {
-            session.get_range(rt, alloc, &range, 1, true, false)?;
+            reads_just(rt, alloc, session, &LAST, false)?;
             write(session, Mutation::clear(alloc, b"b"))
         }
         3 => {
             byte_of(rt, alloc, session, b"c")?;
-            session.add_read(&range)
+            add_read(alloc, session)
         }
-        _ => session.add_write(&range),
+        _ => add_write(alloc, session),
     }
 }
 
@@ -142,8 +120,24 @@ fn commit_five<B: ClusterName, R: Wait>(
     Ok(told)
 }
 
-// The same, in a session of its own.
-fn commit_kinds<B: ClusterName + Send + Sync + 'static, R: Wait>(
+// The first session commits one of each kind, and then both commit the same keys.
+fn tell<B: ClusterName, R: Wait + Abort>(
+    rt: &R,
+    alloc: Global,
+    config: &Config,
+    first: &mut Session<B>,
+    second: &mut Session<B>,
+) -> Result<[(bool, bool); 5], Refusal>
+    requires { config.now ≡ B.config }
+{
+    let kinds = commit_five(rt, alloc, config, first)?;
+    see_other(rt, alloc, first, second)?;
+    turn_down(rt, alloc, first, second)?;
+    Ok(kinds)
+}
+
+// The same in the database's first two sessions.
+fn tell_in_two<B: Named, R: Host>(
     rt: &R,
     alloc: Global,
     config: &Config,
@@ -151,23 +145,19 @@ fn commit_kinds<B: ClusterName + Send + Sync + 'static, R: Wait>(
 ) -> Result<[(bool, bool); 5], Refusal>
     requires { config.now ≡ B.config }
 {
-    match database.session(alloc) {
-        Ok(mut session) => commit_five(rt, alloc, config, &mut session),
+    match two_sessions(alloc, database) {
+        Ok((mut first, mut second)) => tell(rt, alloc, config, &mut first, &mut second),
         Err(why) => Err(why),
     }
 }
 
-fn use_kinds<
-    B: ClusterName + Send + Sync + 'static,
-    R: Threads + Wait + Abort + Copy + Send + Sync + 'static,
->(rt: &R, alloc: Global, blank: Blank, config: &Config) -> Result<(), Refusal>
+fn use_kinds<B: Named, R: Host>(rt: &R, alloc: Global, blank: Blank, config: &Config) -> Done
     requires cells { blank ≡ B.cells }
     requires config { config.now ≡ B.config }
 {
     let gate = Arc::new(alloc, NoGate)?;
     let mut database: Database<B> = Database::start(rt, alloc, blank, config, 100, &gate)?;
-    let kinds = commit_kinds(rt, alloc, config, &mut database);
-    let told = tell_both(rt, alloc, &mut database);
+    let kinds = tell_in_two(rt, alloc, config, &mut database);
     let record = database.close(rt);
     let wanted = [
         (true, true),
@@ -177,17 +167,9 @@ fn use_kinds<
         (true, true),
     ];
     same(rt, coded(kinds), Ok(wanted));
-    same(rt, coded(told), Ok(()));
     // Four entries of the kinds that write, one, two, and one that was turned down.
     same(rt, coded(length_of(record)), Ok(8));
     Ok(())
-}
-
-// How many entries a record has.
-fn length_of<B: ClusterName>(
-    record: Result<fdb_runtime::Record<B>, Refusal>,
-) -> Result<usize, Refusal> {
-    Ok(record?.front().len())
 }
 
 #[test]
@@ -201,64 +183,48 @@ fn commits_of_all_kinds(rt: HostRuntime) -> Result<(), Fail> {
     Ok(())
 }
 
+// The code of each of two commits, with the session, in which a transaction is open then.
+fn commit_twice<B: Named, R: Wait>(
+    rt: &R,
+    alloc: Global,
+    database: &mut Database<B>,
+) -> Result<([u32; 2], Session<B>), Refusal> {
+    match database.session(alloc) {
+        Ok(mut session) => {
+            let first = code_of(put(rt, alloc, &mut session, b"k", 1));
+            let second = code_of(put(rt, alloc, &mut session, b"k", 1));
+            let _version = session.begin(rt, alloc);
+            Ok(([first, second], session))
+        }
+        Err(why) => Err(why),
+    }
+}
+
+// The codes of a read and a commit of the open transaction, then of a read of nothing open, and of `begin`.
+fn go_on<B: ClusterName, R: Wait>(rt: &R, alloc: Global, session: Session<B>) -> [u32; 4] {
+    let mut session = session;
+    let read = code_of(byte_of(rt, alloc, &mut session, b"k"));
+    let _set = write(&mut session, Mutation::set(alloc, b"k", &[2]));
+    let (committed, _is_handed_back) = commit_code(rt, alloc, &mut session);
+    let read_closed = code_of(byte_of(rt, alloc, &mut session, b"k"));
+    let begun = code_of(session.begin(rt, alloc));
+    [read, committed, read_closed, begun]
+}
+
 // What a session is told where the book takes one entry, and after the database is closed.
-fn fill_book<
-    B: ClusterName + Send + Sync + 'static,
-    R: Threads + Wait + Abort + Copy + Send + Sync + 'static,
->(rt: &R, alloc: Global, blank: Blank, config: &Config) -> Result<(), Refusal>
+fn fill_book<B: Named, R: Host>(rt: &R, alloc: Global, blank: Blank, config: &Config) -> Done
     requires cells { blank ≡ B.cells }
     requires config { config.now ≡ B.config }
 {
     let gate = Arc::new(alloc, NoGate)?;
     let mut database: Database<B> = Database::start(rt, alloc, blank, config, 100, &gate)?;
-    let opened = database.session(alloc);
-    let told = match opened {
-        Ok(session) => tell_full(rt, alloc, session, database),
-        Err(why) => {
-            let _ = database.close(rt);
-            return Err(why);
-        }
-    };
-    same(rt, told, ([0, 9006, 9013, 9013, 9015, 9013], Ok(1)));
+    let told = commit_twice(rt, alloc, &mut database);
+    let record = database.close(rt);
+    let (codes, session) = told?;
+    let gone_on = go_on(rt, alloc, session);
+    same(rt, (codes, gone_on), ([0, 9006], [9013, 9013, 9015, 9013]));
+    same(rt, coded(length_of(record)), Ok(1));
     Ok(())
-}
-
-fn code_of_commit<B: ClusterName, R: Wait>(rt: &R, alloc: Global, session: &mut Session<B>) -> u32 {
-    match put(rt, alloc, session, b"k", 1) {
-        Ok(_spot) => 0,
-        Err(why) => why.code(),
-    }
-}
-
-// The codes of what the session is told: two commits, a read after `close`, then `begin` and a read of nothing open.
-fn tell_full<B: ClusterName + Send + Sync + 'static, R: Threads + Wait>(
-    rt: &R,
-    alloc: Global,
-    session: Session<B>,
-    database: Database<B>,
-) -> ([u32; 6], Result<usize, u32>) {
-    let mut session = session;
-    let first = code_of_commit(rt, alloc, &mut session);
-    let second = code_of_commit(rt, alloc, &mut session);
-    let _version = session.begin(rt, alloc);
-    let length = coded(length_of(database.close(rt)));
-    let read = code(byte_of(rt, alloc, &mut session, b"k"));
-    let _set = write(&mut session, Mutation::set(alloc, b"k", &[2]));
-    let third = match session.commit(rt, alloc) {
-        Ok(_receipt) => 0,
-        Err(refused) => refused.why.code(),
-    };
-    let closed = code(byte_of(rt, alloc, &mut session, b"k"));
-    let begun = code(session.begin(rt, alloc));
-    ([first, second, read, third, closed, begun], length)
-}
-
-// The code of the refusal, 0 where there is none.
-fn code<T: Drop>(answer: Result<T, Refusal>) -> u32 {
-    match answer {
-        Ok(_given) => 0,
-        Err(why) => why.code(),
-    }
 }
 
 #[test]
@@ -270,70 +236,76 @@ fn a_full_book_and_a_closed_database(rt: HostRuntime) -> Result<(), Fail> {
     Ok(())
 }
 
-fn start_code<
-    B: ClusterName + Send + Sync + 'static,
-    R: Threads + Wait + Copy + Send + Sync + 'static,
->(rt: &R, alloc: Global, blank: Blank, config: &Config) -> Result<u32, Refusal>
+fn start_code<B: Named, R: Host>(
+    rt: &R,
+    alloc: Global,
+    blank: Blank,
+    config: &Config,
+) -> Result<u32, Refusal>
     requires cells { blank ≡ B.cells }
     requires config { config.now ≡ B.config }
 {
     let gate = Arc::new(alloc, NoGate)?;
-    let started: Result<Database<B>, Refusal> = Database::start(
-        rt, alloc, blank, config, 100, &gate,
-    );
-    match started {
-        Ok(database) => {
-            let _record = database.close(rt);
-            Ok(0)
-        }
+    match Database::<B>::start(rt, alloc, blank, config, 100, &gate) {
+        Ok(database) => Ok(code_of(database.close(rt))),
         Err(why) => Ok(why.code()),
     }
 }
 
+// The same on a blank of as many cells.
+fn start_on<R: Host>(rt: &R, alloc: Global, config: &Config, cells: u32) -> Result<u32, Refusal> {
+    let blank = Blank::new(alloc, cells)?;
+    start_code::<Brand, R>(rt, alloc, blank, config)
+}
+
+// Proxies, logs, entries, cells; the code.
+const SIZES: &[(u32, u32, u32, u32, u32)] = &[
+    (1, 1, 10, 10, 0),
+    (16, 16, 10, 10, 0),
+    (0, 1, 10, 10, 9009),
+    (17, 1, 10, 10, 9009),
+    (1, 17, 10, 10, 9009),
+    (1, 1, 0, 10, 9009),
+    (1, 1, 10, 9, 9009),
+    (1, 1, 10, 11, 9009),
+];
+
 #[test]
 fn databases_start_with_legal_configurations(rt: HostRuntime) -> Result<(), Fail> {
     let alloc = rt.alloc();
-    // Proxies, logs, entries, cells; the code.
-    let rows = [
-        (1, 1, 10, 10, 0),
-        (16, 16, 10, 10, 0),
-        (0, 1, 10, 10, 9009),
-        (17, 1, 10, 10, 9009),
-        (1, 17, 10, 10, 9009),
-        (1, 1, 0, 10, 9009),
-        (1, 1, 10, 9, 9009),
-        (1, 1, 10, 11, 9009),
-    ];
-    for (proxies, logs, book, cells, code) in rows {
-        let config = count_config(alloc, proxies, logs, book);
-        let blank = Blank::new(alloc, cells)?;
-        let told = start_code::<Brand, HostRuntime>(&rt, alloc, blank, &config)?;
-        same(&rt, told, code);
+    for (proxies, logs, book, cells, code) in SIZES {
+        let config = count_config(alloc, *proxies, *logs, *book);
+        same(&rt, start_on(&rt, alloc, &config, *cells)?, *code);
     }
     Ok(())
 }
 
+const NONE: Splits = Splits::Keys(&[]);
+
+const RISING: Splits = Splits::Keys(&[b"a", b"b"]);
+
+const FALLING: Splits = Splits::Keys(&[b"b", b"a"]);
+
+const EMPTY_KEY: Splits = Splits::Keys(&[b""]);
+
+// Splits of the resolvers and of the shards; the code.
+const SPLITS: &[(Splits, Splits, u32)] = &[
+    (RISING, NONE, 0),
+    (NONE, RISING, 0),
+    (FALLING, NONE, 9009),
+    (NONE, FALLING, 9009),
+    (EMPTY_KEY, NONE, 9009),
+    (NONE, EMPTY_KEY, 9009),
+    (Splits::Rising(64), NONE, 9009),
+];
+
 #[test]
 fn databases_start_with_legal_splits(rt: HostRuntime) -> Result<(), Fail> {
     let alloc = rt.alloc();
-    let rows: [(&[&[u8]], u32); 3] = [(&[b"a", b"b"], 0), (&[b"b", b"a"], 9009), (&[b""], 9009)];
-    for (splits, code) in rows {
-        for is_shards in [false, true] {
-            let mut config = count_config(alloc, 1, 1, 10);
-            if is_shards {
-                config.shard_splits = keys_of(alloc, splits)?;
-            } else {
-                config.resolver_splits = keys_of(alloc, splits)?;
-            }
-            let blank = Blank::new(alloc, 10)?;
-            let told = start_code::<Brand, HostRuntime>(&rt, alloc, blank, &config)?;
-            same(&rt, told, code);
-        }
+    for (resolvers, shards, code) in SPLITS {
+        let config = split_config(splits_of(alloc, *resolvers), splits_of(alloc, *shards));
+        let told = made_of(config, |config| start_on(&rt, alloc, config, 1));
+        same(&rt, told?, *code);
     }
-    let mut config = count_config(alloc, 1, 1, 10);
-    config.resolver_splits = rising_keys(alloc, 64)?;
-    let blank = Blank::new(alloc, 10)?;
-    let told = start_code::<Brand, HostRuntime>(&rt, alloc, blank, &config)?;
-    same(&rt, told, 9009);
     Ok(())
 }

@@ -2,7 +2,7 @@
 ghost use Rattle.std.specs.Prelude.{◌≡◌};
 
 use crate::making::{coded, count_config, keys_of, same};
-use crate::running::{byte_of, receipt_of, write};
+use crate::running::{Done, Host, Named, byte_of, receipt_of, write};
 use bytes::Bytes;
 use fdb_book::Blank;
 use fdb_keys::{Key, Refusal};
@@ -10,7 +10,6 @@ use fdb_mutations::Mutation;
 use fdb_runtime::{ClusterName, Config, Database, NoGate, Record, Session};
 use std::alloc::Global;
 use std::marker::Brand;
-use std::process::Abort;
 use std::sync::{Arc, Wait};
 use std::test::Fail;
 use std::thread;
@@ -73,10 +72,7 @@ fn play_client<B: ClusterName, R: Wait>(
 type Client = JoinHandle<Result<(Model, bool), Refusal>>;
 
 // Starts all clients.
-fn start_clients<
-    B: ClusterName + Send + Sync + 'static,
-    R: Threads + Wait + Abort + Copy + Send + Sync + 'static,
->(
+fn start_clients<B: Named, R: Host>(
     rt: &R,
     alloc: Global,
     database: &mut Database<B>,
@@ -109,6 +105,18 @@ fn join_clients<R: Threads>(
         are_known = are_known && is_known;
     }
     Ok((models, are_known))
+}
+
+// The same of clients that are started on the database.
+fn play_clients<B: Named, R: Host>(
+    rt: &R,
+    alloc: Global,
+    database: &mut Database<B>,
+) -> Result<(Vec<Model>, bool), Refusal> {
+    let mut clients = Vec::new(alloc);
+    let started = start_clients(rt, alloc, database, &mut clients);
+    let joined = join_clients(rt, alloc, clients);
+    started.and(joined)
 }
 
 // Whether the record has the pair.
@@ -147,21 +155,15 @@ fn told_of<B: ClusterName>(
     Ok((count, pairs.len(), is_sum, has_all(pairs, models)))
 }
 
-fn count<
-    B: ClusterName + Send + Sync + 'static,
-    R: Threads + Wait + Abort + Copy + Send + Sync + 'static,
->(rt: &R, alloc: Global, blank: Blank, config: &Config) -> Result<(), Refusal>
+fn count<B: Named, R: Host>(rt: &R, alloc: Global, blank: Blank, config: &Config) -> Done
     requires cells { blank ≡ B.cells }
     requires config { config.now ≡ B.config }
 {
     let gate = Arc::new(alloc, NoGate)?;
     let mut database: Database<B> = Database::start(rt, alloc, blank, config, 1_000, &gate)?;
-    let mut clients = Vec::new(alloc);
-    let started = start_clients(rt, alloc, &mut database, &mut clients);
-    let joined = join_clients(rt, alloc, clients);
+    let played = play_clients(rt, alloc, &mut database);
     let record = database.close(rt);
-    same(rt, coded(started), Ok(()));
-    let (models, are_known) = joined?;
+    let (models, are_known) = played?;
     same(rt, are_known, true);
     let told = told_of(record, models.as_slice());
     same(

@@ -2,14 +2,13 @@
 ghost use Rattle.std.specs.Prelude.{◌≡◌};
 
 use crate::making::{coded, count_config, keys_of, same};
-use crate::running::{byte_of, put, two_sessions};
+use crate::running::{Done, Host, Named, byte_of, put, two_sessions};
 use fdb_book::Blank;
 use fdb_keys::Refusal;
 use fdb_runtime::{ClusterName, Config, Database, Gate, Role, Session};
 use fdb_txn::Spot;
 use std::alloc::Global;
 use std::marker::Brand;
-use std::process::Abort;
 use std::sync::atomic::{AtomicBool, AtomicU64, Ordering};
 use std::sync::{Arc, Wait};
 use std::test::Fail;
@@ -137,7 +136,7 @@ fn commit_two<B: ClusterName, R: Wait>(
 }
 
 // The same in a session of its own.
-fn commit_alone<B: ClusterName + Send + Sync + 'static, R: Wait>(
+fn commit_alone<B: Named, R: Host>(
     rt: &R,
     alloc: Global,
     database: &mut Database<B>,
@@ -148,10 +147,7 @@ fn commit_alone<B: ClusterName + Send + Sync + 'static, R: Wait>(
     }
 }
 
-fn cross<
-    B: ClusterName + Send + Sync + 'static,
-    R: Threads + Wait + Abort + Clock + Copy + Send + Sync + Drop + 'static,
->(rt: &R, alloc: Global, blank: Blank, config: &Config) -> Result<(), Refusal>
+fn cross<B: Named, R: Host>(rt: &R, alloc: Global, blank: Blank, config: &Config) -> Done
     requires cells { blank ≡ B.cells }
     requires config { config.now ≡ B.config }
 {
@@ -183,7 +179,7 @@ fn two_resolvers_wait_for_each_other(rt: HostRuntime) -> Result<(), Fail> {
 }
 
 // Two sessions commit at once. The entries are 0 and 1, in either order.
-fn commit_at_once<B: ClusterName + Send + Sync + 'static, R: Threads + Wait + Sync>(
+fn commit_at_once<B: Named, R: Threads + Wait + Sync>(
     rt: &R,
     alloc: Global,
     first: &mut Session<B>,
@@ -197,8 +193,8 @@ fn commit_at_once<B: ClusterName + Send + Sync + 'static, R: Threads + Wait + Sy
     Ok(one?.0.wrapping_add(two?.0))
 }
 
-// The same with sessions of the database.
-fn commit_both<B: ClusterName + Send + Sync + 'static, R: Threads + Wait + Sync>(
+// The same in sessions of the database.
+fn commit_both<B: Named, R: Host>(
     rt: &R,
     alloc: Global,
     database: &mut Database<B>,
@@ -209,10 +205,7 @@ fn commit_both<B: ClusterName + Send + Sync + 'static, R: Threads + Wait + Sync>
     }
 }
 
-fn meet<
-    B: ClusterName + Send + Sync + 'static,
-    R: Threads + Wait + Abort + Clock + Copy + Send + Sync + Drop + 'static,
->(rt: &R, alloc: Global, blank: Blank, config: &Config) -> Result<(), Refusal>
+fn meet<B: Named, R: Host>(rt: &R, alloc: Global, blank: Blank, config: &Config) -> Done
     requires cells { blank ≡ B.cells }
     requires config { config.now ≡ B.config }
 {
@@ -258,11 +251,7 @@ fn read_meanwhile<B: ClusterName, C: Clock + Send + Sync + Drop, R: Wait>(
 
 type Meanwhile = ([(u32, u64); 2], (bool, u64, Option<u8>));
 
-fn commit_and_read<
-    B: ClusterName + Send + Sync + 'static,
-    C: Clock + Send + Sync + Drop,
-    R: Threads + Wait + Sync,
->(
+fn commit_and_read<B: Named, C: Clock + Send + Sync + Drop, R: Threads + Wait + Sync>(
     rt: &R,
     alloc: Global,
     gate: &HeldProxy<C>,
@@ -277,29 +266,20 @@ fn commit_and_read<
     Ok((committed?, read?))
 }
 
-// The same with sessions of the database.
-fn use_both<
-    B: ClusterName + Send + Sync + 'static,
-    C: Clock + Send + Sync + Drop,
-    R: Threads + Wait + Sync,
->(
+// The same in sessions of the database.
+fn read_in_two<B: Named, R: Host>(
     rt: &R,
     alloc: Global,
-    gate: &HeldProxy<C>,
+    gate: &HeldProxy<R>,
     database: &mut Database<B>,
 ) -> Result<Meanwhile, Refusal> {
     match two_sessions(alloc, database) {
-        Ok((mut writer, mut reader)) => {
-            commit_and_read(rt, alloc, gate, &mut writer, &mut reader)
-        }
+        Ok((mut first, mut second)) => commit_and_read(rt, alloc, gate, &mut first, &mut second),
         Err(why) => Err(why),
     }
 }
 
-fn hold<
-    B: ClusterName + Send + Sync + 'static,
-    R: Threads + Wait + Abort + Clock + Copy + Send + Sync + Drop + 'static,
->(rt: &R, alloc: Global, blank: Blank, config: &Config) -> Result<(), Refusal>
+fn hold<B: Named, R: Host>(rt: &R, alloc: Global, blank: Blank, config: &Config) -> Done
     requires cells { blank ≡ B.cells }
     requires config { config.now ≡ B.config }
 {
@@ -313,7 +293,7 @@ fn hold<
         },
     )?;
     let mut database: Database<B> = Database::start(rt, alloc, blank, config, 100, &gate)?;
-    let told = use_both(rt, alloc, &*gate, &mut database);
+    let told = read_in_two(rt, alloc, &*gate, &mut database);
     let record = database.close(rt);
     same(
         rt,

@@ -1,20 +1,22 @@
 // One session or several, on one thread.
 ghost use Rattle.std.specs.Prelude.{◌≡◌};
 
-use crate::making::{coded, count_config, same};
-use crate::running::{byte_of, two_sessions, write};
-use bytes::Bytes;
+use crate::making::{are_pairs, coded, count_config, same};
+use crate::running::{
+    Asked, Done, Host, Named, add_read, add_write, byte_of, reads_just, two_sessions, write,
+};
 use fdb_book::Blank;
-use fdb_keys::{Key, KeyRange, Refusal};
+use fdb_keys::Refusal;
 use fdb_mutations::Mutation;
-use fdb_runtime::{ClusterName, Config, Database, NoGate, Record, Session};
+use fdb_runtime::{ClusterName, Config, Database, NoGate, Receipt, Record, Session};
 use fdb_txn::Spot;
 use std::alloc::Global;
 use std::marker::Brand;
 use std::process::Abort;
 use std::sync::{Arc, Wait};
 use std::test::Fail;
-use std::thread::Threads;
+
+const PAIR: Asked = (b"a", b"b", 0, false, &[(b'a', 7)]);
 
 // The entry and the place of a spot, if it has any, and its version.
 fn numbers_of_spot(spot: Spot) -> (Option<(u32, u32)>, u64) {
@@ -28,33 +30,38 @@ fn numbers_of_spot(spot: Spot) -> (Option<(u32, u32)>, u64) {
     }
 }
 
-// The first session commits the key, and tells the second one. Gives the numbers of the spot.
+// What the receipt shows: the numbers of the spot; the transaction's session and number, its read version, and how many
+// operations it has; how many entries its front has.
+type Shown = ((Option<(u32, u32)>, u64), (u32, u64, u64, usize), usize);
+
+fn shown_by<B: ClusterName>(receipt: Receipt<B>) -> Shown {
+    let length = receipt.front().len();
+    let spot = numbers_of_spot(receipt.spot());
+    let transcript = receipt.transcript();
+    let id = transcript.id;
+    let numbers = (
+        id.session,
+        id.number,
+        transcript.read_version,
+        transcript.ops.len(),
+    );
+    (spot, numbers, length)
+}
+
+// The first session commits the key, and tells the second one. Gives what the receipt shows.
 fn commit_and_tell<B: ClusterName, R: Wait>(
     rt: &R,
     alloc: Global,
     first: &mut Session<B>,
     second: &mut Session<B>,
-) -> Result<(Option<(u32, u32)>, u64), Refusal> {
+) -> Result<Shown, Refusal> {
     write(first, Mutation::set(alloc, b"a", &[7]))?;
     match first.commit(rt, alloc) {
         Ok(receipt) => match second.learn(&receipt) {
-            Ok(()) => Ok(numbers_of_spot(receipt.spot())),
+            Ok(()) => Ok(shown_by(receipt)),
             Err(why) => Err(why),
         },
         Err(refused) => Err(refused.why),
-    }
-}
-
-// Whether the session reads just the pair in the range.
-fn reads_pair<B: ClusterName, R: Wait>(
-    rt: &R,
-    alloc: Global,
-    session: &mut Session<B>,
-    range: &KeyRange,
-) -> Result<bool, Refusal> {
-    match session.get_range(rt, alloc, range, 0, false, false) {
-        Ok(pairs) => Ok(is_pair(pairs.as_slice(), b"a", 7)),
-        Err(why) => Err(why),
     }
 }
 
@@ -64,64 +71,59 @@ fn tell<B: ClusterName, R: Wait + Abort>(
     alloc: Global,
     first: &mut Session<B>,
     second: &mut Session<B>,
-    range: &KeyRange,
 ) {
     same(rt, coded(byte_of(rt, alloc, first, b"a")), Err(9015));
     same(rt, coded(first.begin(rt, alloc)), Ok(0));
-    let spot = commit_and_tell(rt, alloc, first, second);
-    same(rt, coded(spot), Ok((Some((0, 0)), 100)));
+    let shown = commit_and_tell(rt, alloc, first, second);
+    let wanted = ((Some((0, 0)), 100), (0, 0, 0, 1), 1);
+    same(rt, coded(shown), Ok(wanted));
     same(rt, coded(second.begin(rt, alloc)), Ok(100));
     same(rt, coded(byte_of(rt, alloc, second, b"a")), Ok(Some(7)));
-    same(rt, coded(reads_pair(rt, alloc, second, range)), Ok(true));
-    same(rt, coded(second.add_read(range)), Ok(()));
-    same(rt, coded(second.add_write(range)), Ok(()));
+    same(
+        rt,
+        coded(reads_just(rt, alloc, second, &PAIR, false)),
+        Ok(true),
+    );
+    same(rt, coded(add_read(alloc, second)), Ok(()));
+    same(rt, coded(add_write(alloc, second)), Ok(()));
 }
 
-// The same with sessions of the database.
-fn tell_two<B: ClusterName + Send + Sync + 'static, R: Wait + Abort>(
+// How many entries the record has, at which version it is, and whether the pair is the only one.
+fn told_of<B: ClusterName>(record: Result<Record<B>, Refusal>) -> Result<(usize, u64, bool), u32> {
+    match record {
+        Ok(record) => {
+            let is_pair = are_pairs(record.pairs(), &[(b'a', 7)]);
+            Ok((record.front().len(), record.committed(), is_pair))
+        }
+        Err(why) => Err(why.code()),
+    }
+}
+
+// The same of the database's first two sessions.
+fn tell_in_two<B: Named, R: Host>(
     rt: &R,
     alloc: Global,
     database: &mut Database<B>,
 ) -> Result<(), Refusal> {
-    let range = KeyRange::new(alloc, b"a", b"b")?;
     match two_sessions(alloc, database) {
         Ok((mut first, mut second)) => {
-            tell(rt, alloc, &mut first, &mut second, &range);
+            tell(rt, alloc, &mut first, &mut second);
             Ok(())
         }
         Err(why) => Err(why),
     }
 }
 
-// Whether this is the one pair.
-fn is_pair(pairs: &[(Key, Bytes)], key: &[u8], value: u8) -> bool {
-    match pairs {
-        [(only, bytes)] => only.bytes() == key && bytes.as_slice() == [value].as_slice(),
-        _ => false,
-    }
-}
-
-// How many entries the record has, and whether the pair is the only one.
-fn told_of<B: ClusterName>(record: Result<Record<B>, Refusal>) -> Result<(usize, bool), u32> {
-    match record {
-        Ok(record) => Ok((record.front().len(), is_pair(record.pairs(), b"a", 7))),
-        Err(why) => Err(why.code()),
-    }
-}
-
-fn run_two<
-    B: ClusterName + Send + Sync + 'static,
-    R: Threads + Wait + Abort + Copy + Send + Sync + 'static,
->(rt: &R, alloc: Global, blank: Blank, config: &Config) -> Result<(), Refusal>
+fn run_two<B: Named, R: Host>(rt: &R, alloc: Global, blank: Blank, config: &Config) -> Done
     requires cells { blank ≡ B.cells }
     requires config { config.now ≡ B.config }
 {
     let gate = Arc::new(alloc, NoGate)?;
     let mut database: Database<B> = Database::start(rt, alloc, blank, config, 100, &gate)?;
-    let told = tell_two(rt, alloc, &mut database);
+    let told = tell_in_two(rt, alloc, &mut database);
     let record = database.close(rt);
     same(rt, coded(told), Ok(()));
-    same(rt, told_of(record), Ok((1, true)));
+    same(rt, told_of(record), Ok((1, 100, true)));
     Ok(())
 }
 

@@ -1,4 +1,4 @@
-use Rattle.fdb_tests.proofs.running.commits.databases_start_with_legal_splits.Given as goal
+use Rattle.fdb_tests.proofs.running.commits.start_on.Given as goal
 
 abbrev pub ghosts-start_code-B-BookName : goal.ghosts-start_code-B-BookName
 ghosts-start_code-B-BookName g a = record { cells = a.blank }

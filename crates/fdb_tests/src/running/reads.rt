@@ -1,0 +1,252 @@
+// What a session reads, and which of its calls turn it down where another one writes.
+ghost use Rattle.std.specs.Prelude.{◌≡◌};
+
+use crate::making::{coded, count_config, keys_of, same};
+use crate::running::{
+    Asked, Done, Host, Named, add_read, add_write, byte_of, commit_code, put, reads_just,
+    snapshot_of, two_sessions, write,
+};
+use fdb_keys::Refusal;
+use fdb_mutations::Mutation;
+use fdb_runtime::{Blank, ClusterName, Config, Database, NoGate, Session};
+use std::alloc::Global;
+use std::marker::Brand;
+use std::process::Abort;
+use std::sync::{Arc, Wait};
+use std::test::Fail;
+
+const FOUR: &[(u8, u8)] = &[(b'a', 1), (b'b', 2), (b'c', 3), (b'd', 4)];
+
+// What is read of these.
+const COMMITTED: &[Asked] = &[
+    (b"a", b"e", 0, false, FOUR),
+    (b"a", b"e", 3, false, &[(b'a', 1), (b'b', 2), (b'c', 3)]),
+    (b"a", b"e", 3, true, &[(b'd', 4), (b'c', 3), (b'b', 2)]),
+    (b"b", b"d", 0, true, &[(b'c', 3), (b'b', 2)]),
+    (b"e", b"z", 0, false, &[]),
+];
+
+// The same after the transaction's own clear of b, and its sets of c to 9 and e to 5.
+const OWN: &[Asked] = &[
+    (
+        b"a",
+        b"z",
+        0,
+        false,
+        &[(b'a', 1), (b'c', 9), (b'd', 4), (b'e', 5)],
+    ),
+    (b"a", b"z", 2, true, &[(b'e', 5), (b'd', 4)]),
+    (b"b", b"c", 0, false, &[]),
+];
+
+// The session reads each of them, by ordinary reads and by snapshot reads.
+fn read_each<B: ClusterName, R: Wait + Abort>(
+    rt: &R,
+    alloc: Global,
+    session: &mut Session<B>,
+    rows: &[Asked],
+) {
+    for (row, asked) in rows.iter().enumerate() {
+        let ordinary = coded(reads_just(rt, alloc, session, asked, false));
+        let snapshot = coded(reads_just(rt, alloc, session, asked, true));
+        same(rt, (row, ordinary, snapshot), (row, Ok(true), Ok(true)));
+    }
+}
+
+fn commit_four<B: ClusterName, R: Wait>(
+    rt: &R,
+    alloc: Global,
+    session: &mut Session<B>,
+) -> Result<u32, Refusal> {
+    session.begin(rt, alloc)?;
+    for (key, value) in FOUR {
+        write(session, Mutation::set(alloc, &[*key], &[*value]))?;
+    }
+    Ok(commit_code(rt, alloc, session).0)
+}
+
+fn write_own<B: ClusterName>(alloc: Global, session: &mut Session<B>) -> Result<(), Refusal> {
+    write(session, Mutation::clear(alloc, b"b"))?;
+    write(session, Mutation::set(alloc, b"c", &[9]))?;
+    write(session, Mutation::set(alloc, b"e", &[5]))
+}
+
+// One session commits four pairs, and the other one reads them, and then with its own writes.
+fn read_ranges<B: ClusterName, R: Wait + Abort>(
+    rt: &R,
+    alloc: Global,
+    writer: &mut Session<B>,
+    reader: &mut Session<B>,
+) {
+    same(rt, coded(commit_four(rt, alloc, writer)), Ok(0));
+    same(rt, coded(reader.begin(rt, alloc)), Ok(100));
+    read_each(rt, alloc, reader, COMMITTED);
+    same(rt, coded(write_own(alloc, reader)), Ok(()));
+    read_each(rt, alloc, reader, OWN);
+    same(rt, coded(byte_of(rt, alloc, reader, b"b")), Ok(None));
+    same(rt, coded(byte_of(rt, alloc, reader, b"c")), Ok(Some(9)));
+    same(rt, coded(byte_of(rt, alloc, reader, b"d")), Ok(Some(4)));
+    same(rt, coded(snapshot_of(rt, alloc, reader, b"d")), Ok(Some(4)));
+}
+
+// The same in the database's first two sessions.
+fn read_in_two<B: Named, R: Host>(
+    rt: &R,
+    alloc: Global,
+    database: &mut Database<B>,
+) -> Result<(), Refusal> {
+    match two_sessions(alloc, database) {
+        Ok((mut first, mut second)) => {
+            read_ranges(rt, alloc, &mut first, &mut second);
+            Ok(())
+        }
+        Err(why) => Err(why),
+    }
+}
+
+fn use_ranges<B: Named, R: Host>(rt: &R, alloc: Global, blank: Blank, config: &Config) -> Done
+    requires cells { blank ≡ B.cells }
+    requires config { config.now ≡ B.config }
+{
+    let gate = Arc::new(alloc, NoGate)?;
+    let mut database: Database<B> = Database::start(rt, alloc, blank, config, 100, &gate)?;
+    let told = read_in_two(rt, alloc, &mut database);
+    let record = database.close(rt);
+    same(rt, coded(told), Ok(()));
+    same(rt, record.is_ok(), true);
+    Ok(())
+}
+
+#[test]
+fn ranges_are_read_over_two_shards(rt: HostRuntime) -> Result<(), Fail> {
+    let alloc = rt.alloc();
+    let mut config = count_config(alloc, 1, 1, 100);
+    config.shard_splits = keys_of(alloc, &[b"c"])?;
+    let blank = Blank::new(alloc, 100)?;
+    use_ranges::<Brand, HostRuntime>(&rt, alloc, blank, &config)?;
+    Ok(())
+}
+
+// What a transaction does with the key d, or with all keys from a to y.
+#[derive(Clone, Copy)]
+enum Touch {
+    Get,
+    SnapshotGet,
+    Range,
+    SnapshotRange,
+    AddRead,
+    AddWrite,
+    Set,
+}
+
+const ALL: Asked = (b"a", b"z", 0, false, &[]);
+
+fn touch_keys<B: ClusterName, R: Wait>(
+    rt: &R,
+    alloc: Global,
+    session: &mut Session<B>,
+    how: Touch,
+) -> Result<(), Refusal> {
+    match how {
+        Touch::Get => {
+            byte_of(rt, alloc, session, b"d")?;
+            Ok(())
+        }
+        Touch::SnapshotGet => {
+            snapshot_of(rt, alloc, session, b"d")?;
+            Ok(())
+        }
+        Touch::Range => {
+            reads_just(rt, alloc, session, &ALL, false)?;
+            Ok(())
+        }
+        Touch::SnapshotRange => {
+            reads_just(rt, alloc, session, &ALL, true)?;
+            Ok(())
+        }
+        Touch::AddRead => add_read(alloc, session),
+        Touch::AddWrite => add_write(alloc, session),
+        Touch::Set => write(session, Mutation::set(alloc, b"d", &[1])),
+    }
+}
+
+// What a transaction does before another one does the other thing and commits, and the code of the first one's commit.
+const MEETINGS: &[(Touch, Touch, u32)] = &[
+    (Touch::Get, Touch::Set, 1020),
+    (Touch::SnapshotGet, Touch::Set, 0),
+    (Touch::Range, Touch::Set, 1020),
+    (Touch::SnapshotRange, Touch::Set, 0),
+    (Touch::AddRead, Touch::Set, 1020),
+    (Touch::AddWrite, Touch::Set, 0),
+    (Touch::Set, Touch::Set, 0),
+    (Touch::Get, Touch::AddWrite, 1020),
+    (Touch::SnapshotGet, Touch::AddWrite, 0),
+];
+
+// The codes of the other one's commit, and of that of the transaction, which writes a key of its own besides.
+fn overtaken<B: ClusterName, R: Wait>(
+    rt: &R,
+    alloc: Global,
+    late: &mut Session<B>,
+    other: &mut Session<B>,
+    how: Touch,
+    overtaking: Touch,
+) -> Result<(u32, u32), Refusal> {
+    late.begin(rt, alloc)?;
+    touch_keys(rt, alloc, late, how)?;
+    other.begin(rt, alloc)?;
+    touch_keys(rt, alloc, other, overtaking)?;
+    let (overtook, _is_handed_back) = commit_code(rt, alloc, other);
+    write(late, Mutation::set(alloc, b"z", &[1]))?;
+    let (code, _is_handed_back) = commit_code(rt, alloc, late);
+    Ok((overtook, code))
+}
+
+fn overtake_each<B: ClusterName, R: Wait + Abort>(
+    rt: &R,
+    alloc: Global,
+    late: &mut Session<B>,
+    other: &mut Session<B>,
+) -> Result<(), Refusal> {
+    put(rt, alloc, other, b"d", 0)?;
+    for (row, (how, overtaking, code)) in MEETINGS.iter().enumerate() {
+        let told = overtaken(rt, alloc, late, other, *how, *overtaking);
+        same(rt, (row, coded(told)), (row, Ok((0, *code))));
+    }
+    Ok(())
+}
+
+// The same in the database's first two sessions.
+fn overtake_in_two<B: Named, R: Host>(
+    rt: &R,
+    alloc: Global,
+    database: &mut Database<B>,
+) -> Result<(), Refusal> {
+    match two_sessions(alloc, database) {
+        Ok((mut first, mut second)) => overtake_each(rt, alloc, &mut first, &mut second),
+        Err(why) => Err(why),
+    }
+}
+
+fn use_meetings<B: Named, R: Host>(rt: &R, alloc: Global, blank: Blank, config: &Config) -> Done
+    requires cells { blank ≡ B.cells }
+    requires config { config.now ≡ B.config }
+{
+    let gate = Arc::new(alloc, NoGate)?;
+    let mut database: Database<B> = Database::start(rt, alloc, blank, config, 100, &gate)?;
+    let told = overtake_in_two(rt, alloc, &mut database);
+    let record = database.close(rt);
+    same(rt, coded(told), Ok(()));
+    same(rt, record.is_ok(), true);
+    Ok(())
+}
+
+#[test]
+fn ordinary_reads_alone_are_turned_down(rt: HostRuntime) -> Result<(), Fail> {
+    let alloc = rt.alloc();
+    let mut config = count_config(alloc, 2, 1, 100);
+    config.resolver_splits = keys_of(alloc, &[b"c"])?;
+    let blank = Blank::new(alloc, 100)?;
+    use_meetings::<Brand, HostRuntime>(&rt, alloc, blank, &config)?;
+    Ok(())
+}
