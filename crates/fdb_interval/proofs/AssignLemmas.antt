@@ -10,37 +10,37 @@ use Rattle.std.proofs.lemmas.Bool.{cases_Bool, both_ways, cond-true, cond-false,
 use Rattle.std.proofs.lemmas.Bool.{and_left, not_from_true, not_from_false}
 use Rattle.fdb_keys.specs.Points.{Point, point_lt}
 use Rattle.fdb_keys.specs.Ranges.{Range, in_range}
-use Rattle.fdb_keys.proofs.PointOrder.{lt-itself, lt_one_way, lt_chain, lt_le_chain, le_chain}
-use Rattle.fdb_interval.specs.Breakpoints.{Breaks, version_from, last_version, breaks_before, breaks_inside}
+use Rattle.fdb_keys.proofs.PointOrder.{lt-itself, lt_one_way, lt_chain, lt_le_chain}
+use Rattle.fdb_interval.specs.Breakpoints.{Breaks, value_from, last_value, breaks_before, breaks_inside}
 use Rattle.fdb_interval.specs.Breakpoints.{without, AreRising, AreJoined}
 use Rattle.fdb_interval.proofs.BreaksLemmas.{sift, before, from, up_to, beyond, at, inside, inside-is, all-sift}
 use Rattle.fdb_interval.proofs.BreaksLemmas.{five_parts}
-use Rattle.fdb_interval.proofs.BreaksLemmas.{cut_in_two, cut_from, cut_beyond, version-append, version-after}
-use Rattle.fdb_interval.proofs.BreaksLemmas.{last-append, version-reached, version-by-last, joined-front, joined-back}
-use Rattle.fdb_interval.proofs.BreaksLemmas.{joined-both}
+use Rattle.fdb_interval.proofs.BreaksLemmas.{cut_in_two, cut_from, cut_beyond, value-append, value-after}
+use Rattle.fdb_interval.proofs.BreaksLemmas.{last-append, value-reached, value-by-last, value-before, value-behind}
+use Rattle.fdb_interval.proofs.JoinedLemmas.{joined-front, joined-back, joined-both}
 use Rattle.fdb_interval.proofs.PartsLemmas.{put, taken, at_itself, at_before, at_after, put-other, put-at, rising-put}
 use Rattle.fdb_interval.proofs.PartsLemmas.{taken-other, taken-passing, without-other, without-passing, without-all}
 use Rattle.fdb_interval.proofs.PartsLemmas.{keys_all, found-at, rising-taken, rising-without}
 
 -- one breakpoint, unless it is joined with its neighbour
-abbrev pub unless_joined : Bool → Point → ℕ → Breaks
+abbrev pub unless_joined : Bool → Point → ℕ → Breaks ℕ
 unless_joined joined x version = if joined then [] else (x, version) ∷ []
 
-abbrev pub taken_if : Bool → Point → Breaks → Breaks
+abbrev pub taken_if : Bool → Point → Breaks ℕ → Breaks ℕ
 taken_if joined x es = if joined then taken x es else es
 
-taken_if-other : (p : Point → Bool) (joined : Bool) (x : Point) (es : Breaks) → p x ≡ false
+taken_if-other : (p : Point → Bool) (joined : Bool) (x : Point) (es : Breaks ℕ) → p x ≡ false
     → sift p (taken_if joined x es) ≡ sift p es
 taken_if-other p true x es fails = taken-other p x fails es
 taken_if-other p false x es fails = refl
 
-taken_if-at : (joined : Bool) (x : Point) (version : ℕ) (es : Breaks) → sift (at x) es ≡ (x, version) ∷ []
+taken_if-at : (joined : Bool) (x : Point) (version : ℕ) (es : Breaks ℕ) → sift (at x) es ≡ (x, version) ∷ []
     → sift (at x) (taken_if joined x es) ≡ unless_joined joined x version
 taken_if-at true x version es one =
     taken-passing (at x) x (at_itself x) es ∙ ap (taken x) one ∙ cond-true _ _ _ (at_itself x)
 taken_if-at false x version es one = one
 
-rising-taken_if : (joined : Bool) (x : Point) (es : Breaks) → AreRising es → AreRising (taken_if joined x es)
+rising-taken_if : (joined : Bool) (x : Point) (es : Breaks ℕ) → AreRising es → AreRising (taken_if joined x es)
 rising-taken_if true x es rising = rising-taken x es rising
 rising-taken_if false x es rising = rising
 
@@ -51,19 +51,19 @@ all_unless P false x version of_x = (of_x, tt)
 
 -- it is there just where it changes the version
 last-begin : (start version : ℕ) (x : Point)
-    → last_version start (unless_joined (start == version) x version) ≡ version
+    → last_value start (unless_joined (start == version) x version) ≡ version
 last-begin start version x = ⊎_elim
     (λ same.
-    ap (last_version start) (cond-true (start == version) [] ((x, version) ∷ []) same) ∙ eqb-true _ _ same)
-    (λ differ. ap (last_version start) (cond-false (start == version) [] ((x, version) ∷ []) differ))
+    ap (last_value start) (cond-true (start == version) [] ((x, version) ∷ []) same) ∙ eqb-true _ _ same)
+    (λ differ. ap (last_value start) (cond-false (start == version) [] ((x, version) ∷ []) differ))
     (cases_Bool (start == version))
 
 last-end : (version behind : ℕ) (x : Point)
-    → last_version version (unless_joined (behind == version) x behind) ≡ behind
+    → last_value version (unless_joined (behind == version) x behind) ≡ behind
 last-end version behind x = ⊎_elim
     (λ same.
-    ap (last_version version) (cond-true (behind == version) [] ((x, behind) ∷ []) same) ∙ sym (eqb-true _ _ same))
-    (λ differ. ap (last_version version) (cond-false (behind == version) [] ((x, behind) ∷ []) differ))
+    ap (last_value version) (cond-true (behind == version) [] ((x, behind) ∷ []) same) ∙ sym (eqb-true _ _ same))
+    (λ differ. ap (last_value version) (cond-false (behind == version) [] ((x, behind) ∷ []) differ))
     (cases_Bool (behind == version))
 
 joined-begin : (floor start version : ℕ) (x : Point)
@@ -82,48 +82,27 @@ joined-end floor version behind x = ⊎_elim
     ((λ above is. both_ways _ differ (eq-eqb _ _ is)), tt))
     (cases_Bool (behind == version))
 
--- before the range nothing changes by what lies in it or behind it
-pub version-before : (es : Breaks) (begin x : Point) → AreRising es → point_lt x begin ≡ true
-    → version_from 0 es x ≡ version_from 0 (sift (before begin) es) x
-version-before es begin x rising sooner =
-    ap (λ (l : Breaks). version_from 0 l x) (cut_in_two (before begin) (from begin) (cut_from begin) es rising)
-    ∙ version-append 0 (sift (before begin) es) (sift (from begin) es) x
-    ∙ version-after _ (sift (from begin) es) x
-    (all-sift (from begin) (λ y. point_lt x y ≡ true)
-    (λ y reached. lt_le_chain x begin y sooner (not-true _ reached)) es)
-
--- from the range's end on, the version there counts, and what lies behind it
-version-behind : (es : Breaks) (end x : Point) → AreRising es → point_lt x end ≡ false
-    → version_from 0 es x ≡ version_from (version_from 0 es end) (sift (beyond end) es) x
-version-behind es end x rising later =
-    ap (λ (l : Breaks). version_from 0 l x) (cut_in_two (up_to end) (beyond end) (cut_beyond end) es rising)
-    ∙ version-append 0 (sift (up_to end) es) (sift (beyond end) es) x
-    ∙ ap (λ n. version_from n (sift (beyond end) es) x)
-    (version-reached 0 (sift (up_to end) es) x
-    (all-sift (up_to end) (λ y. point_lt x y ≡ false) (λ y by_end. le_chain y end x (not-true _ by_end) later) es)
-    ∙ sym (version-by-last 0 es end))
-
-module _ (old : Breaks) (range : Range) (version : ℕ) (rising : AreRising old)
+module _ (old : Breaks ℕ) (range : Range) (version : ℕ) (rising : AreRising old)
     (some : point_lt range.begin range.end ≡ true) where
   abbrev pub behind : ℕ
-  behind = version_from 0 old range.end
+  behind = value_from 0 old range.end
 
   abbrev pub start : ℕ
-  start = last_version 0 (sift (before range.begin) old)
+  start = last_value 0 (sift (before range.begin) old)
 
   -- with a breakpoint at the end
-  abbrev pub with_end : Breaks
+  abbrev pub with_end : Breaks ℕ
   with_end = if is_some (lookup (is_at (slice_cmp nat_cmp range.end)) old) then old else put range.end behind old
 
   abbrev swallowed : List Point
   swallowed = keys_of (sift (inside range.begin range.end) old)
 
   -- with the version from the begin up to the end
-  abbrev pub cleared : Breaks
+  abbrev pub cleared : Breaks ℕ
   cleared = without swallowed (put range.begin version with_end)
 
   -- and with equal neighbours joined
-  abbrev pub assigned : Breaks
+  abbrev pub assigned : Breaks ℕ
   assigned = taken_if (behind == version) range.end (taken_if (start == version) range.begin cleared)
 
   with_end-other : (p : Point → Bool) → p range.end ≡ false → sift p with_end ≡ sift p old
@@ -149,8 +128,8 @@ module _ (old : Breaks) (range : Range) (version : ℕ) (rising : AreRising old)
   inside_parts x within = and_parts _ _ (sym (inside-is range.begin range.end x) ∙ within)
 
   -- no test that fails inside the range finds what was swallowed
-  unswallowed : (p : Point → Bool) → ((x : Point) → inside range.begin range.end x ≡ true → p x ≡ false) → (es : Breaks)
-      → sift p (without swallowed es) ≡ sift p es
+  unswallowed : (p : Point → Bool) → ((x : Point) → inside range.begin range.end x ≡ true → p x ≡ false)
+      → (es : Breaks ℕ) → sift p (without swallowed es) ≡ sift p es
   unswallowed p fails es = without-other p swallowed
       (keys_all (λ x. p x ≡ false) (sift (inside range.begin range.end) old)
       (all-sift (inside range.begin range.end) (λ x. p x ≡ false) fails old)) es
@@ -228,16 +207,16 @@ module _ (old : Breaks) (range : Range) (version : ℕ) (rising : AreRising old)
       (taken_if-other (at range.end) (start == version) range.begin cleared (at_after range.end range.begin some)
       ∙ cleared-end)
 
-  abbrev first : Breaks
+  abbrev first : Breaks ℕ
   first = sift (before range.begin) old
 
-  abbrev one : Breaks
+  abbrev one : Breaks ℕ
   one = unless_joined (start == version) range.begin version
 
-  abbrev other : Breaks
+  abbrev other : Breaks ℕ
   other = unless_joined (behind == version) range.end behind
 
-  abbrev rest : Breaks
+  abbrev rest : Breaks ℕ
   rest = sift (beyond range.end) old
 
   still : AreRising assigned
@@ -251,56 +230,56 @@ module _ (old : Breaks) (range : Range) (version : ℕ) (rising : AreRising old)
       ∙ (λ i. assigned-before i ++ (assigned-begin i ++ (assigned-inside i ++ (assigned-end i ++ assigned-beyond i))))
 
   -- the version at a point of the range
-  version-within : (x : Point) → in_range range x ≡ true → version_from 0 assigned x ≡ version
+  version-within : (x : Point) → in_range range x ≡ true → value_from 0 assigned x ≡ version
   version-within x within =
       let parts = and_parts _ _ within in
       let reached : point_lt x range.begin ≡ false = not-true _ parts.0 in
-      ap (λ (l : Breaks). version_from 0 l x) assigned-is
-      ∙ version-append 0 first (one ++ (other ++ rest)) x
-      ∙ ap (λ n. version_from n (one ++ (other ++ rest)) x)
-      (version-reached 0 first x (all-sift (before range.begin) (λ y. point_lt x y ≡ false)
+      ap (λ (l : Breaks ℕ). value_from 0 l x) assigned-is
+      ∙ value-append 0 first (one ++ (other ++ rest)) x
+      ∙ ap (λ n. value_from n (one ++ (other ++ rest)) x)
+      (value-reached 0 first x (all-sift (before range.begin) (λ y. point_lt x y ≡ false)
       (λ y sooner. lt_one_way y x (lt_le_chain y range.begin x sooner reached)) old))
-      ∙ version-append start one (other ++ rest) x
-      ∙ ap (λ n. version_from n (other ++ rest) x)
-      (version-reached start one x
+      ∙ value-append start one (other ++ rest) x
+      ∙ ap (λ n. value_from n (other ++ rest) x)
+      (value-reached start one x
       (all_unless (λ y. point_lt x y ≡ false) (start == version) range.begin version reached)
       ∙ last-begin start version range.begin)
-      ∙ version-append version other rest x
-      ∙ ap (λ n. version_from n rest x)
-      (version-after version other x
+      ∙ value-append version other rest x
+      ∙ ap (λ n. value_from n rest x)
+      (value-after version other x
       (all_unless (λ y. point_lt x y ≡ true) (behind == version) range.end behind parts.1))
-      ∙ version-after version rest x (all-sift (beyond range.end) (λ y. point_lt x y ≡ true)
+      ∙ value-after version rest x (all-sift (beyond range.end) (λ y. point_lt x y ≡ true)
       (λ y after. lt_chain x range.end y parts.1 after) old)
 
   -- and the version at its end
-  version-at-end : version_from 0 assigned range.end ≡ behind
+  version-at-end : value_from 0 assigned range.end ≡ behind
   version-at-end =
       let end_later : point_lt range.end range.begin ≡ false = lt_one_way range.begin range.end some in
-      ap (λ (l : Breaks). version_from 0 l range.end) assigned-is
-      ∙ version-append 0 first (one ++ (other ++ rest)) range.end
-      ∙ ap (λ n. version_from n (one ++ (other ++ rest)) range.end)
-      (version-reached 0 first range.end (all-sift (before range.begin) (λ y. point_lt range.end y ≡ false)
+      ap (λ (l : Breaks ℕ). value_from 0 l range.end) assigned-is
+      ∙ value-append 0 first (one ++ (other ++ rest)) range.end
+      ∙ ap (λ n. value_from n (one ++ (other ++ rest)) range.end)
+      (value-reached 0 first range.end (all-sift (before range.begin) (λ y. point_lt range.end y ≡ false)
       (λ y sooner. lt_one_way y range.end (lt_chain y range.begin range.end sooner some)) old))
-      ∙ version-append start one (other ++ rest) range.end
-      ∙ ap (λ n. version_from n (other ++ rest) range.end)
-      (version-reached start one range.end
+      ∙ value-append start one (other ++ rest) range.end
+      ∙ ap (λ n. value_from n (other ++ rest) range.end)
+      (value-reached start one range.end
       (all_unless (λ y. point_lt range.end y ≡ false) (start == version) range.begin version end_later)
       ∙ last-begin start version range.begin)
-      ∙ version-append version other rest range.end
-      ∙ ap (λ n. version_from n rest range.end)
-      (version-reached version other range.end
+      ∙ value-append version other rest range.end
+      ∙ ap (λ n. value_from n rest range.end)
+      (value-reached version other range.end
       (all_unless (λ y. point_lt range.end y ≡ false) (behind == version) range.end behind (lt-itself range.end))
       ∙ last-end version behind range.end)
-      ∙ version-after behind rest range.end (all-sift (beyond range.end) (λ y. point_lt range.end y ≡ true)
+      ∙ value-after behind rest range.end (all-sift (beyond range.end) (λ y. point_lt range.end y ≡ true)
       (λ y after. after) old)
 
   pub version-assigned : (x : Point)
-      → version_from 0 assigned x ≡ (if in_range range x then version else version_from 0 old x)
+      → value_from 0 assigned x ≡ (if in_range range x then version else value_from 0 old x)
   version-assigned x = ⊎_elim
       (λ sooner.
-      version-before assigned range.begin x still sooner
-      ∙ ap (λ (l : Breaks). version_from 0 l x) assigned-before
-      ∙ sym (version-before old range.begin x rising sooner)
+      value-before 0 assigned range.begin x still sooner
+      ∙ ap (λ (l : Breaks ℕ). value_from 0 l x) assigned-before
+      ∙ sym (value-before 0 old range.begin x rising sooner)
       ∙ sym (cond-false _ _ _ (and_left _ _ (not_from_true _ sooner))))
       (λ reached. ⊎_elim
       (λ within_end.
@@ -310,9 +289,9 @@ module _ (old : Breaks) (range : Range) (version : ℕ) (rising : AreRising old)
       (λ later.
       let outside : in_range range x ≡ false =
       ap (λ (t : Bool). t && point_lt x range.end) (not_from_false _ reached) ∙ later in
-      version-behind assigned range.end x still later
-      ∙ (λ i. version_from (version-at-end i) (assigned-beyond i) x)
-      ∙ sym (version-behind old range.end x rising later)
+      value-behind 0 assigned range.end x still later
+      ∙ (λ i. value_from (version-at-end i) (assigned-beyond i) x)
+      ∙ sym (value-behind 0 old range.end x rising later)
       ∙ sym (cond-false _ _ _ outside))
       (cases_Bool (point_lt x range.end)))
       (cases_Bool (point_lt x range.begin))
@@ -324,7 +303,7 @@ module _ (old : Breaks) (range : Range) (version : ℕ) (rising : AreRising old)
       (subst (AreJoined floor 0) (cut_in_two (before range.begin) (from range.begin) (cut_from range.begin) old rising)
       joined) in
       let back : AreJoined floor behind rest = subst (λ (n : ℕ). AreJoined floor n rest)
-      (sym (version-by-last 0 old range.end))
+      (sym (value-by-last 0 old range.end))
       (joined-back floor 0 (sift (up_to range.end) old) rest
       (subst (AreJoined floor 0) (cut_in_two (up_to range.end) (beyond range.end) (cut_beyond range.end) old rising)
       joined)) in
@@ -338,25 +317,25 @@ module _ (old : Breaks) (range : Range) (version : ℕ) (rising : AreRising old)
       from_begin)
 
   -- the version behind all is the same
-  pub last-assigned : last_version 0 assigned ≡ last_version 0 old
+  pub last-assigned : last_value 0 assigned ≡ last_value 0 old
   last-assigned =
-      ap (last_version 0) assigned-is
+      ap (last_value 0) assigned-is
       ∙ last-append 0 first (one ++ (other ++ rest))
       ∙ last-append start one (other ++ rest)
-      ∙ ap (λ n. last_version n (other ++ rest)) (last-begin start version range.begin)
+      ∙ ap (λ n. last_value n (other ++ rest)) (last-begin start version range.begin)
       ∙ last-append version other rest
-      ∙ ap (λ n. last_version n rest) (last-end version behind range.end)
-      ∙ sym (ap (last_version 0)
+      ∙ ap (λ n. last_value n rest) (last-end version behind range.end)
+      ∙ sym (ap (last_value 0)
       (cut_in_two (up_to range.end) (beyond range.end) (cut_beyond range.end) old rising)
       ∙ last-append 0 (sift (up_to range.end) old) rest
-      ∙ ap (λ n. last_version n rest) (sym (version-by-last 0 old range.end)))
+      ∙ ap (λ n. last_value n rest) (sym (value-by-last 0 old range.end)))
 
 -- what the steps of the code come to
-pub assigned-by-steps : (old laid left first last : Breaks) (range : Range) (version before there : ℕ)
+pub assigned-by-steps : (old laid left first last : Breaks ℕ) (range : Range) (version before there : ℕ)
     (keys : List Point)
     (rising : AreRising old) (some : point_lt range.begin range.end ≡ true)
-    → before ≡ last_version 0 (breaks_before range.begin old)
-    → there ≡ version_from 0 old range.end
+    → before ≡ last_value 0 (breaks_before range.begin old)
+    → there ≡ value_from 0 old range.end
     → keys ≡ keys_of (breaks_inside range old)
     → laid ≡ put range.begin version
     (if is_some (lookup (is_at (slice_cmp nat_cmp range.end)) old) then old else put range.end there old)

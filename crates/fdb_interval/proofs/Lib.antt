@@ -1,5 +1,8 @@
 pub mod AssignLemmas
 pub mod BreaksLemmas
+pub mod HeadsLemmas
+pub mod JoinedLemmas
+pub mod NewerWalkLemmas
 pub mod PartsLemmas
 pub mod PiecesLemmas
 pub mod SweepLemmas

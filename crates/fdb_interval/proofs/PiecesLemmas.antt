@@ -8,9 +8,9 @@ use Rattle.std.proofs.lemmas.Bool.{cases_Bool, cases_lt, and_from, and_left, con
 use Rattle.std.proofs.lemmas.Bool.{not_from_true, not_from_false}
 use Rattle.fdb_keys.specs.Points.{Point, point_lt}
 use Rattle.fdb_keys.proofs.PointOrder.{lt_chain}
-use Rattle.fdb_interval.specs.Breakpoints.{Breaks, version_from, last_version, AreRising, AreJoined}
+use Rattle.fdb_interval.specs.Breakpoints.{Breaks, value_from, last_value, AreRising, AreJoined}
 use Rattle.fdb_interval.specs.Pieces.{Piece, version_in, EndsBefore, AreMaximal, ArePieces}
-use Rattle.fdb_interval.proofs.BreaksLemmas.{all_imply, version-after}
+use Rattle.fdb_interval.proofs.BreaksLemmas.{all_imply, value-after}
 use Rattle.fdb_interval.proofs.VersionsLemmas.{above, above-newer, above-older}
 
 -- from a breakpoint up to the next one
@@ -18,22 +18,22 @@ abbrev pub piece : Point × ℕ → Point × ℕ → Piece
 piece e f = (record { begin = e.0; end = f.0 }, e.1)
 
 -- a piece from each breakpoint with a version above the floor; the last one has none
-abbrev pub pieces_of : ℕ → Breaks → List Piece
+abbrev pub pieces_of : ℕ → Breaks ℕ → List Piece
 pieces_of floor [] = []
 pieces_of floor (e ∷ []) = []
 pieces_of floor (e ∷ f ∷ es) =
     if nat_lt floor e.1 then piece e f ∷ pieces_of floor (f ∷ es) else pieces_of floor (f ∷ es)
 
-pieces-more : (floor : ℕ) (e f : Point × ℕ) (es : Breaks) → floor < e.1
+pieces-more : (floor : ℕ) (e f : Point × ℕ) (es : Breaks ℕ) → floor < e.1
     → pieces_of floor (e ∷ f ∷ es) ≡ piece e f ∷ pieces_of floor (f ∷ es)
 pieces-more floor e f es newer = cond-true _ _ _ (lt-ltb _ _ newer)
 
-pieces-same : (floor : ℕ) (e f : Point × ℕ) (es : Breaks) → e.1 ≤ floor
+pieces-same : (floor : ℕ) (e f : Point × ℕ) (es : Breaks ℕ) → e.1 ≤ floor
     → pieces_of floor (e ∷ f ∷ es) ≡ pieces_of floor (f ∷ es)
 pieces-same floor e f es older = cond-false _ _ _ (le-ltb _ _ older)
 
 -- no piece holds a point before the first breakpoint
-none_before : (floor : ℕ) (e : Point × ℕ) (es : Breaks) (x : Point) → AreRising (e ∷ es) → point_lt x e.0 ≡ true
+none_before : (floor : ℕ) (e : Point × ℕ) (es : Breaks ℕ) (x : Point) → AreRising (e ∷ es) → point_lt x e.0 ≡ true
     → version_in (pieces_of floor (e ∷ es)) x ≡ 0
 none_before floor e [] x rising sooner = refl
 none_before floor e (f ∷ es) x rising sooner =
@@ -57,20 +57,20 @@ passed_by : (e f : Point × ℕ) (ps : List Piece) (x : Point) → point_lt x e.
 passed_by e f ps x reached passed =
     cond-false _ _ _ (ap (λ (t : Bool). t && point_lt x f.0) (not_from_false _ reached) ∙ passed)
 
-versions_from_first : (floor start : ℕ) (e : Point × ℕ) (es : Breaks) (x : Point) → AreRising (e ∷ es)
-    → last_version e.1 es ≤ floor → point_lt x e.0 ≡ false
-    → above floor (version_from start (e ∷ es) x) ≡ version_in (pieces_of floor (e ∷ es)) x
+versions_from_first : (floor start : ℕ) (e : Point × ℕ) (es : Breaks ℕ) (x : Point) → AreRising (e ∷ es)
+    → last_value e.1 es ≤ floor → point_lt x e.0 ≡ false
+    → above floor (value_from start (e ∷ es) x) ≡ version_in (pieces_of floor (e ∷ es)) x
 versions_from_first floor start e [] x rising low reached =
     ap (above floor) (cond-false _ _ _ reached) ∙ above-older floor e.1 low
 versions_from_first floor start e (f ∷ es) x rising low reached =
-    let begun : version_from start (e ∷ f ∷ es) x ≡ version_from e.1 (f ∷ es) x =
-    ap (λ n. version_from n (f ∷ es) x) (cond-false _ _ _ reached) in
+    let begun : value_from start (e ∷ f ∷ es) x ≡ value_from e.1 (f ∷ es) x =
+    ap (λ n. value_from n (f ∷ es) x) (cond-false _ _ _ reached) in
     ap (above floor) begun
     ∙ ⊎_elim
     (λ sooner.
     let later = all_imply (λ g. point_lt f.0 g.0 ≡ true) (λ g. point_lt x g.0 ≡ true)
     (λ g after. lt_chain x f.0 g.0 sooner after) es rising.1.0 in
-    ap (above floor) (version-after e.1 (f ∷ es) x (sooner, later))
+    ap (above floor) (value-after e.1 (f ∷ es) x (sooner, later))
     ∙ ⊎_elim
     (λ newer.
     above-newer floor e.1 newer
@@ -91,21 +91,21 @@ versions_from_first floor start e (f ∷ es) x rising low reached =
     (cases_lt floor e.1))
     (cases_Bool (point_lt x f.0))
 
-versions-pieces : (floor : ℕ) (es : Breaks) (x : Point) → AreRising es → last_version 0 es ≤ floor
-    → above floor (version_from 0 es x) ≡ version_in (pieces_of floor es) x
+versions-pieces : (floor : ℕ) (es : Breaks ℕ) (x : Point) → AreRising es → last_value 0 es ≤ floor
+    → above floor (value_from 0 es x) ≡ version_in (pieces_of floor es) x
 versions-pieces floor [] x rising low = above-older floor 0 low
 versions-pieces floor (e ∷ es) x rising low = ⊎_elim
     (λ sooner.
     let later = all_imply (λ g. point_lt e.0 g.0 ≡ true) (λ g. point_lt x g.0 ≡ true)
     (λ g after. lt_chain x e.0 g.0 sooner after) es rising.0 in
-    ap (above floor) (version-after 0 (e ∷ es) x (sooner, later))
+    ap (above floor) (value-after 0 (e ∷ es) x (sooner, later))
     ∙ above-older floor 0 (omega arith)
     ∙ sym (none_before floor e es x rising sooner))
     (λ reached. versions_from_first floor 0 e es x rising low reached)
     (cases_Bool (point_lt x e.0))
 
 -- a piece that ends before a breakpoint is parted from those of it and of the later ones
-ends_before_first : (floor : ℕ) (p : Piece) (e : Point × ℕ) (es : Breaks) → AreRising (e ∷ es)
+ends_before_first : (floor : ℕ) (p : Piece) (e : Point × ℕ) (es : Breaks ℕ) → AreRising (e ∷ es)
     → point_lt p.0.end e.0 ≡ true → EndsBefore p (pieces_of floor (e ∷ es))
 ends_before_first floor p e [] rising sooner = tt
 ends_before_first floor p e (f ∷ es) rising sooner = ⊎_elim
@@ -115,7 +115,7 @@ ends_before_first floor p e (f ∷ es) rising sooner = ⊎_elim
     (cases_lt floor e.1)
 
 -- and one that ends at a breakpoint too
-ends_at_first : (floor : ℕ) (p : Piece) (e : Point × ℕ) (es : Breaks) → AreRising (e ∷ es) → p.0.end ≡ e.0
+ends_at_first : (floor : ℕ) (p : Piece) (e : Point × ℕ) (es : Breaks ℕ) → AreRising (e ∷ es) → p.0.end ≡ e.0
     → (floor < e.1 → e.1 ≡ p.1 → ⊥) → EndsBefore p (pieces_of floor (e ∷ es))
 ends_at_first floor p e [] rising at differ = tt
 ends_at_first floor p e (f ∷ es) rising at differ = ⊎_elim
@@ -124,7 +124,7 @@ ends_at_first floor p e (f ∷ es) rising at differ = ⊎_elim
     (ends_before_first floor p f es rising.1 (ap (λ (y : Point). point_lt y f.0) at ∙ rising.0.0)))
     (cases_lt floor e.1)
 
-maximal-pieces : (floor before : ℕ) (es : Breaks) → AreRising es → AreJoined floor before es
+maximal-pieces : (floor before : ℕ) (es : Breaks ℕ) → AreRising es → AreJoined floor before es
     → AreMaximal (pieces_of floor es)
 maximal-pieces floor before [] rising joined = tt
 maximal-pieces floor before (e ∷ []) rising joined = tt
@@ -141,10 +141,10 @@ maximal-pieces floor before (e ∷ f ∷ es) rising joined =
     (cases_lt floor e.1)
 
 -- they are as many as the versions above the floor
-abbrev count : ℕ → Breaks → ℕ
+abbrev count : ℕ → Breaks ℕ → ℕ
 count floor es = length (filter (λ version. nat_lt floor version) (values_of es))
 
-count-pieces : (floor before : ℕ) (es : Breaks) → last_version before es ≤ floor
+count-pieces : (floor before : ℕ) (es : Breaks ℕ) → last_value before es ≤ floor
     → count floor es ≡ length (pieces_of floor es)
 count-pieces floor before [] low = refl
 count-pieces floor before (e ∷ []) low = ap length (cond-false _ _ _ (le-ltb floor e.1 low))
@@ -165,8 +165,8 @@ count-pieces floor before (e ∷ f ∷ es) low =
 abbrev pub CountsPieces : ℕ → (Point → ℕ) → Type 0
 CountsPieces counted f = (pieces : List Piece) × ArePieces f pieces × (counted ≡ length pieces)
 
-pub pieces-counted : (floor counted : ℕ) (es : Breaks) → AreRising es → AreJoined floor 0 es → last_version 0 es ≤ floor
-    → counted ≡ count floor es → CountsPieces counted (λ x. above floor (version_from 0 es x))
+pub pieces-counted : (floor counted : ℕ) (es : Breaks ℕ) → AreRising es → AreJoined floor 0 es → last_value 0 es ≤ floor
+    → counted ≡ count floor es → CountsPieces counted (λ x. above floor (value_from 0 es x))
 pieces-counted floor counted es rising joined low is = (
   pieces_of floor es,
   record {

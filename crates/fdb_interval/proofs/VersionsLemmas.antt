@@ -9,16 +9,16 @@ use Rattle.std.proofs.lemmas.Bool.{not_from_false}
 use Rattle.fdb_keys.specs.Points.{Point, point_lt}
 use Rattle.fdb_keys.specs.Ranges.{Range, in_range}
 use Rattle.fdb_keys.proofs.PointOrder.{lt-itself, lt_one_way, le_lt_chain}
-use Rattle.fdb_interval.specs.Breakpoints.{Breaks, version_from, AreRising, AreJoined}
+use Rattle.fdb_interval.specs.Breakpoints.{Breaks, value_from, AreRising, AreJoined}
 use Rattle.fdb_interval.specs.Versions.{changes}
-use Rattle.fdb_interval.proofs.BreaksLemmas.{sift, sift-true, sift-false, inside, inside-is, version-after}
+use Rattle.fdb_interval.proofs.BreaksLemmas.{sift, sift-true, sift-false, inside, inside-is, value-after}
 
 -- ---- newer versions
-abbrev pub any_newer : ℕ → Breaks → Bool
+abbrev pub any_newer : ℕ → Breaks ℕ → Bool
 any_newer bar es = list_any (λ (entry : Point × ℕ). nat_lt bar entry.1) es
 
 -- one breakpoint more hides none
-any-more : (bar : ℕ) (p : Point → Bool) (e : Point × ℕ) (es : Breaks) → any_newer bar (sift p es) ≡ true
+any-more : (bar : ℕ) (p : Point → Bool) (e : Point × ℕ) (es : Breaks ℕ) → any_newer bar (sift p es) ≡ true
     → any_newer bar (sift p (e ∷ es)) ≡ true
 any-more bar p e es found = ⊎_elim
     (λ kept. ap (any_newer bar) (sift-true p e es kept) ∙ or_right (nat_lt bar e.1) _ found)
@@ -26,11 +26,11 @@ any-more bar p e es found = ⊎_elim
     (cases_Bool (p e.0))
 
 -- at a newer breakpoint inside the range, the version is newer
-abbrev HasAt : ℕ → Range → Breaks → Type 0
+abbrev HasAt : ℕ → Range → Breaks ℕ → Type 0
 HasAt bar range es = (x : Point) × (inside range.begin range.end x ≡ true)
-    × ((start : ℕ) → bar < version_from start es x)
+    × ((start : ℕ) → bar < value_from start es x)
 
-at_newer : (bar : ℕ) (range : Range) (es : Breaks) → AreRising es
+at_newer : (bar : ℕ) (range : Range) (es : Breaks ℕ) → AreRising es
     → any_newer bar (sift (inside range.begin range.end) es) ≡ true → HasAt bar range es
 at_newer bar range [] rising found = absurd (both_ways _ refl found)
 at_newer bar range (e ∷ es) rising found = ⊎_elim
@@ -40,8 +40,8 @@ at_newer bar range (e ∷ es) rising found = ⊎_elim
       e.0,
       kept,
       λ start.
-          let is : version_from start (e ∷ es) e.0 ≡ e.1 =
-          ap (λ n. version_from n es e.0) (cond-false _ _ _ (lt-itself e.0)) ∙ version-after e.1 es e.0 rising.0 in
+          let is : value_from start (e ∷ es) e.0 ≡ e.1 =
+          ap (λ n. value_from n es e.0) (cond-false _ _ _ (lt-itself e.0)) ∙ value-after e.1 es e.0 rising.0 in
           omega (arith, is, above),
     ))
     (λ others.
@@ -69,9 +69,9 @@ carried false true of_x of_begin version bar order newer = ⊎_elim
     (cases_lt bar version)
 
 -- what is newer at a point of the range is newer at its begin, or a breakpoint inside it is newer
-newer_met : (bar : ℕ) (range : Range) (x : Point) → in_range range x ≡ true → (of_x of_begin : ℕ) (es : Breaks)
-    → bar < version_from of_x es x → (bar < of_x → bar < of_begin)
-    → (bar < version_from of_begin es range.begin) ⊎ (any_newer bar (sift (inside range.begin range.end) es) ≡ true)
+newer_met : (bar : ℕ) (range : Range) (x : Point) → in_range range x ≡ true → (of_x of_begin : ℕ) (es : Breaks ℕ)
+    → bar < value_from of_x es x → (bar < of_x → bar < of_begin)
+    → (bar < value_from of_begin es range.begin) ⊎ (any_newer bar (sift (inside range.begin range.end) es) ≡ true)
 newer_met bar range x within of_x of_begin [] above newer = inl (newer above)
 newer_met bar range x within of_x of_begin (e ∷ es) above newer =
     let parts = and_parts _ _ within in
@@ -113,16 +113,16 @@ above-is_newer floor version held newer = ⊎_elim
     (cases_lt floor held)
 
 -- a point of the range has a version above this one
-abbrev pub HasNewer : ℕ → Breaks → Range → ℕ → Type 0
+abbrev pub HasNewer : ℕ → Breaks ℕ → Range → ℕ → Type 0
 HasNewer floor es range version =
-    (x : Point) × (in_range range x ≡ true) × (version < above floor (version_from 0 es x))
+    (x : Point) × (in_range range x ≡ true) × (version < above floor (value_from 0 es x))
 
-pub newer_from_begin : (floor : ℕ) (es : Breaks) (range : Range) (version : ℕ) → point_lt range.begin range.end ≡ true
-    → max version floor < version_from 0 es range.begin → HasNewer floor es range version
+pub newer_from_begin : (floor : ℕ) (es : Breaks ℕ) (range : Range) (version : ℕ) → point_lt range.begin range.end ≡ true
+    → max version floor < value_from 0 es range.begin → HasNewer floor es range version
 newer_from_begin floor es range version some newer =
     (range.begin, and_from _ _ (not_from_false _ (lt-itself range.begin)) some, newer-above floor version _ newer)
 
-pub newer_from_inside : (floor : ℕ) (es : Breaks) (range : Range) (version : ℕ) → AreRising es
+pub newer_from_inside : (floor : ℕ) (es : Breaks ℕ) (range : Range) (version : ℕ) → AreRising es
     → any_newer (max version floor) (sift (inside range.begin range.end) es) ≡ true → HasNewer floor es range version
 newer_from_inside floor es range version rising found =
     let newer : HasAt (max version floor) range es = at_newer (max version floor) range es rising found in
@@ -132,12 +132,12 @@ newer_from_inside floor es range version rising found =
       newer-above floor version _ (newer.2 0),
     )
 
-pub found_from_newer : (floor : ℕ) (es : Breaks) (range : Range) (version : ℕ) → HasNewer floor es range version
-    → (max version floor < version_from 0 es range.begin)
+pub found_from_newer : (floor : ℕ) (es : Breaks ℕ) (range : Range) (version : ℕ) → HasNewer floor es range version
+    → (max version floor < value_from 0 es range.begin)
     ⊎ (any_newer (max version floor) (sift (inside range.begin range.end) es) ≡ true)
 found_from_newer floor es range version newer =
     newer_met (max version floor) range newer.0 newer.1 0 0 es
-    (above-is_newer floor version (version_from 0 es newer.0) newer.2) (λ same. same)
+    (above-is_newer floor version (value_from 0 es newer.0) newer.2) (λ same. same)
 
 -- ---- an expiry
 -- what is forgotten up to the greater of two floors is forgotten up to each
@@ -156,7 +156,7 @@ forgotten_twice floor version held = ⊎_elim
     ∙ sym (ap (above version) (above-older floor held lower) ∙ above-older version 0 (omega arith)))
     (cases_lt floor held)
 
-pub joined-higher : (floor higher before : ℕ) (es : Breaks) → floor ≤ higher → AreJoined floor before es
+pub joined-higher : (floor higher before : ℕ) (es : Breaks ℕ) → floor ≤ higher → AreJoined floor before es
     → AreJoined higher before es
 joined-higher floor higher before [] up joined = tt
 joined-higher floor higher before (e ∷ es) up joined =
@@ -171,7 +171,7 @@ marked-none version held true none below = omega (arith, none, below)
 marked-none version held false none below = refl
 
 -- ---- how many pieces
-abbrev pub shown : ℕ → Breaks → List ℕ
+abbrev pub shown : ℕ → Breaks ℕ → List ℕ
 shown floor es = map (λ (entry : Point × ℕ). if nat_lt floor entry.1 then entry.1 else 0) es
 
 differs : (floor before version : ℕ) → floor < version → (version ≡ before → ⊥)
@@ -191,7 +191,7 @@ differs floor before version newer differ = true_from_ne_false_not _ (λ same. �
     true_from_ne_false_not true never = absurd (never refl)
     true_from_ne_false_not false never = refl
 
-changes-counted : (floor before : ℕ) (es : Breaks) → AreJoined floor before es
+changes-counted : (floor before : ℕ) (es : Breaks ℕ) → AreJoined floor before es
     → length (filter (λ version. nat_lt floor version) (values_of es)) ≡ changes (above floor before) (shown floor es)
 changes-counted floor before [] joined = refl
 changes-counted floor before (e ∷ es) joined = ⊎_elim
@@ -212,7 +212,7 @@ changes-counted floor before (e ∷ es) joined = ⊎_elim
     omega (arith, others, dropped, step))
     (cases_lt floor e.1)
 
-pub pieces-are : (floor : ℕ) (es : Breaks) → AreJoined floor 0 es
+pub pieces-are : (floor : ℕ) (es : Breaks ℕ) → AreJoined floor 0 es
     → length (filter (λ version. nat_lt floor version) (values_of es)) ≡ changes 0 (shown floor es)
 pieces-are floor es joined =
     changes-counted floor 0 es joined ∙ ap (λ n. changes n (shown floor es)) (above-older floor 0 (omega arith))

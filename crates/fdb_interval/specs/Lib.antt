@@ -1,4 +1,5 @@
 pub mod Breakpoints
 pub mod Examples
+pub mod Heads
 pub mod Pieces
 pub mod Versions

@@ -8,18 +8,19 @@ ghost use Rattle.std.specs.Map.{keys_of, lookup, remove_entry};
 ghost use Rattle.std.specs.Ordering.{nat_cmp};
 ghost use Rattle.fdb_keys.specs.Points.{Point, point_lt};
 ghost use Rattle.fdb_keys.specs.Ranges.{in_range};
-ghost use Rattle.fdb_interval.specs.Breakpoints.{version_from, last_version, breaks_before, breaks_inside, without};
+ghost use Rattle.fdb_interval.specs.Breakpoints.{value_from, last_value, breaks_before, breaks_inside, without};
 ghost use Rattle.fdb_interval.specs.Breakpoints.{AreJoined, AreRising};
 
-use bytes::Bytes;
+use crate::keyed_range::KeyedRange;
+use crate::point_key::PointKey;
 use fdb_keys::KeyRange;
 use std::alloc::{AllocError, Global};
 use std::collections::BTreeMap;
 use std::ops::Bound;
 
 // The version at the point.
-pub(crate) fn version_by(breaks: &BTreeMap<Bytes, u64>, point: &Bytes) -> u64
-    ensures { result ≡ version_from 0 breaks.now.entries point.now }
+pub(crate) fn version_by(breaks: &BTreeMap<PointKey, u64>, point: &PointKey) -> u64
+    ensures { result ≡ value_from 0 breaks.now.entries point.now }
 {
     match breaks.range(..=point).next_back() {
         Some((_begin, version)) => *version,
@@ -28,8 +29,8 @@ pub(crate) fn version_by(breaks: &BTreeMap<Bytes, u64>, point: &Bytes) -> u64
 }
 
 // The version right before the point.
-pub(crate) fn version_before(breaks: &BTreeMap<Bytes, u64>, point: &Bytes) -> u64
-    ensures value { result ≡ last_version 0 (breaks_before point.now breaks.now.entries) }
+pub(crate) fn version_before(breaks: &BTreeMap<PointKey, u64>, point: &PointKey) -> u64
+    ensures value { result ≡ last_value 0 (breaks_before point.now breaks.now.entries) }
     ensures rising { AreRising breaks.now.entries }
 {
     match breaks.range(..point).next_back() {
@@ -46,19 +47,19 @@ struct Throughout {
 }
 
 // The version throughout the range, which has a point, if no breakpoint is inside it.
-fn version_throughout(breaks: &BTreeMap<Bytes, u64>, range: &KeyRange) -> Option<Throughout>
+fn version_throughout(breaks: &BTreeMap<PointKey, u64>, range: &KeyedRange) -> Option<Throughout>
     requires { IsTrue (point_lt range.now.begin range.now.end) }
-    ensures version { IfSome result (λ found. found.version ≡ version_from 0 breaks.now.entries range.now.begin) }
+    ensures version { IfSome result (λ found. found.version ≡ value_from 0 breaks.now.entries range.now.begin) }
     ensures before { IfSome result (λ found. found.begins ≡ false
-        → found.version ≡ last_version 0 (breaks_before range.now.begin breaks.now.entries)) }
+        → found.version ≡ last_value 0 (breaks_before range.now.begin breaks.now.entries)) }
     ensures inside { IfSome result (λ _. breaks_inside range.now breaks.now.entries ≡ []) }
     ensures rising { AreRising breaks.now.entries }
 {
-    match breaks.range(..range.end_text()).next_back() {
-        Some((point, _version)) if is_before(range.begin(), point.as_slice()) => None,
+    match breaks.range(..range.end()).next_back() {
+        Some((point, _version)) if is_before(range.begin(), point) => None,
         Some((point, version)) => Some(Throughout {
             version: *version,
-            begins: !is_before(point.as_slice(), range.begin()),
+            begins: !is_before(point, range.begin()),
         }),
         None => Some(Throughout {
             version: 0,
@@ -68,38 +69,38 @@ fn version_throughout(breaks: &BTreeMap<Bytes, u64>, range: &KeyRange) -> Option
 }
 
 #[tactic(auto, unfolding(fdb_keys::specs::Points::point_lt))]
-fn is_before(a: &[u8], b: &[u8]) -> bool
+fn is_before(a: &PointKey, b: &PointKey) -> bool
     ensures { result ≡ point_lt a.now b.now }
 {
-    a.cmp(&b).is_lt()
+    a.cmp(b).is_lt()
 }
 
 // Whether some point of the range, which has one, has a version above this one.
-pub(crate) fn is_any_newer(breaks: &BTreeMap<Bytes, u64>, range: &KeyRange, version: u64) -> bool
+pub(crate) fn is_newer_by_keys(
+    breaks: &BTreeMap<PointKey, u64>,
+    range: &KeyedRange,
+    version: u64,
+) -> bool
     requires { IsTrue (point_lt range.now.begin range.now.end) }
-    ensures value { result ≡ (nat_lt version (version_from 0 breaks.now.entries range.now.begin)
+    ensures value { result ≡ (nat_lt version (value_from 0 breaks.now.entries range.now.begin)
         || list_any (λ entry. nat_lt version entry.1) (breaks_inside range.now breaks.now.entries)) }
     ensures rising { AreRising breaks.now.entries }
 {
     match version_throughout(breaks, range) {
         Some(found) => version < found.version,
         None => {
-            version < version_by(breaks, range.begin_text())
-                || is_newer_inside(breaks, range, version)
+            version < version_by(breaks, range.begin()) || is_newer_inside(breaks, range, version)
         }
     }
 }
 
 // Whether a breakpoint inside the range has a greater version.
-fn is_newer_inside(breaks: &BTreeMap<Bytes, u64>, range: &KeyRange, version: u64) -> bool
+fn is_newer_inside(breaks: &BTreeMap<PointKey, u64>, range: &KeyedRange, version: u64) -> bool
     requires { IsTrue (point_lt range.now.begin range.now.end) }
     ensures value { result ≡ list_any (λ entry. nat_lt version entry.1) (breaks_inside range.now breaks.now.entries) }
     ensures rising { AreRising breaks.now.entries }
 {
-    let bounds = (
-        Bound::Excluded(range.begin_text()),
-        Bound::Excluded(range.end_text()),
-    );
+    let bounds = (Bound::Excluded(range.begin()), Bound::Excluded(range.end()));
     for (_begin, held) in breaks.range(bounds) {
         if version < *held {
             return true;
@@ -109,7 +110,7 @@ fn is_newer_inside(breaks: &BTreeMap<Bytes, u64>, range: &KeyRange, version: u64
 }
 
 // How many of the versions are above the floor.
-pub(crate) fn count_above(breaks: &BTreeMap<Bytes, u64>, floor: u64) -> usize
+pub(crate) fn count_above(breaks: &BTreeMap<PointKey, u64>, floor: u64) -> usize
     ensures value { result ≡ length (filter (λ version. nat_lt floor version) (values breaks.now)) }
     ensures rising { AreRising breaks.now.entries }
 {
@@ -125,66 +126,85 @@ pub(crate) fn count_above(breaks: &BTreeMap<Bytes, u64>, floor: u64) -> usize
 // Gives each point of the range, which has one, the version. Where memory runs out, nothing changes.
 pub(crate) fn assign(
     alloc: Global,
-    breaks: &mut BTreeMap<Bytes, u64>,
+    breaks: &mut BTreeMap<PointKey, u64>,
     range: &KeyRange,
     version: u64,
 ) -> Result<(), AllocError>
     requires { IsTrue (point_lt range.now.begin range.now.end) }
-    ensures versions { OnOk result ((x : Point) → version_from 0 breaks.new.entries x
-        ≡ (if in_range range.now x then version else version_from 0 breaks.old.entries x)) }
+    ensures versions { OnOk result ((x : Point) → value_from 0 breaks.new.entries x
+        ≡ (if in_range range.now x then version else value_from 0 breaks.old.entries x)) }
     ensures joined { OnOk result ((floor : ℕ)
         → AreJoined floor 0 breaks.old.entries → AreJoined floor 0 breaks.new.entries) }
-    ensures last { OnOk result (last_version 0 breaks.new.entries ≡ last_version 0 breaks.old.entries) }
+    ensures last { OnOk result (last_value 0 breaks.new.entries ≡ last_value 0 breaks.old.entries) }
+    ensures err { OnErr result (breaks.new.entries ≡ breaks.old.entries) }
+{
+    let keyed = KeyedRange::new(range)?;
+    assign_keyed(alloc, breaks, &keyed, version)
+}
+
+// The same, by the keys of the bounds.
+fn assign_keyed(
+    alloc: Global,
+    breaks: &mut BTreeMap<PointKey, u64>,
+    range: &KeyedRange,
+    version: u64,
+) -> Result<(), AllocError>
+    requires { IsTrue (point_lt range.now.begin range.now.end) }
+    ensures versions { OnOk result ((x : Point) → value_from 0 breaks.new.entries x
+        ≡ (if in_range range.now x then version else value_from 0 breaks.old.entries x)) }
+    ensures joined { OnOk result ((floor : ℕ)
+        → AreJoined floor 0 breaks.old.entries → AreJoined floor 0 breaks.new.entries) }
+    ensures last { OnOk result (last_value 0 breaks.new.entries ≡ last_value 0 breaks.old.entries) }
     ensures err { OnErr result (breaks.new.entries ≡ breaks.old.entries) }
 {
     let throughout = version_throughout(breaks, range);
     let before = version_before_range(breaks, range, throughout);
-    let at_end = breaks.get(range.end_text()).copied();
+    let at_end = breaks.get(range.end()).copied();
     let behind = version_behind(breaks, range, throughout, at_end);
     let swallowed = list_swallowed(alloc, breaks, range, throughout)?;
     put_both(breaks, range, version, at_end, behind)?;
     remove_all(breaks, swallowed.as_slice());
-    remove_if(breaks, range.begin_text(), before == version);
-    remove_if(breaks, range.end_text(), behind == version);
+    remove_if(breaks, range.begin(), before == version);
+    remove_if(breaks, range.end(), behind == version);
     Ok(())
 }
 
 // The version right before the range, by the version throughout it, if there is one.
 fn version_before_range(
-    breaks: &BTreeMap<Bytes, u64>,
-    range: &KeyRange,
+    breaks: &BTreeMap<PointKey, u64>,
+    range: &KeyedRange,
     throughout: Option<Throughout>,
 ) -> u64
     requires { IfSome throughout (λ found. found.begins ≡ false
-        → found.version ≡ last_version 0 (breaks_before range.now.begin breaks.now.entries)) }
-    ensures { result ≡ last_version 0 (breaks_before range.now.begin breaks.now.entries) }
+        → found.version ≡ last_value 0 (breaks_before range.now.begin breaks.now.entries)) }
+    ensures { result ≡ last_value 0 (breaks_before range.now.begin breaks.now.entries) }
 {
     match throughout {
         Some(found) if !found.begins => found.version,
-        _ => version_before(breaks, range.begin_text()),
+        _ => version_before(breaks, range.begin()),
     }
 }
 
 // The version at the range's end, by that of the breakpoint there and the version throughout the range, if there are.
 fn version_behind(
-    breaks: &BTreeMap<Bytes, u64>,
-    range: &KeyRange,
+    breaks: &BTreeMap<PointKey, u64>,
+    range: &KeyedRange,
     throughout: Option<Throughout>,
     at_end: Option<u64>,
 ) -> u64
     requires some { IsTrue (point_lt range.now.begin range.now.end) }
     requires rising { AreRising breaks.now.entries }
     requires version { IfSome throughout (λ found. found.version
-        ≡ version_from 0 breaks.now.entries range.now.begin) }
+        ≡ value_from 0 breaks.now.entries range.now.begin) }
     requires inside { IfSome throughout (λ _. breaks_inside range.now breaks.now.entries ≡ []) }
     requires at_end { at_end ≡ lookup (is_at (slice_cmp nat_cmp range.now.end)) breaks.now.entries }
-    ensures { result ≡ version_from 0 breaks.now.entries range.now.end }
+    ensures { result ≡ value_from 0 breaks.now.entries range.now.end }
 {
     match at_end {
         Some(version) => version,
         None => match throughout {
             Some(found) => found.version,
-            None => version_by(breaks, range.end_text()),
+            None => version_by(breaks, range.end()),
         },
     }
 }
@@ -192,10 +212,10 @@ fn version_behind(
 // The breakpoints inside the range, of which there are none if it has one version throughout.
 fn list_swallowed(
     alloc: Global,
-    breaks: &BTreeMap<Bytes, u64>,
-    range: &KeyRange,
+    breaks: &BTreeMap<PointKey, u64>,
+    range: &KeyedRange,
     throughout: Option<Throughout>,
-) -> Result<Vec<Bytes>, AllocError>
+) -> Result<Vec<PointKey>, AllocError>
     requires some { IsTrue (point_lt range.now.begin range.now.end) }
     requires inside { IfSome throughout (λ _. breaks_inside range.now breaks.now.entries ≡ []) }
     ensures { IfOk result (λ inside. inside.items ≡ keys_of (breaks_inside range.now breaks.now.entries)) }
@@ -209,17 +229,14 @@ fn list_swallowed(
 // The breakpoints inside the range.
 fn list_inside(
     alloc: Global,
-    breaks: &BTreeMap<Bytes, u64>,
-    range: &KeyRange,
-) -> Result<Vec<Bytes>, AllocError>
+    breaks: &BTreeMap<PointKey, u64>,
+    range: &KeyedRange,
+) -> Result<Vec<PointKey>, AllocError>
     requires { IsTrue (point_lt range.now.begin range.now.end) }
     ensures { IfOk result (λ inside. inside.items ≡ keys_of (breaks_inside range.now breaks.now.entries)) }
 {
     let mut inside = Vec::new(alloc);
-    let bounds = (
-        Bound::Excluded(range.begin_text()),
-        Bound::Excluded(range.end_text()),
-    );
+    let bounds = (Bound::Excluded(range.begin()), Bound::Excluded(range.end()));
     for (begin, _version) in breaks.range(bounds) {
         inside.push(begin.clone()?)?;
     }
@@ -229,8 +246,8 @@ fn list_inside(
 // Puts the version at the range's begin, and at its end, if no breakpoint is there, the version behind it. Where
 // memory runs out, nothing changes.
 fn put_both(
-    breaks: &mut BTreeMap<Bytes, u64>,
-    range: &KeyRange,
+    breaks: &mut BTreeMap<PointKey, u64>,
+    range: &KeyedRange,
     version: u64,
     at_end: Option<u64>,
     behind: u64,
@@ -242,15 +259,19 @@ fn put_both(
         range.now.begin version) }
     ensures err { OnErr result (breaks.new.entries ≡ breaks.old.entries) }
 {
-    let begin = range.begin_text().clone()?;
+    let begin = range.begin().clone()?;
     if at_end.is_some() {
         put(breaks, begin, version)
     } else {
-        put_beside_new(breaks, begin, version, range.end_text(), behind)
+        put_beside_new(breaks, begin, version, range.end(), behind)
     }
 }
 
-fn put(breaks: &mut BTreeMap<Bytes, u64>, point: Bytes, version: u64) -> Result<(), AllocError>
+fn put(
+    breaks: &mut BTreeMap<PointKey, u64>,
+    point: PointKey,
+    version: u64,
+) -> Result<(), AllocError>
     ensures ok { OnOk result (breaks.new.entries
         ≡ insert_entry (slice_cmp nat_cmp) breaks.old.entries point version) }
     ensures err { OnErr result (breaks.new.entries ≡ breaks.old.entries) }
@@ -261,10 +282,10 @@ fn put(breaks: &mut BTreeMap<Bytes, u64>, point: Bytes, version: u64) -> Result<
 
 // Puts both versions, the second one at an end that has none, or neither.
 fn put_beside_new(
-    breaks: &mut BTreeMap<Bytes, u64>,
-    begin: Bytes,
+    breaks: &mut BTreeMap<PointKey, u64>,
+    begin: PointKey,
     version: u64,
-    end: &Bytes,
+    end: &PointKey,
     behind: u64,
 ) -> Result<(), AllocError>
     requires { lookup (is_at (slice_cmp nat_cmp end.now)) breaks.old.entries ≡ None }
@@ -281,7 +302,7 @@ fn put_beside_new(
 }
 
 // Takes out the breakpoints at the keys.
-pub(crate) fn remove_all(breaks: &mut BTreeMap<Bytes, u64>, keys: &[Bytes])
+pub(crate) fn remove_all(breaks: &mut BTreeMap<PointKey, u64>, keys: &[PointKey])
     ensures { breaks.new.entries ≡ without keys.now breaks.old.entries }
 {
     for key in keys {
@@ -290,7 +311,7 @@ pub(crate) fn remove_all(breaks: &mut BTreeMap<Bytes, u64>, keys: &[Bytes])
 }
 
 // Takes out the breakpoint at the point, if it is joined with the one before it.
-fn remove_if(breaks: &mut BTreeMap<Bytes, u64>, point: &Bytes, is_joined: bool)
+fn remove_if(breaks: &mut BTreeMap<PointKey, u64>, point: &PointKey, is_joined: bool)
     ensures { breaks.new.entries ≡ (if is_joined
         then remove_entry (is_at (slice_cmp nat_cmp point.now)) breaks.old.entries else breaks.old.entries) }
 {

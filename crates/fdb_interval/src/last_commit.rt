@@ -1,6 +1,7 @@
-use crate::breakpoints::{assign, count_above, is_any_newer};
+use crate::breakpoints::{assign, count_above};
+use crate::newer::is_any_newer;
+use crate::point_key::PointKey;
 use crate::sweeping::sweep;
-use bytes::Bytes;
 use fdb_keys::{KeyRange, Refusal};
 use std::alloc::Global;
 use std::collections::BTreeMap;
@@ -19,22 +20,22 @@ pub struct LastCommit {
     // Versions up to it count as 0.
     floor: u64,
     // The version that goes from each point up to the next one.
-    breaks: BTreeMap<Bytes, u64>,
+    breaks: BTreeMap<PointKey, u64>,
     // How many marks there were since the last expiry, and where that one stopped looking for dead breakpoints.
     marked: u64,
-    cursor: Bytes,
+    cursor: PointKey,
 }
 
 impl Model for LastCommit {
     ghost use Rattle.std.specs.Prelude.{◌≤◌};
-    ghost use Rattle.fdb_interval.specs.Breakpoints.{Breakpoints, last_version, AreJoined};
+    ghost use Rattle.fdb_interval.specs.Breakpoints.{Breakpoints, last_value, AreJoined};
 
     ghost Value = { Breakpoints };
 
     ghost view = { λ last. record { floor = last.floor; breaks = last.breaks.entries } };
 
     ghost invariant = { λ last. AreJoined last.floor 0 last.breaks.entries
-        × (last_version 0 last.breaks.entries ≤ last.floor) };
+        × (last_value 0 last.breaks.entries ≤ last.floor) };
 }
 
 impl LastCommit {
@@ -55,7 +56,7 @@ impl LastCommit {
             floor: 0,
             breaks: BTreeMap::new(alloc),
             marked: 0,
-            cursor: Bytes::new(),
+            cursor: PointKey::first(),
         }
     }
 
@@ -107,9 +108,9 @@ impl LastCommit {
     }
 
     /// Forgets the versions up to `version`: a point with such a version has 0, and each greater version
-    /// stays as it is. It takes O(m log n) for the m marks since the last expiry and the n pieces. No more than about
-    /// twice as many breakpoints are kept as the pieces have. It takes memory for a moment, and leaves more for the
-    /// next expiry where there is none.
+    /// stays as it is. It takes O(m log n) for the m marks since the last expiry and the n pieces. As long as ranges
+    /// are marked, no more than about twice as many breakpoints are kept as the pieces have; where none is, the others
+    /// go a few at each expiry. It takes memory for a moment, and leaves more for the next expiry where there is none.
     pub fn expire(&mut self, version: u64)
         ensures { (x : Point) → version_at self.new x ≡ forgetting version (version_at self.old) x }
     {

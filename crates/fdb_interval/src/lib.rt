@@ -2,8 +2,11 @@
 #![tactic(auto)]
 
 mod breakpoints;
+mod keyed_range;
 mod last_commit;
 pub mod laws;
+mod newer;
+mod point_key;
 mod sweeping;
 
 pub use last_commit::LastCommit;

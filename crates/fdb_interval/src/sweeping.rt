@@ -1,11 +1,11 @@
 // Dead breakpoints, taken out little by little.
 ghost use Rattle.std.specs.Prelude.{◌≡◌, ◌++◌, ◌∷◌, [], ◌≤◌, OnOk, OnErr};
 ghost use Rattle.fdb_keys.specs.Points.{Point};
-ghost use Rattle.fdb_interval.specs.Breakpoints.{version_from, last_version, AreJoined, AreRising, IsWalk};
+ghost use Rattle.fdb_interval.specs.Breakpoints.{value_from, last_value, AreJoined, AreRising, IsWalk};
 ghost use Rattle.fdb_interval.specs.Versions.{forgetting};
 
 use crate::breakpoints::{remove_all, version_before};
-use bytes::Bytes;
+use crate::point_key::PointKey;
 use std::alloc::{AllocError, Global};
 use std::collections::BTreeMap;
 
@@ -14,15 +14,15 @@ use std::collections::BTreeMap;
 // breakpoint is left, or where memory runs out.
 pub(crate) fn sweep(
     alloc: Global,
-    breaks: &mut BTreeMap<Bytes, u64>,
-    cursor: &mut Bytes,
+    breaks: &mut BTreeMap<PointKey, u64>,
+    cursor: &mut PointKey,
     floor: u64,
     steps: u64,
 )
-    ensures versions { (x : Point) → forgetting floor (version_from 0 breaks.new.entries) x
-        ≡ forgetting floor (version_from 0 breaks.old.entries) x }
+    ensures versions { (x : Point) → forgetting floor (value_from 0 breaks.new.entries) x
+        ≡ forgetting floor (value_from 0 breaks.old.entries) x }
     ensures joined { AreJoined floor 0 breaks.old.entries → AreJoined floor 0 breaks.new.entries }
-    ensures last { last_version 0 breaks.old.entries ≤ floor → last_version 0 breaks.new.entries ≤ floor }
+    ensures last { last_value 0 breaks.old.entries ≤ floor → last_value 0 breaks.new.entries ≤ floor }
 {
     let walk = list_dead(alloc, breaks, cursor, floor, steps);
     remove_all(breaks, walk.dead.as_slice());
@@ -32,15 +32,15 @@ pub(crate) fn sweep(
 // The dead breakpoints that a walk went over, and where it ended.
 #[derive(Drop)]
 struct Walk {
-    dead: Vec<Bytes>,
-    end: Bytes,
+    dead: Vec<PointKey>,
+    end: PointKey,
 }
 
 // Walks over so many breakpoints from the point on.
 fn list_dead(
     alloc: Global,
-    breaks: &BTreeMap<Bytes, u64>,
-    from: &Bytes,
+    breaks: &BTreeMap<PointKey, u64>,
+    from: &PointKey,
     floor: u64,
     steps: u64,
 ) -> Walk
@@ -61,18 +61,18 @@ fn list_dead(
         if before.max(*version) <= floor && push_copy(&mut dead, point).is_err() {
             return Walk {
                 dead,
-                end: Bytes::new(),
+                end: PointKey::first(),
             };
         }
         before = *version;
     }
     Walk {
         dead,
-        end: Bytes::new(),
+        end: PointKey::first(),
     }
 }
 
-fn push_copy(points: &mut Vec<Bytes>, point: &Bytes) -> Result<(), AllocError>
+fn push_copy(points: &mut Vec<PointKey>, point: &PointKey) -> Result<(), AllocError>
     ensures ok { OnOk result (points.new.items ≡ points.old.items ++ point.now ∷ []) }
     ensures err { OnErr result (points.new.items ≡ points.old.items) }
 {
@@ -81,9 +81,9 @@ fn push_copy(points: &mut Vec<Bytes>, point: &Bytes) -> Result<(), AllocError>
 }
 
 // The first point serves where there is no memory for a copy.
-fn copy_or_first(point: &Bytes) -> Bytes {
+fn copy_or_first(point: &PointKey) -> PointKey {
     match point.clone() {
         Ok(point) => point,
-        Err(_) => Bytes::new(),
+        Err(_) => PointKey::first(),
     }
 }

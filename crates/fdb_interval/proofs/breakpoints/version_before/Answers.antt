@@ -4,7 +4,7 @@ use Rattle.fdb_interval.proofs.breakpoints.version_before.Goals as goal
 
 pub returns-in-Some-clause-value : goal.returns-in-Some-clause-value
 returns-in-Some-clause-value c =
-    before-last-some c.args.breaks.now.entries c.next_back.new.self
+    before-last-some 0 c.args.breaks.now.entries c.next_back.new.self
     (c.in-Some._begin.now, c.in-Some.version.now) c.args.point.now
     (sym (c.range.ensures.between tt) ∙ c.in-Some.ensures.steps)
 
@@ -13,7 +13,7 @@ returns-in-Some-clause-rising c = rising_from_sorted c.args.breaks.now.entries c
 
 pub returns-in-None-clause-value : goal.returns-in-None-clause-value
 returns-in-None-clause-value c =
-    before-last-none c.args.breaks.now.entries c.args.point.now
+    before-last-none 0 c.args.breaks.now.entries c.args.point.now
     (sym (c.range.ensures.between tt) ∙ c.in-None.ensures.steps.0)
 
 pub returns-in-None-clause-rising : goal.returns-in-None-clause-rising

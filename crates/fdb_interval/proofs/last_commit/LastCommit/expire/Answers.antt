@@ -1,5 +1,5 @@
 use Rattle.std.proofs.Common.{◌∙◌, ap, ℕ, arith}
-use Rattle.fdb_interval.specs.Breakpoints.{Breakpoints, version_from}
+use Rattle.fdb_interval.specs.Breakpoints.{Breakpoints, value_from}
 use Rattle.fdb_interval.specs.Versions.{version_at}
 use Rattle.fdb_interval.proofs.VersionsLemmas.{above, forgotten_twice, joined-higher}
 use Rattle.fdb_interval.proofs.last_commit.LastCommit.expire.Goals as goal
@@ -14,7 +14,7 @@ invariant_of-self c = (
 
 pub returns : goal.returns
 returns c = λ x.
-    let held = version_from 0 c.self.inside.breaks.entries x in
+    let held = value_from 0 c.self.inside.breaks.entries x in
     c.sweep.ensures.versions x
     ∙ ap (λ (n : ℕ). above n held) c.max-self-inside.ensures
     ∙ forgotten_twice c.self.inside.floor c.args.version held

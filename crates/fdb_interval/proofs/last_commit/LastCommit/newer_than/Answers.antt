@@ -3,7 +3,7 @@ use Rattle.std.proofs.lemmas.Bool.{both_ways, lt-ltb, ltb-true, not-false, or_ca
 use Rattle.fdb_keys.specs.Points.{Point, point_lt}
 use Rattle.fdb_keys.specs.Ranges.{Range, in_range, is_empty_range}
 use Rattle.fdb_keys.proofs.InsertionLemmas.{in_range-empty}
-use Rattle.fdb_interval.specs.Breakpoints.{Breakpoints, version_from, breaks_inside}
+use Rattle.fdb_interval.specs.Breakpoints.{Breakpoints, value_from, breaks_inside}
 use Rattle.fdb_interval.specs.Versions.{version_at}
 use Rattle.fdb_interval.proofs.VersionsLemmas.{newer_from_begin, newer_from_inside, found_from_newer, any_newer}
 use Rattle.fdb_interval.proofs.last_commit.LastCommit.newer_than.Goals as goal
@@ -27,14 +27,14 @@ returns c =
     let bar = max version floor in
     let some : point_lt range.begin range.end ≡ true = not-false _ (search rules) in
     let is : c.is_any_newer.result
-    ≡ (nat_lt bar (version_from 0 entries range.begin) || any_newer bar (breaks_inside range entries)) =
+    ≡ (nat_lt bar (value_from 0 entries range.begin) || any_newer bar (breaks_inside range entries)) =
     search rules in (
       λ found. subst (HasNewerIn range version) c.self.view_is (⊎_elim
           (λ at_begin. newer_from_begin floor entries range version some (ltb-true _ _ at_begin))
           (λ within. newer_from_inside floor entries range version c.is_any_newer.ensures.rising within)
-          (or_cases (nat_lt bar (version_from 0 entries range.begin)) _ (sym is ∙ found))),
+          (or_cases (nat_lt bar (value_from 0 entries range.begin)) _ (sym is ∙ found))),
       λ newer. is ∙ ⊎_elim
-          (λ at_begin. or_left (nat_lt bar (version_from 0 entries range.begin)) _ (lt-ltb _ _ at_begin))
-          (λ within. or_right (nat_lt bar (version_from 0 entries range.begin)) _ within)
+          (λ at_begin. or_left (nat_lt bar (value_from 0 entries range.begin)) _ (lt-ltb _ _ at_begin))
+          (λ within. or_right (nat_lt bar (value_from 0 entries range.begin)) _ within)
           (found_from_newer floor entries range version (subst (HasNewerIn range version) (sym c.self.view_is) newer)),
     )

@@ -1,15 +1,15 @@
-use Rattle.std.proofs.Common.{◌≡◌, ◌∙◌, sym, ap, subst, rules, ◌==◌, is_some, if◌then◌else◌}
+use Rattle.std.proofs.Common.{◌≡◌, ◌∙◌, sym, ap, subst, ℕ, rules, ◌==◌, is_some, if◌then◌else◌}
 use Rattle.std.specs.BTreeMap.{is_at}
 use Rattle.std.specs.Cmp.Lexicographic.{slice_cmp}
 use Rattle.std.specs.Map.{keys_of, lookup}
 use Rattle.std.specs.Ordering.{nat_cmp}
-use Rattle.fdb_interval.specs.Breakpoints.{Breaks, version_from, last_version, breaks_before, breaks_inside, AreJoined}
+use Rattle.fdb_interval.specs.Breakpoints.{Breaks, value_from, last_value, breaks_before, breaks_inside, AreJoined}
 use Rattle.fdb_interval.specs.Breakpoints.{without}
 use Rattle.fdb_interval.proofs.AssignLemmas.{assigned, assigned-by-steps, taken_if, version-assigned, joined-assigned}
 use Rattle.fdb_interval.proofs.AssignLemmas.{last-assigned}
 use Rattle.fdb_interval.proofs.PartsLemmas.{put}
-use Rattle.fdb_interval.proofs.breakpoints.assign.Goals as goal
-use Rattle.fdb_interval.proofs.breakpoints.assign.Goals.{After-drop-swallowed-2}
+use Rattle.fdb_interval.proofs.breakpoints.assign_keyed.Goals as goal
+use Rattle.fdb_interval.proofs.breakpoints.assign_keyed.Goals.{After-drop-swallowed-2}
 
 made : (c : After-drop-swallowed-2)
     → c.remove_if-2.new.breaks.entries
@@ -21,8 +21,8 @@ made c =
     let version = c.args.version in
     let before = c.version_before_range-before.result in
     let behind = c.version_behind-behind.result in
-    let is_before : before ≡ last_version 0 (breaks_before range.begin old) = search rules in
-    let is_behind : behind ≡ version_from 0 old range.end = search rules in
+    let is_before : before ≡ last_value 0 (breaks_before range.begin old) = search rules in
+    let is_behind : behind ≡ value_from 0 old range.end = search rules in
     let are_keys : c.as_slice.result.now ≡ keys_of (breaks_inside range old) = search rules in
     let is_laid : c.put_both.new.breaks.entries ≡ put range.begin version
     (if is_some (lookup (is_at (slice_cmp nat_cmp range.end)) old) then old else put range.end behind old) =
@@ -40,7 +40,7 @@ made c =
 
 pub returns-clause-versions : goal.returns-clause-versions
 returns-clause-versions c = λ x.
-    ap (λ (l : Breaks). version_from 0 l x) (made c)
+    ap (λ (l : Breaks ℕ). value_from 0 l x) (made c)
     ∙ version-assigned c.args.breaks.now.entries c.args.range.now c.args.version
     c.version_throughout-throughout.ensures.rising c.requires x
 
@@ -52,6 +52,6 @@ returns-clause-joined c = λ floor joined.
 
 pub returns-clause-last : goal.returns-clause-last
 returns-clause-last c =
-    ap (last_version 0) (made c)
+    ap (last_value 0) (made c)
     ∙ last-assigned c.args.breaks.now.entries c.args.range.now c.args.version
     c.version_throughout-throughout.ensures.rising c.requires

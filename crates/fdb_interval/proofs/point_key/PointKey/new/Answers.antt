@@ -1,0 +1,9 @@
+use Rattle.std.proofs.Common.{◌≡◌, subst, ℕ, List, rules}
+use Rattle.fdb_interval.specs.Heads.{IsHeaded}
+use Rattle.fdb_interval.proofs.point_key.PointKey.new.Goals as goal
+
+pub invariant_of-result : goal.invariant_of-result
+invariant_of-result c =
+    let same : c.as_slice.result.now ≡ c.in_ok-text.text = search rules in
+    subst (λ (text : List ℕ). IsHeaded c.head_of-head.result text) same
+    (record { is = c.head_of-head.ensures.value; bytes = c.head_of-head.ensures.bytes })
