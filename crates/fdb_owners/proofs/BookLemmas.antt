@@ -1,17 +1,20 @@
 -- Owners that are learnt call by call are those of the book.
-use Rattle.std.proofs.Common.{◌∙◌, sym, ap, ℕ, ◌<◌, ◌≤◌, List, ⊎_elim, arith}
+use Rattle.std.proofs.Common.{◌≡◌, ◌∙◌, sym, ap, refl, ℕ, ◌<◌, ◌≤◌, Bool, true, false, List, ⊎_elim, arith}
 use Rattle.std.proofs.lemmas.Bool.{cases_lt}
 use Rattle.fdb_keys.specs.Points.{Point}
 use Rattle.fdb_txn.specs.book.Book.{add_moves}
 use Rattle.fdb_txn.specs.rules.Owners.{first_owner, owner}
 use Rattle.fdb_txn.proofs.rules.CornersLemmas.{owned_at_some_version}
 use Rattle.fdb_owners.specs.Ownership.{target_after}
-use Rattle.fdb_owners.specs.OwnersLaws.{OwnedAtSomeVersion, NewGoesOn, LearningGoesOn, ExpiringGoesOn, OwnedByTheBook}
+use Rattle.fdb_owners.specs.OwnersLaws.{NewGoesOn, LearningGoesOn, ExpiringGoesOn, OwnedByTheBook}
 use Rattle.fdb_owners.proofs.OwnerLemmas.{owner-since, owner-before}
-use Rattle.fdb_owners.proofs.StepsLemmas.{same_test}
+use Rattle.fdb_owners.proofs.BetweenLemmas.{owned_where_at_some_version}
 
-pub owned_where_at_some_version : OwnedAtSomeVersion
-owned_where_at_some_version owners i x low high = owned_at_some_version owners.splits i owners.moves x low high
+-- tests that follow from one another are the same
+same_test : (a b : Bool) → (a ≡ true → b ≡ true) → (b ≡ true → a ≡ true) → a ≡ b
+same_test true b to back = sym (to refl)
+same_test false true to back = back refl
+same_test false false to back = refl
 
 pub new_goes_on : NewGoesOn
 new_goes_on splits owners new x v from = new.first x v ∙ ap (λ (s : List Point). first_owner s x) (sym new.splits_are)
@@ -36,7 +39,7 @@ expiring_goes_on old new moves version agrees has x v from =
 
 pub owned_by_the_book : OwnedByTheBook
 owned_by_the_book owners moves i x low high agrees from =
-    let here = owned_at_some_version owners.splits i owners.moves x low high in
+    let here = owned_where_at_some_version owners i x low high in
     let there = owned_at_some_version owners.splits i moves x low high in
     same_test _ _
     (λ held. let some = here.0 held in

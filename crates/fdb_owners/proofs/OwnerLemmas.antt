@@ -1,14 +1,13 @@
--- Owners of a point before and after the moves of one version.
-use Rattle.std.proofs.Common.{◌≡◌, ◌∙◌, sym, ap, refl, ℕ, ◌<◌, ◌≤◌, Bool, true, false, ◌&&◌, nat_le, if◌then◌else◌}
-use Rattle.std.proofs.Common.{List, [], ◌∷◌, arith}
-use Rattle.std.specs.List.{AllByRecursion}
+-- Owners of a point by the book, before and after the moves of one version.
+use Rattle.std.proofs.Common.{◌≡◌, ◌∙◌, refl, ℕ, ◌<◌, ◌≤◌, Bool, true, false, ◌&&◌, nat_le, if◌then◌else◌}
+use Rattle.std.proofs.Common.{List, [], ◌∷◌}
 use Rattle.std.proofs.lemmas.Bool.{cond-true, cond-false, le-leb, lt-leb}
 use Rattle.fdb_keys.specs.Points.{Point}
 use Rattle.fdb_keys.specs.Ranges.{in_range}
 use Rattle.fdb_txn.specs.declared.entry.Move.{Move}
 use Rattle.fdb_txn.specs.book.Book.{Stamped, add_moves}
 use Rattle.fdb_txn.specs.rules.Owners.{owner}
-use Rattle.fdb_owners.specs.Ownership.{Ownership, IsOwnership, owner_at, resolvers_of, target_after}
+use Rattle.fdb_owners.specs.Ownership.{target_after}
 
 -- the owner, by whether the version is reached
 abbrev where_reached : Bool → ℕ → ℕ → ℕ
@@ -46,45 +45,3 @@ pub owner-before : (splits : List Point) (version : ℕ) (moves : List Move) (ol
     → v < version → owner splits (add_moves version moves older) x v ≡ owner splits older x v
 owner-before splits version moves older x v below =
     owner-add_moves splits version moves older x v ∙ cond-false (nat_le version v) _ _ (lt-leb version v below)
-
--- the moves are of versions up to this one
-abbrev pub AreMovesUpTo : ℕ → List Stamped → Type 0
-AreMovesUpTo version moves = AllByRecursion (λ (move : Stamped). move.version ≤ version) moves
-
--- from the version of the last move on, the owner stays
-pub owner-stays : (splits : List Point) (last : ℕ) (moves : List Stamped) (x : Point) (v w : ℕ)
-    → AreMovesUpTo last moves → last ≤ v → last ≤ w → owner splits moves x v ≡ owner splits moves x w
-owner-stays splits last [] x v w through from_v from_w = refl
-owner-stays splits last (move ∷ older) x v w through from_v from_w =
-    ap (λ (reached : Bool). if reached && in_range move.range x then move.target else owner splits older x v)
-    (le-leb move.version v (omega (arith, through)) ∙ sym (le-leb move.version w (omega (arith, through))))
-    ∙ ap (λ (before : ℕ). if nat_le move.version w && in_range move.range x then move.target else before)
-    (owner-stays splits last older x v w through.1 from_v from_w)
-
--- what holds of each move holds without its target
-versions-of : (last resolvers : ℕ) (moves : List Stamped)
-    → AllByRecursion (λ (move : Stamped). (move.version ≤ last) × (move.target < resolvers)) moves
-    → AreMovesUpTo last moves
-versions-of last resolvers [] all = tt
-versions-of last resolvers (move ∷ moves) all = (all.0.0, versions-of last resolvers moves all.1)
-
--- from the last version learnt on, owners stay
-pub owner-settled : (owners : Ownership) → IsOwnership owners → (x : Point) (v : ℕ) → owners.last ≤ v
-    → owner_at owners x v ≡ owner_at owners x owners.last
-owner-settled owners kept x v from =
-    owner-stays owners.splits owners.last owners.moves x v owners.last
-    (versions-of owners.last (resolvers_of owners) owners.moves kept.moves) from (omega arith)
-
--- what holds of older moves and of the new ones holds of all
-pub all-add_moves : (P : Stamped → Type 0) (version : ℕ) (moves : List Move) (older : List Stamped)
-    → AllByRecursion (λ (move : Move). P (record { version = version; range = move.range; target = move.to })) moves
-    → AllByRecursion P older → AllByRecursion P (add_moves version moves older)
-all-add_moves P version [] older new all = all
-all-add_moves P version (move ∷ moves) older new all =
-    all-add_moves P version moves (record { version = version; range = move.range; target = move.to } ∷ older) new.1
-    (new.0, all)
-
--- what holds of anything holds of each item
-pub all-of_any : {A : Type 0} (P : A → Type 0) → ((x : A) → P x) → (xs : List A) → AllByRecursion P xs
-all-of_any P any [] = tt
-all-of_any P any (x ∷ xs) = (any x, all-of_any P any xs)

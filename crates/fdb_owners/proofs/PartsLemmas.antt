@@ -1,176 +1,374 @@
--- Parts of a range after moves, and the list of the parts of all resolvers.
-use Rattle.std.proofs.Common.{◌≡◌, ◌∙◌, sym, ap, ap₂, subst, refl, ℕ, suc, ◌<◌, ◌≤◌, Bool, true, false, ◌&&◌, ◌||◌}
-use Rattle.std.proofs.Common.{◌==◌, nat_lt, if◌then◌else◌, List, [], ◌∷◌, ◌++◌, length, ⊎_elim, Ordering, Less, Equal}
-use Rattle.std.proofs.Common.{Greater, nat_cmp, is_lt, is_ge, arith}
-use Rattle.std.specs.Cmp.Lexicographic.{slice_cmp}
-use Rattle.std.specs.List.{AllByRecursion}
-use Rattle.std.proofs.lemmas.Bool.{cases_Bool, or_left, cases_lt, both_ways, and_parts, cond-true, cond-false, eqb-true}
-use Rattle.std.proofs.lemmas.Bool.{eq-eqb, ltb-true, lt-ltb, le-ltb, ltb-false, false_from_ne_true, not-true}
+-- Parts to which the points of a range come.
+use Rattle.std.proofs.Common.{◌≡◌, ◌∙◌, sym, ap, refl, subst, ℕ, zero, suc, ◌<◌, ◌≤◌, Bool, true, false, ◌&&◌, ◌||◌}
+use Rattle.std.proofs.Common.{◌==◌, nat_lt, List, [], ◌∷◌, length, get_or, set, ⊎_elim, arith}
+use Rattle.std.specs.List.{AllByRecursion, insert, list_any, prefix_len}
+use Rattle.std.specs.List.Sorted.{IsPartitionedBy}
+use Rattle.std.proofs.lemmas.Bool.{cases_Bool, cond-true, cond-false, ltb-true, lt-ltb, ltb-false, eqb-true}
+use Rattle.std.proofs.lemmas.Bool.{eq-eqb, both_ways, or_cases, or_left, or_right, false_from_ne_true}
+use Rattle.fdb_keys.specs.Insertion.{with_range}
 use Rattle.fdb_keys.specs.Points.{Point, point_lt}
-use Rattle.fdb_keys.specs.Ranges.{Range, in_range, in_set, is_apart}
-use Rattle.fdb_keys.specs.Texts.{is_bound, is_after_ff}
-use Rattle.fdb_keys.proofs.InsertionLemmas.{apart_parts}
-use Rattle.fdb_keys.proofs.PointOrder.{lt_le_chain}
-use Rattle.fdb_keys.proofs.RangesLemmas.{in_range_parts}
-use Rattle.fdb_txn.specs.rules.Owners.{first_owner}
-use Rattle.fdb_txn.specs.rules.Splits.{are_splits, piece, end_of_keys}
+use Rattle.fdb_keys.specs.Ranges.{Range, in_range, in_set}
+use Rattle.fdb_keys.proofs.ApartLemmas.{in_with_range}
+use Rattle.fdb_keys.proofs.PointOrder.{lt-itself, le_lt_chain}
+use Rattle.fdb_keys.proofs.RangesLemmas.{in_range_parts, in_range_from}
 use Rattle.fdb_txn.specs.rules.Admission.{has_points}
-use Rattle.fdb_txn.proofs.rules.SplitsLemmas.{pieces_part_the_keys}
-use Rattle.fdb_txn.proofs.book.HistoryLemmas.{all-append, all-weaken}
+use Rattle.fdb_txn.proofs.book.HistoryLemmas.{all-weaken}
+use Rattle.fdb_owners.specs.declared.history.Change.{Change}
+use Rattle.fdb_owners.specs.declared.history.History.{History}
 use Rattle.fdb_owners.specs.declared.parts.Owned.{Owned}
-use Rattle.fdb_owners.specs.Parts.{ranges_of, AreRising, ArePartsOf, AreFirstParts, IsPartBy}
+use Rattle.fdb_owners.specs.Histories.{owner_in}
+use Rattle.fdb_owners.specs.Parts.{ranges_of, AreRising, ArePartsOf, owned_from, changes_within}
+use Rattle.fdb_owners.specs.Parts.{with_part, with_changes, with_owners}
+use Rattle.fdb_owners.proofs.ChangesLemmas.{all-at, all-filter, counts-first, counts-none, owner-below, any-within}
 
--- a bound doesn't come after the end of the keys
-pub ends-with_keys : (end : Point) → is_bound end ≡ true → is_ge (slice_cmp nat_cmp end_of_keys end) ≡ true
-unfolding point_lt
-ends-with_keys end legal =
-    not_before (slice_cmp nat_cmp end_of_keys end) (not-true (is_after_ff end) (and_parts _ _ legal).1)
+-- ---- where the part of a resolver stands
+abbrev pub below : ℕ → Owned → Bool
+below i part = nat_lt part.resolver i
+
+pub rising-parted : (i : ℕ) (parts : List Owned) → AreRising parts → IsPartitionedBy (below i) parts
+rising-parted i [] rising j k d low within before = absurd (omega (arith, within))
+rising-parted i (part ∷ parts) rising zero zero d low within before = before
+rising-parted i (part ∷ parts) rising zero (suc k) d low within before =
+    let later : part.resolver < (get_or parts k d).resolver =
+    all-at (λ (later : Owned). part.resolver < later.resolver) parts rising.0 k d (omega (arith, within)) in
+    let sooner = ltb-true (get_or parts k d).resolver i before in
+    lt-ltb part.resolver i (omega (arith, later, sooner))
+rising-parted i (part ∷ parts) rising (suc j) zero d low within before = absurd (omega (arith, low))
+rising-parted i (part ∷ parts) rising (suc j) (suc k) d low within before =
+    rising-parted i parts rising.1 j k d (omega (arith, low)) (omega (arith, within)) before
+
+-- the part with the range's points too, and one of these alone
+abbrev pub grown : ℕ → Range → Owned → Owned
+grown i range part = record { resolver = i; ranges = with_range range part.ranges }
+
+abbrev pub fresh : ℕ → Range → Owned
+fresh i range = record { resolver = i; ranges = with_range range [] }
+
+-- the cases of where the part goes
+placed : (P : List Owned → Type 0) (i : ℕ) (range : Range) (part : Owned) (parts : List Owned)
+    → (part.resolver < i → P (part ∷ with_part i range parts))
+    → (part.resolver ≡ i → P (grown i range part ∷ parts))
+    → (i < part.resolver → P (fresh i range ∷ part ∷ parts))
+    → P (with_part i range (part ∷ parts))
+placed P i range part parts low same high = ⊎_elim
+    (λ (is : nat_lt part.resolver i ≡ true).
+    subst P (sym (cond-true _ _ _ is)) (low (ltb-true part.resolver i is)))
+    (λ (from : nat_lt part.resolver i ≡ false).
+    let reached = ltb-false part.resolver i from in
+    subst P (sym (cond-false _ _ _ from)) (⊎_elim
+    (λ (equal : (part.resolver == i) ≡ true).
+    subst P (sym (cond-true _ _ _ equal)) (same (eqb-true part.resolver i equal)))
+    (λ (other : (part.resolver == i) ≡ false).
+    subst P (sym (cond-false _ _ _ other)) (high (beyond reached other)))
+    (cases_Bool (part.resolver == i))))
+    (cases_Bool (nat_lt part.resolver i))
   where
-    not_before : (order : Ordering) → is_lt order ≡ false → is_ge order ≡ true
-    not_before Less is = sym is
-    not_before Equal is = refl
-    not_before Greater is = refl
+    beyond : i ≤ part.resolver → (part.resolver == i) ≡ false → i < part.resolver
+    beyond reached other =
+        omega (arith, reached, λ (equal : part.resolver ≡ i). both_ways _ other (eq-eqb part.resolver i equal))
 
--- the piece's points that lie in a range are those of the range that the resolver owns first
-pub first-part : (splits : List Point) (i : ℕ) (range : Range) (part : List Range) → are_splits splits ≡ true
-    → i ≤ length splits → is_bound range.end ≡ true
-    → ((x : Point) → in_set part x ≡ (in_range (piece splits i) x && in_range range x || false))
-    → IsPartBy (first_owner splits) i range part
-first-part splits i range part rising exists legal is x = is x ∙ ⊎_elim
-    (λ (inside : in_range range x ≡ true).
-    let below : point_lt x end_of_keys ≡ true =
-    lt_le_chain x range.end end_of_keys (in_range_parts range x inside).1 (not-true _ (and_parts _ _ legal).1) in
-    ap₂ (λ (of_piece of_range : Bool). of_piece && of_range || false)
-    (pieces_part_the_keys splits i x rising exists below) inside
-    ∙ to_right (first_owner splits x == i) ∙ ap (λ (of_range : Bool). of_range && (first_owner splits x == i))
-    (sym inside))
-    (λ (outside : in_range range x ≡ false).
-    ap (λ (of_range : Bool). in_range (piece splits i) x && of_range || false) outside
-    ∙ to_false (in_range (piece splits i) x)
-    ∙ ap (λ (of_range : Bool). of_range && (first_owner splits x == i)) (sym outside))
-    (cases_Bool (in_range range x))
-  where
-    to_right : (a : Bool) → (a && true || false) ≡ (true && a)
-    to_right true = refl
-    to_right false = refl
+-- a part that is there grows at its place, and a new one is put in there
+pub grown-in_place : (i : ℕ) (range : Range) (parts : List Owned) (d : Owned)
+    → prefix_len (below i) parts < length parts → (get_or parts (prefix_len (below i) parts) d).resolver ≡ i
+    → set parts (prefix_len (below i) parts) (grown i range (get_or parts (prefix_len (below i) parts) d))
+    ≡ with_part i range parts
+grown-in_place i range [] d within same = absurd (omega (arith, within))
+grown-in_place i range (part ∷ parts) d within same = ⊎_elim
+    (λ (before : nat_lt part.resolver i ≡ true).
+    let counts = counts-first (below i) part parts before in
+    ap (λ (k : ℕ). set (part ∷ parts) k (grown i range (get_or (part ∷ parts) k d))) counts
+    ∙ ap (λ (l : List Owned). part ∷ l)
+    (grown-in_place i range parts d (omega (arith, counts, within))
+    (sym (ap (λ (k : ℕ). (get_or (part ∷ parts) k d).resolver) counts) ∙ same))
+    ∙ sym (cond-true (nat_lt part.resolver i) _ _ before))
+    (λ (from : nat_lt part.resolver i ≡ false).
+    let counts = counts-none (below i) part parts from in
+    let here : part.resolver ≡ i = sym (ap (λ (k : ℕ). (get_or (part ∷ parts) k d).resolver) counts) ∙ same in
+    ap (λ (k : ℕ). set (part ∷ parts) k (grown i range (get_or (part ∷ parts) k d))) counts
+    ∙ sym (cond-true (part.resolver == i) _ _ (eq-eqb part.resolver i here))
+    ∙ sym (cond-false (nat_lt part.resolver i) _ _ from))
+    (cases_Bool (nat_lt part.resolver i))
 
-    to_false : (a : Bool) → (a && false || false) ≡ (false && a)
-    to_false true = refl
-    to_false false = refl
+pub fresh-in_place : (i : ℕ) (range : Range) (parts : List Owned)
+    → ((d : Owned) → prefix_len (below i) parts < length parts
+    → (get_or parts (prefix_len (below i) parts) d).resolver ≡ i → ⊥)
+    → insert parts (prefix_len (below i) parts) (fresh i range) ≡ with_part i range parts
+fresh-in_place i range [] other = refl
+fresh-in_place i range (part ∷ parts) other = ⊎_elim
+    (λ (before : nat_lt part.resolver i ≡ true).
+    let counts = counts-first (below i) part parts before in
+    ap (λ (k : ℕ). insert (part ∷ parts) k (fresh i range)) counts
+    ∙ ap (λ (l : List Owned). part ∷ l)
+    (fresh-in_place i range parts (λ d within same. other d (omega (arith, counts, within))
+    (ap (λ (k : ℕ). (get_or (part ∷ parts) k d).resolver) counts ∙ same)))
+    ∙ sym (cond-true (nat_lt part.resolver i) _ _ before))
+    (λ (from : nat_lt part.resolver i ≡ false).
+    let counts = counts-none (below i) part parts from in
+    let apart : (part.resolver == i) ≡ false = false_from_ne_true _ (λ equal. other part (omega (arith, counts))
+    (ap (λ (k : ℕ). (get_or (part ∷ parts) k part).resolver) counts ∙ eqb-true part.resolver i equal)) in
+    ap (λ (k : ℕ). insert (part ∷ parts) k (fresh i range)) counts
+    ∙ sym (cond-false (part.resolver == i) _ _ apart)
+    ∙ sym (cond-false (nat_lt part.resolver i) _ _ from))
+    (cases_Bool (nat_lt part.resolver i))
 
--- what is added to the found points stands beside what was found
-pub found-more : (inside now before all : Bool) → all ≡ (now || before)
-    → (inside && now || (inside && before)) ≡ (inside && all)
-found-more true now before all is = sym is
-found-more false now before all is = refl
+-- the same, by the place that a search found
+pub grown-found : (i : ℕ) (range : Range) (parts : List Owned) (place : ℕ) (d : Owned)
+    → place ≡ prefix_len (below i) parts → place < length parts → (get_or parts place d).resolver ≡ i
+    → set parts place (record {
+      resolver = (get_or parts place d).resolver;
+      ranges = with_range range (get_or parts place d).ranges;
+    })
+    ≡ with_part i range parts
+grown-found i range parts place d found within same =
+    ap (λ (resolver : ℕ). set parts place (grown resolver range (get_or parts place d))) same
+    ∙ ap (λ (k : ℕ). set parts k (grown i range (get_or parts k d))) found
+    ∙ grown-in_place i range parts d (omega (arith, found, within))
+    (ap (λ (k : ℕ). (get_or parts k d).resolver) (sym found) ∙ same)
 
--- of parts of other resolvers this one has none
-ranges_of-others : (parts : List Owned) (i : ℕ) → AllByRecursion (λ (part : Owned). part.resolver < i) parts
-    → (last : Owned) → last.resolver ≡ i → ranges_of (parts ++ last ∷ []) i ≡ last.ranges
-ranges_of-others [] i others last is = cond-true (last.resolver == i) last.ranges [] (eq-eqb last.resolver i is)
-ranges_of-others (part ∷ parts) i others last is =
-    cond-false (part.resolver == i) part.ranges _
-    (false_from_ne_true _ (λ same. let equal = eqb-true part.resolver i same in absurd (omega (arith, equal, others))))
-    ∙ ranges_of-others parts i others.1 last is
+pub fresh-found : (i : ℕ) (range : Range) (parts : List Owned) (place : ℕ) → place ≡ prefix_len (below i) parts
+    → ((d : Owned) → place < length parts → (get_or parts place d).resolver ≡ i → ⊥)
+    → insert parts place (fresh i range) ≡ with_part i range parts
+fresh-found i range parts place found other =
+    ap (λ (k : ℕ). insert parts k (fresh i range)) found
+    ∙ fresh-in_place i range parts (λ d within same. other d (omega (arith, found, within))
+    (ap (λ (k : ℕ). (get_or parts k d).resolver) found ∙ same))
 
--- a part of another resolver changes nothing for this one
-ranges_of-before : (parts : List Owned) (i : ℕ) (last : Owned) → (last.resolver == i) ≡ false
-    → ranges_of (parts ++ last ∷ []) i ≡ ranges_of parts i
-ranges_of-before [] i last other = cond-false (last.resolver == i) last.ranges [] other
-ranges_of-before (part ∷ parts) i last other =
-    ap (λ (ranges : List Range). if part.resolver == i then part.ranges else ranges)
-    (ranges_of-before parts i last other)
+-- ---- what stays so
+all-with_part : (P : ℕ → Type 0) (i : ℕ) (range : Range) (parts : List Owned) → P i
+    → AllByRecursion (λ (part : Owned). P part.resolver) parts
+    → AllByRecursion (λ (part : Owned). P part.resolver) (with_part i range parts)
+all-with_part P i range [] of_i all = (of_i, tt)
+all-with_part P i range (part ∷ parts) of_i all =
+    let others = all-with_part P i range parts of_i all.1 in
+    placed (AllByRecursion (λ (part : Owned). P part.resolver)) i range part parts
+    (λ low. (all.0, others)) (λ same. (of_i, all.1)) (λ high. (of_i, all))
 
--- the part of the next resolver comes after the others
-rising-push : (k : ℕ) (parts : List Owned) (last : Owned) → AreRising parts
-    → AllByRecursion (λ (part : Owned). part.resolver < k) parts → last.resolver ≡ k → AreRising (parts ++ last ∷ [])
-rising-push k [] last rising within is = (tt, tt)
-rising-push k (part ∷ parts) last rising within is = (
-  all-append (λ (later : Owned). part.resolver < later.resolver) parts (last ∷ []) rising.0
-      (omega (arith, within, is), tt),
-  rising-push k parts last rising.1 within.1 is,
-)
+pub rising-with_part : (i : ℕ) (range : Range) (parts : List Owned) → AreRising parts
+    → AreRising (with_part i range parts)
+rising-with_part i range [] rising = (tt, tt)
+rising-with_part i range (part ∷ parts) rising =
+    let others = rising-with_part i range parts rising.1 in
+    placed AreRising i range part parts
+    (λ low. (all-with_part (λ (n : ℕ). part.resolver < n) i range parts low rising.0, others))
+    (λ same. (
+      all-weaken _ (λ (later : Owned). i < later.resolver) (λ (later : Owned) after. omega (arith, after, same))
+          parts rising.0,
+      rising.1,
+    ))
+    (λ high. (
+      (
+        high,
+        all-weaken _ (λ (later : Owned). i < later.resolver)
+            (λ (later : Owned) after. omega (arith, after, high)) parts rising.0,
+      ),
+      rising,
+    ))
 
--- among the first k and one more, another number is among the first k
-not_next : (i k : ℕ) → (k == i) ≡ false → nat_lt i k ≡ nat_lt i (suc k)
-not_next i k other = ⊎_elim
-    (λ (below : nat_lt i k ≡ true). below ∙ sym (lt-ltb i (suc k) (omega (arith, ltb-true i k below))))
-    (λ (from : nat_lt i k ≡ false).
-    from ∙ sym (le-ltb i (suc k) (let reached = ltb-false i k from in ⊎_elim
-    (λ (above : k < i). above)
-    (λ (by : i ≤ k). absurd (let same : k ≡ i = omega (arith, reached, by) in both_ways _ other (eq-eqb k i same)))
-    (cases_lt k i))))
-    (cases_Bool (nat_lt i k))
+pub rising-with_changes : (range : Range) (changes : List Change) (parts : List Owned) → AreRising parts
+    → AreRising (with_changes range parts changes)
+rising-with_changes range [] parts rising = rising
+rising-with_changes range (change ∷ changes) parts rising =
+    rising-with_changes range changes (with_part change.owner range parts)
+    (rising-with_part change.owner range parts rising)
 
--- the points of the first k resolvers' parts and of the next one's
-next-points : (k : ℕ) (held : ℕ → Point → Bool) (old new : List Owned)
-    → ((i : ℕ) (x : Point) → in_set (ranges_of old i) x ≡ (nat_lt i k && held i x))
-    → ((i : ℕ) → (k == i) ≡ false → (x : Point) → in_set (ranges_of new i) x ≡ in_set (ranges_of old i) x)
-    → ((x : Point) → in_set (ranges_of new k) x ≡ held k x)
-    → (i : ℕ) (x : Point) → in_set (ranges_of new i) x ≡ (nat_lt i (suc k) && held i x)
-next-points k held old new points others next i x = ⊎_elim
-    (λ (same : (k == i) ≡ true).
-    subst (λ (j : ℕ). in_set (ranges_of new j) x ≡ (nat_lt j (suc k) && held j x)) (eqb-true k i same)
-    (next x ∙ ap (λ (among : Bool). among && held k x) (sym (lt-ltb k (suc k) (omega arith)))))
-    (λ (other : (k == i) ≡ false).
-    others i other x ∙ points i x ∙ ap (λ (among : Bool). among && held i x) (not_next i k other))
-    (cases_Bool (k == i))
+pub rising-with_owners : (history : History) (since through : ℕ) (range : Range) (parts : List Owned) → AreRising parts
+    → AreRising (with_owners history since through range parts)
+rising-with_owners history since through range parts rising =
+    rising-with_changes range (changes_within since through history.changes)
+    (with_part (owner_in history since) range parts)
+    (rising-with_part (owner_in history since) range parts rising)
 
--- the next resolver has a part
-pub parts-push : (k : ℕ) (held : ℕ → Point → Bool) (parts : List Owned) (last : Owned) → AreFirstParts k held parts
-    → last.resolver ≡ k → has_points last.ranges ≡ true → ((x : Point) → in_set last.ranges x ≡ held k x)
-    → AreFirstParts (suc k) held (parts ++ last ∷ [])
-parts-push k held parts last first is some points =
-    record {
-      rising = rising-push k parts last first.rising first.within is;
-      within =
-          all-append (λ (part : Owned). part.resolver < suc k) parts (last ∷ [])
-          (all-weaken _ _ (λ (part : Owned) within. omega (arith, within)) parts first.within) (omega (arith, is), tt);
-      some = all-append (λ (part : Owned). has_points part.ranges ≡ true) parts (last ∷ []) first.some (some, tt);
-      points = next-points k held parts (parts ++ last ∷ []) first.points
-          (λ i other x. ap (λ (ranges : List Range). in_set ranges x)
-          (ranges_of-before parts i last (ap (λ (j : ℕ). j == i) is ∙ other)))
-          (λ x. ap (λ (ranges : List Range). in_set ranges x) (ranges_of-others parts k first.within last is)
-          ∙ points x);
-    }
+-- a point of a set lies in a range of it, which has a point then
+has-point : (ranges : List Range) (x : Point) → in_set ranges x ≡ true → has_points ranges ≡ true
+has-point [] x inside = absurd (both_ways false refl inside)
+has-point (range ∷ ranges) x inside = ⊎_elim
+    (λ (here : in_range range x ≡ true).
+    let parts = in_range_parts range x here in
+    or_left _ _ (le_lt_chain range.begin x range.end parts.0 parts.1))
+    (λ (there : in_set ranges x ≡ true). or_right _ _ (has-point ranges x there))
+    (or_cases (in_range range x) (in_set ranges x) inside)
 
--- the next resolver has none
-pub parts-skip : (k : ℕ) (held : ℕ → Point → Bool) (parts : List Owned) → AreFirstParts k held parts
-    → ((x : Point) → held k x ≡ false) → AreFirstParts (suc k) held parts
-parts-skip k held parts first none =
-    record {
-      rising = first.rising;
-      within = all-weaken _ _ (λ (part : Owned) within. omega (arith, within)) parts first.within;
-      some = first.some;
-      points = next-points k held parts parts first.points (λ i other x. refl)
-          (λ x. first.points k x ∙ ap (λ (among : Bool). among && held k x) (le-ltb k k (omega arith)) ∙ sym (none x));
-    }
+has-range : (range : Range) (ranges : List Range) → point_lt range.begin range.end ≡ true
+    → has_points (with_range range ranges) ≡ true
+has-range range ranges some = has-point (with_range range ranges) range.begin
+    (in_with_range range ranges range.begin
+    ∙ or_left _ _ (in_range_from range range.begin (lt-itself range.begin) some))
 
--- a list of ranges that are apart is empty, or has points
-pub some-apart : (ranges : List Range) → is_apart ranges ≡ true
-    → (length ranges == 0) ≡ false → has_points ranges ≡ true
-some-apart [] apart some = cc
-some-apart (range ∷ ranges) apart some = or_left _ _ (apart_parts range ranges apart).0
+some-with_part : (i : ℕ) (range : Range) (parts : List Owned) → point_lt range.begin range.end ≡ true
+    → AllByRecursion (λ (part : Owned). has_points part.ranges ≡ true) parts
+    → AllByRecursion (λ (part : Owned). has_points part.ranges ≡ true) (with_part i range parts)
+some-with_part i range [] some all = (has-range range [] some, tt)
+some-with_part i range (part ∷ parts) some all =
+    let others = some-with_part i range parts some all.1 in
+    placed (AllByRecursion (λ (part : Owned). has_points part.ranges ≡ true)) i range part parts
+    (λ low. (all.0, others)) (λ same. (has-range range part.ranges some, all.1))
+    (λ high. (has-range range [] some, all))
 
-pub none-empty : (ranges : List Range) → (length ranges == 0) ≡ true → (x : Point) → in_set ranges x ≡ false
-none-empty [] none x = refl
-none-empty (range ∷ ranges) none x = absurd (let empty = eqb-true (length (range ∷ ranges)) 0 none in
-    omega (arith, empty))
+-- ---- the points of each resolver's part
+or-unmet : (a b c : Bool) → b ≡ false → a ≡ (a || (c && b))
+or-unmet true b c none = refl
+or-unmet false b true none = sym none
+or-unmet false b false none = refl
 
--- where only the first so many resolvers hold points, their parts are all
-pub parts-are_all : (n : ℕ) (first all : ℕ → Point → Bool) (parts : List Owned) → AreFirstParts n first parts
-    → ((i : ℕ) (x : Point) → first i x ≡ all i x) → ((i : ℕ) (x : Point) → all i x ≡ true → i < n)
-    → ArePartsOf n all parts
-parts-are_all n first all parts are same few =
-    record {
-      rising = are.rising;
-      within = are.within;
-      some = are.some;
-      points = λ i x. are.points i x ∙ ap (λ (held : Bool). nat_lt i n && held) (same i x)
-          ∙ unneeded (nat_lt i n) (all i x) (λ held. lt-ltb i n (few i x held));
-    }
-  where
-    unneeded : (among held : Bool) → (held ≡ true → among ≡ true) → (among && held) ≡ held
-    unneeded true held implied = refl
-    unneeded false true implied = implied refl
-    unneeded false false implied = refl
+turned : (a b : Bool) → (a || b) ≡ (b || a)
+turned true true = refl
+turned true false = refl
+turned false true = refl
+turned false false = refl
+
+and-met : (a b : Bool) → b ≡ true → (a && b) ≡ a
+and-met true b met = met
+and-met false b met = refl
+
+ranges_of-none : (j : ℕ) (parts : List Owned) → AllByRecursion (λ (part : Owned). j < part.resolver) parts
+    → ranges_of parts j ≡ []
+ranges_of-none j [] later = refl
+ranges_of-none j (part ∷ parts) later =
+    cond-false (part.resolver == j) part.ranges (ranges_of parts j)
+    (false_from_ne_true _ (λ equal. let same = eqb-true part.resolver j equal in
+    let after = later.0 in absurd (omega (arith, same, after))))
+    ∙ ranges_of-none j parts later.1
+
+-- the set that grew has the points of both
+grown-points : (range : Range) (ranges : List Range) (same : Bool) (x : Point) → same ≡ true
+    → in_set (with_range range ranges) x ≡ (in_set ranges x || (in_range range x && same))
+grown-points range ranges same x is =
+    in_with_range range ranges x
+    ∙ turned (in_range range x) (in_set ranges x)
+    ∙ ap (λ (b : Bool). in_set ranges x || b) (sym (and-met (in_range range x) same is))
+
+module _ (i j : ℕ) (range : Range) (x : Point) where
+  -- what resolver j has after the range came to resolver i
+  abbrev more : List Owned → Bool
+  more parts = in_set (ranges_of parts j) x || (in_range range x && (i == j))
+
+  points-low : (part : Owned) (parts grown_parts : List Owned) → part.resolver < i
+      → in_set (ranges_of grown_parts j) x ≡ more parts
+      → in_set (ranges_of (part ∷ grown_parts) j) x ≡ more (part ∷ parts)
+  points-low part parts grown_parts low others = ⊎_elim
+      (λ (here : (part.resolver == j) ≡ true).
+      let apart : (i == j) ≡ false = false_from_ne_true _ (λ equal. let same = eqb-true i j equal in
+      let is = eqb-true part.resolver j here in absurd (omega (arith, low, same, is))) in
+      ap (λ (l : List Range). in_set l x) (cond-true (part.resolver == j) part.ranges (ranges_of grown_parts j) here)
+      ∙ or-unmet (in_set part.ranges x) (i == j) (in_range range x) apart
+      ∙ ap (λ (l : List Range). in_set l x || (in_range range x && (i == j)))
+      (sym (cond-true (part.resolver == j) part.ranges (ranges_of parts j) here)))
+      (λ (there : (part.resolver == j) ≡ false).
+      ap (λ (l : List Range). in_set l x) (cond-false (part.resolver == j) part.ranges (ranges_of grown_parts j) there)
+      ∙ others
+      ∙ ap (λ (l : List Range). in_set l x || (in_range range x && (i == j)))
+      (sym (cond-false (part.resolver == j) part.ranges (ranges_of parts j) there)))
+      (cases_Bool (part.resolver == j))
+
+  points-same : (part : Owned) (parts : List Owned) → part.resolver ≡ i
+      → in_set (ranges_of (grown i range part ∷ parts) j) x ≡ more (part ∷ parts)
+  points-same part parts same = ⊎_elim
+      (λ (here : (i == j) ≡ true).
+      ap (λ (l : List Range). in_set l x) (cond-true (i == j) (with_range range part.ranges) (ranges_of parts j) here)
+      ∙ grown-points range part.ranges (i == j) x here
+      ∙ ap (λ (l : List Range). in_set l x || (in_range range x && (i == j)))
+      (sym (cond-true (part.resolver == j) part.ranges (ranges_of parts j)
+      (ap (λ (n : ℕ). n == j) same ∙ here))))
+      (λ (there : (i == j) ≡ false).
+      ap (λ (l : List Range). in_set l x) (cond-false (i == j) (with_range range part.ranges) (ranges_of parts j) there)
+      ∙ or-unmet (in_set (ranges_of parts j) x) (i == j) (in_range range x) there
+      ∙ ap (λ (l : List Range). in_set l x || (in_range range x && (i == j)))
+      (sym (cond-false (part.resolver == j) part.ranges (ranges_of parts j)
+      (ap (λ (n : ℕ). n == j) same ∙ there))))
+      (cases_Bool (i == j))
+
+  points-fresh : (parts : List Owned) → AllByRecursion (λ (part : Owned). i < part.resolver) parts
+      → in_set (ranges_of (fresh i range ∷ parts) j) x ≡ more parts
+  points-fresh parts later = ⊎_elim
+      (λ (here : (i == j) ≡ true).
+      let none : ranges_of parts j ≡ [] =
+      subst (λ (n : ℕ). ranges_of parts n ≡ []) (eqb-true i j here) (ranges_of-none i parts later) in
+      ap (λ (l : List Range). in_set l x) (cond-true (i == j) (with_range range []) (ranges_of parts j) here)
+      ∙ grown-points range [] (i == j) x here
+      ∙ ap (λ (l : List Range). in_set l x || (in_range range x && (i == j))) (sym none))
+      (λ (there : (i == j) ≡ false).
+      ap (λ (l : List Range). in_set l x) (cond-false (i == j) (with_range range []) (ranges_of parts j) there)
+      ∙ or-unmet (in_set (ranges_of parts j) x) (i == j) (in_range range x) there)
+      (cases_Bool (i == j))
+
+  points-with_part : (parts : List Owned) → AreRising parts
+      → in_set (ranges_of (with_part i range parts) j) x ≡ more parts
+  points-with_part [] rising = points-fresh [] tt
+  points-with_part (part ∷ parts) rising =
+      let others = points-with_part parts rising.1 in
+      placed (λ (l : List Owned). in_set (ranges_of l j) x ≡ more (part ∷ parts)) i range part parts
+      (λ low. points-low part parts (with_part i range parts) low others)
+      (λ same. points-same part parts same)
+      (λ high. points-fresh (part ∷ parts) (
+        high,
+        all-weaken _ (λ (later : Owned). i < later.resolver)
+            (λ (later : Owned) after. omega (arith, after, high)) parts rising.0,
+      ))
+
+-- ---- parts of resolvers
+pub parts-alike : (n : ℕ) (held other : ℕ → Point → Bool) (parts : List Owned) → ArePartsOf n held parts
+    → ((i : ℕ) (x : Point) → held i x ≡ other i x) → ArePartsOf n other parts
+parts-alike n held other parts are alike = record {
+  rising = are.rising;
+  within = are.within;
+  some = are.some;
+  points = λ i x. are.points i x ∙ alike i x;
+}
+
+pub parts-with_part : (n i : ℕ) (range : Range) (held : ℕ → Point → Bool) (parts : List Owned) → i < n
+    → point_lt range.begin range.end ≡ true → ArePartsOf n held parts
+    → ArePartsOf n (λ j x. held j x || (in_range range x && (i == j))) (with_part i range parts)
+parts-with_part n i range held parts low some are = record {
+  rising = rising-with_part i range parts are.rising;
+  within = all-with_part (λ (k : ℕ). k < n) i range parts low are.within;
+  some = some-with_part i range parts some are.some;
+  points = λ j x.
+      points-with_part i j range x parts are.rising
+      ∙ ap (λ (b : Bool). b || (in_range range x && (i == j))) (are.points j x);
+}
+
+joined : (a c p q : Bool) → ((a || (c && p)) || (c && q)) ≡ (a || (c && (p || q)))
+joined true c p q = refl
+joined false true true q = refl
+joined false true false q = refl
+joined false false p q = refl
+
+pub parts-with_changes : (n : ℕ) (range : Range) (changes : List Change) (held : ℕ → Point → Bool)
+    (parts : List Owned) → AllByRecursion (λ (change : Change). change.owner < n) changes
+    → point_lt range.begin range.end ≡ true → ArePartsOf n held parts
+    → ArePartsOf n (λ j x. held j x || (in_range range x && list_any (λ (change : Change). change.owner == j) changes))
+    (with_changes range parts changes)
+parts-with_changes n range [] held parts low some are =
+    parts-alike n held _ parts are (λ j x. or-unmet (held j x) false (in_range range x) refl)
+parts-with_changes n range (change ∷ changes) held parts low some are =
+    parts-alike n _ _ (with_changes range (with_part change.owner range parts) changes)
+    (parts-with_changes n range changes _ (with_part change.owner range parts) low.1 some
+    (parts-with_part n change.owner range held parts low.0 some are))
+    (λ j x. joined (held j x) (in_range range x) (change.owner == j)
+    (list_any (λ (other : Change). other.owner == j) changes))
+
+-- all owners of the history are among the first so many
+pub record HasOwnersBelow (n : ℕ) (history : History) : Type 0 where
+  pub first : history.first < n
+  pub changes : AllByRecursion (λ (change : Change). change.owner < n) history.changes
+
+pub parts-with_owners : (n : ℕ) (history : History) (since through : ℕ) (range : Range) (held : ℕ → Point → Bool)
+    (parts : List Owned) → HasOwnersBelow n history → point_lt range.begin range.end ≡ true → ArePartsOf n held parts
+    → ArePartsOf n (λ j x. held j x || (in_range range x && owned_from history j since through))
+    (with_owners history since through range parts)
+parts-with_owners n history since through range held parts low some are =
+    let changes = changes_within since through history.changes in
+    parts-alike n _ _ (with_owners history since through range parts)
+    (parts-with_changes n range changes _ (with_part (owner_in history since) range parts)
+    (all-filter _ _ _ (all-filter _ _ history.changes low.changes)) some
+    (parts-with_part n (owner_in history since) range held parts
+    (owner-below n history.first since history.changes low.first low.changes) some are))
+    (λ j x.
+    joined (held j x) (in_range range x) (owner_in history since == j)
+    (list_any (λ (change : Change). change.owner == j) changes)
+    ∙ ap (λ (any : Bool). held j x || (in_range range x && ((owner_in history since == j) || any)))
+    (any-within j since through history.changes))
+
+-- no resolver has a part yet
+pub parts-none : (n : ℕ) → ArePartsOf n (λ j x. false) []
+parts-none n = record { rising = tt; within = tt; some = tt; points = λ j x. refl }

@@ -1,5 +1,7 @@
-pub mod Learnt
+pub mod Examples
+pub mod Histories
+pub mod Learning
 pub mod Ownership
 pub mod OwnersLaws
 pub mod Parts
-pub mod Reaches
+pub mod Pieces

@@ -1,28 +1,35 @@
 -- Which resolver owns a point at a version, and what each call leaves of that.
-use Rattle.std.specs.Prelude.{◌≡◌, ◌<◌, ◌≤◌, ℕ, suc, max, Bool, true, ◌&&◌, ◌==◌, nat_le, List, fold, length, Option}
-use Rattle.std.specs.Prelude.{Some, None, if◌then◌else◌}
-use Rattle.std.specs.List.{AllByRecursion}
+use Rattle.std.specs.Prelude.{◌≡◌, ◌<◌, ◌≤◌, ℕ, suc, max, Bool, true, ◌&&◌, ◌==◌, nat_le, List, [], fold, length}
+use Rattle.std.specs.Prelude.{Option, Some, None, if◌then◌else◌}
 use Rattle.fdb_keys.specs.Points.{Point}
 use Rattle.fdb_keys.specs.Ranges.{in_range}
 use Rattle.fdb_keys.specs.declared.refusal.Refusal.{Refusal}
 use Rattle.fdb_keys.specs.declared.refusal.Refusal.TheVariants.{Stale, BadConfig}
 use Rattle.fdb_txn.specs.declared.entry.Move.{Move}
-use Rattle.fdb_txn.specs.book.Book.{Stamped}
-use Rattle.fdb_txn.specs.rules.Owners.{first_owner, owner, owned}
+use Rattle.fdb_txn.specs.rules.Owners.{first_owner}
 use Rattle.fdb_txn.specs.rules.Splits.{are_splits}
 use Rattle.fdb_txn.specs.Limits.{resolver_limit}
+use Rattle.fdb_interval.specs.Breakpoints.{Breaks, value_from}
+use Rattle.fdb_owners.specs.declared.history.History.{History}
+use Rattle.fdb_owners.specs.Histories.{owner_in, changes_at, any_between, count_between}
 
--- the splits, the moves that were learnt, the newest first, the last version learnt, and the version from which on
--- owners are known
+-- the splits, the history of the keys before the first breakpoint, the breakpoints, each with the history of the keys
+-- from it up to the next one, the last version learnt, and the version from which on owners are known
 pub record Ownership : Type 0 where
   pub splits : List Point
-  pub moves : List Stamped
+  pub front : History
+  pub breaks : Breaks History
   pub last : ℕ
   pub floor : ℕ
 
+-- one resolver owns all keys, and no move is learnt up to the last version
+abbrev pub one_owner : ℕ → Ownership
+one_owner last =
+    record { splits = []; front = record { first = 0; changes = [] }; breaks = []; last = last; floor = 0 }
+
 -- the owner of a point at a version
 abbrev pub owner_at : Ownership → Point → ℕ → ℕ
-owner_at owners x v = owner owners.splits owners.moves x v
+owner_at owners x v = owner_in (value_from owners.front owners.breaks x) v
 
 -- there is one more of them than there are splits
 abbrev pub resolvers_of : Ownership → ℕ
@@ -30,7 +37,11 @@ resolvers_of owners = suc (length owners.splits)
 
 -- resolver i owned the point at some version above low and at most high
 abbrev pub owned_between : Ownership → ℕ → Point → ℕ → ℕ → Bool
-owned_between owners i x low high = owned owners.splits i owners.moves x low high
+owned_between owners i x low high = any_between (λ v. owner_at owners x v == i) low high
+
+-- how many versions above the floor, up to the last one, gave the point another owner than it had at the version before
+abbrev pub changes_of : Ownership → Point → ℕ
+changes_of owners x = count_between (changes_at (owner_at owners x)) owners.floor owners.last
 
 -- the target of the last of the moves whose range holds the point, else the owner before them
 abbrev pub target_after : List Move → Point → ℕ → ℕ
@@ -47,13 +58,10 @@ owners_fault resolvers splits =
 abbrev pub learn_fault : Ownership → ℕ → Option Refusal
 learn_fault owners version = if nat_le version owners.last then Some Stale else None
 
--- Between two calls: there are few resolvers and the splits rise, and each move is of a version that was learnt and
--- goes to a resolver that exists.
-pub record IsOwnership (owners : Ownership) : Type 0 where
-  pub few : resolvers_of owners ≤ resolver_limit
-  pub rising : are_splits owners.splits ≡ true
-  pub moves : AllByRecursion (λ (move : Stamped). (move.version ≤ owners.last)
-      × (move.target < resolvers_of owners)) owners.moves
+-- Between two calls there are few resolvers, and the splits rise.
+pub record IsOwnership (splits : List Point) : Type 0 where
+  pub few : suc (length splits) ≤ resolver_limit
+  pub rising : are_splits splits ≡ true
 
 -- nothing was learnt: each point has its first owner at every version
 pub record IsNew (splits : List Point) (owners : Ownership) : Type 0 where

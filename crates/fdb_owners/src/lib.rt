@@ -1,11 +1,13 @@
 //! Which resolver owns which keys at which version: the pieces between splits at first, and what was moved since.
 #![tactic(auto)]
 
+mod history;
 pub mod laws;
-mod learnt;
+mod learning;
 mod owners;
 mod parts;
-mod reach;
+mod pieces;
+mod sweeping;
 
 pub use owners::Owners;
 pub use parts::Owned;

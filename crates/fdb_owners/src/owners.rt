@@ -1,9 +1,22 @@
-use crate::learnt::{Learnt, owner_after, split_by};
-use crate::parts::{Owned, parts_after, parts_along};
+use crate::history::History;
+use crate::learning::learn_moves;
+use crate::parts::{Owned, Span, parts_of};
+use crate::pieces::{Pieces, first_pieces};
+use crate::sweeping::sweep;
+use bytes::Bytes;
 use fdb_keys::{Items, Key, KeyRange, Refusal};
 use fdb_txn::{Move, RESOLVER_LIMIT, Splits};
 use std::alloc::Global;
 use std::marker::Model;
+
+// How many breakpoints an expiry looks at for each one that was touched since the last expiry, and how many more.
+const LOOKS_FOR_A_CHANGE: u64 = 4;
+
+const LOOKS: u64 = 32;
+
+// How often the last breakpoint is come to once all that was learnt has expired: since the first time may end a round
+// that began before, nothing is left to be taken out after the second one.
+const ROUNDS: u32 = 2;
 
 /// Which resolver owns which keys at which version.
 ///
@@ -13,20 +26,34 @@ use std::marker::Model;
 pub struct Owners {
     alloc: Global,
     splits: Splits,
-    learnt: Items<Learnt>,
+    pieces: Pieces,
     last: u64,
     floor: u64,
+    // How many breakpoints were touched since the last expiry, the one that it saw last, and how many rounds are left.
+    touched: u64,
+    cursor: Option<Bytes>,
+    rounds: u32,
 }
 
 impl Model for Owners {
+    ghost use Rattle.std.specs.Prelude.{suc, length};
+    ghost use Rattle.fdb_interval.specs.Breakpoints.{AreRising};
     ghost use Rattle.fdb_owners.specs.Ownership.{Ownership, IsOwnership};
-    ghost use Rattle.fdb_owners.specs.Learnt.{ownership_of, AreSteps};
+    ghost use Rattle.fdb_owners.specs.Pieces.{IsPieces, joined};
 
     ghost Value = { Ownership };
 
-    ghost view = { ownership_of };
+    ghost view = { λ owners. record {
+      splits = owners.splits;
+      front = owners.pieces.front;
+      breaks = joined owners.pieces;
+      last = owners.last;
+      floor = owners.floor;
+    } };
 
-    ghost invariant = { λ owners. IsOwnership (ownership_of owners) × AreSteps owners.last owners.learnt };
+    ghost invariant = { λ owners. IsOwnership owners.splits
+        × IsPieces (suc (length owners.splits)) owners.last owners.pieces
+        × AreRising owners.pieces.breaks.entries };
 }
 
 impl Owners {
@@ -34,8 +61,8 @@ impl Owners {
     ghost use Rattle.fdb_keys.specs.Answers.{Answers};
     ghost use Rattle.fdb_keys.specs.Points.{Point};
     ghost use Rattle.fdb_keys.specs.Ranges.{in_range};
-    ghost use Rattle.fdb_owners.specs.Ownership.{owner_at, resolvers_of, owned_between, owners_fault, learn_fault};
-    ghost use Rattle.fdb_owners.specs.Ownership.{IsNew, HasLearnt, HasExpired};
+    ghost use Rattle.fdb_owners.specs.Ownership.{owner_at, resolvers_of, owned_between, changes_of, owners_fault};
+    ghost use Rattle.fdb_owners.specs.Ownership.{learn_fault, IsNew, HasLearnt, HasExpired};
     ghost use Rattle.fdb_owners.specs.Parts.{ArePartsOf};
 
     /// The owners at first, of so many resolvers: the first one owns the keys before the first split, and each
@@ -48,19 +75,24 @@ impl Owners {
             return Err(Refusal::BadConfig);
         }
         let splits = Splits::new(alloc, splits, RESOLVER_LIMIT as usize)?;
+        let pieces = first_pieces(alloc, splits.as_slice())?;
         Ok(Owners {
             alloc,
             splits,
-            learnt: Items::new(alloc),
+            pieces,
             last: 0,
             floor: 0,
+            touched: 0,
+            cursor: None,
+            rounds: 0,
         })
     }
 
     /// Learns the moves that take effect at a version, the earliest one first: from that version on the keys of each
     /// move's range belong to its target, where no later move of them says otherwise. The targets exist. Refused as
     /// `Stale` where the version isn't above the last one learnt, which is 0 at first, and as `NoMemory`. Where it is
-    /// refused, nothing changes.
+    /// refused, nothing changes. It takes O(log n) for the n breakpoints and each move, and as much for each breakpoint
+    /// in its range, besides copying the history there.
     pub fn learn(&mut self, version: u64, moves: &[Move]) -> Result<(), Refusal>
         requires { All (λ move. move.to < resolvers_of self.old) moves.now }
         ensures answers { Answers result (learn_fault self.old version)
@@ -70,39 +102,50 @@ impl Owners {
         if version <= self.last {
             return Err(Refusal::Stale);
         }
-        let moves = Move::copies(self.alloc, moves)?;
-        self.learnt.push(Learnt { version, moves })?;
+        let touched = learn_moves(self.alloc, &mut self.pieces, version, moves)?;
         self.last = version;
+        self.touched = self.touched.saturating_add(touched);
+        self.rounds = ROUNDS;
         Ok(())
     }
 
-    /// The number of the resolver that owns the key at the last version learnt. It takes no memory.
+    /// The number of the resolver that owns the key at the last version learnt, in O(log n) for the n breakpoints. It
+    /// takes no memory.
     pub fn owner(&self, key: &Key) -> u32
         ensures value { result ≡ owner_at self.now key.now self.now.last }
         ensures within { result < resolvers_of self.now }
     {
-        let first = self.splits.piece_of(key) as u32;
-        owner_after(self.learnt.as_slice(), key, first)
+        self.pieces.history_at(key.text()).owner_now()
+    }
+
+    /// The number of versions learnt, above the greatest one that expired, at which the key got another owner than it
+    /// had before. It takes O(log n) for the n breakpoints and O(m) for the m changes of the key's piece that are kept,
+    /// and no memory.
+    pub fn changes(&self, key: &Key) -> usize
+        ensures { result ≡ changes_of self.now key.now }
+    {
+        self.pieces.history_at(key.text()).changes_above(self.floor)
     }
 
     /// Each resolver that owns keys of the range at the last version learnt, and so from that version on, with those
-    /// keys, by the resolvers' numbers. Refused only as `NoMemory`.
-    ///
-    /// Gone through are the k resolvers from the first to the last of those whose pieces the range meets or ends at and
-    /// of the targets of the moves that it meets: O(log n + m) comparisons for n resolvers and m moves learnt, and for
-    /// each of the k a clipping of the range and a change by each move.
+    /// keys, by the resolvers' numbers. Refused only as `NoMemory`. It takes O(log n) for the n breakpoints, and
+    /// O(log k) for each piece that the range meets and the k parts.
     pub fn writers(&self, range: &KeyRange) -> Result<Items<Owned>, Refusal>
         ensures settled { (x : Point) (v : ℕ) → self.now.last ≤ v
             → owner_at self.now x v ≡ owner_at self.now x self.now.last }
         ensures parts { Answers result None (ArePartsOf (resolvers_of self.now)
             (λ i x. in_range range.now x && (owner_at self.now x self.now.last == i))) }
     {
-        parts_after(self.alloc, &self.splits, self.learnt.as_slice(), range)
+        let span = Span {
+            since: self.last,
+            through: self.last,
+        };
+        parts_of(self.alloc, &self.pieces, range, span)
     }
 
     /// Each resolver that owned keys of the range at some version above `from` and at most `version`, with those
     /// keys, by the resolvers' numbers. `from` lies below `version`, and not below a version that expired. Refused
-    /// only as `NoMemory`. The same resolvers are gone through as in `writers`, by the moves through `version`.
+    /// only as `NoMemory`. It takes as long as `writers`, where each piece counts once for each owner that it had.
     pub fn readers(
         &self,
         range: &KeyRange,
@@ -114,17 +157,26 @@ impl Owners {
         ensures { Answers result None (ArePartsOf (resolvers_of self.now)
             (λ i x. in_range range.now x && owned_between self.now i x from version)) }
     {
-        let (before, after) = split_by(self.learnt.as_slice(), from + 1);
-        let (steps, _later) = split_by(after, version);
-        parts_along(self.alloc, &self.splits, before, steps, range)
+        let span = Span {
+            since: from + 1,
+            through: version,
+        };
+        parts_of(self.alloc, &self.pieces, range, span)
     }
 
     /// Says that no reader will ask for a span that begins below the version. What is answered of the last version
-    /// learnt, and of spans that begin at the version or above it, stays. It takes no memory.
+    /// learnt, and of spans that begin at the version or above it, stays. It takes O(m log n) for the n breakpoints and
+    /// the m that were touched since the last expiry, and O(1) once all that was learnt has expired and was looked at.
+    /// It takes no memory.
     pub fn expire(&mut self, version: u64)
         ensures { HasExpired self.old version self.new }
     {
         self.floor = self.floor.max(version);
+        let looks = looks_for(self.touched, self.rounds);
+        sweep(&mut self.pieces, &mut self.cursor, self.floor, looks);
+        let is_at_end = self.cursor.is_none();
+        self.touched = 0;
+        self.rounds = rounds_left(self.rounds, is_at_end, self.last <= self.floor);
     }
 
     /// How many resolvers there are.
@@ -140,4 +192,22 @@ impl Owners {
     {
         self.last
     }
+}
+
+// How many breakpoints an expiry looks at.
+fn looks_for(touched: u64, rounds: u32) -> u64 {
+    if rounds == 0 {
+        return 0;
+    }
+    touched
+        .saturating_mul(LOOKS_FOR_A_CHANGE)
+        .saturating_add(LOOKS)
+}
+
+// How many rounds are left, by whether the last breakpoint was come to and all that was learnt has expired.
+fn rounds_left(rounds: u32, is_at_end: bool, is_expired: bool) -> u32 {
+    if is_at_end && is_expired {
+        return rounds.saturating_sub(1);
+    }
+    rounds
 }

@@ -1,21 +1,26 @@
-// Parts of a range, by who owns its keys.
-ghost use Rattle.std.specs.Prelude.{◌≡◌, ◌≤◌, ◌<◌, ◌&&◌, ◌||◌, ◌==◌, ℕ, suc, Bool, length, IsTrue, None, OnErr};
-ghost use Rattle.std.specs.Prelude.{if◌then◌else◌};
+// Parts of a range, by who owned its keys.
+ghost use Rattle.std.specs.Prelude.{◌≡◌, ◌≤◌, ◌<◌, ◌&&◌, ◌||◌, ◌==◌, ℕ, Bool, length, nat_lt, nat_le, IsTrue, None};
+ghost use Rattle.std.specs.Prelude.{OnOk, OnErr, [], slice_set, slice_index_or, IfSome, if◌then◌else◌};
+ghost use Rattle.std.specs.List.{insert, prefix_len};
 ghost use Rattle.fdb_keys.specs.Answers.{Answers};
-ghost use Rattle.fdb_keys.specs.Points.{Point};
-ghost use Rattle.fdb_keys.specs.Ranges.{in_range, in_set};
-ghost use Rattle.fdb_txn.specs.rules.Owners.{first_owner};
-ghost use Rattle.fdb_txn.specs.rules.Splits.{are_splits};
-ghost use Rattle.fdb_owners.specs.Learnt.{owner_after, owns_along};
-ghost use Rattle.fdb_txn.specs.Limits.{resolver_limit};
-ghost use Rattle.fdb_owners.specs.Ownership.{target_after};
-ghost use Rattle.fdb_owners.specs.Parts.{IsPartBy, AreFirstParts, HasSomeOf};
+ghost use Rattle.fdb_keys.specs.Insertion.{with_range};
+ghost use Rattle.fdb_keys.specs.Points.{Point, point_lt};
+ghost use Rattle.fdb_keys.specs.Ranges.{in_range, in_set, is_empty_range};
+ghost use Rattle.fdb_keys.specs.Texts.{is_bound};
+ghost use Rattle.fdb_interval.specs.Breakpoints.{breaks_inside, AreRising};
+ghost use Rattle.fdb_owners.specs.Histories.{AreFalling};
+ghost use Rattle.fdb_owners.specs.Parts.{AreRising as AreRisingParts, ArePartsOf, HasSomeOf, changes_within};
+ghost use Rattle.fdb_owners.specs.Parts.{owned_from, with_part, with_owners, with_pieces, IsWay};
+ghost use Rattle.fdb_owners.specs.Pieces.{HaveHistories, IsPieces, history_at};
+ghost use Rattle.fdb_owners.specs.declared.history.Change.{Change};
+ghost use Rattle.fdb_owners.specs.declared.parts.Owned.{Owned};
 
-use crate::learnt::Learnt;
-use crate::reach::{reach_of, with_steps};
+use crate::history::{Change, History, split_by};
+use crate::pieces::Pieces;
+use bytes::Bytes;
 use fdb_keys::{Items, KeyRange, RangeSet, Refusal};
-use fdb_txn::{Move, Splits};
 use std::alloc::Global;
+use std::ops::Bound;
 
 /// A resolver with its part of a range.
 #[derive(Drop)]
@@ -45,89 +50,6 @@ impl Owned {
     }
 }
 
-// Adds the keys that lie in both ranges.
-fn add_common(set: &mut RangeSet, first: &KeyRange, second: &KeyRange) -> Result<(), Refusal>
-    ensures { Answers result None (λ _. (x : Point)
-        → in_set set.new x ≡ (in_range first.now x && in_range second.now x || in_set set.old x)) }
-{
-    match first.clip(second)? {
-        Some(common) => set.add(&common),
-        None => Ok(()),
-    }
-}
-
-// The resolver's first part of the range, before anything moved.
-fn first_part(
-    alloc: Global,
-    splits: &Splits,
-    resolver: u32,
-    range: &KeyRange,
-) -> Result<RangeSet, Refusal>
-    requires rising { IsTrue (are_splits splits.now) }
-    requires exists { resolver ≤ length splits.now }
-    ensures { Answers result None (IsPartBy (first_owner splits.now) resolver range.now) }
-{
-    let piece = splits.piece(alloc, resolver as usize)?;
-    // so no key of the range lies behind the last piece
-    prove!([0xff].as_slice().cmp(&range.end()).is_ge());
-    let mut part = RangeSet::new(alloc);
-    add_common(&mut part, &piece, range)?;
-    Ok(part)
-}
-
-// The move's keys of the range come to the part where the move goes to the resolver, else they leave it.
-fn take_move(
-    part: &mut RangeSet,
-    resolver: u32,
-    range: &KeyRange,
-    one_move: &Move,
-) -> Result<(), Refusal>
-    ensures { Answers result None (λ _. (owner_of : Point → ℕ) → IsPartBy owner_of resolver range.now part.old
-        → IsPartBy (λ x. if in_range one_move.now.range x then one_move.now.to else owner_of x) resolver range.now
-        part.new) }
-{
-    if one_move.to != resolver {
-        return part.remove(&one_move.range);
-    }
-    add_common(part, &one_move.range, range)
-}
-
-// The resolver's part of the range after the moves, from that before them.
-fn take_moves(
-    part: &mut RangeSet,
-    resolver: u32,
-    range: &KeyRange,
-    moves: &[Move],
-) -> Result<(), Refusal>
-    ensures { Answers result None (λ _. (owner_of : Point → ℕ) → IsPartBy owner_of resolver range.now part.old
-        → IsPartBy (λ x. target_after moves.now x (owner_of x)) resolver range.now part.new) }
-{
-    for one_move in moves {
-        take_move(part, resolver, range, one_move)?;
-    }
-    Ok(())
-}
-
-// The resolver's part of the range after the steps.
-fn part_after(
-    alloc: Global,
-    splits: &Splits,
-    steps: &[Learnt],
-    resolver: u32,
-    range: &KeyRange,
-) -> Result<RangeSet, Refusal>
-    requires rising { IsTrue (are_splits splits.now) }
-    requires exists { resolver ≤ length splits.now }
-    ensures { Answers result None
-        (IsPartBy (λ x. owner_after steps.now x (first_owner splits.now x)) resolver range.now) }
-{
-    let mut part = first_part(alloc, splits, resolver, range)?;
-    for step in steps {
-        take_moves(&mut part, resolver, range, step.moves.as_slice())?;
-    }
-    Ok(part)
-}
-
 fn add_all(set: &mut RangeSet, added: &RangeSet) -> Result<(), Refusal>
     ensures answers { Answers result None
         (λ _. (x : Point) → in_set set.new x ≡ (in_set added.now x || in_set set.old x)) }
@@ -139,81 +61,234 @@ fn add_all(set: &mut RangeSet, added: &RangeSet) -> Result<(), Refusal>
     Ok(())
 }
 
-// What the resolver's part of the range had before the steps, which is `part`, and after each of them.
-fn part_along(
-    mut part: RangeSet,
-    steps: &[Learnt],
-    resolver: u32,
-    range: &KeyRange,
-) -> Result<RangeSet, Refusal>
-    ensures { Answers result None (λ found. (owner_of : Point → ℕ) → IsPartBy owner_of resolver range.now part
-        → (x : Point) → in_set found x ≡ (in_range range.now x && owns_along steps.now resolver x (owner_of x))) }
-{
-    let mut found = part.clone()?;
-    for step in steps {
-        take_moves(&mut part, resolver, range, step.moves.as_slice())?;
-        add_all(&mut found, &part)?;
-    }
-    Ok(found)
+/// The versions from `since` through `through`.
+#[derive(Clone, Copy)]
+pub(crate) struct Span {
+    pub(crate) since: u64,
+    pub(crate) through: u64,
 }
 
-// Adds the resolver's part, which comes after those of the resolvers before it, if it has a point.
-fn push_part(parts: &mut Items<Owned>, resolver: u32, ranges: RangeSet) -> Result<(), Refusal>
-    ensures { Answers result None (λ _. (held : ℕ → Point → Bool) → AreFirstParts resolver held parts.old
-        → ((x : Point) → in_set ranges x ≡ held resolver x) → AreFirstParts (suc resolver) held parts.new) }
+// How many parts are of resolvers with lesser numbers.
+fn count_below(parts: &[Owned], resolver: u32) -> usize
+    requires { AreRisingParts parts.now }
+    ensures count { result ≡ prefix_len (λ (part : Owned). nat_lt part.resolver resolver) parts.now }
+    ensures within { result ≤ length parts.now }
 {
-    if !ranges.is_empty() {
-        parts.push(Owned { resolver, ranges })?;
+    parts.partition_point(
+        |part: &Owned| -> bool
+            ensures { result ≡ nat_lt part.now.resolver resolver }
+        { part.resolver < resolver },
+    )
+}
+
+// Adds the keys of the range to the part of the resolver, which is a new one where it had none.
+fn add_part(
+    alloc: Global,
+    parts: &mut Vec<Owned>,
+    resolver: u32,
+    range: &KeyRange,
+) -> Result<(), Refusal>
+    requires { AreRisingParts parts.old.items }
+    ensures { Answers result None (λ _. parts.new.items ≡ with_part resolver range.now parts.old.items) }
+{
+    let place = count_below(parts.as_slice(), resolver);
+    if place < parts.len() && parts[place].resolver == resolver {
+        return add_at(parts, place, range);
+    }
+    insert_at(alloc, parts, place, resolver, range)
+}
+
+// Adds the keys of the range to the part at the place.
+fn add_at(parts: &mut Vec<Owned>, place: usize, range: &KeyRange) -> Result<(), Refusal>
+    requires { place < length parts.old.items }
+    ensures { Answers result None (λ _. (d : Owned) → parts.new.items ≡ slice_set parts.old.items place
+        (record {
+          resolver = (slice_index_or parts.old.items place d).resolver;
+          ranges = with_range range.now (slice_index_or parts.old.items place d).ranges;
+        })) }
+{
+    let part = &mut parts[place];
+    part.ranges.add(range)?;
+    Ok(())
+}
+
+// Puts in a part of the keys of the range alone.
+fn insert_at(
+    alloc: Global,
+    parts: &mut Vec<Owned>,
+    place: usize,
+    resolver: u32,
+    range: &KeyRange,
+) -> Result<(), Refusal>
+    requires { place ≤ length parts.old.items }
+    ensures { Answers result None (λ _. parts.new.items ≡ insert parts.old.items place
+        (record { resolver = resolver; ranges = with_range range.now [] })) }
+{
+    let mut ranges = RangeSet::new(alloc);
+    ranges.add(range)?;
+    parts.insert(place, Owned { resolver, ranges })?;
+    Ok(())
+}
+
+// The changes of the versions of the span but its first.
+fn changes_within(changes: &[Change], span: Span) -> &[Change]
+    requires { AreFalling changes.now }
+    ensures { result.now ≡ changes_within span.since span.through changes.now }
+{
+    let (_later, through) = split_by(changes, span.through);
+    let (within, _before) = split_by(through, span.since);
+    within
+}
+
+// Adds the keys of the piece to the parts of those who owned them at some version of the span.
+fn add_owners(
+    alloc: Global,
+    parts: &mut Vec<Owned>,
+    history: &History,
+    span: Span,
+    piece: &KeyRange,
+) -> Result<(), Refusal>
+    requires rising { AreRisingParts parts.old.items }
+    requires falling { AreFalling history.now.changes }
+    ensures { Answers result None
+        (λ _. parts.new.items ≡ with_owners history.now span.since span.through piece.now parts.old.items) }
+{
+    add_part(alloc, parts, history.owner_at(span.since), piece)?;
+    for change in changes_within(history.changes.as_slice(), span) {
+        add_part(alloc, parts, change.owner, piece)?;
     }
     Ok(())
 }
 
-/// The parts of the range of all resolvers that have one after the steps. Only those are gone through that are between
-/// the owners of the range's pieces and the targets of the moves that it meets.
-pub(crate) fn parts_after(
-    alloc: Global,
-    splits: &Splits,
-    steps: &[Learnt],
-    range: &KeyRange,
-) -> Result<Items<Owned>, Refusal>
-    requires rising { IsTrue (are_splits splits.now) }
-    requires few { length splits.now < resolver_limit }
-    ensures { Answers result None (AreFirstParts (suc (length splits.now))
-        (λ i x. in_range range.now x && (owner_after steps.now x (first_owner splits.now x) == i))) }
+// The keys from the begin up to the end.
+fn piece_between(alloc: Global, begin: &Bytes, end: &Bytes) -> Result<KeyRange, Refusal>
+    requires begin { IsTrue (is_bound begin.now) }
+    requires end { IsTrue (is_bound end.now) }
+    requires order { IsTrue (point_lt begin.now end.now) }
+    ensures { Answers result None (λ piece. piece ≡ record { begin = begin.now; end = end.now }) }
 {
-    let reach = with_steps(reach_of(splits, range), range, steps);
-    let end = reach.last.min(splits.as_slice().len() as u32) + 1;
-    let mut parts = Items::new(alloc);
-    for resolver in reach.first..end {
-        let ranges = part_after(alloc, splits, steps, resolver, range)?;
-        push_part(&mut parts, resolver, ranges)?;
-    }
-    Ok(parts)
+    KeyRange::new(alloc, begin.as_slice(), end.as_slice())
 }
 
-/// The parts of the range of all resolvers that had one after the steps in `before` or after one of `steps`, of which
-/// the same ones are gone through.
-pub(crate) fn parts_along(
+// Adds the keys from the begin up to the end to the parts of those who owned them.
+fn add_piece(
     alloc: Global,
-    splits: &Splits,
-    before: &[Learnt],
-    steps: &[Learnt],
-    range: &KeyRange,
-) -> Result<Items<Owned>, Refusal>
-    requires rising { IsTrue (are_splits splits.now) }
-    requires few { length splits.now < resolver_limit }
-    ensures { Answers result None (AreFirstParts (suc (length splits.now))
-        (λ i x. in_range range.now x && owns_along steps.now i x
-        (owner_after before.now x (first_owner splits.now x)))) }
+    parts: &mut Vec<Owned>,
+    history: &History,
+    span: Span,
+    begin: &Bytes,
+    end: &Bytes,
+) -> Result<(), Refusal>
+    requires rising { AreRisingParts parts.old.items }
+    requires falling { AreFalling history.now.changes }
+    requires begin { IsTrue (is_bound begin.now) }
+    requires end { IsTrue (is_bound end.now) }
+    requires order { IsTrue (point_lt begin.now end.now) }
+    ensures { Answers result None
+        (λ _. parts.new.items ≡ with_owners history.now span.since span.through
+        (record { begin = begin.now; end = end.now }) parts.old.items) }
 {
-    let reach = with_steps(reach_of(splits, range), range, before);
-    let reach = with_steps(reach, range, steps);
-    let end = reach.last.min(splits.as_slice().len() as u32) + 1;
-    let mut parts = Items::new(alloc);
-    for resolver in reach.first..end {
-        let part = part_after(alloc, splits, before, resolver, range)?;
-        let ranges = part_along(part, steps, resolver, range)?;
-        push_part(&mut parts, resolver, ranges)?;
+    let piece = piece_between(alloc, begin, end)?;
+    add_owners(alloc, parts, history, span, &piece)
+}
+
+// Whether the first text comes before the second one.
+#[tactic(auto, unfolding(fdb_keys::specs::Points::point_lt))]
+fn is_before(a: &[u8], b: &[u8]) -> bool
+    ensures { result ≡ point_lt a.now b.now }
+{
+    a.cmp(&b).is_lt()
+}
+
+// The history throughout the range, which has a point, if no breakpoint is inside it.
+fn history_throughout<'a>(pieces: &'a Pieces, range: &KeyRange) -> Option<&'a History>
+    requires { IsTrue (point_lt range.now.begin range.now.end) }
+    ensures history { IfSome result (λ found. found.now ≡ history_at pieces.now range.now.begin) }
+    ensures inside { IfSome result (λ _. breaks_inside range.now pieces.now.breaks.entries ≡ []) }
+    ensures rising { AreRising pieces.now.breaks.entries }
+    ensures begin { IsTrue (is_bound range.now.begin) }
+    ensures end { IsTrue (is_bound range.now.end) }
+{
+    let begin = range.begin();
+    match pieces.breaks.range(..range.end_text()).next_back() {
+        Some((point, _history)) if is_before(begin, point.as_slice()) => None,
+        Some((_point, history)) => Some(history),
+        None => Some(&pieces.front),
     }
-    Ok(parts)
+}
+
+// Adds the keys of the range, which has a point, from breakpoint to breakpoint to the parts of those who owned them.
+fn add_pieces(
+    alloc: Global,
+    parts: &mut Vec<Owned>,
+    pieces: &Pieces,
+    range: &KeyRange,
+    span: Span,
+) -> Result<(), Refusal>
+    requires some { IsTrue (point_lt range.now.begin range.now.end) }
+    requires way { IsWay (history_at pieces.now range.now.begin) range.now.begin
+        (breaks_inside range.now pieces.now.breaks.entries) range.now.end }
+    requires rising { AreRisingParts parts.old.items }
+    ensures { Answers result None
+        (λ _. parts.new.items ≡ with_pieces (history_at pieces.now range.now.begin) span.since span.through
+        range.now.begin (breaks_inside range.now pieces.now.breaks.entries) range.now.end parts.old.items) }
+{
+    let mut history = pieces.history_at(range.begin_text());
+    let mut begin = range.begin_text();
+    let bounds = (
+        Bound::Excluded(range.begin_text()),
+        Bound::Excluded(range.end_text()),
+    );
+    for (point, next) in pieces.breaks.range(bounds) {
+        add_piece(alloc, parts, history, span, begin, point)?;
+        history = next;
+        begin = point;
+    }
+    add_piece(alloc, parts, history, span, begin, range.end_text())
+}
+
+// Adds the keys of the range, which has a point, to the parts of those who owned them. Nothing is copied where no
+// breakpoint is inside it.
+fn add_along(
+    alloc: Global,
+    parts: &mut Vec<Owned>,
+    pieces: &Pieces,
+    range: &KeyRange,
+    span: Span,
+) -> Result<(), Refusal>
+    requires some { IsTrue (point_lt range.now.begin range.now.end) }
+    requires known { HaveHistories pieces.now }
+    requires rising { AreRisingParts parts.old.items }
+    ensures { Answers result None (λ _. (resolvers last : ℕ) (held : ℕ → Point → Bool)
+        → IsPieces resolvers last pieces.now → ArePartsOf resolvers held parts.old.items
+        → ArePartsOf resolvers (λ i x. held i x || (in_range range.now x
+        && owned_from (history_at pieces.now x) i span.since span.through)) parts.new.items) }
+{
+    match history_throughout(pieces, range) {
+        Some(history) => add_owners(alloc, parts, history, span, range),
+        None => add_pieces(alloc, parts, pieces, range, span),
+    }
+}
+
+/// Each resolver that owned keys of the range at some version of the span, with those keys, by the resolvers' numbers.
+/// It takes O(log n) for the n breakpoints. For each piece that the range meets and each of its owners in the span it
+/// takes O(log m) to find the owner's part among m, and what its ranges take to add one to them; a new part moves those
+/// behind it. Refused only as `NoMemory`.
+pub(crate) fn parts_of(
+    alloc: Global,
+    pieces: &Pieces,
+    range: &KeyRange,
+    span: Span,
+) -> Result<Items<Owned>, Refusal>
+    requires order { span.since ≤ span.through }
+    requires known { HaveHistories pieces.now }
+    ensures { Answers result None (λ parts. (resolvers last : ℕ) → IsPieces resolvers last pieces.now
+        → ArePartsOf resolvers (λ i x. in_range range.now x
+        && owned_from (history_at pieces.now x) i span.since span.through) parts) }
+{
+    let mut parts = Vec::new(alloc);
+    if !range.is_empty() {
+        add_along(alloc, &mut parts, pieces, range, span)?;
+    }
+    Ok(Items::from_vec(parts))
 }

@@ -174,8 +174,3 @@ pub parts-next : (P : ℕ → Part → Type 0) (old new : List Part) (number : �
 parts-next P old new number part adds count each last i given there =
     parts-push P old part each (subst (λ (n : ℕ). P n part) (sym count) last) i given
     (ap (λ (parts : List Part). slice_get parts i) (sym adds) ∙ there)
-
--- a batch has as many spreads as transactions
-pub spreads-length : (splits : List Point) (moves : List Stamped) (version : ℕ) (batch : List Transaction)
-    (spreads : List Spread) → AreSpreadsOf splits moves version batch spreads → length spreads ≡ length batch
-spreads-length splits moves version batch spreads are = AllZip-long _ batch spreads are

@@ -9,6 +9,7 @@ use Rattle.fdb_resolver.specs.declared.verdict.Verdict.TheVariants as verdict
 use Rattle.fdb_resolver.specs.declared.verdict.Verdicts.{Verdicts}
 use Rattle.fdb_sequencer.specs.declared.ticket.Ticket.{Ticket}
 use Rattle.fdb_log.specs.declared.message.LogAck.{LogAck}
+use Rattle.fdb_owners.specs.Ownership.{one_owner}
 use Rattle.fdb_proxy.specs.declared.outcome.Outcome.TheVariants as outcome
 use Rattle.fdb_proxy.specs.declared.position.Position.{Position}
 use Rattle.fdb_proxy.specs.declared.stage.Stage.{Stage}
@@ -31,7 +32,7 @@ proxy at is_failed =
       index = 0;
       logs = 1;
       shard_splits = [];
-      owners = record { splits = []; moves = []; last = 100; floor = 0 };
+      owners = one_owner 100;
       last = 100;
       waiting = first_of 1 ∷ [];
       batch = first_of 0 ∷ [];

@@ -114,6 +114,7 @@ fn spread_batch(
     requires learnt { owners.now.last ≤ version }
     requires kept { owners.now.floor ≤ version - window }
     ensures owned { IfOk result (All (IsOwned (resolvers_of owners.now))) }
+    ensures count { IfOk result (λ spreads. length spreads ≡ length batch.now) }
     ensures spread { Answers result None (λ spreads. (moves : List Stamped) → AgreesWith owners.now moves
         → AreSpreadsOf owners.now.splits moves version batch.now spreads) }
 {

@@ -1,6 +1,6 @@
 -- A judge that took the entries before another one says of that what the rule says, and has then taken it, too.
 use Rattle.std.proofs.Common.{◌≡◌, ◌∙◌, sym, subst, ℕ, suc, ◌<◌, List, [], ◌∷◌, ◌++◌, length, slice_get, Option, Some}
-use Rattle.std.proofs.Common.{None, Result, Ok, Err, arith}
+use Rattle.std.proofs.Common.{None, OnErr, Result, Ok, Err, arith}
 use Rattle.std.proofs.lemmas.Option.{same_Some, slice_get_within}
 use Rattle.fdb_keys.specs.Answers.{Answers}
 use Rattle.fdb_keys.specs.Points.{Point}
@@ -23,7 +23,7 @@ use Rattle.fdb_proxy.specs.Verdicts.{moves_through, verdicts_on, outcomes_on}
 use Rattle.fdb_proxy.specs.VerdictLaws.{AreByTheRule}
 use Rattle.fdb_proxy.proofs.OutcomeLemmas.{entries_are_decided_by_the_rule}
 use Rattle.fdb_proxy.proofs.TicketLemmas.{may-learn}
-use Rattle.fdb_core.specs.check.Judging.{Judge, IsJudgeAt, MayTake, HaveSaid}
+use Rattle.fdb_core.specs.check.Judging.{Judge, HaveMoves, IsJudgeAt, MayTake, HaveSaid}
 use Rattle.fdb_core.specs.refinement.Resolving.{IsResolverAt}
 use Rattle.fdb_core.specs.refinement.Logs.{Each}
 use Rattle.fdb_core.proofs.common.AllLemmas.{within-item}
@@ -103,6 +103,14 @@ learns (Ok done) old new version moves above answers = λ older agrees.
 learns {T} (Err why) old new version moves above answers =
     subst (λ (fault : Option Refusal). Answers {T = T} (Err why) fault (λ _. HasLearnt old version moves new))
     (may-learn old version above) answers
+
+-- so owners of some moves stay such, also where they learn nothing
+pub learns-known : {T : Type 0} (result : Result T Refusal) (old new : Ownership) (version : ℕ) (moves : List Move)
+    → old.last < version → Answers result (learn_fault old version) (λ _. HasLearnt old version moves new)
+    → OnErr result (new ≡ old) → HaveMoves old → HaveMoves new
+learns-known (Ok done) old new version moves above answers same known =
+    (add_moves version moves known.0, learns (Ok done) old new version moves above answers known.0 known.1)
+learns-known (Err why) old new version moves above answers same known = subst HaveMoves (sym same) known
 
 -- A judge whose owners learnt the moves of the next entry, and whose resolvers took their parts of it.
 module _ (splits : List Point) (before : List Entry) (entry : Entry) (old : Judge) (owners : Ownership)

@@ -5,7 +5,7 @@ use Rattle.fdb_keys.specs.Points.{Point}
 use Rattle.fdb_txn.specs.declared.entry.Entry.{Entry}
 use Rattle.fdb_txn.specs.declared.entry.Move.{Move}
 use Rattle.fdb_txn.specs.book.Transactions.{Transaction}
-use Rattle.fdb_txn.specs.book.Book.{seen_of, last_version}
+use Rattle.fdb_txn.specs.book.Book.{Stamped, seen_of, last_version}
 use Rattle.fdb_txn.specs.rules.Owners.{window}
 use Rattle.fdb_owners.specs.Ownership.{Ownership, resolvers_of}
 use Rattle.fdb_owners.specs.OwnersLaws.{AgreesWith}
@@ -22,8 +22,13 @@ pub record Judge : Type 0 where
   pub last : ℕ
   pub resolvers : List Resolver
 
+-- the owners are those of some moves
+abbrev pub HaveMoves : Ownership → Type 0
+HaveMoves owners = (moves : List Stamped) × AgreesWith owners moves
+
 -- what holds of every judge
 pub record IsJudge (judge : Judge) : Type 0 where
+  pub known : HaveMoves judge.owners
   pub learnt : judge.owners.last ≤ judge.last
   pub floor : judge.owners.floor ≤ judge.last - window
   pub count : length judge.resolvers ≡ resolvers_of judge.owners

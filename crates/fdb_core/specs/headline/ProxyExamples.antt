@@ -1,7 +1,7 @@
 -- Which commit proxies have which entries, and which haven't, each of these for one thing.
 use Rattle.std.specs.Prelude.{ℕ, true, false, List, [], ◌∷◌, None, codes}
 use Rattle.fdb_txn.specs.book.Transactions.{Transaction}
-use Rattle.fdb_owners.specs.Ownership.{Ownership}
+use Rattle.fdb_owners.specs.Ownership.{Ownership, one_owner}
 use Rattle.fdb_proxy.specs.declared.outcome.Outcome.{Outcome}
 use Rattle.fdb_proxy.specs.declared.outcome.Outcome.TheVariants.{Commit, Conflict}
 use Rattle.fdb_proxy.specs.declared.stage.Stage.TheVariants as stage
@@ -9,7 +9,6 @@ use Rattle.fdb_proxy.specs.CommitProxies.{CommitProxy}
 use Rattle.fdb_proxy.specs.Logging.{answers_by}
 use Rattle.fdb_client.specs.Programs.{commit_request_of}
 use Rattle.fdb_core.specs.headline.Examples.{plain, reads_and_sets, two_in_one_entry, set_and_cleared}
-use Rattle.fdb_core.specs.headline.MoveExamples.{from_to}
 use Rattle.fdb_core.specs.headline.ProxyStages.{IsCommitProxyAt}
 
 -- the commit proxy of one resolver and one log, without a batch, whose last ticket was of this version
@@ -18,7 +17,7 @@ idle_at last = record {
   index = 0;
   logs = 1;
   shard_splits = [];
-  owners = record { splits = []; moves = []; last = 0; floor = 0 };
+  owners = one_owner 0;
   last = last;
   waiting = [];
   batch = [];
@@ -58,4 +57,4 @@ OtherProxiesAreElsewhere =
   where
     moved : Ownership
     moved = record (idle_at 0).owners
-        { moves = record { version = 0; range = from_to (codes "a") (codes "c"); target = 1 } ∷ [] }
+        { breaks = (codes "a", record { first = 1; changes = [] }) ∷ (codes "c", record { first = 0; changes = [] }) ∷ [] }

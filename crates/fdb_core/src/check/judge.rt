@@ -13,7 +13,7 @@ ghost use Rattle.fdb_resolver.specs.Parts.{IsPart};
 ghost use Rattle.fdb_resolver.specs.Resolvers.{IsNew};
 ghost use Rattle.fdb_proxy.specs.Verdicts.{moves_through, outcomes_on};
 ghost use Rattle.fdb_core.specs.refinement.Logs.{Each};
-ghost use Rattle.fdb_core.specs.check.Judging.{MayFollow, MayTake, HaveSaid};
+ghost use Rattle.fdb_core.specs.check.Judging.{HaveMoves, MayFollow, MayTake, HaveSaid};
 ghost use Rattle.fdb_core.specs.refinement.Resolving.{IsResolverAt};
 
 use fdb_keys::{Items, Key, Refusal};
@@ -137,6 +137,7 @@ fn learn_some(owners: &mut Owners, version: u64, moves: &[Move]) -> Result<(), R
     requires targets { All (λ move. move.to < resolvers_of owners.old) moves.now }
     ensures answers { Answers result None (λ _. (older : List Stamped) → AgreesWith owners.old older
         → AgreesWith owners.new (add_moves version moves.now older)) }
+    ensures known { HaveMoves owners.old → HaveMoves owners.new }
     ensures splits { owners.new.splits ≡ owners.old.splits }
     ensures last { owners.new.last ≤ version }
     ensures floor { owners.new.floor ≡ owners.old.floor }
@@ -154,6 +155,7 @@ fn learn(owners: &mut Owners, entry: &Entry) -> Result<(), Refusal>
     requires kept { owners.old.floor ≤ entry.now.version - window }
     ensures answers { Answers result None (λ _. (older : List Stamped) → AgreesWith owners.old older
         → AgreesWith owners.new (add_moves entry.now.version entry.now.moves older)) }
+    ensures known { HaveMoves owners.old → HaveMoves owners.new }
     ensures splits { owners.new.splits ≡ owners.old.splits }
     ensures last { owners.new.last ≤ entry.now.version }
     ensures floor { owners.new.floor ≤ entry.now.version - window }
@@ -192,6 +194,7 @@ fn judge_entry(
     entry: &Entry,
 ) -> Result<Items<Outcome>, Refusal>
     requires count { length resolvers.old.items ≡ resolvers_of owners.now }
+    requires known { HaveMoves owners.now }
     requires later { entry.now.prev < entry.now.version }
     requires reads { All (λ t. t.read < entry.now.version) entry.now.batch }
     requires learnt { owners.now.last ≤ entry.now.version }

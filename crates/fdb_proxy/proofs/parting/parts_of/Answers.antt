@@ -1,18 +1,15 @@
-use Rattle.std.proofs.Common.{◌≡◌, ◌∙◌, sym, ap, subst, refl, ℕ, ◌<◌, List, length, arith}
+use Rattle.std.proofs.Common.{◌≡◌, ◌∙◌, sym, ap, subst, ℕ, ◌<◌, List, length, arith}
 use Rattle.std.specs.List.{All}
 use Rattle.std.proofs.lemmas.Option.{slice_get_within}
 use Rattle.fdb_owners.specs.Ownership.{resolvers_of}
 use Rattle.fdb_proxy.specs.declared.parting.Spread.{Spread}
 use Rattle.fdb_proxy.specs.Parting.{AreItems}
 use Rattle.fdb_proxy.specs.Spreads.{IsOwned, AreSpreadsOf}
-use Rattle.fdb_proxy.proofs.PartingLemmas.{spreads-length}
 use Rattle.fdb_proxy.proofs.parting.parts_of.Goals as goal
 
 pub items_of-requires-clause-few : goal.items_of-requires-clause-few
 items_of-requires-clause-few c =
-    let count : length c.in_ok-spreads.spreads ≡ length c.args.batch.now =
-    spreads-length c.args.owners.now.splits c.args.owners.now.moves c.args.position.version c.args.batch.now
-    c.in_ok-spreads.spreads (c.in_ok-spreads.ensures.spread c.args.owners.now.moves (λ x v known. refl)) in
+    let count : length c.in_ok-spreads.spreads ≡ length c.args.batch.now = c.in_ok-spreads.ensures.count in
     omega (arith, c.requires.few, count, ap (λ (spreads : List Spread). length spreads) c.as_slice.ensures)
 
 pub items_of-requires-clause-owned : goal.items_of-requires-clause-owned

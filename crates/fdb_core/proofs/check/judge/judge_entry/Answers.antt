@@ -1,4 +1,4 @@
-use Rattle.std.proofs.Common.{◌∙◌, ap, refl, sym, List, length, Option}
+use Rattle.std.proofs.Common.{◌∙◌, ap, sym, List, length, Option}
 use Rattle.std.proofs.lemmas.Result.{err_from_is_err_and}
 use Rattle.fdb_txn.specs.book.Book.{seen_of}
 use Rattle.fdb_proxy.specs.Deciding.{Said, outcomes_by}
@@ -12,19 +12,19 @@ pub take_parts-requires-clause-count : goal.take_parts-requires-clause-count
 take_parts-requires-clause-count c =
     let entry = c.args.entry.now in
     let owners = c.args.owners.now in
-    let parts = same-parts owners.splits owners.moves _ entry.batch c.as_slice-batch.result.now c.in_ok-parts.parts
+    let parts = same-parts owners.splits c.requires.known.0 _ entry.batch c.as_slice-batch.result.now c.in_ok-parts.parts
     c.as_slice.result.now c.as_slice-batch.ensures.places c.as_slice.ensures
-    (c.in_ok-parts.ensures owners.moves (λ x v known. refl)) in
+    (c.in_ok-parts.ensures c.requires.known.0 c.requires.known.1) in
     c.requires.count ∙ sym parts.count
 
 pub take_parts-requires-clause-parts : goal.take_parts-requires-clause-parts
 take_parts-requires-clause-parts c =
     let entry = c.args.entry.now in
     let owners = c.args.owners.now in
-    are-parts owners.splits owners.moves _ entry.batch c.as_slice.result.now c.requires.later
-    (same-parts owners.splits owners.moves _ entry.batch c.as_slice-batch.result.now c.in_ok-parts.parts
+    are-parts owners.splits c.requires.known.0 _ entry.batch c.as_slice.result.now c.requires.later
+    (same-parts owners.splits c.requires.known.0 _ entry.batch c.as_slice-batch.result.now c.in_ok-parts.parts
     c.as_slice.result.now c.as_slice-batch.ensures.places c.as_slice.ensures
-    (c.in_ok-parts.ensures owners.moves (λ x v known. refl)))
+    (c.in_ok-parts.ensures c.requires.known.0 c.requires.known.1))
 
 pub returns-in_err-verdicts-clause-outcomes : goal.returns-in_err-verdicts-clause-outcomes
 returns-in_err-verdicts-clause-outcomes c before agrees at entries =

@@ -1,0 +1,71 @@
+// The keys in pieces, each with its history.
+ghost use Rattle.std.specs.Prelude.{◌≡◌, ◌<◌, ℕ, suc, length, IsTrue, IfOk};
+ghost use Rattle.fdb_keys.specs.Points.{Point};
+ghost use Rattle.fdb_txn.specs.rules.Owners.{first_owner};
+ghost use Rattle.fdb_txn.specs.rules.Splits.{are_splits};
+ghost use Rattle.fdb_txn.specs.Limits.{resolver_limit};
+ghost use Rattle.fdb_interval.specs.Breakpoints.{AreRising};
+ghost use Rattle.fdb_owners.specs.Histories.{owner_in};
+ghost use Rattle.fdb_owners.specs.Pieces.{history_at, IsPieces};
+
+use crate::history::History;
+use bytes::Bytes;
+use fdb_keys::Key;
+use std::alloc::{AllocError, Global};
+use std::collections::BTreeMap;
+
+/// Breakpoints, each with the history of the keys from it up to the next one, and the history of those before the
+/// first.
+#[derive(Drop)]
+pub(crate) struct Pieces {
+    pub(crate) front: History,
+    pub(crate) breaks: BTreeMap<Bytes, History>,
+}
+
+impl Pieces {
+    ghost use Rattle.std.specs.Prelude.{◌≡◌};
+    ghost use Rattle.fdb_interval.specs.Breakpoints.{last_value, breaks_before, AreRising};
+    ghost use Rattle.fdb_owners.specs.Pieces.{history_at};
+
+    /// The history of the point, in O(log n) comparisons for n breakpoints.
+    pub(crate) fn history_at(&self, point: &Bytes) -> &History
+        ensures value { result.now ≡ history_at self.now point.now }
+        ensures rising { AreRising self.now.breaks.entries }
+    {
+        match self.breaks.range(..=point).next_back() {
+            Some((_begin, history)) => history,
+            None => &self.front,
+        }
+    }
+
+    /// The history right before the point, in O(log n) comparisons for n breakpoints.
+    pub(crate) fn history_before(&self, point: &Bytes) -> &History
+        ensures value { result.now ≡ last_value self.now.front (breaks_before point.now self.now.breaks.entries) }
+        ensures rising { AreRising self.now.breaks.entries }
+    {
+        match self.breaks.range(..point).next_back() {
+            Some((_begin, history)) => history,
+            None => &self.front,
+        }
+    }
+}
+
+/// The pieces between the splits, which rise, each with a first owner of its own.
+pub(crate) fn first_pieces(alloc: Global, splits: &[Key]) -> Result<Pieces, AllocError>
+    requires rising { IsTrue (are_splits splits.now) }
+    requires few { length splits.now < resolver_limit }
+    ensures owners { IfOk result (λ pieces. (x : Point) (v : ℕ)
+        → owner_in (history_at pieces x) v ≡ first_owner splits.now x) }
+    ensures pieces { IfOk result (λ pieces. (last : ℕ) → IsPieces (suc (length splits.now)) last pieces) }
+    ensures rising { IfOk result (λ pieces. AreRising pieces.breaks.entries) }
+{
+    let mut breaks = BTreeMap::new(alloc);
+    for (place, split) in splits.iter().enumerate() {
+        let history = History::new(alloc, place as u32 + 1);
+        breaks.insert(split.text().clone()?, history)?;
+    }
+    Ok(Pieces {
+        front: History::new(alloc, 0),
+        breaks,
+    })
+}
