@@ -2,6 +2,7 @@
 pub(crate) mod compare;
 pub(crate) mod in_range;
 pub(crate) mod judge;
+pub(crate) mod judged;
 pub(crate) mod run;
 pub(crate) mod serial;
 pub(crate) mod shards;

@@ -18,9 +18,9 @@ use Rattle.fdb_txn.specs.rules.SerialMap.{serial_map, serial_map_at}
 use Rattle.fdb_txn.proofs.rules.MessagesLemmas.{serial_map-add_places}
 use Rattle.fdb_proxy.specs.declared.outcome.Outcome.{Outcome}
 use Rattle.fdb_core.specs.declared.check.run.Run.{Run}
-use Rattle.fdb_core.specs.check.Running.{map_after, batch_of, outcomes_of, IsRunAt, IsNotPast, HasComeTo}
+use Rattle.fdb_core.specs.check.Running.{map_after, map_within, batch_of, IsRunAt, IsNotPast, HasComeTo}
 use Rattle.fdb_core.specs.check.Holding.{is_below}
-use Rattle.fdb_core.specs.check.Judging.{IsJudgeAt}
+use Rattle.fdb_core.specs.check.Judged.{AreJudged}
 use Rattle.fdb_core.specs.check.Bodies.{body_by}
 use Rattle.fdb_proxy.specs.Verdicts.{moves_through, outcomes_on}
 use Rattle.fdb_proxy.proofs.MessageLemmas.{body-committed}
@@ -39,13 +39,6 @@ pub item-there : {A : Type 0} (xs : List A) (i : ℕ) (x : A) → (true ≡ nat_
     → slice_get xs i ≡ Some x
 item-there xs i x is = slice_get_read xs (length xs) i x refl (ltb-true i (length xs) (sym is.0)) is.1
 
--- where there is no next item, a front of one more is the same
-pub take-past : {A : Type 0} (xs : List A) (i : ℕ) → slice_get xs i ≡ None → take i xs ≡ take (suc i) xs
-take-past [] zero none = refl
-take-past [] (suc i) none = refl
-take-past (x ∷ xs) zero none = cc
-take-past (x ∷ xs) (suc i) none = ap (λ ys. x ∷ ys) (take-past xs i none)
-
 -- the entry with a number, or the end of the book
 abbrev pub IsUntil : List Entry → ℕ → Option ℕ → Type 0
 IsUntil book n until = (entry : Entry) → slice_get book n ≡ Some entry → until ≡ Some entry.version
@@ -56,28 +49,19 @@ below-next v None end is below = cc
 below-next v (Some version) end is below = let same : version ≡ end = cc in subst (λ n. v < n) same
     (ltb-true v version below)
 
--- as many outcomes as places
-pub as-many : (splits : List Point) (before : Seen) (next : Option Entry)
-    → length (outcomes_of splits before next) ≡ length (batch_of next)
-as-many splits before None = refl
-as-many splits before (Some entry) = length-outcomes_on splits before entry
-
 -- a run that has come to the first place of an entry
-pub comes-in : (splits : List Point) (book : List Entry) (n m p : ℕ) (run : Run) → run.entry ≡ m → m ≡ n → run.place ≡ 0
-    → IsJudgeAt splits (take (suc m) book) run.judge
-    → run.outcomes ≡ outcomes_of splits (seen_before book m) (slice_get book m)
-    → run.map ≡ serial_map splits (seen_before book n).places → p ≡ 0 → HasComeTo splits book n p run
-comes-in splits book n m p run at same first judge outcomes map none = (
+pub comes-in : (splits : List Point) (book : List Entry) (n : ℕ) (run : Run) → run.entry ≡ n → run.place ≡ 0
+    → AreJudged splits book run.judged.now → run.map ≡ serial_map splits (seen_before book n).places
+    → HasComeTo splits book n 0 run
+comes-in splits book n run at first judged map = (
   record {
-    judge = subst (λ (k : ℕ). IsJudgeAt splits (take (suc k) book) run.judge) (sym at) judge;
-    outcomes = outcomes ∙ ap (λ (k : ℕ). outcomes_of splits (seen_before book k) (slice_get book k)) (sym at);
-    map = map ∙ ap (λ (k : ℕ). serial_map splits (seen_before book k).places) (sym (at ∙ same))
-        ∙ ap (map_after (serial_map splits (seen_before book run.entry).places) (batch_of (slice_get book run.entry))
-        run.outcomes) (sym first);
+    judged = judged;
+    map = map ∙ ap (λ (k : ℕ). serial_map splits (seen_before book k).places) (sym at)
+        ∙ ap (map_within splits (seen_before book run.entry) (slice_get book run.entry)) (sym first);
     within = subst (λ (k : ℕ). k ≤ length (batch_of (slice_get book run.entry))) (sym first) (omega arith);
   },
-  at ∙ same,
-  first ∙ sym none,
+  at,
+  first,
 )
 
 module _ (splits : List Point) (book : List Entry) (entries : AreEntries (suc (length splits)) 0 book) (n : ℕ) where
@@ -132,38 +116,13 @@ module _ (splits : List Point) (book : List Entry) (entries : AreEntries (suc (l
         ∙ sym (serial_map-add_places splits entry.version (moves_through before entry) 0 entry.batch before.places)
         ∙ ap (λ (seen : Seen). serial_map splits seen.places) (sym (seen_before-next book n entry there))
 
-    -- a run that goes through what is left of the entry has the serial map after it
-    pub entry-run : (place : ℕ) (old new : Map) (outcomes : List Outcome)
-        → outcomes ≡ outcomes_of splits before (slice_get book n)
-        → old ≡ map_after after (batch_of (slice_get book n)) outcomes place
-        → place ≤ length (batch_of (slice_get book n))
-        → ((base : Map) → length entry.batch ≡ length outcomes → place ≤ length entry.batch
-        → old ≡ map_after base entry.batch outcomes place
-        → new ≡ map_after base entry.batch outcomes (length entry.batch))
-        → new ≡ serial_map splits (seen_before book (suc n)).places
-    entry-run place old new outcomes are map within runs =
-        let decided_are : outcomes ≡ decided = are ∙ ap (outcomes_of splits before) there in
-        runs after (sym (ap length decided_are ∙ length-outcomes_on splits before entry))
-        (subst (λ (next : Option Entry). place ≤ length (batch_of next)) there within)
-        (map ∙ ap (λ (next : Option Entry). map_after after (batch_of next) outcomes place) there)
-        ∙ ap (λ (os : List Outcome). map_after after entry.batch os (length entry.batch)) decided_are ∙ map-whole
-
 -- a run that goes on within an entry
-pub moves-on : (splits : List Point) (book : List Entry) (mid : Run) (n place : ℕ) (map : Map) → IsRunAt splits book mid
-    → mid.entry ≡ n → place ≤ length (batch_of (slice_get book n))
-    → map ≡ map_after (serial_map splits (seen_before book mid.entry).places) (batch_of (slice_get book mid.entry))
-    mid.outcomes place
-    → HasComeTo splits book n place (record mid { map = map; place = place })
-moves-on splits book mid n place map at same within is = (
-  record {
-    judge = at.judge;
-    outcomes = at.outcomes;
-    map = is;
-    within = subst (λ (k : ℕ). place ≤ length (batch_of (slice_get book k))) (sym same) within;
-  },
-  same,
-  refl,
-)
+pub moves-on : (splits : List Point) (book : List Entry) (old : Run) (place : ℕ) (map : Map) → IsRunAt splits book old
+    → place ≤ length (batch_of (slice_get book old.entry))
+    → map ≡ map_within splits (seen_before book old.entry) (slice_get book old.entry) place
+    → HasComeTo splits book old.entry place (record old { map = map; place = place })
+moves-on splits book old place map at within is =
+    (record { judged = at.judged; map = is; within = within }, refl, refl)
 
 -- nor at a later entry
 pub not-later : (run : Run) (n place : ℕ) → IsNotPast run n place → run.entry ≤ n
@@ -188,30 +147,23 @@ comes-out splits book n place run at same none within =
     (ap (slice_get book) same ∙ none) at.within in
     (at, same, omega (arith, last, here))
 
--- the map of a run that has come to the first place of an entry
+-- the map of a run that has come to a place
+pub map-there : (splits : List Point) (book : List Entry) (n p : ℕ) (run : Run) → HasComeTo splits book n p run
+    → run.map ≡ map_within splits (seen_before book n) (slice_get book n) p
+map-there splits book n p run come =
+    come.0.map ∙ ap (map_within splits (seen_before book run.entry) (slice_get book run.entry)) come.2
+    ∙ ap (λ (k : ℕ). map_within splits (seen_before book k) (slice_get book k) p) come.1
+
+-- of one that has come to the first place of an entry
 pub map-first : (splits : List Point) (book : List Entry) (n : ℕ) (run : Run) → HasComeTo splits book n 0 run
     → run.map ≡ serial_map splits (seen_before book n).places
-map-first splits book n run come =
-    come.0.map
-    ∙ ap (map_after (serial_map splits (seen_before book run.entry).places) (batch_of (slice_get book run.entry))
-    run.outcomes) come.2
-    ∙ ap (λ (k : ℕ). serial_map splits (seen_before book k).places) come.1
+map-first splits book n run come = map-there splits book n 0 run come
 
--- its outcomes and its map at a place of an entry
-module _ (splits : List Point) (book : List Entry) (n p : ℕ) (run : Run) (come : HasComeTo splits book n p run)
-    (entry : Entry) (there : slice_get book n ≡ Some entry) where
-  pub outcomes-come : run.outcomes ≡ outcomes_on splits (seen_before book n) entry
-  outcomes-come =
-      come.0.outcomes ∙ ap (λ (k : ℕ). outcomes_of splits (seen_before book k) (slice_get book k)) come.1
-      ∙ ap (outcomes_of splits (seen_before book n)) there
-
-  pub map-come : run.map ≡ map_after (serial_map splits (seen_before book n).places) entry.batch
-      (outcomes_on splits (seen_before book n) entry) p
-  map-come =
-      let base = serial_map splits (seen_before book n).places in
-      come.0.map
-      ∙ ap (λ (k : ℕ). map_after (serial_map splits (seen_before book k).places) (batch_of (slice_get book k))
-      run.outcomes run.place) come.1
-      ∙ ap (λ (next : Option Entry). map_after base (batch_of next) run.outcomes run.place) there
-      ∙ ap (λ (os : List Outcome). map_after base entry.batch os run.place) outcomes-come
-      ∙ ap (map_after base entry.batch (outcomes_on splits (seen_before book n) entry)) come.2
+-- and of one that has come to a place of this entry
+pub map-come : (splits : List Point) (book : List Entry) (n p : ℕ) (run : Run) → HasComeTo splits book n p run
+    → (entry : Entry) → slice_get book n ≡ Some entry
+    → run.map ≡ map_after (serial_map splits (seen_before book n).places) entry.batch
+    (outcomes_on splits (seen_before book n) entry) p
+map-come splits book n p run come entry there =
+    map-there splits book n p run come
+    ∙ ap (λ (next : Option Entry). map_within splits (seen_before book n) next p) there

@@ -10,12 +10,11 @@ use Rattle.fdb_txn.specs.book.Book.{Seen, seen_before}
 use Rattle.fdb_txn.specs.rules.Messages.{mutations_in}
 use Rattle.fdb_txn.specs.rules.SerialMap.{serial_map}
 use Rattle.fdb_proxy.specs.declared.outcome.Outcome.{Outcome}
-use Rattle.fdb_proxy.specs.Verdicts.{outcomes_on}
 use Rattle.fdb_core.specs.declared.check.run.Run.{Run}
 use Rattle.fdb_core.specs.declared.check.visits.Visit.{Visit}
 use Rattle.fdb_core.specs.declared.roles.client.Placed.{Placed}
 use Rattle.fdb_core.specs.check.Bodies.{body_by}
-use Rattle.fdb_core.specs.check.Judging.{IsJudgeAt}
+use Rattle.fdb_core.specs.check.Judged.{outcomes_of, AreJudged}
 use Rattle.fdb_core.specs.check.Spots.{moment_of, comes_before}
 
 -- the map after the first places of a batch
@@ -27,18 +26,16 @@ abbrev pub batch_of : Option Entry → List Transaction
 batch_of None = []
 batch_of (Some entry) = entry.batch
 
--- and what becomes of them
-abbrev pub outcomes_of : List Point → Seen → Option Entry → List Outcome
-outcomes_of splits before None = []
-outcomes_of splits before (Some entry) = outcomes_on splits before entry
+-- the map before the next entry, if there is one, and after the first places of it
+abbrev pub map_within : List Point → Seen → Option Entry → ℕ → Map
+map_within splits before next count =
+    map_after (serial_map splits before.places) (batch_of next) (outcomes_of splits before next) count
 
--- A run has come to a place of an entry: its judge took the entries through that one and knows what becomes of its
--- places, and its map is that after the places before.
+-- A run has come to a place of an entry: it has what becomes of all places of the book, and its map is that after the
+-- places before.
 pub record IsRunAt (splits : List Point) (book : List Entry) (run : Run) : Type 0 where
-  pub judge : IsJudgeAt splits (take (suc run.entry) book) run.judge
-  pub outcomes : run.outcomes ≡ outcomes_of splits (seen_before book run.entry) (slice_get book run.entry)
-  pub map : run.map ≡ map_after (serial_map splits (seen_before book run.entry).places)
-      (batch_of (slice_get book run.entry)) run.outcomes run.place
+  pub judged : AreJudged splits book run.judged.now
+  pub map : run.map ≡ map_within splits (seen_before book run.entry) (slice_get book run.entry) run.place
   pub within : run.place ≤ length (batch_of (slice_get book run.entry))
 
 -- it has not gone past a place of an entry

@@ -1,21 +1,19 @@
 // The run of the book's committed transactions, one at a time.
-ghost use Rattle.std.specs.Prelude.{◌≡◌, ◌<◌, ◌≤◌, suc, List, [], length, take, None, Some, slice_get, IfOk, IfErr};
+ghost use Rattle.std.specs.Prelude.{◌≡◌, ◌<◌, ◌≤◌, suc, List, [], length, None, Some, slice_get, IfErr};
 ghost use Rattle.std.specs.Prelude.{OnOk, if◌then◌else◌};
 ghost use Rattle.fdb_keys.specs.Answers.{Answers};
 ghost use Rattle.fdb_keys.specs.Points.{Point};
 ghost use Rattle.fdb_mutations.specs.Maps.{Map};
 ghost use Rattle.fdb_mutations.specs.Mutations.{effects};
 ghost use Rattle.fdb_txn.specs.declared.entry.Entry.{Entry};
-ghost use Rattle.fdb_txn.specs.book.Book.{seen_before};
 ghost use Rattle.fdb_txn.specs.book.History.{AreEntries};
 ghost use Rattle.fdb_proxy.specs.Logging.{is_commit};
 ghost use Rattle.fdb_proxy.specs.declared.outcome.Outcome.{Outcome};
-ghost use Rattle.fdb_core.specs.check.Judging.{IsJudgeAt};
-ghost use Rattle.fdb_core.specs.check.Running.{map_after, batch_of, outcomes_of, IsRunAt, IsNotPast, HasComeTo};
+ghost use Rattle.fdb_core.specs.check.Judged.{AreJudged};
+ghost use Rattle.fdb_core.specs.check.Running.{map_after, batch_of, IsRunAt, IsNotPast, HasComeTo};
 
-use crate::check::judge::Judge;
 use crate::world::CheckFault;
-use fdb_keys::{Items, Key, Refusal};
+use fdb_keys::{Items, Refusal};
 use fdb_mutations::{Mutation, PlainMap};
 use fdb_proxy::Outcome;
 use fdb_txn::{Entry, Sealed};
@@ -23,60 +21,37 @@ use std::alloc::Global;
 
 /// How far the run is.
 #[derive(Drop)]
-pub(crate) struct Run {
-    alloc: Global,
-    judge: Judge,
+pub(crate) struct Run<'a> {
+    /// What becomes of the places of each entry, by its number.
+    pub(crate) judged: &'a [Items<Outcome>],
     /// The map after the places that were run.
     pub(crate) map: PlainMap,
     // How many entries were run whole, and how many places of the next one.
     entry: usize,
     place: usize,
-    // What becomes of the places of that one.
-    pub(crate) outcomes: Items<Outcome>,
 }
 
-// What becomes of the places of an entry, if there is one with the number, after those before it.
-fn judged(
-    alloc: Global,
-    judge: &mut Judge,
-    book: &[Entry],
-    index: usize,
-) -> Result<Items<Outcome>, CheckFault>
-    ensures ok { (splits : List Point) → AreEntries (suc (length splits)) 0 book.now
-        → IsJudgeAt splits (take index book.now) judge.old
-        → IfOk result (λ outcomes.
-        (outcomes ≡ outcomes_of splits (seen_before book.now index) (slice_get book.now index))
-        × IsJudgeAt splits (take (suc index) book.now) judge.new) }
-    ensures err { IfErr result (λ fault. fault ≡ CheckFault.NoMemory) }
+/// The run before the first entry.
+pub(crate) fn new_run(alloc: Global, judged: &[Items<Outcome>]) -> Run<'_>
+    ensures { (splits : List Point) (book : List Entry) → AreJudged splits book judged.now
+        → HasComeTo splits book 0 0 result }
 {
-    let Some(entry) = book.get(index) else {
-        return Ok(Items::new(alloc));
-    };
-    match judge.take(entry) {
-        Ok(outcomes) => Ok(outcomes),
-        Err(_) => Err(CheckFault::NoMemory),
-    }
-}
-
-/// The run before the first entry. It fails where memory runs out, and where these are no splits into at most 64
-/// pieces, as those of a legal configuration are.
-pub(crate) fn new_run(alloc: Global, splits: &[Key], book: &[Entry]) -> Result<Run, CheckFault>
-    ensures ok { AreEntries (suc (length splits.now)) 0 book.now
-        → IfOk result (λ run. HasComeTo splits.now book.now 0 0 run) }
-    ensures err { IfErr result (λ fault. fault ≡ CheckFault.NoMemory) }
-{
-    let Ok(mut judge) = Judge::new(alloc, splits) else {
-        return Err(CheckFault::NoMemory);
-    };
-    let outcomes = judged(alloc, &mut judge, book, 0)?;
-    Ok(Run {
-        alloc,
-        judge,
+    Run {
+        judged,
         map: PlainMap::new(alloc),
         entry: 0,
         place: 0,
-        outcomes,
-    })
+    }
+}
+
+/// What becomes of the places of the entry with the number.
+pub(crate) fn outcomes_at(judged: &[Items<Outcome>], entry: usize) -> &[Outcome]
+    ensures { (outcomes : List Outcome) → slice_get judged.now entry ≡ Some outcomes → result.now ≡ outcomes }
+{
+    match judged.get(entry) {
+        Some(outcomes) => outcomes.as_slice(),
+        None => &[],
+    }
 }
 
 /// Whether the place commits.
@@ -130,7 +105,23 @@ fn run_places(
     Ok(())
 }
 
-/// Runs what is left of the entry, and judges the next one.
+// Goes on within the entry, to one of its places or to its end.
+fn go_within(run: &mut Run, entry: &Entry, place: usize) -> Result<(), CheckFault>
+    requires { place ≤ length entry.now.batch }
+    ensures ok { (splits : List Point) (book : List Entry) → IsRunAt splits book run.old
+        → slice_get book run.old.entry ≡ Some entry.now → run.old.place ≤ place
+        → OnOk result (HasComeTo splits book run.old.entry place run.new) }
+    ensures err { IfErr result (λ fault. fault ≡ CheckFault.NoMemory) }
+    ensures entry { run.new.entry ≡ run.old.entry }
+{
+    let outcomes = outcomes_at(run.judged, run.entry);
+    let batch = entry.batch.as_slice();
+    run_places(&mut run.map, batch, outcomes, run.place, place)?;
+    run.place = place;
+    Ok(())
+}
+
+/// Runs what is left of the entry.
 pub(crate) fn run_entry(run: &mut Run, book: &[Entry]) -> Result<(), CheckFault>
     ensures ok { (splits : List Point) → AreEntries (suc (length splits)) 0 book.now → IsRunAt splits book.now run.old
         → run.old.entry < length book.now
@@ -141,16 +132,9 @@ pub(crate) fn run_entry(run: &mut Run, book: &[Entry]) -> Result<(), CheckFault>
         return Ok(());
     };
     let batch = entry.batch.as_slice();
-    run_places(
-        &mut run.map,
-        batch,
-        run.outcomes.as_slice(),
-        run.place,
-        batch.len(),
-    )?;
+    go_within(run, entry, batch.len())?;
     run.entry += 1;
     run.place = 0;
-    run.outcomes = judged(run.alloc, &mut run.judge, book, run.entry)?;
     Ok(())
 }
 
@@ -165,25 +149,6 @@ fn run_entries(run: &mut Run, book: &[Entry], until: usize) -> Result<(), CheckF
     for _ in run.entry..until {
         run_entry(run, book)?;
     }
-    Ok(())
-}
-
-// Goes on within the entry, to one of its places or to its end.
-fn go_within(run: &mut Run, batch: &[Sealed], place: usize) -> Result<(), CheckFault>
-    requires { place ≤ length batch.now }
-    ensures ok { (splits : List Point) (book : List Entry) → IsRunAt splits book run.old
-        → batch.now ≡ batch_of (slice_get book run.old.entry) → run.old.place ≤ place
-        → OnOk result (HasComeTo splits book run.old.entry place run.new) }
-    ensures err { IfErr result (λ fault. fault ≡ CheckFault.NoMemory) }
-{
-    run_places(
-        &mut run.map,
-        batch,
-        run.outcomes.as_slice(),
-        run.place,
-        place,
-    )?;
-    run.place = place;
     Ok(())
 }
 
@@ -202,7 +167,7 @@ pub(crate) fn go_to(
 {
     run_entries(run, book, entry)?;
     match book.get(entry) {
-        Some(next) => go_within(run, next.batch.as_slice(), place),
+        Some(next) => go_within(run, next, place),
         None => Ok(()),
     }
 }

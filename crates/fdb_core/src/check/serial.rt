@@ -8,10 +8,12 @@ ghost use Rattle.fdb_txn.specs.book.History.{AreEntries, IsBook, IsSealed};
 ghost use Rattle.fdb_txn.specs.Limits.{shard_limit};
 ghost use Rattle.fdb_proxy.specs.Configs.{config_fault};
 ghost use Rattle.fdb_core.specs.check.Checking.{Stops, FindsSerialized, Finds};
+ghost use Rattle.fdb_core.specs.check.Judged.{AreJudged};
 ghost use Rattle.fdb_core.specs.check.Running.{HasComeTo, IsInOrder, visits_from};
 ghost use Rattle.fdb_core.specs.check.Spots.{IsFirstOther};
 ghost use Rattle.fdb_core.specs.headline.Headline.{IsSerialized};
 
+use crate::check::judged::judge_book;
 use crate::check::run::{Run, new_run};
 use crate::check::shards::check_shards;
 use crate::check::standing::is_serialized;
@@ -20,8 +22,8 @@ use crate::cluster::Cluster;
 use crate::roles::client::Placed;
 use crate::roles::shard::ShardRole;
 use crate::world::CheckFault;
-use fdb_keys::Key;
-use fdb_proxy::Config;
+use fdb_keys::Items;
+use fdb_proxy::{Config, Outcome};
 use fdb_txn::Entry;
 use std::alloc::Global;
 
@@ -59,19 +61,19 @@ fn know_sealed(book: &[Entry])
     }
 }
 
-// Compares them all. Keys that are no splits among at most 64 resolvers are answered as out of memory.
+// Compares them all.
 fn check_placed(
     alloc: Global,
-    splits: &[Key],
+    judged: &[Items<Outcome>],
     book: &[Entry],
     placed: &[Placed],
 ) -> Result<u64, CheckFault>
     ensures count { IfOk result (λ count. count ≡ length placed.now) }
-    ensures finds { AreEntries (suc (length splits.now)) 0 book.now
-        → FindsSerialized result splits.now book.now placed.now }
+    ensures finds { (splits : List Point) → AreEntries (suc (length splits)) 0 book.now
+        → AreJudged splits book.now judged.now → FindsSerialized result splits book.now placed.now }
 {
     let visits = sorted_visits(alloc, book, placed)?;
-    let mut run = new_run(alloc, splits, book)?;
+    let mut run = new_run(alloc, judged);
     run_visits(alloc, &mut run, book, placed, visits.as_slice())?;
     Ok(placed.len() as u64)
 }
@@ -106,7 +108,8 @@ pub fn serial_check(
         ⊎ IsFirstOther book.now (IsSerialized config.now.resolver_splits book.now) placed.now fault) }
 {
     know_sealed(book);
-    check_placed(alloc, config.resolver_splits.as_slice(), book, placed)
+    let judged = judge_book(alloc, config.resolver_splits.as_slice(), book)?;
+    check_placed(alloc, judged.as_slice(), book, placed)
 }
 
 /// Compares every acknowledged transcript with the run of one transaction at a time, and each shard at its
@@ -124,7 +127,14 @@ pub(crate) fn check_all(cluster: &Cluster, with_shards: bool) -> Result<u64, Che
 {
     let shards: &[ShardRole] = if with_shards { &cluster.shards } else { &[] };
     let splits = cluster.config.resolver_splits.as_slice();
-    let count = check_placed(cluster.alloc, splits, &cluster.book, &cluster.acknowledged)?;
-    check_shards(cluster.alloc, splits, &cluster.book, shards)?;
+    let judged = judge_book(cluster.alloc, splits, &cluster.book)?;
+    let outcomes = judged.as_slice();
+    let count = check_placed(
+        cluster.alloc,
+        outcomes,
+        &cluster.book,
+        &cluster.acknowledged,
+    )?;
+    check_shards(cluster.alloc, outcomes, &cluster.book, shards)?;
     Ok(count)
 }

@@ -6,14 +6,16 @@ ghost use Rattle.fdb_core.specs.check.Holding.{ChecksShards};
 ghost use Rattle.fdb_keys.specs.Points.{Point};
 ghost use Rattle.fdb_txn.specs.book.History.{AreEntries};
 ghost use Rattle.fdb_core.specs.check.Checking.{HaveHeld};
+ghost use Rattle.fdb_core.specs.check.Judged.{AreJudged};
 ghost use Rattle.fdb_core.specs.check.Running.{HasComeTo};
 
 use crate::book::last_version;
 use crate::check::run::{Run, new_run, run_entry};
 use crate::roles::shard::ShardRole;
 use crate::world::CheckFault;
-use fdb_keys::{Key, Refusal};
+use fdb_keys::{Items, Refusal};
 use fdb_mutations::PlainMap;
+use fdb_proxy::Outcome;
 use fdb_txn::Entry;
 use std::alloc::Global;
 
@@ -123,22 +125,21 @@ fn run_all(
     Ok(())
 }
 
-/// Compares each shard at its version with the run of the book. Keys that are no splits among at most 64 resolvers are
-/// answered as out of memory.
+/// Compares each shard at its version with the run of the book.
 pub(crate) fn check_shards(
     alloc: Global,
-    splits: &[Key],
+    judged: &[Items<Outcome>],
     book: &[Entry],
     shards: &[ShardRole],
 ) -> Result<(), CheckFault>
     requires { length shards.now ≤ shard_limit }
-    ensures { AreEntries (suc (length splits.now)) 0 book.now
-        → ChecksShards result (HoldsTheRun splits.now book.now) shards.now }
+    ensures { (splits : List Point) → AreEntries (suc (length splits)) 0 book.now → AreJudged splits book.now judged.now
+        → ChecksShards result (HoldsTheRun splits book.now) shards.now }
 {
     if shards.is_empty() {
         return Ok(());
     }
-    let mut run = new_run(alloc, splits, book)?;
+    let mut run = new_run(alloc, judged);
     run_all(alloc, &mut run, shards, book)?;
     let from = last_version(book, book.len());
     compare_shards(alloc, &run.map, shards, from, None)

@@ -10,7 +10,7 @@ ghost use Rattle.fdb_core.specs.headline.Headline.{AnsweredOn, WroteNothing, IsS
 ghost use Rattle.fdb_core.specs.headline.Headline.{IsSerialized};
 
 use crate::check::compare::is_answered_on;
-use crate::check::run::{Run, commits, go_to};
+use crate::check::run::{Run, commits, go_to, outcomes_at};
 use crate::check::visits::Visit;
 use crate::roles::client::Placed;
 use crate::world::CheckFault;
@@ -86,7 +86,7 @@ fn is_serialized_at(
         return Ok(false);
     }
     go_to(run, book, index, place)?;
-    if !commits(run.outcomes.as_slice(), place) {
+    if !commits(outcomes_at(run.judged, index), place) {
         return Ok(false);
     }
     found(is_run_on(alloc, &run.map, txn, transcript))

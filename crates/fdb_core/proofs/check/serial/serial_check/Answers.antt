@@ -7,4 +7,5 @@ returns c =
     let splits = c.args.config.now.resolver_splits in
     let entries = (books_are_entries (suc (length splits)) c.args.book.now).0 (c.requires.book, c.know_sealed.ensures)
     in
-    (rw c.as_slice.ensures at c.check_placed.ensures.finds) entries.0
+    let judged = (rw c.as_slice.ensures at c.in_ok-judged.ensures.ok) entries.0 in
+    (rw c.as_slice-2.ensures at c.check_placed.ensures.finds) splits entries.0 judged

@@ -5,13 +5,12 @@ use Rattle.fdb_core.proofs.checking.HoldingLemmas.{stops-shards, held-last, chec
 use Rattle.fdb_core.proofs.check.shards.check_shards.Goals as goal
 
 pub returns : goal.returns
-returns c = λ entries.
-    let splits = c.args.splits.now in
+returns c = λ splits entries judged.
     let book = c.args.book.now in
     let shards = c.args.shards.now in
     let run = c.run_all.new.run in
     let from = c.last_version-from.result in
-    let come = c.in_ok-run_all.ensures splits entries (c.in_ok-run.ensures.ok entries) in
+    let come = c.in_ok-run_all.ensures splits entries (c.new_run-run.ensures splits book judged) in
     let map = map-first splits book (length book) run come.0 in
     checks-last c.compare_shards.result _ _ (HoldsTheRun splits book) shards c.compare_shards.ensures
     (held-last splits book entries (length book) (le_refl (length book)) shards from run.map c.last_version-from.ensures

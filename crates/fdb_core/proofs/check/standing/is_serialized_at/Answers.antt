@@ -6,7 +6,7 @@ use Rattle.fdb_txn.specs.declared.entry.Entry.{Entry}
 use Rattle.fdb_txn.specs.book.Transactions.{Transaction}
 use Rattle.fdb_proxy.specs.declared.outcome.Outcome.{Outcome}
 use Rattle.fdb_core.specs.check.Running.{batch_of}
-use Rattle.fdb_core.proofs.checking.RunningLemmas.{item-there, nothing-after, outcomes-come, map-come}
+use Rattle.fdb_core.proofs.checking.RunningLemmas.{item-there, nothing-after, map-come}
 use Rattle.fdb_core.proofs.checking.StandingLemmas.{answers-not, no-place, version-is, commits-there, outcome-there}
 use Rattle.fdb_core.proofs.checking.StandingLemmas.{stands-there, found-means}
 use Rattle.fdb_core.proofs.check.standing.is_serialized_at.Goals as goal
@@ -71,7 +71,7 @@ returns-then-not-commits-clause-ok c splits entries at not_past =
     let outcome = outcome-there splits book n p c.args.version c.args.transcript.now entry there txn its in
     let said = c.commits.ensures outcome.0
     (subst (λ (os : List Outcome). slice_get os p ≡ Some outcome.0)
-    (sym (c.as_slice-2.ensures ∙ outcomes-come splits book n p run come entry there)) outcome.1) in (
+    (sym (c.outcomes_at.ensures _ (come.0.judged.each n entry there))) outcome.1) in (
       answers-not (λ stands. absurd (both_ways _ c.if-not-commits.true
           (said
           ∙ commits-there splits book n p c.args.version c.args.transcript.now entry there txn its outcome.0 outcome.1
@@ -95,7 +95,7 @@ returns-clause-ok c splits entries at not_past =
     let outcome = outcome-there splits book n p c.args.version c.args.transcript.now entry there txn its in
     let said = c.commits.ensures outcome.0
     (subst (λ (os : List Outcome). slice_get os p ≡ Some outcome.0)
-    (sym (c.as_slice-2.ensures ∙ outcomes-come splits book n p run come entry there)) outcome.1) in
+    (sym (c.outcomes_at.ensures _ (come.0.judged.each n entry there))) outcome.1) in
     found-means c.is_run_on.result c.found.result _ _ c.found.ensures.ok c.found.ensures.err c.is_run_on.ensures
     (λ same answers. (
       stands-there splits book n p c.args.version c.args.transcript.now entry there txn its outcome.0 run.map same
