@@ -4,6 +4,7 @@
 mod numbers;
 mod parts;
 mod resolver;
+mod serial;
 
 use crate::numbers::{Fault, number_of};
 use crate::parts::Setting;
@@ -15,6 +16,8 @@ const USAGE: &str = "fdb_bench resolver ITEMS
     A resolver takes so many items in batches of 100, each with a read range and a write range.
 fdb_bench parts RESOLVERS BATCH TRANSACTIONS MOVES
     A commit proxy commits so many transactions, after it learnt so many moves.
+fdb_bench serial TRANSACTIONS
+    So many transactions of a world, each of which sets a key, are checked against a run of one at a time.
 ";
 
 fn main(rt: HostRuntime) -> ExitCode {
@@ -47,6 +50,7 @@ fn obey(rt: &HostRuntime, words: &[&str]) -> Result<(), Fault> {
                 moves: number_of(moves)?,
             },
         ),
+        ["serial", transactions] => run_serial(rt, number_of(transactions)?),
         _ => {
             print!(rt; "{}", USAGE)?;
             Ok(())
@@ -68,6 +72,11 @@ fn run_parts(rt: &HostRuntime, setting: &Setting) -> Result<(), Fault> {
         ("moves", setting.moves),
     ];
     report(rt, "parts", &numbers, took)
+}
+
+fn run_serial(rt: &HostRuntime, transactions: u32) -> Result<(), Fault> {
+    let took = serial::measure(rt, rt.alloc(), transactions)?;
+    report(rt, "serial", &[("transactions", transactions)], took)
 }
 
 // Prints one line of JSON: what was measured, its numbers, and the time in microseconds.

@@ -24,6 +24,10 @@ pub(crate) enum Fault {
     NoMemory(#[from] AllocError),
     #[error("a number is no number, or it is too great")]
     BadNumber,
+    #[error("a transaction was not answered as in the run of one at a time")]
+    NotSerialized,
+    #[error("not all transactions were checked")]
+    Miscounted,
 }
 
 /// The number that the word gives.
