@@ -1,5 +1,9 @@
 // Marks with known answers.
-use crate::making::{both, same};
+ghost use Rattle.std.specs.Prelude.{◌≤◌, IfOk};
+ghost use Rattle.fdb_keys.specs.Points.{Point};
+ghost use Rattle.fdb_interval.specs.Versions.{version_at};
+
+use crate::making::{both, made_of, same};
 use fdb_interval::LastCommit;
 use fdb_keys::{KeyRange, Refusal};
 use std::alloc::Global;
@@ -7,7 +11,9 @@ use std::alloc::Global;
 type Text = &'static [u8];
 
 // The keys of the first range are marked with 100, and then those of the second one with 200.
-fn marked(alloc: Global, first: &KeyRange, second: &KeyRange) -> Result<LastCommit, Refusal> {
+fn marked(alloc: Global, first: &KeyRange, second: &KeyRange) -> Result<LastCommit, Refusal>
+    ensures { IfOk result (λ last. (x : Point) → version_at last x ≤ 200) }
+{
     let mut last = LastCommit::new(alloc);
     last.mark(first, 100)?;
     last.mark(second, 200)?;
@@ -15,7 +21,9 @@ fn marked(alloc: Global, first: &KeyRange, second: &KeyRange) -> Result<LastComm
 }
 
 // The same of the keys from b to d, and of those from c to e.
-fn two_marks(alloc: Global) -> Result<LastCommit, Refusal> {
+fn two_marks(alloc: Global) -> Result<LastCommit, Refusal>
+    ensures { IfOk result (λ last. (x : Point) → version_at last x ≤ 200) }
+{
     let (first, second) = both(
         KeyRange::new(alloc, b"b", b"d"),
         KeyRange::new(alloc, b"c", b"e"),
@@ -66,34 +74,19 @@ fn first_wrongs(alloc: Global) -> Result<[Option<usize>; 2], Refusal> {
     Ok([of_marked, first_wrong(&last, alloc, EXPIRED.as_slice())])
 }
 
-// How many pieces there are at first, after the two marks, and after the expiry of the first one.
-fn pieces_on_the_way(alloc: Global) -> Result<[usize; 3], Refusal> {
+// How many pieces there are after the two marks, after the expiry of the first one, and once the keys of the range are
+// marked like those of the second one; whether its begin is seen then; and how many are left once all is expired.
+fn pieces_on_the_way(alloc: Global, range: &KeyRange) -> Result<([usize; 4], bool), Refusal> {
     let mut last = two_marks(alloc)?;
     let of_marked = last.pieces();
     last.expire(100);
-    Ok([LastCommit::new(alloc).pieces(), of_marked, last.pieces()])
-}
-
-// The keys of both ranges are marked with 200.
-fn marked_alike(alloc: Global, first: &KeyRange, second: &KeyRange) -> Result<LastCommit, Refusal> {
-    let mut last = LastCommit::new(alloc);
-    last.mark(first, 200)?;
-    last.mark(second, 200)?;
-    Ok(last)
-}
-
-// How many pieces two ranges that touch are with one version, whether the second one's is seen, and how many are left
-// once all is expired.
-fn pieces_that_touch(alloc: Global) -> Result<(usize, bool, usize), Refusal> {
-    let (first, second) = both(
-        KeyRange::new(alloc, b"c", b"e"),
-        KeyRange::new(alloc, b"a", b"c"),
-    )?;
-    let mut last = marked_alike(alloc, &first, &second)?;
-    let of_marked = last.pieces();
+    let of_expired = last.pieces();
+    last.mark(range, 200)?;
+    let of_joined = last.pieces();
     let is_seen = is_newer(&last, alloc, b"a", b"b", 199)?;
     last.expire(200);
-    Ok((of_marked, is_seen, last.pieces()))
+    let pieces = [of_marked, of_expired, of_joined, last.pieces()];
+    Ok((pieces, is_seen))
 }
 
 #[test]
@@ -103,6 +96,11 @@ fn later_marks_win_and_versions_above_the_expired_one_are_kept(rt: HostRuntime) 
 
 #[test]
 fn equal_neighbours_are_one_piece_and_expired_ones_are_none(rt: HostRuntime) {
-    same(&rt, pieces_on_the_way(rt.alloc()), Ok([0, 2, 1]));
-    same(&rt, pieces_that_touch(rt.alloc()), Ok((1, true, 0)));
+    let alloc = rt.alloc();
+    same(&rt, LastCommit::new(alloc).pieces(), 0);
+    let found = made_of(
+        KeyRange::new(alloc, b"a", b"c"),
+        |range| pieces_on_the_way(alloc, range),
+    );
+    same(&rt, found, Ok(([2, 1, 1, 0], true)));
 }

@@ -2,7 +2,7 @@
 ghost use Rattle.std.specs.Prelude.{◌≡◌, ◌<◌, ◌≤◌, All, IfOk};
 ghost use Rattle.fdb_owners.specs.Ownership.{resolvers_of};
 
-use crate::making::{are_ranges, ask, ask_mut, code_of, keys_of, made_of, push, same};
+use crate::making::{are_ranges, ask, ask_mut, both, code_of, keys_of, made_of, push, same};
 use fdb_keys::{Items, Key, KeyRange, Refusal};
 use fdb_owners::{Owned, Owners};
 use fdb_txn::Move;
@@ -133,6 +133,25 @@ fn moved_keys_belong_to_the_target(rt: HostRuntime) {
         let found = owned_p(alloc, *expired, *from, *version, wanted);
         same(&rt, (*from, found), (*from, Ok(true)));
     }
+}
+
+// How often the keys p and z changed owners: before anything is learnt, after the move, and once its version has
+// expired.
+fn changes_on_the_way(alloc: Global, p: &Key, z: &Key) -> Result<[(usize, usize); 3], Refusal> {
+    let first = two_resolvers(alloc)?;
+    let of_first = (first.changes(p), first.changes(z));
+    let mut owners = moved(alloc)?;
+    let of_moved = (owners.changes(p), owners.changes(z));
+    owners.expire(300);
+    Ok([of_first, of_moved, (owners.changes(p), owners.changes(z))])
+}
+
+#[test]
+fn changes_of_owners_count_until_they_expire(rt: HostRuntime) {
+    let alloc = rt.alloc();
+    let keys = both(Key::new(alloc, b"p"), Key::new(alloc, b"z"));
+    let found = made_of(keys, |(p, z)| changes_on_the_way(alloc, p, z));
+    same(&rt, found, Ok([(0, 0), (1, 0), (0, 0)]));
 }
 
 #[test]
