@@ -227,7 +227,7 @@ pub inside-is : (begin end x : Point) → inside begin end x ≡ (point_lt begin
 unfolding point_lt
 inside-is begin end x = ap (λ (t : Bool). is_lt (slice_cmp nat_cmp begin x) && t) (not_past x end)
 
-absorbed : (s t : Bool) → (t ≡ true → s ≡ true) → (s && t) ≡ t
+pub absorbed : (s t : Bool) → (t ≡ true → s ≡ true) → (s && t) ≡ t
 absorbed s true follows = ap (λ (u : Bool). u && true) (follows refl)
 absorbed true false follows = refl
 absorbed false false follows = refl

@@ -14,7 +14,7 @@ use Rattle.fdb_keys.specs.Points.{Point, point_lt}
 use Rattle.fdb_keys.proofs.PointOrder.{lt-itself, le_lt_chain, lt_le_chain, lt_one_way, le_chain, lt_chain}
 use Rattle.fdb_interval.specs.Breakpoints.{Breaks, value_from, last_value, breaks_before, AreRising}
 use Rattle.fdb_interval.proofs.BreaksLemmas.{sift, sift-none, sift-all, sift_twice, rising-sift, all_imply, before}
-use Rattle.fdb_interval.proofs.BreaksLemmas.{beyond}
+use Rattle.fdb_interval.proofs.BreaksLemmas.{beyond, absorbed}
 use Rattle.fdb_interval.proofs.BreaksLemmas.{inside, inside-is, before-is, last-one, value-reached}
 use Rattle.fdb_interval.proofs.BreaksLemmas.{sift-false, at, all-sift, five_parts, value-after, value-append}
 use Rattle.fdb_interval.proofs.PartsLemmas.{at_same, later_than_same}
@@ -76,11 +76,6 @@ module _ {V : Type 0} (es front : Breaks V) (e : Point × V) (begin end : Point)
       (λ f earlier. lt_chain f.0 e.0 begin earlier sooner) front (all_sooner front e [] front_rising))))
       ∙ last-one start front e)
     where
-      absorbed : (s t : Bool) → (t ≡ true → s ≡ true) → (s && t) ≡ t
-      absorbed s true follows = ap (λ (u : Bool). u && true) (follows refl)
-      absorbed true false follows = refl
-      absorbed false false follows = refl
-
       both : (x : Point) → (point_lt x end && point_lt x begin) ≡ point_lt x begin
       both x = absorbed (point_lt x end) (point_lt x begin) (λ earlier. lt_chain x begin end earlier some)
 
@@ -107,11 +102,6 @@ module _ {V : Type 0} (es : Breaks V) (begin end : Point) (rising : AreRising es
       (sym (sift_twice (before begin) (before end) (before begin) both es)
       ∙ ap (sift (before begin)) (before-is es end ∙ found)))
     where
-      absorbed : (s t : Bool) → (t ≡ true → s ≡ true) → (s && t) ≡ t
-      absorbed s true follows = ap (λ (u : Bool). u && true) (follows refl)
-      absorbed true false follows = refl
-      absorbed false false follows = refl
-
       both : (x : Point) → (point_lt x end && point_lt x begin) ≡ point_lt x begin
       both x = absorbed (point_lt x end) (point_lt x begin) (λ earlier. lt_chain x begin end earlier some)
 

@@ -1,9 +1,14 @@
+ghost use Rattle.std.specs.Prelude.{◌≡◌, IsTrue, IfOk, if◌then◌else◌};
+ghost use Rattle.fdb_keys.specs.Points.{Point, point_lt};
+ghost use Rattle.fdb_keys.specs.Ranges.{in_range};
+ghost use Rattle.fdb_interval.specs.Breakpoints.{value_from, last_value, AreJoined};
+
 use crate::breakpoints::{assign, count_above};
 use crate::newer::is_any_newer;
 use crate::point_key::PointKey;
 use crate::sweeping::sweep;
 use fdb_keys::{KeyRange, Refusal};
-use std::alloc::Global;
+use std::alloc::{AllocError, Global};
 use std::collections::BTreeMap;
 use std::marker::Model;
 
@@ -61,7 +66,8 @@ impl LastCommit {
     }
 
     /// Whether some point of the range has a version above `version`. An empty range has no point. It takes
-    /// O(log n) for the n pieces, and O(1) for each piece that meets the range. It takes no memory.
+    /// O(log n) for the n pieces, and O(1) for each piece that meets the range, but O(n) where the text of a bound has
+    /// as many owners as can be counted. It takes no memory.
     pub fn newer_than(&self, range: &KeyRange, version: u64) -> bool
         ensures { IsTrue result ↔ ((x : Point) × (in_range range.now x ≡ true) × (version < version_at self.now x)) }
     {
@@ -85,8 +91,22 @@ impl LastCommit {
             return Ok(());
         }
         if version <= self.floor {
-            return self.mark_anew(range, version);
+            self.mark_anew(range, version)
+        } else {
+            self.mark_above(range, version)
         }
+    }
+
+    // Marks the range with a version above the floor.
+    fn mark_above(&mut self, range: &KeyRange, version: u64) -> Result<(), Refusal>
+        requires some { IsTrue (point_lt range.now.begin range.now.end) }
+        requires above { self.old.floor < version }
+        requires greatest { (x : Point) → version_at self.old x ≤ version }
+        ensures answers { Answers result None
+            (λ _. (x : Point)
+            → version_at self.new x ≡ (if in_range range.now x then version else version_at self.old x)) }
+        ensures err { OnErr result (self.new ≡ self.old) }
+    {
         assign(self.alloc, &mut self.breaks, range, version)?;
         self.marked = self.marked.saturating_add(1);
         Ok(())
@@ -100,8 +120,7 @@ impl LastCommit {
             (λ _. (x : Point) → version_at self.new x ≡ (if in_range range.now x then version else 0)) }
         ensures err { OnErr result (self.new ≡ self.old) }
     {
-        let mut breaks = BTreeMap::new(self.alloc);
-        assign(self.alloc, &mut breaks, range, version)?;
+        let breaks = marked_alone(self.alloc, range, version)?;
         self.floor = 0;
         self.breaks = breaks;
         Ok(())
@@ -136,4 +155,21 @@ impl LastCommit {
     {
         count_above(&self.breaks, self.floor)
     }
+}
+
+// The breakpoints where the range, which has a point, is marked alone.
+fn marked_alone(
+    alloc: Global,
+    range: &KeyRange,
+    version: u64,
+) -> Result<BTreeMap<PointKey, u64>, AllocError>
+    requires { IsTrue (point_lt range.now.begin range.now.end) }
+    ensures versions { IfOk result (λ breaks. (x : Point) → value_from 0 breaks.entries x
+        ≡ (if in_range range.now x then version else 0)) }
+    ensures joined { IfOk result (λ breaks. AreJoined 0 0 breaks.entries) }
+    ensures last { IfOk result (λ breaks. last_value 0 breaks.entries ≡ 0) }
+{
+    let mut breaks = BTreeMap::new(alloc);
+    assign(alloc, &mut breaks, range, version)?;
+    Ok(breaks)
 }

@@ -7,7 +7,7 @@ ghost use Rattle.fdb_interval.specs.Breakpoints.{value_from, breaks_inside, AreR
 use crate::breakpoints::is_newer_by_keys;
 use crate::keyed_range::KeyedRange;
 use crate::point_key::PointKey;
-use fdb_keys::KeyRange;
+use fdb_keys::{KeyRange, is_before};
 use std::collections::BTreeMap;
 
 // Whether some point of the range, which has one, has a version above this one.
@@ -32,18 +32,11 @@ fn is_newer_by_walk(breaks: &BTreeMap<PointKey, u64>, range: &KeyRange, version:
     let mut at_begin = 0;
     let mut is_inside = false;
     for (point, held) in breaks.iter() {
-        if !is_text_before(range.begin(), point.as_slice()) {
+        if !is_before(range.begin(), point.as_slice()) {
             at_begin = *held;
-        } else if version < *held && is_text_before(point.as_slice(), range.end()) {
+        } else if version < *held && is_before(point.as_slice(), range.end()) {
             is_inside = true;
         }
     }
     version < at_begin || is_inside
-}
-
-#[tactic(auto, unfolding(fdb_keys::specs::Points::point_lt))]
-fn is_text_before(a: &[u8], b: &[u8]) -> bool
-    ensures { result ≡ point_lt a.now b.now }
-{
-    a.cmp(&b).is_lt()
 }

@@ -2,6 +2,7 @@ pub mod ApartLemmas
 pub mod BehindLemmas
 pub mod ClippingLemmas
 pub mod CuttingLemmas
+pub mod GatheringLemmas
 pub mod InsertionLemmas
 pub mod JoiningLemmas
 pub mod LastLemmas

@@ -3,6 +3,7 @@ pub mod Clipping
 pub mod Cutting
 pub mod Equality
 pub mod Examples
+pub mod Gathering
 pub mod Insertion
 pub mod Joining
 pub mod KeyOrder

@@ -5,7 +5,7 @@ ghost use Rattle.fdb_keys.specs.Texts.{is_bound};
 
 use crate::key::Key;
 use crate::order::{
-    greater_bound, have_common_point, is_after_ff, is_before, lesser_bound, lies_within,
+    greater_bound, greater_of, have_common_point, is_after_ff, is_before, lesser_bound, lies_within,
 };
 use crate::range_set::RangeSet;
 use crate::refusal::Refusal;
@@ -263,6 +263,17 @@ impl KeyRange {
         let begin = lesser_bound(&self.begin, &other.begin)?;
         let end = greater_bound(&self.end, &other.end)?;
         Ok(KeyRange { begin, end })
+    }
+
+    // The shortest range that holds both, of which the other one begins no sooner. It takes no memory.
+    pub(crate) fn extended(self, other: KeyRange) -> KeyRange
+        requires { point_lt other.begin self.begin ≡ false }
+        ensures { result ≡ joined_range self other }
+    {
+        KeyRange {
+            begin: self.begin,
+            end: greater_of(self.end, other.end),
+        }
     }
 }
 

@@ -1,6 +1,7 @@
 //! Keys, ranges of keys and sets of ranges, with the refusals that every crate above answers.
 #![tactic(auto)]
 
+mod gathering;
 mod insertion;
 mod items;
 mod key;
@@ -17,6 +18,7 @@ mod tree_range_set;
 pub use items::Items;
 pub use key::{KEY_LIMIT, Key};
 pub use key_range::{BOUND_LIMIT, KeyRange};
+pub use order::is_before;
 pub use range_set::RangeSet;
 pub use refusal::{Refusal, Refused};
 pub use tree_range_set::TreeRangeSet;

@@ -8,8 +8,10 @@ ghost use Rattle.fdb_keys.specs.Texts.{begins_with_ff, is_after_ff};
 use bytes::Bytes;
 use std::alloc::AllocError;
 
+/// Whether the first text comes before the second one: by their bytes, the lesser first, and a text before each longer
+/// one that begins with it. It takes O(n) for the n bytes of the shorter one.
 #[tactic(auto, unfolding(crate::specs::Points::point_lt))]
-pub(crate) fn is_before(a: &[u8], b: &[u8]) -> bool
+pub fn is_before(a: &[u8], b: &[u8]) -> bool
     ensures { result ≡ point_lt a.now b.now }
 {
     a.cmp(&b).is_lt()
@@ -66,5 +68,16 @@ pub(crate) fn greater_bound(a: &Bytes, b: &Bytes) -> Result<Bytes, AllocError>
         b.clone()
     } else {
         a.clone()
+    }
+}
+
+// The greater one of both, which takes no memory.
+pub(crate) fn greater_of(a: Bytes, b: Bytes) -> Bytes
+    ensures { result ≡ greater_point a b }
+{
+    if is_before(a.as_slice(), b.as_slice()) {
+        b
+    } else {
+        a
     }
 }

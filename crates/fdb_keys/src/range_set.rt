@@ -1,3 +1,4 @@
+use crate::gathering::join_all;
 use crate::insertion::{Joined, join};
 use crate::items::Items;
 use crate::key_range::KeyRange;
@@ -30,7 +31,7 @@ impl RangeSet {
     ghost use Rattle.std.specs.Prelude.{◌≡◌, ◌==◌, ◌||◌, ◌&&◌, not, [], length, IsTrue, None, OnOk, OnErr};
     ghost use Rattle.std.specs.Slice.Iter.{iter_rest};
     ghost use Rattle.fdb_keys.specs.Answers.{Answers};
-    ghost use Rattle.fdb_keys.specs.Insertion.{with_range};
+    ghost use Rattle.fdb_keys.specs.Insertion.{with_range, with_ranges};
     ghost use Rattle.fdb_keys.specs.Points.{Point};
     ghost use Rattle.fdb_keys.specs.Ranges.{in_range, in_set, is_apart};
     ghost use Rattle.fdb_keys.specs.Removal.{without_range};
@@ -61,8 +62,9 @@ impl RangeSet {
         self.ranges.is_empty()
     }
 
-    /// Adds the keys of the range. An empty range adds nothing. Refused only as `NoMemory`, and then
-    /// nothing changes.
+    /// Adds the keys of the range. An empty range adds nothing. For n ranges of the set it takes O(log n) comparisons
+    /// of bounds, O(1) more for each range that it touches, and O(n) to move the ranges behind it; `add_all` takes many
+    /// ranges at once. Refused only as `NoMemory`, and then nothing changes.
     pub fn add(&mut self, range: &KeyRange) -> Result<(), Refusal>
         ensures answers { Answers result None (λ _. (x : Point) → in_set self.new x
             ≡ (in_range range.now x || in_set self.old x)) }
@@ -74,6 +76,20 @@ impl RangeSet {
         }
         let Joined { start, end, range } = join(self.ranges.as_slice(), range)?;
         self.ranges.replace(start, end, range)?;
+        Ok(())
+    }
+
+    /// Adds the keys of all ranges, which may overlap, touch and come in any order. An empty range adds nothing. It
+    /// takes O(n log n) comparisons of bounds for n ranges, those of the set and the added ones together. Refused only
+    /// as `NoMemory`, and then nothing changes.
+    pub fn add_all(&mut self, ranges: Vec<KeyRange>) -> Result<(), Refusal>
+        ensures answers { Answers result None
+            (λ _. (x : Point) → in_set self.new x ≡ (in_set ranges.items x || in_set self.old x)) }
+        ensures list { OnOk result (self.new ≡ with_ranges ranges.items self.old) }
+        ensures err { OnErr result (self.new ≡ self.old) }
+    {
+        let joined = join_all(self.ranges.allocator(), self.ranges.as_slice(), ranges)?;
+        self.ranges = Items::from_vec(joined);
         Ok(())
     }
 

@@ -3,10 +3,10 @@ use Rattle.std.proofs.Common.{Result, Ok, Err, Option, Some, None}
 use Rattle.fdb_keys.specs.Answers.{Answers}
 use Rattle.fdb_keys.specs.declared.refusal.Refusal.{Refusal}
 
--- what follows of what a call gives is answered too
-pub answers-so : {T : Type 0} (result : Result T Refusal) (fault : Option Refusal) (P Q : Type 0) → (P → Q)
-    → Answers result fault (λ _. P) → Answers result fault (λ _. Q)
-answers-so (Ok given) None P Q so answers = so answers
-answers-so (Ok given) (Some fault) P Q so answers = answers
-answers-so (Err why) None P Q so answers = answers
-answers-so (Err why) (Some fault) P Q so answers = answers
+-- what is given has each property that follows
+pub answers-also : {T : Type 0} (result : Result T Refusal) (fault : Option Refusal) (P Q : T → Type 0)
+    → ((given : T) → P given → Q given) → Answers result fault P → Answers result fault Q
+answers-also (Ok given) None P Q also answered = also given answered
+answers-also (Ok given) (Some fault) P Q also answered = answered
+answers-also (Err why) None P Q also answered = answered
+answers-also (Err why) (Some fault) P Q also answered = answered

@@ -23,6 +23,7 @@ use Rattle.fdb_owners.specs.Ownership.{Ownership, owner_at, resolvers_of, owned_
 use Rattle.fdb_owners.specs.Ownership.{owners_fault, learn_fault, IsNew, HasLearnt, HasExpired}
 use Rattle.fdb_owners.specs.Parts.{ArePartsOf, owned_from}
 use Rattle.fdb_owners.specs.Pieces.{history_at, joined, IsPieces, AgreeFrom}
+use Rattle.fdb_owners.proofs.AnswersLemmas.{answers-also}
 use Rattle.fdb_owners.proofs.ChangesLemmas.{owner-below}
 use Rattle.fdb_owners.proofs.HistoryLemmas.{owner-through, up_to-weaken}
 use Rattle.fdb_owners.proofs.JoinedLemmas.{value-joined}
@@ -35,14 +36,6 @@ use Rattle.fdb_interval.proofs.BreaksLemmas.{all_imply}
 abbrev pub seen_as : List Point → Pieces → ℕ → ℕ → Ownership
 seen_as splits pieces last floor =
     record { splits = splits; front = pieces.front; breaks = joined pieces; last = last; floor = floor }
-
--- what is given has each property that follows
-answers-also : {T : Type 0} (result : Result T Refusal) (fault : Option Refusal) (P Q : T → Type 0)
-    → ((given : T) → P given → Q given) → Answers result fault P → Answers result fault Q
-answers-also (Ok given) None P Q also answered = also given answered
-answers-also (Ok given) (Some fault) P Q also answered = answered
-answers-also (Err why) None P Q also answered = answered
-answers-also (Err why) (Some fault) P Q also answered = answered
 
 -- ---- one history
 pub history-is : (resolvers last : ℕ) (pieces : Pieces) → IsPieces resolvers last pieces → (x : Point)

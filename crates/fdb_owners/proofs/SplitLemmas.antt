@@ -16,7 +16,7 @@ use Rattle.fdb_keys.specs.Texts.{is_bound}
 use Rattle.fdb_keys.proofs.PointOrder.{lt-itself, lt_chain, lt_one_way}
 use Rattle.fdb_interval.specs.Breakpoints.{Breaks, value_from, AreRising}
 use Rattle.fdb_interval.proofs.BreaksLemmas.{all_imply, at, value-after}
-use Rattle.fdb_interval.proofs.PartsLemmas.{put, at_itself, later_than_same}
+use Rattle.fdb_interval.proofs.PartsLemmas.{put, at_itself, later_than_same, equal_points, less_first, greater_after}
 use Rattle.fdb_interval.proofs.PartsLemmas.{rising-put}
 use Rattle.fdb_owners.specs.declared.history.History.{History}
 use Rattle.fdb_owners.specs.declared.pieces.Pieces.{Pieces}
@@ -24,18 +24,6 @@ use Rattle.fdb_owners.specs.Histories.{IsHistory, same_history}
 use Rattle.fdb_owners.specs.Learning.{IsSplit}
 use Rattle.fdb_owners.specs.Pieces.{history_at, joined_after}
 use Rattle.fdb_owners.proofs.SameHistoryLemmas.{same_history-itself, same_history-true}
-
--- ---- how a point is compared
-equal_points : (x y : Point) → slice_cmp nat_cmp x y ≡ Equal → x ≡ y
-equal_points x y tied = slice_cmp-IsAntisymmetric nat_cmp-IsAntisymmetric x y tied
-
-less_first : (x y : Point) → slice_cmp nat_cmp x y ≡ Less → point_lt x y ≡ true
-unfolding point_lt
-less_first x y is = ap is_lt is
-
-greater_after : (x y : Point) → slice_cmp nat_cmp x y ≡ Greater → point_lt y x ≡ true
-unfolding point_lt
-greater_after x y is = ap is_lt (nat_list_cmp_total.antisymm y x ∙ ap ordering_reverse is)
 
 -- ---- the value where a breakpoint is put
 pub either_same : {V : Type 0} (t : Bool) (v : V) → (if t then v else v) ≡ v

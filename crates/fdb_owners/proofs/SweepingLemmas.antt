@@ -14,7 +14,7 @@ use Rattle.fdb_keys.proofs.PointOrder.{lt_one_way, lt_le_chain, lt-itself}
 use Rattle.fdb_interval.specs.Breakpoints.{Breaks, value_from, last_value, breaks_before, AreRising}
 use Rattle.fdb_interval.proofs.BreaksLemmas.{sift, all-sift, cut_in_two, cut_within, cut_from}
 use Rattle.fdb_interval.proofs.BreaksLemmas.{cut_beyond, at-is, value-append, value-reached, before, from, up_to}
-use Rattle.fdb_interval.proofs.BreaksLemmas.{beyond, at}
+use Rattle.fdb_interval.proofs.BreaksLemmas.{beyond, at, absorbed}
 use Rattle.fdb_interval.proofs.PartsLemmas.{taken, taken-other, taken-passing, rising-taken, at_itself}
 use Rattle.fdb_interval.proofs.PartsLemmas.{all_left, found-at}
 use Rattle.fdb_interval.proofs.ThroughoutLemmas.{none-at}
@@ -22,6 +22,7 @@ use Rattle.fdb_owners.specs.declared.history.History.{History}
 use Rattle.fdb_owners.specs.Histories.{owner_in, AreFalling, IsHistory}
 use Rattle.fdb_owners.specs.declared.pieces.Pieces.{Pieces}
 use Rattle.fdb_owners.specs.Pieces.{history_at, AgreeFrom, HaveHistories, KeepHistories}
+use Rattle.fdb_owners.proofs.SplitLemmas.{value-holds}
 
 -- from the floor on both histories have the same owners
 abbrev pub Agree : ℕ → History → History → Type 0
@@ -31,11 +32,6 @@ agree-itself : (floor : ℕ) (history : History) → Agree floor history history
 agree-itself floor history v from = refl
 
 -- ---- the breakpoints before a point, at it, and behind it
-absorbed : (s t : Bool) → (t ≡ true → s ≡ true) → (s && t) ≡ t
-absorbed s true follows = ap (λ (u : Bool). u && true) (follows refl)
-absorbed true false follows = refl
-absorbed false false follows = refl
-
 three_parts : {V : Type 0} (x : Point) (es : Breaks V) → AreRising es
     → es ≡ sift (before x) es ++ (sift (at x) es ++ sift (beyond x) es)
 three_parts {V} x es rising =
@@ -162,20 +158,11 @@ all-set P x old new goes_on (e ∷ es) found all = ⊎_elim
     taken_from is = ap (λ (o : Option History). unwrap_or o old) is
 
 -- ---- what holds of each history
-value-holds : (P : History → Type 0) (start : History) (es : Breaks History) (x : Point) → P start
-    → AllByRecursion (λ (piece : Point × History). P piece.1) es → P (value_from start es x)
-value-holds P start [] x of_start all = of_start
-value-holds P start (e ∷ es) x of_start all =
-    value-holds P (if point_lt x e.0 then start else e.1) es x (by_side (point_lt x e.0)) all.1
-  where
-    by_side : (sooner : Bool) → P (if sooner then start else e.1)
-    by_side true = of_start
-    by_side false = all.0
-
 last-holds : (P : History → Type 0) (start : History) (p : Point × History → Bool) (es : Breaks History) → P start
     → AllByRecursion (λ (piece : Point × History). P piece.1) es → P (last_value start (filter p es))
 last-holds P start p [] of_start all = of_start
-last-holds P start p (e ∷ es) of_start all = by_test (p e) (last-holds P start p es of_start all.1) (last-holds P e.1 p es all.0 all.1)
+last-holds P start p (e ∷ es) of_start all =
+    by_test (p e) (last-holds P start p es of_start all.1) (last-holds P e.1 p es all.0 all.1)
   where
     by_test : (passes : Bool) → P (last_value start (filter p es)) → P (last_value e.1 (filter p es))
         → P (last_value start (if passes then e ∷ filter p es else filter p es))

@@ -129,7 +129,7 @@ impl Owners {
 
     /// Each resolver that owns keys of the range at the last version learnt, and so from that version on, with those
     /// keys, by the resolvers' numbers. Refused only as `NoMemory`. It takes O(log n) for the n breakpoints, and
-    /// O(log k) for each piece that the range meets and the k parts.
+    /// for each piece that the range meets O(log k) for the k parts and what it takes to add a range to a part's set.
     pub fn writers(&self, range: &KeyRange) -> Result<Items<Owned>, Refusal>
         ensures settled { (x : Point) (v : ℕ) → self.now.last ≤ v
             → owner_at self.now x v ≡ owner_at self.now x self.now.last }

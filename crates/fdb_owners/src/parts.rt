@@ -18,7 +18,7 @@ ghost use Rattle.fdb_owners.specs.declared.parts.Owned.{Owned};
 use crate::history::{Change, History, split_by};
 use crate::pieces::Pieces;
 use bytes::Bytes;
-use fdb_keys::{Items, KeyRange, RangeSet, Refusal};
+use fdb_keys::{Items, KeyRange, RangeSet, Refusal, is_before};
 use std::alloc::Global;
 use std::ops::Bound;
 
@@ -190,14 +190,6 @@ fn add_piece(
 {
     let piece = piece_between(alloc, begin, end)?;
     add_owners(alloc, parts, history, span, &piece)
-}
-
-// Whether the first text comes before the second one.
-#[tactic(auto, unfolding(fdb_keys::specs::Points::point_lt))]
-fn is_before(a: &[u8], b: &[u8]) -> bool
-    ensures { result ≡ point_lt a.now b.now }
-{
-    a.cmp(&b).is_lt()
 }
 
 // The history throughout the range, which has a point, if no breakpoint is inside it.

@@ -2,7 +2,7 @@
 use crate::making::{
     after, are_ranges, both, code_of, equals_copy, has_bounds, same, set_of, text_of,
 };
-use fdb_keys::{Items, Key, KeyRange, RangeSet, Refusal, Refused, TreeRangeSet};
+use fdb_keys::{Items, Key, KeyRange, RangeSet, Refusal, Refused, TreeRangeSet, is_before};
 use std::alloc::Global;
 
 type Text = &'static [u8];
@@ -25,6 +25,19 @@ fn keys_are_short_and_come_before_ff(rt: HostRuntime) {
         code_of(Key::new(alloc, &[0xff])),
     ];
     same(&rt, found, [0, 2102, 2004]);
+}
+
+#[test]
+fn texts_come_before_longer_and_greater_ones(rt: HostRuntime) {
+    let found = [
+        is_before(b"a", b"a\0"),
+        is_before(b"a", b"b"),
+        is_before(b"ab", b"b"),
+        is_before(b"a", b"a"),
+        is_before(b"b", b"a"),
+        is_before(b"", b"a"),
+    ];
+    same(&rt, found, [true, true, true, false, false, true]);
 }
 
 #[test]
@@ -152,6 +165,8 @@ enum Made {
     Without(Bounds),
     // What of the range from a to z is not in the tree of the ranges.
     Outside(&'static [Bounds]),
+    // The set of the first ranges, to which the others are added at once.
+    Joined(&'static [Bounds], &'static [Bounds]),
 }
 
 fn minus(alloc: Global, other: Bounds) -> Result<RangeSet, Refusal> {
@@ -172,12 +187,27 @@ fn outside(alloc: Global, bounds: &[Bounds]) -> Result<RangeSet, Refusal> {
     tree.outside(alloc, &range)
 }
 
+fn ranges_of(alloc: Global, bounds: &[Bounds]) -> Result<Vec<KeyRange>, Refusal> {
+    let mut ranges = Vec::new(alloc);
+    for (begin, end) in bounds {
+        ranges.push(KeyRange::new(alloc, begin, end)?)?;
+    }
+    Ok(ranges)
+}
+
+fn joined(alloc: Global, bounds: &[Bounds], others: &[Bounds]) -> Result<RangeSet, Refusal> {
+    let (mut set, others) = both(set_of(alloc, bounds), ranges_of(alloc, others))?;
+    set.add_all(others)?;
+    Ok(set)
+}
+
 fn set_made(alloc: Global, how: Made) -> Result<RangeSet, Refusal> {
     match how {
         Made::Set => a_to_d(alloc),
         Made::Minus(other) => minus(alloc, other),
         Made::Without(other) => without(alloc, other),
         Made::Outside(bounds) => outside(alloc, bounds),
+        Made::Joined(bounds, others) => joined(alloc, bounds, others),
     }
 }
 
@@ -188,7 +218,7 @@ fn is_set(alloc: Global, how: Made, wanted: &[Bounds]) -> Result<[bool; 2], Refu
 }
 
 // The sets with their ranges. Ranges that touch are joined.
-static SETS: [(Made, &'static [Bounds]); 6] = [
+static SETS: [(Made, &'static [Bounds]); 9] = [
     (Made::Set, &[(b"a", b"d")]),
     (Made::Minus((b"b", b"c")), &[(b"a", b"b"), (b"c", b"d")]),
     (Made::Minus((b"d", b"e")), &[(b"a", b"d")]),
@@ -198,6 +228,29 @@ static SETS: [(Made, &'static [Bounds]); 6] = [
         Made::Outside(&[(b"b", b"c"), (b"d", b"e")]),
         &[(b"a", b"b"), (b"c", b"d"), (b"e", b"z")],
     ),
+    // Added ranges come in any order: one touches a range of the set, one lies in it, and one is empty.
+    (
+        Made::Joined(
+            &[(b"f", b"k"), (b"s", b"t")],
+            &[
+                (b"p", b"q"),
+                (b"g", b"h"),
+                (b"m", b"m"),
+                (b"k", b"l"),
+                (b"a", b"b"),
+            ],
+        ),
+        &[(b"a", b"b"), (b"f", b"l"), (b"p", b"q"), (b"s", b"t")],
+    ),
+    // Those that overlap or touch one another are joined, and with all of the set that they reach.
+    (
+        Made::Joined(
+            &[(b"c", b"d"), (b"e", b"f"), (b"x", b"y")],
+            &[(b"d", b"g"), (b"b", b"c"), (b"a", b"b"), (b"f", b"h")],
+        ),
+        &[(b"a", b"h"), (b"x", b"y")],
+    ),
+    (Made::Joined(&[(b"a", b"b")], &[]), &[(b"a", b"b")]),
 ];
 
 #[test]

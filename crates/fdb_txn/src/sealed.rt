@@ -94,7 +94,9 @@ impl Sealed {
     /// which passes `check`. What the mutations name joins the write set. Refused as `TransactionTooLarge` where the
     /// transaction has more than 10,000,000 bytes: those of both bounds of each range of the joined sets, and of the
     /// mutations; as `NoMemory` where memory runs out before that is known. Where the read set and the mutations alone
-    /// have more, it is known without memory. A refusal hands the sets and the mutations back.
+    /// have more, it is known without memory. A refusal hands the sets and the mutations back. It takes O(n log n)
+    /// comparisons of bounds for n ranges of the write set and mutations together, and O(m) for m ranges of the read
+    /// set.
     pub fn new(
         alloc: Global,
         id: TxnId,

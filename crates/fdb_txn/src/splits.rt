@@ -6,7 +6,7 @@ ghost use Rattle.fdb_keys.specs.Texts.{is_bound};
 ghost use Rattle.fdb_txn.specs.rules.Splits.{rise_after, are_splits, end_of_keys, splits_fault, piece_fault, piece};
 ghost use Rattle.fdb_txn.specs.rules.Owners.{first_owner};
 
-use fdb_keys::{Items, Key, KeyRange, Refusal};
+use fdb_keys::{Items, Key, KeyRange, Refusal, is_before};
 use std::alloc::{AllocError, Global};
 use std::marker::Model;
 
@@ -155,13 +155,6 @@ fn rise_after(before: &[u8], keys: &[Key]) -> bool
             is_before(before, first.bytes()) && rise_after(first.bytes(), others)
         }
     }
-}
-
-#[tactic(auto, unfolding(fdb_keys::specs::Points::point_lt))]
-fn is_before(a: &[u8], b: &[u8]) -> bool
-    ensures { result ≡ point_lt a.now b.now }
-{
-    a.cmp(&b).is_lt()
 }
 
 fn copies(alloc: Global, keys: &[Key]) -> Result<Items<Key>, AllocError>

@@ -1,24 +1,29 @@
 // Joins what the mutations of a transaction name to its write set.
-ghost use Rattle.std.specs.Prelude.{◌≡◌, ◌||◌, None, IfOk, OnOk};
+ghost use Rattle.std.specs.Prelude.{◌≡◌, ◌||◌, None, IfOk, map};
 ghost use Rattle.fdb_keys.specs.Answers.{Answers};
-ghost use Rattle.fdb_keys.specs.Insertion.{with_range};
 ghost use Rattle.fdb_keys.specs.Points.{Point};
 ghost use Rattle.fdb_keys.specs.Ranges.{in_set};
-ghost use Rattle.fdb_mutations.specs.Mutations.{names, named_range};
+ghost use Rattle.fdb_mutations.specs.Mutations.{named_range};
 ghost use Rattle.fdb_txn.specs.book.Transactions.{with_named, some_names};
 
-use fdb_keys::{RangeSet, Refusal};
+use fdb_keys::{KeyRange, RangeSet, Refusal};
 use fdb_mutations::Mutation;
 use std::alloc::Global;
 
-fn join(alloc: Global, set: &mut RangeSet, mutation: &Mutation) -> Result<(), Refusal>
-    ensures answers { Answers result None (λ _. set.new ≡ with_range (named_range mutation.now) set.old) }
-    ensures points { OnOk result ((x : Point) → in_set set.new x ≡ (names mutation.now x || in_set set.old x)) }
+// The ranges of the keys that the mutations name.
+fn ranges_of(alloc: Global, mutations: &[Mutation]) -> Result<Vec<KeyRange>, Refusal>
+    ensures answers { Answers result None (λ ranges. ranges.items ≡ map named_range mutations.now) }
+    ensures points { IfOk result (λ ranges. (x : Point) → in_set ranges.items x ≡ some_names mutations.now x) }
 {
-    let range = mutation.range(alloc)?;
-    set.add(&range)
+    let mut ranges = Vec::with_capacity(alloc, mutations.len())?;
+    for mutation in mutations {
+        ranges.push(mutation.range(alloc)?)?;
+    }
+    Ok(ranges)
 }
 
+// The write set with all that the mutations name, in O(n log n) comparisons of bounds for n ranges and mutations
+// together.
 pub(crate) fn joined(
     alloc: Global,
     writes: &RangeSet,
@@ -28,9 +33,8 @@ pub(crate) fn joined(
     ensures points { IfOk result (λ set. (x : Point) → in_set set x
         ≡ (some_names mutations.now x || in_set writes.now x)) }
 {
+    let ranges = ranges_of(alloc, mutations)?;
     let mut set = writes.clone()?;
-    for mutation in mutations {
-        join(alloc, &mut set, mutation)?;
-    }
+    set.add_all(ranges)?;
     Ok(set)
 }

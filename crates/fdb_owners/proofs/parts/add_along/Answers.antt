@@ -3,7 +3,7 @@ use Rattle.fdb_interval.specs.Breakpoints.{Breaks}
 use Rattle.fdb_owners.specs.declared.history.History.{History}
 use Rattle.fdb_owners.specs.Histories.{AreFalling}
 use Rattle.fdb_owners.specs.Parts.{with_pieces}
-use Rattle.fdb_owners.proofs.AnswersLemmas.{answers-so}
+use Rattle.fdb_owners.proofs.AnswersLemmas.{answers-also}
 use Rattle.fdb_owners.proofs.WalkLemmas.{falling-history_at, way-inside, parts-walked}
 use Rattle.fdb_owners.proofs.parts.add_along.Goals as goal
 
@@ -21,8 +21,8 @@ add_pieces-requires-clause-way c =
 
 pub returns-in-Some : goal.returns-in-Some
 returns-in-Some c =
-    answers-so c.add_owners.result None _ _
-    (λ added n last held known are.
+    answers-also c.add_owners.result None _ _
+    (λ given added n last held known are.
     parts-walked n last c.args.span.since c.args.span.through c.args.pieces.now c.args.range.now held
     c.args.parts.now.items c.add_owners.new.parts.items known c.history_throughout.ensures.rising
     c.history_throughout.ensures.begin c.history_throughout.ensures.end c.requires.some
@@ -35,8 +35,8 @@ returns-in-Some c =
 
 pub returns-in-None : goal.returns-in-None
 returns-in-None c =
-    answers-so c.add_pieces.result None _ _
-    (λ added n last held known are.
+    answers-also c.add_pieces.result None _ _
+    (λ given added n last held known are.
     parts-walked n last c.args.span.since c.args.span.through c.args.pieces.now c.args.range.now held
     c.args.parts.now.items c.add_pieces.new.parts.items known c.history_throughout.ensures.rising
     c.history_throughout.ensures.begin c.history_throughout.ensures.end c.requires.some added are)

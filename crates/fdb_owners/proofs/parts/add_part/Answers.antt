@@ -3,7 +3,7 @@ use Rattle.std.specs.List.{prefix_len}
 use Rattle.std.proofs.lemmas.List.{get_or_default}
 use Rattle.fdb_owners.specs.declared.parts.Owned.{Owned}
 use Rattle.fdb_owners.proofs.PartsLemmas.{below, grown-found, fresh-found}
-use Rattle.fdb_owners.proofs.AnswersLemmas.{answers-so}
+use Rattle.fdb_owners.proofs.AnswersLemmas.{answers-also}
 use Rattle.fdb_owners.proofs.parts.add_part.Goals as goal
 use Rattle.fdb_owners.proofs.parts.add_part.Goals.{else-place-len-via-then-place-len+else-index-resolver}
 use Rattle.fdb_owners.proofs.parts.add_part.Goals.{else-place-len-via-else-place-len}
@@ -15,8 +15,8 @@ returns-then-index-resolver c =
     let counted : c.count_below-place.result ≡ prefix_len (below c.args.resolver) parts = search rules in
     let within : c.count_below-place.result < length parts = search rules in
     let same : (get_or parts c.count_below-place.result some).resolver ≡ c.args.resolver = search rules in
-    answers-so c.add_at.result None _ _
-    (λ added. added some ∙ grown-found c.args.resolver c.args.range.now parts c.count_below-place.result some counted
+    answers-also c.add_at.result None _ _
+    (λ given added. added some ∙ grown-found c.args.resolver c.args.range.now parts c.count_below-place.result some counted
     within same) c.add_at.ensures
 
 pub returns : goal.returns
@@ -35,6 +35,6 @@ returns c =
           let past : length parts ≤ c.count_below-place.result = search rules in
           absurd (omega (arith, past, within))
     ] in
-    answers-so c.insert_at.result None _ _
-    (λ put. put ∙ fresh-found c.args.resolver c.args.range.now parts c.count_below-place.result counted apart)
+    answers-also c.insert_at.result None _ _
+    (λ given put. put ∙ fresh-found c.args.resolver c.args.range.now parts c.count_below-place.result counted apart)
     c.insert_at.ensures
