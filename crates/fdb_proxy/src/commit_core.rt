@@ -225,11 +225,11 @@ impl CommitCore {
         let batch = self.requests.batch();
         match resolve(self.alloc, &mut self.owners, ticket, batch) {
             Ok(batch) => {
-                self.stage = Stage::Resolving(batch);
+                self.stage.enter(Stage::Resolving(batch));
                 Ok(())
             }
             Err(why) => {
-                self.stage = Stage::Entered;
+                self.stage.enter(Stage::Entered);
                 self.is_failed = true;
                 Err(why)
             }
@@ -289,7 +289,7 @@ impl CommitCore {
             outcomes.as_slice(),
             self.logs,
         )?;
-        self.stage = Stage::Logging(decided);
+        self.stage.enter(Stage::Logging(decided));
         Ok(outcomes)
     }
 

@@ -24,6 +24,13 @@ pub(crate) enum Stage {
 }
 
 impl Stage {
+    /// Is the other one from now on.
+    pub(crate) fn enter(&mut self, stage: Stage)
+        ensures { self.new ≡ stage }
+    {
+        *self = stage;
+    }
+
     /// Whether every log has acknowledged the batch.
     pub(crate) fn is_logged(&self) -> bool
         ensures { result ≡ is_logged self.now }
