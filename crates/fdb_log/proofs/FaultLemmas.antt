@@ -24,6 +24,7 @@ given x fault P none holds = rw none holds
 -- It works, keeps the tag, and has taken the version.
 pub record Speaks (core : Log) (tag version : ℕ) : Type 0 where
   pub works : core.is_failed ≡ false
+  pub here : keeps core tag ≡ true
   pub within : tag < core.tags
   pub taken : version ≤ core.last
 
@@ -56,6 +57,7 @@ tag_fault-none core tag version x answered =
     let free = free_of core.is_failed (keeps core tag) (nat_lt core.last version) x answered in
     record {
       works = free.0;
+      here = free.1;
       within = ltb-true tag core.tags (and_parts _ _ free.1).0;
       taken = ltb-false core.last version free.2;
     }

@@ -1,7 +1,12 @@
 pub mod AboveLemmas
+pub mod AddedLemmas
 pub mod FaultLemmas
 pub mod KeptLemmas
+pub mod ListedLemmas
 pub mod NextLemmas
+pub mod PlacesLemmas
 pub mod PopLemmas
 pub mod PushLemmas
 pub mod RisingLemmas
+pub mod ToldLemmas
+pub mod WaitingLemmas

@@ -27,7 +27,7 @@ rises-take version (first ∷ messages) (suc count) rising =
     (rising.0, rises-take first.version messages count rising.1)
 
 -- those above a version rise after it
-rises-above-from : (version low start : ℕ) (messages : List TagMsg) → RiseAfter version messages
+pub rises-above-from : (version low start : ℕ) (messages : List TagMsg) → RiseAfter version messages
     → start ≤ max low version → RiseAfter start (above low messages)
 rises-above-from version low start [] rising within = tt
 rises-above-from version low start (first ∷ messages) rising within =
@@ -53,3 +53,21 @@ above-all version low (first ∷ messages) rising ordered =
     let here : version < first.version = rising.0 in
     above-keeps low first messages (omega arith)
     ∙ ap (λ (rest : List TagMsg). first ∷ rest) (above-all first.version low messages rising.1 (omega arith))
+
+-- and what lies above a version goes through the same one, where that isn't below
+pub through-above : (version low : ℕ) (messages : List TagMsg) → RiseAfter version messages
+    → low ≤ through_after version messages
+    → through_after (max version low) (above low messages) ≡ through_after version messages
+through-above version low [] rising within = omega arith
+through-above version low (first ∷ messages) rising within =
+    let here : version < first.version = rising.0 in
+    ⊎_elim
+    (λ later.
+    ap (through_after (max version low)) (above-keeps low first messages later)
+    ∙ ap (through_after first.version) (above-all first.version low messages rising.1 (omega arith)))
+    (λ earlier.
+    let from : max version low ≡ max first.version low = omega arith in
+    ap (through_after (max version low)) (above-drops low first messages earlier)
+    ∙ ap (λ (start : ℕ). through_after start (above low messages)) from
+    ∙ through-above first.version low messages rising.1 within)
+    (above_or_not low first.version)

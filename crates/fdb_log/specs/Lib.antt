@@ -2,3 +2,5 @@ pub mod Examples
 pub mod Logs
 pub mod Messages
 pub mod Peeks
+pub mod Places
+pub mod Waiting

@@ -1,18 +1,21 @@
 -- What a log keeps, why it refuses, and what its calls leave.
-use Rattle.std.specs.Prelude.{◌≡◌, ◌<◌, ◌≤◌, ℕ, max, Bool, true, false, not, ◌&&◌, ◌||◌, ◌==◌, nat_lt, nat_le, List, []}
+use Rattle.std.specs.Prelude.{◌≡◌, ◌<◌, ◌≤◌, ◌+◌, ℕ, max, Bool, true, false, not, ◌&&◌, ◌||◌, ◌==◌, nat_lt, nat_le, List, []}
 use Rattle.std.specs.Prelude.{◌∷◌, ◌++◌, take, length, Option, Some, None, slice_get, unwrap_or, if◌then◌else◌}
 use Rattle.fdb_keys.specs.declared.refusal.Refusal.{Refusal}
 use Rattle.fdb_keys.specs.declared.refusal.Refusal.TheVariants.{Failed, Unknown, BadConfig, TransactionTooOld}
 use Rattle.fdb_txn.specs.declared.tag_msg.TagMsg.{TagMsg}
 use Rattle.fdb_log.specs.declared.message.LogMsg.{LogMsg}
+use Rattle.fdb_log.specs.declared.message.Tagged.{Tagged}
 use Rattle.fdb_log.specs.declared.peek.Peek.{Peek}
 use Rattle.fdb_txn.specs.Limits.{log_limit, tag_limit}
 use Rattle.fdb_txn.specs.Turn.{turn_fault}
-use Rattle.fdb_log.specs.Messages.{log_of, tag_message, tag_messages, above}
+use Rattle.std.specs.List.{AllByRecursion, list_any, count_by, filter}
+use Rattle.fdb_log.specs.Messages.{log_of, tag_message, above}
 use Rattle.fdb_log.specs.Peeks.{RiseAfter, through_after}
+use Rattle.fdb_log.specs.Waiting.{Waiting, waits, waits_for_alone, waiting_of}
 
 -- its number, how many logs and tags there are, the version of the last entry that it took, whether memory ran out,
--- the version through which each tag was popped, and the messages that it took
+-- the version through which each tag was popped, what it keeps of each tag, and the mutations that wait
 pub record Log : Type 0 where
   pub log : ℕ
   pub logs : ℕ
@@ -20,7 +23,8 @@ pub record Log : Type 0 where
   pub last : ℕ
   pub is_failed : Bool
   pub popped : List ℕ
-  pub messages : List LogMsg
+  pub queues : List (List TagMsg)
+  pub waiting : List Waiting
 
 -- the tag is kept here
 abbrev pub keeps : Log → ℕ → Bool
@@ -30,9 +34,13 @@ keeps core tag = nat_lt tag core.tags && (log_of core.logs tag == core.log)
 abbrev pub popped_through : Log → ℕ → ℕ
 popped_through core tag = unwrap_or (slice_get core.popped tag) 0
 
--- the tag's messages that are kept: those above what was popped, one for each entry, in order
+-- the tag's messages that are kept, one for each entry above what was popped, in order
 abbrev pub kept : Log → ℕ → List TagMsg
-kept core tag = above (popped_through core tag) (tag_messages tag core.messages)
+kept core tag = unwrap_or (slice_get core.queues tag) []
+
+-- how many mutations are held: those that some tag of theirs kept here has not popped
+abbrev pub held : Log → ℕ
+held core = length core.waiting
 
 -- why there is no such log
 abbrev pub config_fault : (log logs tags : ℕ) → Option Refusal
@@ -75,15 +83,22 @@ peek_of core tag after limit =
       messages = given_after core tag after limit;
     }
 
--- Between two calls: its number is that of a log; each tag was popped through at most the last entry's version, and
--- the versions of the messages rise up to that, unless memory ran out.
+-- Between two calls its number is that of a log. Unless memory ran out, each tag was popped through at most the last
+-- entry's version, the messages that are kept of a tag rise from there up to that version, and each mutation that waits
+-- is of an entry up to it and has a tag that wasn't popped so far.
 pub record IsLog (core : Log) : Type 0 where
   pub number : core.log < core.logs
   pub few : core.logs ≤ log_limit
   pub tagged : length core.popped ≡ core.tags
+  pub queued : length core.queues ≡ core.tags
   pub within : core.is_failed ≡ false → (tag : ℕ) → popped_through core tag ≤ core.last
-  pub rising : core.is_failed ≡ false → (tag : ℕ) → RiseAfter 0 (tag_messages tag core.messages)
-  pub through : core.is_failed ≡ false → (tag : ℕ) → through_after 0 (tag_messages tag core.messages) ≡ core.last
+  pub rising : core.is_failed ≡ false → (tag : ℕ) → keeps core tag ≡ true
+      → RiseAfter (popped_through core tag) (kept core tag)
+  pub through : core.is_failed ≡ false → (tag : ℕ) → keeps core tag ≡ true
+      → through_after (popped_through core tag) (kept core tag) ≡ core.last
+  pub taken : core.is_failed ≡ false → AllByRecursion (λ (one : Waiting). one.0.0 ≤ core.last) core.waiting
+  pub waiting : core.is_failed ≡ false
+      → AllByRecursion (λ (one : Waiting). waits (popped_through core) one ≡ true) core.waiting
 
 -- it has taken nothing, and no tag was popped
 pub record IsNewLog (number log_count tag_count : ℕ) (core : Log) : Type 0 where
@@ -94,6 +109,8 @@ pub record IsNewLog (number log_count tag_count : ℕ) (core : Log) : Type 0 whe
   pub works : core.is_failed ≡ false
   pub popped : (tag : ℕ) → popped_through core tag ≡ 0
   pub kept : (tag : ℕ) → kept core tag ≡ []
+  pub waiting : core.waiting ≡ []
+  pub held : held core ≡ 0
 
 -- it is the same log
 pub record IsSameLog (old new : Log) : Type 0 where
@@ -101,15 +118,19 @@ pub record IsSameLog (old new : Log) : Type 0 where
   pub logs : new.logs ≡ old.logs
   pub tags : new.tags ≡ old.tags
 
--- it keeps of each tag what it kept, and then what the message has for the tag
+-- It keeps of each tag that is kept here what it kept, and then what the message has for the tag. It holds what it
+-- held, and then each mutation of the message that has a tag which is kept here.
 pub record HasTaken (old : Log) (message : LogMsg) (new : Log) : Type 0 where
   pub same : IsSameLog old new
   pub last : new.last ≡ message.version
   pub works : new.is_failed ≡ false
   pub popped : (tag : ℕ) → popped_through new tag ≡ popped_through old tag
-  pub kept : (tag : ℕ) → kept new tag ≡ kept old tag ++ tag_message tag message ∷ []
+  pub kept : (tag : ℕ) → keeps old tag ≡ true → kept new tag ≡ kept old tag ++ tag_message tag message ∷ []
+  pub waiting : new.waiting ≡ old.waiting ++ waiting_of (keeps old) message
+  pub held : held new ≡ held old + count_by (λ (sent : Tagged). list_any (keeps old) sent.tags) message.body
 
--- it keeps of the tag what lies above the version, and of every other tag what it kept
+-- It keeps of the tag what lies above the version, and of every other tag what it kept. It holds what still waits:
+-- what it held, but for what waited for this tag alone, through the version.
 pub record HasPopped (old : Log) (tag through : ℕ) (new : Log) : Type 0 where
   pub same : IsSameLog old new
   pub last : new.last ≡ old.last
@@ -118,6 +139,8 @@ pub record HasPopped (old : Log) (tag through : ℕ) (new : Log) : Type 0 where
   pub dropped : kept new tag ≡ above through (kept old tag)
   pub others_popped : (other : ℕ) → (other == tag) ≡ false → popped_through new other ≡ popped_through old other
   pub others_kept : (other : ℕ) → (other == tag) ≡ false → kept new other ≡ kept old other
+  pub waiting : new.waiting ≡ filter (waits (popped_through new)) old.waiting
+  pub held : held new + count_by (waits_for_alone (popped_through old) tag through) old.waiting ≡ held old
 
 -- it is the same log, and refuses every further call
 pub record HasFailed (old new : Log) : Type 0 where

@@ -1,5 +1,5 @@
 -- What a log's messages have for a tag.
-use Rattle.std.specs.Prelude.{ℕ, ◌%◌, Bool, ◌==◌, nat_lt, List, map, filter}
+use Rattle.std.specs.Prelude.{ℕ, ◌%◌, Bool, ◌==◌, ◌&&◌, nat_lt, List, map, filter}
 use Rattle.std.specs.List.{list_any}
 use Rattle.fdb_mutations.specs.declared.mutation.Mutation.{Mutation}
 use Rattle.fdb_txn.specs.declared.tag_msg.TagMsg.{TagMsg}
@@ -9,6 +9,10 @@ use Rattle.fdb_log.specs.declared.message.Tagged.{Tagged}
 -- the number of the log, of so many, that keeps the tag
 abbrev pub log_of : (logs tag : ℕ) → ℕ
 log_of logs tag = tag % logs
+
+-- the tag is one of so many, and the log of the number, of so many, keeps it
+abbrev pub is_kept : (log logs tags tag : ℕ) → Bool
+is_kept log logs tags tag = nat_lt tag tags && (log_of logs tag == log)
 
 -- the mutation has the tag
 abbrev pub has_tag : ℕ → Tagged → Bool
@@ -22,10 +26,6 @@ sent_to tag body = map (λ (sent : Tagged). (sent.place, sent.mutation)) (filter
 abbrev pub tag_message : ℕ → LogMsg → TagMsg
 tag_message tag message =
     record { version = message.version; prev = message.prev; body = sent_to tag message.body }
-
--- what each message has for the tag
-abbrev pub tag_messages : ℕ → List LogMsg → List TagMsg
-tag_messages tag messages = map (tag_message tag) messages
 
 -- those of a version above this one
 abbrev pub above : ℕ → List TagMsg → List TagMsg

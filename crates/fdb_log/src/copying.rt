@@ -1,8 +1,10 @@
 // Copies of messages, which share their bytes.
 ghost use Rattle.std.specs.Prelude.{◌≡◌, IfOk};
 
-use crate::message::{LogMsg, Tagged};
+use crate::message::Tagged;
 use fdb_keys::Items;
+use fdb_mutations::Mutation;
+use fdb_txn::TagMsg;
 use std::alloc::{AllocError, Global};
 
 impl Tagged {
@@ -24,26 +26,23 @@ impl Tagged {
     }
 }
 
-fn body_of(alloc: Global, body: &[Tagged]) -> Result<Items<Tagged>, AllocError>
+fn body_of(alloc: Global, body: &[(u32, Mutation)]) -> Result<Items<(u32, Mutation)>, AllocError>
     ensures { IfOk result (λ copy. copy ≡ body.now) }
 {
     let mut copy = Items::new(alloc);
-    for sent in body {
-        copy.push(sent.copy(alloc)?)?;
+    for (place, mutation) in body {
+        copy.push((*place, mutation.clone()?))?;
     }
     Ok(copy)
 }
 
 /// A copy of the message.
-pub(crate) fn message_of(alloc: Global, message: &LogMsg) -> Result<LogMsg, AllocError>
+pub(crate) fn message_of(alloc: Global, message: &TagMsg) -> Result<TagMsg, AllocError>
     ensures { IfOk result (λ copy. copy ≡ message.now) }
 {
-    let body = body_of(alloc, message.body.as_slice())?;
-    Ok(LogMsg {
-        log: message.log,
-        index: message.index,
+    Ok(TagMsg {
         version: message.version,
         prev: message.prev,
-        body,
+        body: body_of(alloc, message.body.as_slice())?,
     })
 }

@@ -2,10 +2,14 @@
 #![tactic(auto)]
 
 mod copying;
+mod held;
+mod keeper;
 pub mod laws;
 mod log_core;
 mod message;
 mod peek;
+mod places;
+mod queue;
 mod telling;
 
 pub use fdb_txn::TagMsg;

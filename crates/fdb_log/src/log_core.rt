@@ -1,60 +1,71 @@
-ghost use Rattle.std.specs.Prelude.{◌≡◌, ◌++◌, ℕ, [], ◌∷◌, take, nat_le, replicate, IfOk, OnOk};
-ghost use Rattle.fdb_log.specs.Messages.{above, tag_messages};
-ghost use Rattle.fdb_log.specs.Peeks.{RiseAfter, through_after};
+ghost use Rattle.std.specs.Prelude.{◌≡◌, ◌<◌, ◌≤◌, ◌++◌, ℕ, [], ◌∷◌, length, true, replicate, slice_get, IfOk, OnOk};
+ghost use Rattle.std.specs.List.{AllByRecursion};
+ghost use Rattle.std.specs.Option.{unwrap_or};
+ghost use Rattle.fdb_log.specs.Messages.{is_kept, tag_message};
+ghost use Rattle.fdb_log.specs.Peeks.{through_after};
+ghost use Rattle.fdb_log.specs.Places.{AreListed};
+ghost use Rattle.fdb_log.specs.Waiting.{waiting_of};
 
-use crate::copying::message_of;
+use crate::held::Held;
+use crate::keeper::Keeper;
 use crate::message::{LogAck, LogMsg};
 use crate::peek::Peek;
-use crate::telling::tag_messages;
+use crate::queue::Queue;
+use crate::telling::push_told;
 use fdb_keys::{Items, Refusal};
 use fdb_txn::{LOG_LIMIT, TAG_LIMIT, TagMsg, check_turn};
 use std::alloc::{AllocError, Global};
 use std::marker::Model;
 
-/// A log with the messages that it took, and for each tag the version through which it was popped.
+/// A log: for each tag that it keeps the messages that weren't popped, and the version through which it was popped.
+///
+/// A mutation with several tags that are kept here stands in several queues, which share its bytes.
 #[derive(Drop)]
 pub struct LogCore {
     alloc: Global,
-    log: u32,
-    logs: u32,
-    tags: u32,
+    keeper: Keeper,
     last: u64,
     is_failed: bool,
     popped: Vec<u64>,
-    messages: Vec<LogMsg>,
+    // By the number of the tag: none is ever put into the queue of a tag that isn't kept here.
+    queues: Vec<Queue>,
+    held: Held,
 }
 
 impl Model for LogCore {
-    ghost use Rattle.fdb_log.specs.Logs.{Log, IsLog};
+    ghost use Rattle.fdb_log.specs.Logs.{Log};
+    ghost use Rattle.fdb_log.specs.Places.{IsWhole};
 
     ghost Value = { Log };
 
     ghost view = { λ core. record {
-      log = core.log;
-      logs = core.logs;
-      tags = core.tags;
+      log = core.keeper.log;
+      logs = core.keeper.logs;
+      tags = core.keeper.tags;
       last = core.last;
       is_failed = core.is_failed;
       popped = core.popped.items;
-      messages = core.messages.items;
+      queues = core.queues.items;
+      waiting = core.held.waiting;
     } };
 
-    ghost invariant = { λ core. IsLog (record {
-      log = core.log;
-      logs = core.logs;
-      tags = core.tags;
+    ghost invariant = { λ core. IsWhole (record {
+      log = core.keeper.log;
+      logs = core.keeper.logs;
+      tags = core.keeper.tags;
       last = core.last;
       is_failed = core.is_failed;
       popped = core.popped.items;
-      messages = core.messages.items;
-    }) };
+      queues = core.queues.items;
+      waiting = core.held.waiting;
+    }) core.held };
 }
 
 impl LogCore {
-    ghost use Rattle.std.specs.Prelude.{◌≡◌, ◌<◌, ◌≤◌, ⊤, false, IsSome, IsNone, IfOk, OnErr};
+    ghost use Rattle.std.specs.Prelude.{◌≡◌, ◌<◌, ⊤, true, false, IsSome, IsNone, IfOk, OnErr};
     ghost use Rattle.fdb_keys.specs.Answers.{Answers, AnswersExactly};
     ghost use Rattle.fdb_log.specs.Logs.{IsNewLog, config_fault, push_fault, tag_fault, peek_fault, peek_of, HasTaken};
-    ghost use Rattle.fdb_log.specs.Logs.{HasFailed, HasPopped, IsLog, popped_through, given_after};
+    ghost use Rattle.fdb_log.specs.Logs.{HasFailed, HasPopped, IsLog, keeps, given_after, held};
     ghost use Rattle.fdb_log.specs.Peeks.{IsPeek};
 
     /// The log with this number of so many logs, which has taken nothing yet. Of so many tags it keeps those whose
@@ -68,13 +79,12 @@ impl LogCore {
         }
         Ok(LogCore {
             alloc,
-            log,
-            logs,
-            tags,
+            keeper: Keeper { log, logs, tags },
             last: 0,
             is_failed: false,
             popped: zeros(alloc, tags)?,
-            messages: Vec::new(alloc),
+            queues: empty_queues(alloc, tags)?,
+            held: Held::new(alloc, tags)?,
         })
     }
 
@@ -82,7 +92,8 @@ impl LogCore {
     /// memory ran out in an earlier call, as `Stale` where the entry before the message's lies before the last one
     /// taken, as `NotYet` with that entry's version where it hasn't been taken, and as `NoMemory`. The log stays as it
     /// was where it is refused, but for `NoMemory`, after which it has failed. An entry's version is above that of the
-    /// entry before it.
+    /// entry before it. It takes O(t + m log n) for t tags that are kept here, m tags of the message's mutations and n
+    /// mutations held.
     pub fn push(&mut self, message: &LogMsg) -> Result<LogAck, Refusal>
         requires { message.now.prev < message.now.version }
         ensures answers { Answers result (push_fault self.old message.now)
@@ -92,11 +103,17 @@ impl LogCore {
         ensures failed { IsNone (push_fault self.old message.now) → OnErr result (HasFailed self.old self.new) }
     {
         self.check_push(message)?;
-        match push_copy(self.alloc, &mut self.messages, message) {
+        match take(
+            self.alloc,
+            self.keeper,
+            &mut self.queues,
+            &mut self.held,
+            message,
+        ) {
             Ok(()) => {
                 self.last = message.version;
                 Ok(LogAck {
-                    log: self.log,
+                    log: self.keeper.log,
                     index: message.index,
                 })
             }
@@ -110,7 +127,8 @@ impl LogCore {
     /// The first `limit` of the tag's messages after a version, one for each entry that was taken. A limit of 0 gives
     /// none. Refused as `Failed` once memory ran out in `push`, as `BadConfig` where the tag isn't kept here or the
     /// version is above that of the last entry taken, as `TransactionTooOld` where it is below the one through which
-    /// the tag was popped, and as `NoMemory`.
+    /// the tag was popped, and as `NoMemory`. It takes O(log n) comparisons for n messages of the tag, and a share of
+    /// each mutation given.
     pub fn peek(&self, tag: u32, after: u64, limit: u32) -> Result<Peek, Refusal>
         ensures answers { Answers result (peek_fault self.now tag after)
             (λ peek. peek ≡ peek_of self.now tag after limit) }
@@ -131,8 +149,9 @@ impl LogCore {
     }
 
     /// Drops the tag's messages through a version; it drops nothing where the tag was popped through that version
-    /// before. It takes no memory. Refused as `Failed` once memory ran out in `push`, and as `BadConfig` where the tag
-    /// isn't kept here or the version is above that of the last entry taken.
+    /// before. It takes no memory, and O(log n) for each of the tag's mutations that it drops, of n held. Refused as
+    /// `Failed` once memory ran out in `push`, and as `BadConfig` where the tag isn't kept here or the version is above
+    /// that of the last entry taken.
     pub fn pop(&mut self, tag: u32, through: u64) -> Result<(), Refusal>
         ensures answers { AnswersExactly result (tag_fault self.old tag through)
             (λ _. HasPopped self.old tag through self.new) }
@@ -141,6 +160,9 @@ impl LogCore {
         self.check_tag(tag, through)?;
         let popped = &mut self.popped[tag as usize];
         *popped = (*popped).max(through);
+        let queue = &mut self.queues[tag as usize];
+        queue.pop_through(through);
+        self.held.release(&self.popped, tag, through);
         Ok(())
     }
 
@@ -151,6 +173,14 @@ impl LogCore {
         ensures legal { IsLog self.now }
     {
         self.last
+    }
+
+    /// The number of mutations that some tag of theirs kept here has not popped, unless memory ran out in `push`. It
+    /// takes no memory, and O(1) time.
+    pub fn held(&self) -> u64
+        ensures { result ≡ held self.now }
+    {
+        self.held.count()
     }
 
     /// Whether memory ran out in `push`: then every call that may be refused is, as `Failed`, but a `push` of another
@@ -164,16 +194,17 @@ impl LogCore {
     // The first `limit` of the tag's messages after a version that isn't below the one through which it was popped.
     fn messages_after(&self, tag: u32, after: u64, limit: u32) -> Result<Items<TagMsg>, AllocError>
         requires works { self.now.is_failed ≡ false }
-        requires unpopped { popped_through self.now tag ≤ after }
+        requires here { keeps self.now tag ≡ true }
         ensures { IfOk result (λ given. given ≡ given_after self.now tag after limit) }
     {
-        tag_messages(self.alloc, tag, next_messages(&self.messages, after, limit))
+        let queue = &self.queues[tag as usize];
+        queue.after(self.alloc, after, limit)
     }
 
     fn check_push(&self, message: &LogMsg) -> Result<(), Refusal>
         ensures { AnswersExactly result (push_fault self.now message.now) (λ _. ⊤) }
     {
-        if message.log != self.log {
+        if message.log != self.keeper.log {
             return Err(Refusal::Unknown);
         }
         if self.is_failed {
@@ -188,32 +219,37 @@ impl LogCore {
         if self.is_failed {
             return Err(Refusal::Failed);
         }
-        if tag >= self.tags || tag % self.logs != self.log || self.last < version {
+        if !self.keeper.keeps(tag) || self.last < version {
             return Err(Refusal::BadConfig);
         }
         Ok(())
     }
 }
 
-fn push_copy(alloc: Global, messages: &mut Vec<LogMsg>, message: &LogMsg) -> Result<(), AllocError>
-    ensures { OnOk result (messages.new.items ≡ messages.old.items ++ message.now ∷ []) }
+// Gives each tag that is kept here what the message has for it, and holds its mutations until they are popped.
+fn take(
+    alloc: Global,
+    keeper: Keeper,
+    queues: &mut [Queue],
+    held: &mut Held,
+    message: &LogMsg,
+) -> Result<(), AllocError>
+    requires number { keeper.log < keeper.logs }
+    requires queued { length queues.old ≡ keeper.tags }
+    requires placed { length held.old.places ≡ keeper.tags }
+    requires later { AllByRecursion (λ one. one.0.0 < message.now.version) held.old.waiting }
+    ensures kept { OnOk result ((tag : ℕ) → is_kept keeper.log keeper.logs keeper.tags tag ≡ true
+        → unwrap_or (slice_get queues.new tag) [] ≡ unwrap_or (slice_get queues.old tag) []
+        ++ tag_message tag message.now ∷ []) }
+    ensures waiting { OnOk result (held.new.waiting ≡ held.old.waiting
+        ++ waiting_of (is_kept keeper.log keeper.logs keeper.tags) message.now) }
+    ensures placed { OnOk result (length held.new.places ≡ keeper.tags) }
+    ensures listed { OnOk result ((popped : ℕ → ℕ) (last : ℕ) → last ≤ message.now.version
+        → AreListed (is_kept keeper.log keeper.logs keeper.tags) popped last held.old
+        → AreListed (is_kept keeper.log keeper.logs keeper.tags) popped message.now.version held.new) }
 {
-    messages.push(message_of(alloc, message)?)?;
-    Ok(())
-}
-
-// The first `limit` of the messages of versions above one.
-fn next_messages(messages: &[LogMsg], after: u64, limit: u32) -> &[LogMsg]
-    requires { (tag : ℕ) → RiseAfter 0 (tag_messages tag messages.now) }
-    ensures { (tag : ℕ) → tag_messages tag result.now ≡ take limit (above after (tag_messages tag messages.now)) }
-{
-    let start = messages.partition_point(
-        |message: &LogMsg| -> bool
-            ensures { result ≡ nat_le message.now.version after }
-        { message.version <= after },
-    );
-    let count = (limit as usize).min(messages.len() - start);
-    &messages[start..start + count]
+    push_told(alloc, keeper, queues, message)?;
+    held.add(alloc, keeper, message)
 }
 
 // The version of the last message, and this one where there is none.
@@ -231,4 +267,14 @@ fn zeros(alloc: Global, count: u32) -> Result<Vec<u64>, AllocError>
         zeros.push(0)?;
     }
     Ok(zeros)
+}
+
+fn empty_queues(alloc: Global, count: u32) -> Result<Vec<Queue>, AllocError>
+    ensures { IfOk result (λ queues. queues.items ≡ replicate count []) }
+{
+    let mut queues = Vec::new(alloc);
+    for _tag in 0..count {
+        queues.push(Queue::new(alloc))?;
+    }
+    Ok(queues)
 }

@@ -1,53 +1,97 @@
-// What messages have for one tag.
-ghost use Rattle.std.specs.Prelude.{◌≡◌, map, filter, IfOk, OnOk, if◌then◌else◌, ◌++◌, [], ◌∷◌};
-ghost use Rattle.fdb_log.specs.Messages.{has_tag, sent_to, tag_message};
+// What a message has for each tag.
+ghost use Rattle.std.specs.Prelude.{◌≡◌, ◌<◌, ℕ, true, length, slice_get, slice_set, replicate};
+ghost use Rattle.std.specs.Prelude.{IfOk, OnOk, ◌++◌, [], ◌∷◌};
+ghost use Rattle.std.specs.Option.{unwrap_or};
+ghost use Rattle.fdb_log.specs.Messages.{is_kept, sent_to, tag_message};
+ghost use Rattle.fdb_log.specs.Places.{AreAdded};
 
+use crate::keeper::{Keeper, stands_before};
 use crate::message::{LogMsg, Tagged};
+use crate::queue::Queue;
 use fdb_keys::Items;
 use fdb_mutations::Mutation;
 use fdb_txn::TagMsg;
 use std::alloc::{AllocError, Global};
+use std::mem;
 
-fn has_tag(tag: u32, sent: &Tagged) -> bool
-    ensures { result ≡ has_tag tag sent.now }
-{
-    sent.tags.as_slice().iter().any(|other| *other == tag)
-}
+// The mutations for a tag, each with its place.
+type Body = Items<(u32, Mutation)>;
 
-fn add_sent(body: &mut Items<(u32, Mutation)>, tag: u32, sent: &Tagged) -> Result<(), AllocError>
-    ensures { OnOk result (body.new ≡ body.old ++ sent_to tag (sent.now ∷ [])) }
+/// Adds to the queue of each tag that is kept here what the message has for the tag.
+pub(crate) fn push_told(
+    alloc: Global,
+    keeper: Keeper,
+    queues: &mut [Queue],
+    message: &LogMsg,
+) -> Result<(), AllocError>
+    requires number { keeper.log < keeper.logs }
+    requires queued { length queues.old ≡ keeper.tags }
+    ensures { OnOk result ((tag : ℕ) → is_kept keeper.log keeper.logs keeper.tags tag ≡ true
+        → unwrap_or (slice_get queues.new tag) [] ≡ unwrap_or (slice_get queues.old tag) []
+        ++ tag_message tag message.now ∷ []) }
 {
-    if has_tag(tag, sent) {
-        body.push((sent.place, sent.mutation.clone()?))?;
+    let mut bodies = bodies_of(alloc, keeper, message)?;
+    for tag in 0..keeper.tags {
+        if keeper.keeps(tag) {
+            let told = TagMsg {
+                version: message.version,
+                prev: message.prev,
+                body: take_body(alloc, &mut bodies, tag as usize),
+            };
+            let queue = &mut queues[tag as usize];
+            queue.push(told)?;
+        }
     }
     Ok(())
 }
 
-fn tag_message(alloc: Global, tag: u32, message: &LogMsg) -> Result<TagMsg, AllocError>
-    ensures { IfOk result (λ told. told ≡ tag_message tag message.now) }
+// By the number of the tag: the mutations for it, if it is kept here.
+fn bodies_of(alloc: Global, keeper: Keeper, message: &LogMsg) -> Result<Vec<Body>, AllocError>
+    requires { keeper.log < keeper.logs }
+    ensures long { IfOk result (λ bodies. length bodies.items ≡ keeper.tags) }
+    ensures bodies { IfOk result (λ bodies. (tag : ℕ) → is_kept keeper.log keeper.logs keeper.tags tag ≡ true
+        → unwrap_or (slice_get bodies.items tag) [] ≡ sent_to tag message.now.body) }
 {
-    let mut body = Items::new(alloc);
+    let mut bodies = empty_bodies(alloc, keeper.tags)?;
     for sent in message.body.as_slice() {
-        add_sent(&mut body, tag, sent)?;
+        add_sent(&mut bodies, keeper, sent)?;
     }
-    Ok(TagMsg {
-        version: message.version,
-        prev: message.prev,
-        body,
-    })
+    Ok(bodies)
 }
 
-/// What each of the messages has for the tag.
-pub(crate) fn tag_messages(
-    alloc: Global,
-    tag: u32,
-    messages: &[LogMsg],
-) -> Result<Items<TagMsg>, AllocError>
-    ensures { IfOk result (λ told. told ≡ map (tag_message tag) messages.now) }
+// Adds the mutation to the body of each of its tags that is kept here, once.
+fn add_sent(bodies: &mut Vec<Body>, keeper: Keeper, sent: &Tagged) -> Result<(), AllocError>
+    requires number { keeper.log < keeper.logs }
+    requires long { length bodies.old.items ≡ keeper.tags }
+    ensures long { OnOk result (length bodies.new.items ≡ keeper.tags) }
+    ensures added { OnOk result (AreAdded (is_kept keeper.log keeper.logs keeper.tags)
+        (sent.now.place, sent.now.mutation) sent.now.tags bodies.old.items bodies.new.items) }
 {
-    let mut told = Items::new(alloc);
-    for message in messages {
-        told.push(tag_message(alloc, tag, message)?)?;
+    let tags = sent.tags.as_slice();
+    for (index, tag) in tags.iter().enumerate() {
+        if keeper.keeps(*tag) && !stands_before(tags, index, *tag) {
+            let body = &mut bodies[*tag as usize];
+            body.push((sent.place, sent.mutation.clone()?))?;
+        }
     }
-    Ok(told)
+    Ok(())
+}
+
+// The body of the tag, which is empty from then on.
+fn take_body(alloc: Global, bodies: &mut Vec<Body>, tag: usize) -> Body
+    requires { tag < length bodies.old.items }
+    ensures body { result ≡ unwrap_or (slice_get bodies.old.items tag) [] }
+    ensures left { bodies.new.items ≡ slice_set bodies.old.items tag [] }
+{
+    mem::replace(&mut bodies[tag], Items::new(alloc))
+}
+
+fn empty_bodies(alloc: Global, count: u32) -> Result<Vec<Body>, AllocError>
+    ensures { IfOk result (λ bodies. bodies.items ≡ replicate count []) }
+{
+    let mut bodies = Vec::new(alloc);
+    for _tag in 0..count {
+        bodies.push(Items::new(alloc))?;
+    }
+    Ok(bodies)
 }

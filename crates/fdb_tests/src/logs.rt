@@ -84,6 +84,8 @@ enum Line {
     Gives(u32, &'static [(u32, &'static [u8])]),
     // To forget the tag's messages through the version.
     Pop(u32, u64),
+    // How many mutations some tag kept here still waits for.
+    Held,
     // The version of the last entry taken.
     Version,
     HasFailed,
@@ -134,23 +136,26 @@ fn answer(core: &mut LogCore, alloc: Global, line: Line) -> Answer {
             core.pop(tag, through)?;
             DONE
         }
+        Line::Held => Ok((core.held() as u64, 0)),
         Line::Version => Ok((core.version(), 0)),
         Line::HasFailed => Ok((u64::from(core.is_failed()), 0)),
     }
 }
 
-// What a new log answers, of which there are so many, with so many tags.
+// What a new log of the number answers, of which there are so many, with so many tags.
 #[derive(Clone, Copy)]
 struct Case {
     what: &'static str,
+    number: u32,
     logs: u32,
     tags: u32,
     lines: &'static [(Line, Answer)],
 }
 
-static CASES: [Case; 4] = [
+static CASES: [Case; 7] = [
     Case {
         what: "messages after a version are given up to the limit",
+        number: 0,
         logs: 1,
         tags: 1,
         lines: &[
@@ -166,6 +171,7 @@ static CASES: [Case; 4] = [
     },
     Case {
         what: "popped messages are gone",
+        number: 0,
         logs: 1,
         tags: 1,
         lines: &[
@@ -180,6 +186,7 @@ static CASES: [Case; 4] = [
     },
     Case {
         what: "messages out of turn are refused",
+        number: 0,
         logs: 1,
         tags: 1,
         lines: &[
@@ -195,6 +202,7 @@ static CASES: [Case; 4] = [
     },
     Case {
         what: "each tag of a log has its own mutations",
+        number: 0,
         logs: 2,
         tags: 3,
         lines: &[
@@ -212,6 +220,53 @@ static CASES: [Case; 4] = [
             (Line::Pop(0, 100), DONE),
             (Line::Peek(0, 100, 9), Ok((0, 100))),
             (Line::Gives(2, &[(3, b"b"), (5, b"c")]), YES),
+        ],
+    },
+    Case {
+        what: "a popped log holds nothing",
+        number: 1,
+        logs: 2,
+        tags: 2,
+        lines: &[
+            (Line::Held, Ok((0, 0))),
+            (Line::Take(1, 100, 0, &[(0, b"z", &[1])]), Ok((1, 7))),
+            (Line::Take(1, 200, 100, &[(0, b"a", &[0, 1])]), Ok((1, 7))),
+            (Line::Held, Ok((2, 0))),
+            (Line::Pop(1, 200), DONE),
+            (Line::Held, Ok((0, 0))),
+        ],
+    },
+    Case {
+        what: "a log that isn't popped holds all",
+        number: 0,
+        logs: 2,
+        tags: 2,
+        lines: &[
+            (Line::Take(0, 100, 0, &[(0, b"a", &[0])]), Ok((0, 7))),
+            (Line::Take(0, 200, 100, &[(0, b"a", &[0, 1])]), Ok((0, 7))),
+            (Line::Held, Ok((2, 0))),
+        ],
+    },
+    Case {
+        what: "a mutation is held until each of its tags kept here is popped",
+        number: 0,
+        logs: 1,
+        tags: 2,
+        lines: &[
+            (
+                Line::Take(0, 100, 0, &[(0, b"a", &[0]), (0, b"b", &[0, 1])]),
+                Ok((0, 7)),
+            ),
+            (Line::Take(0, 200, 100, &[(0, b"c", &[1])]), Ok((0, 7))),
+            (Line::Held, Ok((3, 0))),
+            (Line::Pop(0, 200), DONE),
+            (Line::Held, Ok((2, 0))),
+            (Line::Peek(1, 0, 9), Ok((2, 200))),
+            (Line::Pop(1, 100), DONE),
+            (Line::Held, Ok((1, 0))),
+            (Line::Peek(1, 100, 9), Ok((1, 200))),
+            (Line::Pop(1, 200), DONE),
+            (Line::Held, Ok((0, 0))),
         ],
     },
 ];
@@ -232,7 +287,7 @@ fn first_wrong(
 }
 
 fn played(alloc: Global, case: Case) -> Result<Option<(usize, Answer)>, Refusal> {
-    let mut core = LogCore::new(alloc, 0, case.logs, case.tags)?;
+    let mut core = LogCore::new(alloc, case.number, case.logs, case.tags)?;
     Ok(first_wrong(&mut core, alloc, case.lines))
 }
 

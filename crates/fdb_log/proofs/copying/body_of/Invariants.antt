@@ -1,5 +1,5 @@
 use Rattle.std.proofs.Common.{◌≡◌, take}
 use Rattle.fdb_log.proofs.copying.body_of.Given as goal
 
-abbrev pub invariant-loop-sent : goal.invariant-loop-sent
-invariant-loop-sent l = l.copy ≡ take l.sent-index l.body
+abbrev pub invariant-loop-place : goal.invariant-loop-place
+invariant-loop-place l = l.copy ≡ take l.place-index l.body
