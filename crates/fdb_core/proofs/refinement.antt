@@ -13,6 +13,7 @@ pub mod ReadSteps
 pub mod ResolvingLemmas
 pub mod ReportingTies
 pub mod RunLaws
+pub mod ShardPages
 pub mod ShardReads
 pub mod ShardSteps
 pub mod StartLemmas

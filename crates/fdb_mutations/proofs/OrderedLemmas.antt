@@ -86,7 +86,7 @@ pub filter_none : {A : Type 0} (test : A → Bool) (xs : List A) → AllByRecurs
 filter_none test [] all = refl
 filter_none test (x ∷ xs) all = cond-false _ _ _ all.0 ∙ filter_none test xs all.1
 
-filter_all : {A : Type 0} (test : A → Bool) (xs : List A) → AllByRecursion (λ x. test x ≡ true) xs
+pub filter_all : {A : Type 0} (test : A → Bool) (xs : List A) → AllByRecursion (λ x. test x ≡ true) xs
     → filter test xs ≡ xs
 filter_all test [] all = refl
 filter_all test (x ∷ xs) all = cond-true _ _ _ all.0 ∙ ap (λ ys. x ∷ ys) (filter_all test xs all.1)

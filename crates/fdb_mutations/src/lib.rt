@@ -6,9 +6,11 @@ mod making;
 mod mutation;
 mod numbers;
 mod operands;
+mod paging;
 mod pairs;
 mod plain_map;
 
 pub use mutation::{Mutation, Named, VALUE_LIMIT};
 pub use operands::copied;
+pub use paging::{one_more, page_of};
 pub use plain_map::PlainMap;

@@ -1,7 +1,5 @@
-ghost use Rattle.std.specs.Prelude.{◌≡◌};
-ghost use Rattle.fdb_mutations.specs.Pairs.{wanted};
-
 use crate::mutation::{Mutation, Named};
+use crate::paging::{one_more, page_of};
 use crate::pairs::{backward, copies, forward};
 use bytes::Bytes;
 use fdb_keys::{Items, Key, KeyRange, Refusal};
@@ -108,12 +106,8 @@ impl PlainMap {
         ensures { Answers result None (λ page. (page.0 ≡ first_of limit (pairs_in self.now range.now reverse))
             × (page.1 ≡ nat_lt (length page.0) (length (pairs_in self.now range.now reverse)))) }
     {
-        let mut pairs = self.range(range, one_more(limit), reverse)?;
-        let more = limit != 0 && pairs.len() > limit as usize;
-        if more {
-            pairs.truncate(limit as usize);
-        }
-        Ok((pairs, more))
+        let pairs = self.range(range, one_more(limit), reverse)?;
+        Ok(page_of(pairs, limit))
     }
 
     /// Whether the same keys have the same values in both maps.
@@ -164,15 +158,5 @@ impl PlainMap {
     {
         self.pairs
             .retain(|key, _| !range.contains_text(key.as_slice()));
-    }
-}
-
-// One more than the limit, where that is a limit, and else none.
-fn one_more(limit: u32) -> u32
-    ensures { result ≡ wanted limit }
-{
-    match limit {
-        0 => 0,
-        limit => limit.checked_add(1).unwrap_or(0),
     }
 }

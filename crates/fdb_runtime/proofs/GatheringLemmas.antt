@@ -25,7 +25,7 @@ use Rattle.fdb_proxy.specs.declared.config.Config.{Config}
 use Rattle.fdb_client.specs.Pages.{IsPage}
 use Rattle.fdb_client.specs.declared.snapshot.Page.{Page}
 use Rattle.fdb_core.proofs.common.FaultLemmas.{answers-by}
-use Rattle.fdb_core.proofs.refinement.ShardReads.{page-of}
+use Rattle.fdb_core.proofs.refinement.ShardPages.{page-first}
 use Rattle.fdb_runtime.specs.Gatherings.{Gathering, HasAllBut, rest_after, gathered, range_fault as fault_of}
 use Rattle.fdb_runtime.specs.Gatherings.{gather_fault, with_part_of}
 use Rattle.fdb_runtime.specs.ShardsAtFronts.{ShardAtFront, IsThere}
@@ -184,11 +184,13 @@ module _ (config : Config) (it : Gathering) (copy : Map)
       × (page.more ≡ nat_lt (length page.pairs) (length (pairs_in copy range is_reverse)))
       → IsPage (run_of config it.version it.front) range limit is_reverse page
   page-is range limit is_reverse page none is =
-      page-of (record { version = it.version; config = config; book = it.front; shards = [] }) range limit is_reverse
-      copy page
+      let same : pairs_in copy range is_reverse ≡ pairs_in (run_of config it.version it.front) range is_reverse =
+      same_values copy (run_of config it.version it.front) range is_reverse
       (λ x inside. let held = gathered it range none x inside in
-      has x held.0 ∙ cond-false (in_range it.left x) None (get (run_of config it.version it.front) x) held.1)
-      is
+      has x held.0 ∙ cond-false (in_range it.left x) None (get (run_of config it.version it.front) x) held.1) in
+      page-first (run_of config it.version it.front) range limit is_reverse page
+      (is.0 ∙ ap (first_of limit) same)
+      (is.1 ∙ ap (λ (pairs : List (Point × List ℕ)). nat_lt (length page.pairs) (length pairs)) same)
 
   -- and all of its pairs are those of the serial map
   pub pairs-are : (range : Range) (pairs : List (Point × List ℕ)) → fault_of it range ≡ None

@@ -21,7 +21,7 @@ use Rattle.fdb_client.specs.declared.snapshot.Page.{Page}
 use Rattle.fdb_core.proofs.common.FaultLemmas.{answers-fault, gives}
 use Rattle.fdb_core.proofs.headline.FrontLaws.{fronts_have_one_run}
 use Rattle.fdb_core.proofs.refinement.RunLaws.{entries-linked}
-use Rattle.fdb_core.proofs.refinement.ShardReads.{page-of}
+use Rattle.fdb_core.proofs.refinement.ShardPages.{page-first}
 use Rattle.fdb_runtime.specs.ShardsAtFronts.{ShardAtFront, IsThere}
 use Rattle.fdb_runtime.specs.ShardViews.{ShardView, HasTheRunOf, range_fault, run_map, served}
 
@@ -55,10 +55,10 @@ module _ (config : Config) (view : ShardView) (there : IsThere config view.kept)
   page-is range limit is_reverse found none is =
       let shard = view.kept.shard in
       let may = served shard (is_within range shard.range) view.version none in
-      page-of (record { version = view.version; config = config; book = view.front; shards = [] }) range limit
-      is_reverse (run_map config view) (record { pairs = found.pairs; more = found.more }) (λ x inside. refl)
-      (is (run_map config view) (λ x inside. sym (value-is may.1 may.2 may.3 x
-      ((within-points range shard.range).0 may.0 x inside))))
+      let first = is (run_map config view) (λ x inside. sym (value-is may.1 may.2 may.3 x
+      ((within-points range shard.range).0 may.0 x inside))) in
+      page-first (run_map config view) range limit is_reverse (record { pairs = found.pairs; more = found.more })
+      first.0 first.1
 
 -- Of the shard's parts what is said of the whole view: a range is refused alike,
 pub fault-is : (at : ShardAtFront) (own view : ShardView) (range : Range) → at ≡ own.kept → own ≡ view

@@ -1,43 +1,25 @@
 -- What a shard answers once it has applied messages.
-use Rattle.std.proofs.Common.{◌≡◌, ◌∙◌, sym, ap, refl, ℕ, ◌<◌, ◌≤◌, le_refl, le_trans, nat_le, List, [], ◌∷◌, ◌++◌}
-use Rattle.std.proofs.Common.{fold, Option, None, arith}
-use Rattle.std.specs.List.{AllByRecursion}
-use Rattle.std.proofs.lemmas.Bool.{cond-true, cond-false, le-leb, leb-true, false_from_ne_true}
-use Rattle.std.proofs.lemmas.List.Sums.{fold-append}
+use Rattle.std.proofs.Common.{◌≡◌, ◌∙◌, sym, ap, refl, subst, ℕ, ◌<◌, ◌≤◌, le_refl, nat_le, false, List, [], ◌∷◌, fold}
+use Rattle.std.proofs.Common.{Option, arith}
+use Rattle.std.proofs.lemmas.Bool.{cond-false, leb-true, false_from_ne_true}
 use Rattle.fdb_keys.specs.Points.{Point}
 use Rattle.fdb_txn.specs.declared.tag_msg.TagMsg.{TagMsg}
-use Rattle.fdb_txn.specs.rules.Messages.{mutations_in, value_with, value_in}
+use Rattle.fdb_txn.specs.rules.Messages.{mutations_in, value_with}
 use Rattle.fdb_mutations.specs.Mutations.{value_after}
-use Rattle.fdb_log.specs.Peeks.{RiseAfter, through_after}
+use Rattle.fdb_log.specs.declared.peek.Peek.{Peek}
+use Rattle.fdb_log.specs.Peeks.{RiseAfter, IsPeek, through_after}
+use Rattle.fdb_storage.specs.Shards.{Shard, IsShard, HasApplied}
+use Rattle.fdb_storage.specs.Changes.{HaveFollowed}
+use Rattle.fdb_storage.specs.VersionMaps.{VersionedKeys, value_of, EndBy}
+use Rattle.fdb_storage.proofs.VersionsLemmas.{value-ended}
 
--- each message is of a version up to this one
-abbrev pub Within : ℕ → List TagMsg → Type 0
-Within version messages = AllByRecursion (λ (message : TagMsg). message.version ≤ version) messages
-
-pub within-more : (v w : ℕ) (messages : List TagMsg) → v ≤ w → Within v messages → Within w messages
-within-more v w [] more within = tt
-within-more v w (message ∷ messages) more within =
-    (le_trans within.0 more, within-more v w messages more within.1)
-
-pub within-append : (v : ℕ) (messages others : List TagMsg) → Within v messages → Within v others
-    → Within v (messages ++ others)
-within-append v [] others within there = there
-within-append v (message ∷ messages) others within there =
-    (within.0, within-append v messages others within.1 there)
-
--- messages that rise after a version go through one that isn't below it, and none goes past that
-pub through-reaches : (version : ℕ) (messages : List TagMsg) → RiseAfter version messages
+-- messages that rise after a version go through one that isn't below it
+through-reaches : (version : ℕ) (messages : List TagMsg) → RiseAfter version messages
     → version ≤ through_after version messages
 through-reaches version [] rising = le_refl version
 through-reaches version (message ∷ messages) rising =
     let here : version < message.version = rising.0 in
     let further = through-reaches message.version messages rising.1 in omega (arith, here, further)
-
-pub within-through : (version : ℕ) (messages : List TagMsg) → RiseAfter version messages
-    → Within (through_after version messages) messages
-within-through version [] rising = tt
-within-through version (message ∷ messages) rising =
-    (through-reaches message.version messages rising.1, within-through message.version messages rising.1)
 
 -- messages above a version change nothing there
 value-above : (v : ℕ) (x : Point) (value : Option (List ℕ)) (after : ℕ) (messages : List TagMsg)
@@ -50,32 +32,39 @@ value-above v x value after (message ∷ messages) rising below =
     (false_from_ne_true _ (λ reached. absurd (omega (arith, leb-true message.version v reached, below, here)))))
     ∙ value-above v x value message.version messages rising.1 (omega (arith, here, below))
 
--- versions that reach all messages tell the same
-value-reached : (v w : ℕ) (x : Point) (value : Option (List ℕ)) (messages : List TagMsg) → Within w messages → w ≤ v
-    → fold (value_with v x) value messages ≡ fold (value_with w x) value messages
-value-reached v w x value [] within more = refl
-value-reached v w x value (message ∷ messages) within more =
-    ap (λ (now : Option (List ℕ)). fold (value_with v x) now messages)
-    (cond-true (nat_le message.version v) changed value (le-leb message.version v (le_trans within.0 more))
-    ∙ sym (cond-true (nat_le message.version w) changed value (le-leb message.version w within.0)))
-    ∙ value-reached v w x (value_with w x value message) messages within.1 more
-  where
-    changed : Option (List ℕ)
-    changed = fold (value_after x) value (mutations_in message.body)
+-- a shard that works, and followed the messages of a peek from its version on
+module _ (shard : Shard) (peek : Peek) (keys : VersionedKeys) (is_peek : IsPeek peek)
+    (after : peek.after ≡ shard.version) (works : shard.is_failed ≡ false)
+    (is_shard : IsShard shard.version shard.floor shard.is_failed shard.keys)
+    (followed : HaveFollowed shard.range shard.version peek.messages shard.keys keys) where
+  pub rising : RiseAfter shard.version peek.messages
+  rising = subst (λ (v : ℕ). RiseAfter v peek.messages) after is_peek.rising
 
--- at versions that were served before, a shard answers as before
-pub before-applied : (v : ℕ) (x : Point) (version after : ℕ) (old messages : List TagMsg)
-    → after ≡ version → RiseAfter after messages → v ≤ version
-    → value_in v x (old ++ messages) ≡ value_in v x old
-before-applied v x version after old messages same rising served =
-    fold-append (value_with v x) None old messages
-    ∙ value-above v x (value_in v x old) after messages rising (omega (arith, served, same))
+  through : peek.through ≡ through_after shard.version peek.messages
+  through = is_peek.through ∙ ap (λ (v : ℕ). through_after v peek.messages) after
 
--- and at later ones as its last map, changed by the messages
-pub after-applied : (v : ℕ) (x : Point) (version : ℕ) (old messages : List TagMsg)
-    → Within version old → version ≤ v
-    → value_in v x (old ++ messages) ≡ fold (value_with v x) (value_in version x old) messages
-after-applied v x version old messages within later =
-    fold-append (value_with v x) None old messages
-    ∙ ap (λ (value : Option (List ℕ)). fold (value_with v x) value messages)
-    (value-reached v version x None old within later)
+  pub still_shard : IsShard peek.through shard.floor shard.is_failed keys
+  still_shard =
+      let further = through-reaches shard.version peek.messages rising in
+      record {
+        serves = omega (arith, further, through, is_shard.serves);
+        within = λ still. subst (λ (v : ℕ). EndBy v keys) (sym through) followed.end_by;
+        legal_keys = λ still. followed.legal_keys;
+      }
+
+  pub has_applied : (new : Shard) → new ≡ record shard { version = peek.through; keys = keys }
+      → HasApplied shard peek new
+  has_applied new is = rw is (record {
+    tag = refl;
+    range = refl;
+    version = refl;
+    floor = refl;
+    works = works;
+    before = λ v x above served inside.
+        followed.values v x inside
+        ∙ value-above v x (value_of shard.keys v x) shard.version peek.messages rising served;
+    after = λ v x later served inside.
+        followed.values v x inside
+        ∙ ap (λ (value : Option (List ℕ)). fold (value_with v x) value peek.messages)
+        (value-ended v shard.version shard.keys x (is_shard.within works) later);
+  })

@@ -1,14 +1,12 @@
 -- What messages leave in a range, point by point.
 use Rattle.std.proofs.Common.{◌≡◌, ◌∙◌, sym, ap, refl, ℕ, Bool, true, false, if◌then◌else◌, nat_le, List, [], ◌∷◌, fold}
-use Rattle.std.proofs.Common.{Option, Some, None, ⊎_elim}
-use Rattle.std.specs.Prelude.{◌&&◌}
+use Rattle.std.proofs.Common.{Option, None, ⊎_elim}
 use Rattle.std.specs.Ordering.{nat_cmp}
 use Rattle.std.specs.Cmp.Lexicographic.{slice_cmp}
 use Rattle.std.specs.FinMap.{get, empty, get-empty}
-use Rattle.std.proofs.lemmas.Bool.{cases_Bool, both_ways, cond-true, cond-false}
+use Rattle.std.proofs.lemmas.Bool.{cases_Bool, cond-true, cond-false}
 use Rattle.fdb_keys.specs.Points.{Point}
 use Rattle.fdb_keys.specs.Ranges.{Range, in_range}
-use Rattle.fdb_keys.specs.Clipping.{in_clipped}
 use Rattle.fdb_mutations.specs.declared.mutation.Mutation.{Mutation}
 use Rattle.fdb_mutations.specs.Maps.{Map}
 use Rattle.fdb_mutations.specs.Mutations.{effect, value_after}
@@ -83,31 +81,3 @@ get-cut range v messages x = ⊎_elim
     ∙ get-empty {X = List ℕ} (slice_cmp nat_cmp) x
     ∙ sym (cond-false (in_range range x) (value_in v x messages) None outside))
     (cases_Bool (in_range range x))
-
--- at a point of the range
-pub get-cut-inside : (range : Range) (v : ℕ) (messages : List TagMsg) (x : Point) → in_range range x ≡ true
-    → get (fold (cut_with range v) empty messages) x ≡ value_in v x messages
-get-cut-inside range v messages x inside =
-    get-cut range v messages x ∙ cond-true (in_range range x) (value_in v x messages) None inside
-
--- what messages leave in a part of the keys, if there is one
-abbrev pub cut_by : Option Range → ℕ → Map → List TagMsg → Map
-cut_by None v old messages = old
-cut_by (Some part) v old messages = fold (cut_with part v) old messages
-
--- what messages leave in two ranges' common part, where nothing stood there before
-pub copied-inside : (range held : Range) (part : Option Range) (v : ℕ) (old : Map) (messages : List TagMsg) (x : Point)
-    → in_clipped part x ≡ (in_range range x && in_range held x) → in_range range x ≡ true → in_range held x ≡ true
-    → get old x ≡ None → get (cut_by part v old messages) x ≡ value_in v x messages
-copied-inside range held None v old messages x is inside there none =
-    let both : (in_range range x && in_range held x) ≡ true = rw (inside, there) refl in
-    absurd (both_ways (in_range range x && in_range held x) (sym is) both)
-copied-inside range held (Some part) v old messages x is inside there none =
-    let both : (in_range range x && in_range held x) ≡ true = rw (inside, there) refl in
-    inside-messages part x (is ∙ both) v old messages
-    ∙ ap (λ (value : Option (List ℕ)). fold (value_with v x) value messages) none
-
-pub copied-outside : (part : Option Range) (v : ℕ) (old : Map) (messages : List TagMsg) (x : Point)
-    → in_clipped part x ≡ false → get (cut_by part v old messages) x ≡ get old x
-copied-outside None v old messages x outside = refl
-copied-outside (Some part) v old messages x outside = outside-messages part x outside v old messages

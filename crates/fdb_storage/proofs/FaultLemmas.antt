@@ -1,12 +1,14 @@
 -- What follows where a shard finds no fault.
-use Rattle.std.proofs.Common.{◌≡◌, refl, ℕ, ◌≤◌, Bool, true, false, not, Option, Some, None, Ok, if◌then◌else◌, arith}
+use Rattle.std.proofs.Common.{◌≡◌, ◌∙◌, sym, subst, refl, ℕ, ◌≤◌, Bool, true, false, not, Option, Some, None, Result, Ok, Err}
+use Rattle.std.proofs.Common.{if◌then◌else◌, arith}
 use Rattle.std.specs.Prelude.{nat_lt, ◌==◌}
 use Rattle.std.proofs.lemmas.Bool.{ltb-false}
 use Rattle.fdb_keys.specs.Answers.{Answers, AnswersExactly}
 use Rattle.fdb_keys.specs.declared.refusal.Refusal.{Refusal}
 use Rattle.fdb_keys.specs.declared.refusal.Refusal.TheVariants.{NotYet, Stale, Failed, Unknown}
+use Rattle.fdb_keys.specs.Ranges.{Range}
 use Rattle.fdb_log.specs.declared.peek.Peek.{Peek}
-use Rattle.fdb_storage.specs.Shards.{Shard, apply_fault}
+use Rattle.fdb_storage.specs.Shards.{Shard, apply_fault, read_fault, part_fault}
 
 -- what passed a test of its own fault has none
 pub none-of : {T : Type 0} (x : T) (fault : Option Refusal) (P : T → Type 0)
@@ -18,6 +20,36 @@ none-of x (Some why) P passed = absurd passed
 pub given : {T : Type 0} (x : T) (fault : Option Refusal) (P : T → Type 0) → fault ≡ None → P x
     → Answers (Ok x) fault P
 given x fault P none holds = rw none holds
+
+-- what a call without a fault gives has what follows of it
+pub given-also : {T : Type 0} (result : Result T Refusal) (fault : Option Refusal) (P Q : T → Type 0) → fault ≡ None
+    → ((x : T) → P x → Q x) → Answers result None P → Answers result fault Q
+given-also {T} result fault P Q none step holds = rw none (by_result result holds)
+  where
+    by_result : (r : Result T Refusal) → Answers r None P → Answers r None Q
+    by_result (Ok x) is = step x is
+    by_result (Err why) is = is
+
+-- a test's refusal is the one of the call that hands it on
+pub refused-as : {T U : Type 0} (result : Result U Refusal) (why found : Refusal) (fault : Option Refusal)
+    (P : T → Type 0) (Q : U → Type 0) → result ≡ Err why → why ≡ found → AnswersExactly (Err found) fault P
+    → Answers result fault Q
+refused-as result why found None P Q is same refused = absurd refused
+refused-as result why found (Some fault) P Q is same refused =
+    subst (λ (r : Result _ Refusal). Answers r (Some fault) Q) (sym is) (same ∙ refused)
+
+-- who answers hasn't failed
+works-of : (failed : Bool) (fault : Option Refusal) → (if failed then Some Failed else fault) ≡ None → failed ≡ false
+works-of true fault none = cc
+works-of false fault none = refl
+
+pub read_fault-none : (shard : Shard) (is_held : Bool) (version : ℕ) → read_fault shard is_held version ≡ None
+    → shard.is_failed ≡ false
+read_fault-none shard is_held version none = works-of shard.is_failed _ none
+
+pub part_fault-none : (shard : Shard) (range : Range) (version : ℕ) → part_fault shard range version ≡ None
+    → shard.is_failed ≡ false
+part_fault-none shard range version none = works-of shard.is_failed _ none
 
 free_of : (same failed late early : Bool) (after : ℕ)
     → (if not same then Some Unknown

@@ -1,7 +1,8 @@
 -- What messages change in a range.
-use Rattle.std.specs.Prelude.{◌≡◌, ℕ, false, nat_le, fold, if◌then◌else◌}
+use Rattle.std.specs.Prelude.{◌≡◌, ℕ, Bool, false, nat_le, List, fold, Option, Some, if◌then◌else◌}
+use Rattle.std.specs.List.{list_any}
 use Rattle.std.specs.FinMap.{get}
-use Rattle.fdb_keys.specs.Points.{Point}
+use Rattle.fdb_keys.specs.Points.{Point, point_eq}
 use Rattle.fdb_keys.specs.Ranges.{Range, in_range}
 use Rattle.fdb_mutations.specs.declared.mutation.Mutation.{Mutation}
 use Rattle.fdb_mutations.specs.Maps.{Map}
@@ -21,3 +22,12 @@ cut_with range v map message =
 -- outside the range a map has what the other one has
 abbrev pub AreSameOutside : Range → Map → Map → Type 0
 AreSameOutside range old new = (x : Point) → in_range range x ≡ false → get new x ≡ get old x
+
+-- what stands at a point once the pairs were set, the first one first
+abbrev pub set_by : List (Point × List ℕ) → Point → Option (List ℕ) → Option (List ℕ)
+set_by pairs x before =
+    fold (λ (value : Option (List ℕ)) (pair : Point × List ℕ). if point_eq x pair.0 then Some pair.1 else value) before
+    pairs
+
+abbrev pub has_key : Point → List (Point × List ℕ) → Bool
+has_key x pairs = list_any (λ (pair : Point × List ℕ). point_eq x pair.0) pairs

@@ -13,7 +13,7 @@ span begin end = record { begin = begin ∷ []; end = end ∷ [] }
 -- shard 3 of the keys from 10 to 20, which serves the versions from 50 through 100
 abbrev pub shard : Bool → Shard
 shard is_failed =
-    record { tag = 3; range = span 10 20; version = 100; floor = 50; is_failed = is_failed; messages = [] }
+    record { tag = 3; range = span 10 20; version = 100; floor = 50; is_failed = is_failed; keys = [] }
 
 -- messages for a tag after the version
 abbrev pub peek_after : ℕ → ℕ → Peek

@@ -1,7 +1,11 @@
+pub mod Changes
 pub mod CutMaps
 pub mod Examples
+pub mod KeyPages
 pub mod LogMessages
 pub mod Replays
 pub mod ShardMaps
 pub mod Shards
 pub mod ValueExamples
+pub mod VersionLists
+pub mod VersionMaps

@@ -1,7 +1,6 @@
 -- What a shard keeps, why it refuses, and what its calls leave.
 use Rattle.std.specs.Prelude.{◌≡◌, ◌≤◌, ℕ, max, Bool, true, false, not, ◌&&◌, ◌==◌, nat_lt, List, fold, length, Option}
 use Rattle.std.specs.Prelude.{Some, None, if◌then◌else◌}
-use Rattle.std.specs.List.{AllByRecursion}
 use Rattle.std.specs.FinMap.{get}
 use Rattle.fdb_keys.specs.declared.refusal.Refusal.{Refusal}
 use Rattle.fdb_keys.specs.declared.refusal.Refusal.TheVariants.{Failed, Unknown, KeyOutsideLegalRange}
@@ -10,30 +9,33 @@ use Rattle.fdb_keys.specs.Points.{Point}
 use Rattle.fdb_keys.specs.Ranges.{Range, in_range, is_within, ranges_meet}
 use Rattle.fdb_mutations.specs.Maps.{Map}
 use Rattle.fdb_mutations.specs.Pairs.{pairs_in, first_of}
-use Rattle.fdb_txn.specs.declared.tag_msg.TagMsg.{TagMsg}
-use Rattle.fdb_txn.specs.rules.Messages.{value_in, value_with}
+use Rattle.fdb_txn.specs.rules.Messages.{value_with}
 use Rattle.fdb_txn.specs.Turn.{turn_fault}
 use Rattle.fdb_log.specs.declared.peek.Peek.{Peek}
 use Rattle.fdb_storage.specs.declared.page.Page.{Page}
+use Rattle.fdb_storage.specs.VersionLists.{kept_from}
+use Rattle.fdb_storage.specs.VersionMaps.{VersionedKeys, value_of, EndBy, HaveLegalKeys}
 
--- its tag and its range, the greatest version and the least that it serves, whether memory ran out, and the messages
--- that it applied
+-- its tag and its range, the greatest version and the least that it serves, whether memory ran out, and its keys with
+-- their versions
 pub record Shard : Type 0 where
   pub tag : ℕ
   pub range : Range
   pub version : ℕ
   pub floor : ℕ
   pub is_failed : Bool
-  pub messages : List TagMsg
+  pub keys : VersionedKeys
 
--- Between two calls: its floor isn't above its version, and no message is, unless memory ran out.
-pub record IsShard (version floor : ℕ) (is_failed : Bool) (messages : List TagMsg) : Type 0 where
+-- Between two calls: its floor isn't above its version, and unless memory ran out, no version of a key is, and its keys
+-- are legal ones.
+pub record IsShard (version floor : ℕ) (is_failed : Bool) (keys : VersionedKeys) : Type 0 where
   pub serves : floor ≤ version
-  pub within : is_failed ≡ false → AllByRecursion (λ (message : TagMsg). message.version ≤ version) messages
+  pub within : is_failed ≡ false → EndBy version keys
+  pub legal_keys : is_failed ≡ false → HaveLegalKeys keys
 
 -- what a shard answers at a version and a point of its range
 abbrev pub value_at : Shard → ℕ → Point → Option (List ℕ)
-value_at shard v x = value_in v x shard.messages
+value_at shard v x = value_of shard.keys v x
 
 -- why a version is not served by who serves from a floor through a greatest version
 abbrev pub serving_fault : (version floor greatest : ℕ) → Option Refusal
@@ -137,3 +139,8 @@ pub record HasFailed (old new : Shard) : Type 0 where
   pub version : new.version ≡ old.version
   pub floor : new.floor ≡ old.floor
   pub fails : new.is_failed ≡ true
+
+-- how many versions of a key have to be kept: those above the floor and up to the shard's version at which another
+-- value stands than at the version before, and one more where a value stands at the floor
+abbrev pub kept_of : Shard → Point → ℕ
+kept_of shard x = kept_from (λ (v : ℕ). value_at shard v x) shard.floor shard.version

@@ -1,5 +1,5 @@
 -- What shards answer, and what replays cover, computed.
-use Rattle.std.specs.Prelude.{◌≡◌, ℕ, true, false, List, [], ◌∷◌, Some, None}
+use Rattle.std.specs.Prelude.{◌≡◌, ℕ, true, false, List, [], ◌∷◌, Option, Some, None}
 use Rattle.std.specs.FinMap.{get}
 use Rattle.fdb_keys.specs.declared.refusal.Refusal.TheVariants.{NotYet}
 use Rattle.fdb_mutations.specs.declared.mutation.Mutation.TheVariants.{Set, Clear, ClearRange, Add}
@@ -12,22 +12,26 @@ use Rattle.fdb_log.specs.declared.peek.Peek.{Peek}
 use Rattle.fdb_storage.specs.declared.page.Page.{Page}
 use Rattle.fdb_storage.specs.Examples.{span}
 use Rattle.fdb_storage.specs.Replays.{covered, messages_of, replay_fault}
-use Rattle.fdb_storage.specs.Shards.{Shard, value_at, IsPage, HasApplied, HasForgotten, HasCopied}
+use Rattle.fdb_storage.specs.declared.version_list.VersionedValue.{VersionedValue}
+use Rattle.fdb_storage.specs.VersionMaps.{VersionedKeys}
+use Rattle.fdb_storage.specs.Shards.{Shard, value_at, kept_of, IsNewShard, IsPage, HasApplied, HasForgotten, HasCopied}
 
 abbrev pub message : (version prev : ℕ) → Body → TagMsg
 message version prev body = record { version = version; prev = prev; body = body }
 
--- shard 3 of the keys from 10 to 20 that applied the messages, and serves the versions from 50 through 100
-abbrev pub shard_with : List TagMsg → Shard
-shard_with messages =
-    record { tag = 3; range = span 10 20; version = 100; floor = 50; is_failed = false; messages = messages }
+abbrev pub versioned : ℕ → Option (List ℕ) → VersionedValue
+versioned version value = record { version = version; value = value }
+
+-- shard 3 of the keys from 10 to 20 with these, which serves the versions from 50 through 100
+abbrev pub shard_with : VersionedKeys → Shard
+shard_with keys = record { tag = 3; range = span 10 20; version = 100; floor = 50; is_failed = false; keys = keys }
 
 -- keys that are set, changed and cleared at several versions
 abbrev pub changing : Shard
 changing = shard_with
-    (message 60 0 ((0, Set (one 12) (one 5)) ∷ (0, Set (one 15) (one 7)) ∷ [])
-    ∷ message 80 60 ((0, Add (one 15) (one 1)) ∷ (1, Clear (one 12)) ∷ [])
-    ∷ message 100 80 ((0, Set (one 17) (one 9)) ∷ (2, Add (one 17) (one 1)) ∷ (3, ClearRange (span 11 16)) ∷ [])
+    ((one 12, versioned 60 (Some (one 5)) ∷ versioned 80 None ∷ [])
+    ∷ (one 15, versioned 60 (Some (one 7)) ∷ versioned 80 (Some (one 8)) ∷ versioned 100 None ∷ [])
+    ∷ (one 17, versioned 100 (Some (one 10)) ∷ [])
     ∷ [])
 
 -- What stands at a key at the version of each message, before it and behind it.
@@ -50,8 +54,9 @@ WorkedValues =
 -- two keys from version 60 on, and a third one from version 100 on
 abbrev pub growing : Shard
 growing = shard_with
-    (message 60 0 ((0, Set (one 12) (one 5)) ∷ (0, Set (one 15) (one 7)) ∷ [])
-    ∷ message 100 60 ((0, Set (one 17) (one 9)) ∷ [])
+    ((one 12, versioned 60 (Some (one 5)) ∷ [])
+    ∷ (one 15, versioned 60 (Some (one 7)) ∷ [])
+    ∷ (one 17, versioned 100 (Some (one 9)) ∷ [])
     ∷ [])
 
 -- A page is just this one, by the version, the range, the limit and the order: with no limit, with one that is met
@@ -108,6 +113,49 @@ WorkedForgotten =
     × (value_at new 80 (one 12) ≡ Some (one 5))
     × (value_at new 99 (one 17) ≡ None)
     × (value_at new 100 (one 17) ≡ Some (one 9)))
+
+-- messages after which the keys of `changing` have their versions
+abbrev pub changes : List TagMsg
+changes =
+    message 60 0 ((0, Set (one 12) (one 5)) ∷ (0, Set (one 15) (one 7)) ∷ [])
+    ∷ message 80 60 ((0, Add (one 15) (one 1)) ∷ (1, Clear (one 12)) ∷ [])
+    ∷ message 100 80 ((0, Set (one 17) (one 9)) ∷ (2, Add (one 17) (one 1)) ∷ (3, ClearRange (span 11 16)) ∷ [])
+    ∷ []
+
+-- A new shard that applied them answers at each version what stood there.
+abbrev pub WorkedFollowed : Type 0
+WorkedFollowed =
+    (empty new : Shard) → IsNewShard 3 (span 10 20) empty → HasApplied empty (peek 0 100 changes) new
+    → (value_at new 59 (one 12) ≡ None)
+    × (value_at new 60 (one 12) ≡ Some (one 5))
+    × (value_at new 79 (one 12) ≡ Some (one 5))
+    × (value_at new 80 (one 12) ≡ None)
+    × (value_at new 60 (one 15) ≡ Some (one 7))
+    × (value_at new 79 (one 15) ≡ Some (one 7))
+    × (value_at new 80 (one 15) ≡ Some (one 8))
+    × (value_at new 99 (one 15) ≡ Some (one 8))
+    × (value_at new 100 (one 15) ≡ None)
+    × (value_at new 99 (one 17) ≡ None)
+    × (value_at new 100 (one 17) ≡ Some (one 10))
+    × (value_at new 100 (one 13) ≡ None)
+
+-- a key that is set at two versions, and another one that is cleared alone
+abbrev pub rewriting : List TagMsg
+rewriting =
+    message 100 0 ((0, Set (one 12) (one 1)) ∷ (0, Clear (one 13)) ∷ [])
+    ∷ message 299 100 []
+    ∷ message 300 299 ((0, Set (one 12) (one 3)) ∷ [])
+    ∷ []
+
+-- Two versions of the one are kept, and from the last one on one; of the other there is none.
+abbrev pub WorkedKept : Type 0
+WorkedKept =
+    (empty old new : Shard) → IsNewShard 3 (span 10 20) empty → HasApplied empty (peek 0 300 rewriting) old
+    → HasForgotten old 300 new
+    → (kept_of old (one 12) ≡ 2)
+    × (kept_of new (one 12) ≡ 1)
+    × (kept_of old (one 13) ≡ 0)
+    × (kept_of new (one 13) ≡ 0)
 
 -- Of a range that the shard holds in part a map gets the values at the version, and keeps its own outside that part.
 abbrev pub WorkedCopied : Type 0

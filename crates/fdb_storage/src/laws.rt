@@ -3,7 +3,7 @@ ghost use Rattle.fdb_storage.specs.Examples.{WorkedReads, WorkedParts, WorkedApp
 ghost use Rattle.fdb_storage.specs.LogMessages.{LogsAreSentTheMessages, MessagesAboveAVersion};
 ghost use Rattle.fdb_storage.specs.ShardMaps.{TagsAreTheShards};
 ghost use Rattle.fdb_storage.specs.ValueExamples.{WorkedValues, WorkedPages, WorkedApplied, WorkedForgotten};
-ghost use Rattle.fdb_storage.specs.ValueExamples.{WorkedCopied, WorkedReplays};
+ghost use Rattle.fdb_storage.specs.ValueExamples.{WorkedFollowed, WorkedKept, WorkedCopied, WorkedReplays};
 
 /// A mutation has the tag of a shard exactly where it names a point of the shard's range.
 pub fn tags_are_the_shards_that_a_mutation_concerns()
@@ -27,12 +27,14 @@ pub fn worked_refusals()
 {}
 
 /// What a shard answers at each version, which pages it gives, what it answers once it applied messages or raised its
-/// floor, what is copied of it, and what peeks one after another cover, by examples.
+/// floor, how many versions it keeps, what is copied of it, and what peeks one after another cover, by examples.
 pub fn worked_examples()
     ensures values { WorkedValues }
+    ensures followed { WorkedFollowed }
     ensures pages { WorkedPages }
     ensures applied { WorkedApplied }
     ensures forgotten { WorkedForgotten }
+    ensures kept { WorkedKept }
     ensures copied { WorkedCopied }
     ensures replays { WorkedReplays }
 {}

@@ -1,14 +1,17 @@
 //! Storage: which shard holds which key, and what a shard answers at a version from the messages of its tag.
 #![tactic(auto)]
 
+mod applying;
 mod copying;
 mod cut_map;
 pub mod laws;
 mod page;
+mod paging;
 mod replaying;
 mod shard;
 mod shard_map;
-mod values;
+mod version_list;
+mod version_map;
 
 pub use page::Page;
 pub use replaying::replay;

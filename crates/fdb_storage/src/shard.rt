@@ -1,11 +1,12 @@
-use crate::copying::push_copies;
-use crate::cut_map::apply_messages;
+use crate::applying::apply_messages;
+use crate::copying::copy_part;
 use crate::page::Page;
-use crate::values::value_in;
+use crate::paging::page_of;
+use crate::version_map::VersionMap;
 use bytes::Bytes;
 use fdb_keys::{Key, KeyRange, Refusal};
-use fdb_log::{Peek, TagMsg};
-use fdb_mutations::PlainMap;
+use fdb_log::Peek;
+use fdb_mutations::{PlainMap, copied};
 use fdb_txn::check_turn;
 use std::alloc::Global;
 use std::marker::Model;
@@ -19,7 +20,8 @@ pub struct Shard {
     version: u64,
     floor: u64,
     is_failed: bool,
-    messages: Vec<TagMsg>,
+    // The keys of the range, each with the versions that are still told apart.
+    map: VersionMap,
 }
 
 impl Model for Shard {
@@ -33,18 +35,19 @@ impl Model for Shard {
       version = shard.version;
       floor = shard.floor;
       is_failed = shard.is_failed;
-      messages = shard.messages.items;
+      keys = shard.map.keys.entries;
     } };
 
-    ghost invariant = { λ shard. IsShard shard.version shard.floor shard.is_failed shard.messages.items };
+    ghost invariant = { λ shard. IsShard shard.version shard.floor shard.is_failed shard.map.keys.entries };
 }
 
 impl Shard {
-    ghost use Rattle.std.specs.Prelude.{◌≡◌, ⊤, IsSome, IsNone, IfOk, OnErr};
+    ghost use Rattle.std.specs.Prelude.{◌≡◌, ⊤, false, IsSome, IsNone, IfOk, OnErr};
     ghost use Rattle.fdb_keys.specs.Answers.{Answers, AnswersExactly};
     ghost use Rattle.fdb_log.specs.Peeks.{IsPeek};
     ghost use Rattle.fdb_storage.specs.Shards.{IsNewShard, apply_fault, key_fault, range_fault, forget_fault};
-    ghost use Rattle.fdb_storage.specs.Shards.{part_fault, read_fault, serving_fault, value_at, IsPage, HasApplied};
+    ghost use Rattle.fdb_storage.specs.Shards.{part_fault, read_fault, serving_fault, value_at, kept_of, IsPage};
+    ghost use Rattle.fdb_storage.specs.Shards.{HasApplied};
     ghost use Rattle.fdb_storage.specs.Shards.{HasCopied, IsKeptOutside, HasFailed, HasForgotten};
 
     /// The shard with the tag and the range, which has applied nothing and serves version 0 alone. It takes no memory.
@@ -58,14 +61,16 @@ impl Shard {
             version: 0,
             floor: 0,
             is_failed: false,
-            messages: Vec::new(alloc),
+            map: VersionMap::new(alloc),
         }
     }
 
     /// Applies the messages of the shard's tag after its version. Refused as `Unknown` where they are another tag's, as
     /// `Failed` once memory ran out in an earlier call, as `Stale` where they begin after an earlier version than the
     /// shard's, as `NotYet` with the version after which they begin where that is a later one, and as `NoMemory`. The
-    /// shard stays as it was where it is refused, but for `NoMemory`, after which it has failed.
+    /// shard stays as it was where it is refused, but for `NoMemory`, after which it has failed. A mutation of a key
+    /// takes O(log n) comparisons for n keys, and one that clears a range as many and O(log n) for each key that it
+    /// clears.
     pub fn apply(&mut self, peek: &Peek) -> Result<(), Refusal>
         requires { IsPeek peek.now }
         ensures answers { Answers result (apply_fault self.old peek.now) (λ _. HasApplied self.old peek.now self.new) }
@@ -73,7 +78,13 @@ impl Shard {
         ensures failed { IsNone (apply_fault self.old peek.now) → OnErr result (HasFailed self.old self.new) }
     {
         self.check_peek(peek)?;
-        match push_copies(self.alloc, &mut self.messages, peek.messages.as_slice()) {
+        match apply_messages(
+            self.alloc,
+            &mut self.map,
+            &self.range,
+            self.version,
+            peek.messages.as_slice(),
+        ) {
             Ok(()) => {
                 self.version = peek.through;
                 Ok(())
@@ -87,17 +98,21 @@ impl Shard {
 
     /// The value of the key at the version, if it has one there. Refused as `Failed` once memory ran out in `apply`, as
     /// `KeyOutsideLegalRange` where the shard doesn't hold the key, as `TransactionTooOld` where the version is below
-    /// the floor, as `FutureVersion` where it is above the shard's, and as `NoMemory`.
+    /// the floor, as `FutureVersion` where it is above the shard's, and as `NoMemory`. It takes O(log n) comparisons
+    /// for n keys, and as many for the key's versions.
     pub fn get(&self, key: &Key, version: u64) -> Result<Option<Bytes>, Refusal>
         ensures { Answers result (key_fault self.now key.now version)
             (λ value. value ≡ value_at self.now version key.now) }
     {
         self.check(self.range.contains(key), version)?;
-        value_in(self.alloc, &self.messages, version, key)
+        let value = copied(self.map.value_at(key, version))?;
+        Ok(value)
     }
 
     /// The first pairs of the range at the version: in the order of keys or in the reverse order, and at most `limit`
     /// of them unless that is 0. Refused as `get` is, where the shard doesn't hold all of the range, and as `NoMemory`.
+    /// It takes O(log n) comparisons for n keys, and O(log v) for the v versions of each pair given, of one more, and
+    /// of each key between them at which nothing stands.
     pub fn page(
         &self,
         range: &KeyRange,
@@ -109,10 +124,7 @@ impl Shard {
             (IsPage self.now range.now version limit reverse) }
     {
         self.check(range.is_within(&self.range), version)?;
-        let mut map = PlainMap::new(self.alloc);
-        apply_messages(&mut map, range, version, &self.messages)?;
-        let (pairs, more) = map.page(range, limit, reverse)?;
-        Ok(Page { pairs, more })
+        page_of(self.alloc, &self.map.keys, range, version, limit, reverse)
     }
 
     /// Gives the map the values that the shard has at the version in its part of the range. The map is to have no value
@@ -121,8 +133,7 @@ impl Shard {
     /// refused. Refused as `Failed` once memory ran out in `apply`, else, where it holds some of the range, as
     /// `TransactionTooOld` where the version is below the floor and as `FutureVersion` where it is above the shard's,
     /// and then nothing changes; and as `NoMemory`. Then the map's values in that part are of no use: it may have some
-    /// of the shard's, or those of an earlier version. It takes O(m p) time for m mutations that were applied and p
-    /// pairs of the map.
+    /// of the shard's. It takes the time of a page of that part, and of as many sets of the map.
     pub fn copy_into(
         &self,
         map: &mut PlainMap,
@@ -135,15 +146,15 @@ impl Shard {
         ensures outside { IsKeptOutside self.now range.now map.old map.new }
     {
         self.check_part(range, version)?;
-        if let Some(part) = range.clip(&self.range)? {
-            apply_messages(map, &part, version, &self.messages)?;
+        match range.clip(&self.range)? {
+            Some(part) => copy_part(self.alloc, &self.map.keys, map, &part, version),
+            None => Ok(()),
         }
-        Ok(())
     }
 
     /// Raises the floor to the version, if it isn't above it already: earlier versions are no longer served. It takes
-    /// no memory. Refused as `Failed` once memory ran out in `apply`, and as `FutureVersion` where the version is above
-    /// the shard's.
+    /// no memory, and O(log n) comparisons for n keys and each version that is no longer told apart. Refused as
+    /// `Failed` once memory ran out in `apply`, and as `FutureVersion` where the version is above the shard's.
     pub fn forget(&mut self, version: u64) -> Result<(), Refusal>
         ensures answers { AnswersExactly result (forget_fault self.old version)
             (λ _. HasForgotten self.old version self.new) }
@@ -156,7 +167,18 @@ impl Shard {
             return Err(Refusal::FutureVersion);
         }
         self.floor = self.floor.max(version);
+        self.map.forget(self.floor);
         Ok(())
+    }
+
+    /// How many versions of the key have to be kept: those above the floor and up to the shard's version at which
+    /// another value stands than at the version before, and one more where a value stands at the floor. Nothing is said
+    /// once memory ran out in `apply`. It takes no memory, and O(log n) comparisons for n keys and as many for the
+    /// key's versions.
+    pub fn kept(&self, key: &Key) -> usize
+        ensures { self.now.is_failed ≡ false → result ≡ kept_of self.now key.now }
+    {
+        self.map.kept_from(self.alloc, key, self.floor)
     }
 
     /// The range of keys that the shard holds.

@@ -4,7 +4,7 @@ use crate::making::{
 };
 use bytes::Bytes;
 use fdb_keys::{Items, Key, KeyRange, Refusal};
-use fdb_mutations::{Mutation, PlainMap};
+use fdb_mutations::{Mutation, PlainMap, one_more, page_of};
 use std::alloc::Global;
 
 type Text = &'static [u8];
@@ -179,6 +179,14 @@ fn page_before_c(map: &PlainMap, alloc: Global, limit: u32) -> Result<(usize, bo
     Ok((page.0.len(), page.1))
 }
 
+// The same, cut out of one pair more.
+fn cut_before_c(map: &PlainMap, alloc: Global, limit: u32) -> Result<(usize, bool), Refusal> {
+    let range = KeyRange::new(alloc, b"", b"c")?;
+    let pairs = map.range(&range, one_more(limit), false)?;
+    let page = page_of(pairs, limit);
+    Ok((page.0.len(), page.1))
+}
+
 // Whether the keys before c are read in both orders, and c alone is left when those are cleared.
 fn is_read(alloc: Global) -> Result<[bool; 3], Refusal> {
     let mut map = filled(alloc)?;
@@ -189,13 +197,16 @@ fn is_read(alloc: Global) -> Result<[bool; 3], Refusal> {
     Ok([forward, backward, is_cleared && others])
 }
 
-// Pages of at most 1, of at most 2 and of all pairs.
-fn pages(alloc: Global) -> Result<[Result<(usize, bool), Refusal>; 3], Refusal> {
+// Pages of at most 1, of at most 2 and of all pairs, read and cut.
+fn pages(alloc: Global) -> Result<[Result<(usize, bool), Refusal>; 6], Refusal> {
     let map = filled(alloc)?;
     Ok([
         page_before_c(&map, alloc, 1),
         page_before_c(&map, alloc, 2),
         page_before_c(&map, alloc, 0),
+        cut_before_c(&map, alloc, 1),
+        cut_before_c(&map, alloc, 2),
+        cut_before_c(&map, alloc, 0),
     ])
 }
 
@@ -206,7 +217,14 @@ fn maps_are_read_in_both_orders_and_by_pages(rt: HostRuntime) {
     same(
         &rt,
         pages(alloc),
-        Ok([Ok((1, true)), Ok((2, false)), Ok((2, false))]),
+        Ok([
+            Ok((1, true)),
+            Ok((2, false)),
+            Ok((2, false)),
+            Ok((1, true)),
+            Ok((2, false)),
+            Ok((2, false)),
+        ]),
     );
 }
 

@@ -139,11 +139,58 @@ fn has_more(
     }
 }
 
+// The peek from 0 through 300 with a message at 100 that sets a to 1, an empty one at 299, and one at 300 that sets a to
+// 3.
+fn peek_of_sets(alloc: Global) -> Result<Peek, Refusal>
+    ensures { IfOk result (λ peek. IsPeek peek) }
+{
+    let mut first = Items::new(alloc);
+    put(&mut first, 0, Mutation::set(alloc, b"a", b"1"))?;
+    let mut last = Items::new(alloc);
+    put(&mut last, 0, Mutation::set(alloc, b"a", b"3"))?;
+    let messages = vec![in alloc;
+        TagMsg {
+            version: 100,
+            prev: 0,
+            body: first,
+        },
+        TagMsg {
+            version: 299,
+            prev: 100,
+            body: Items::new(alloc),
+        },
+        TagMsg {
+            version: 300,
+            prev: 299,
+            body: last,
+        },
+    ]?;
+    Ok(Peek {
+        tag: 0,
+        after: 0,
+        through: 300,
+        messages: Items::from_vec(messages),
+    })
+}
+
+fn apply_sets(shard: &mut Shard, alloc: Global) -> Result<(), Refusal> {
+    let peek = peek_of_sets(alloc)?;
+    shard.apply(&peek)
+}
+
+// How many versions of the key the shard keeps.
+fn kept(shard: &Shard, alloc: Global, key: &[u8]) -> Result<u64, Refusal> {
+    let key = Key::new(alloc, key)?;
+    Ok(shard.kept(&key) as u64)
+}
+
 // What is done with a shard, or asked of it.
 #[derive(Clone, Copy)]
 enum Line {
     // It applies the two messages.
     ApplyTwo,
+    // It applies the messages at 100, 299 and 300.
+    ApplySets,
     // It applies a peek without messages of the tag, through the version.
     ApplyNone(u32, u64),
     Forget(u64),
@@ -152,6 +199,8 @@ enum Line {
     HasFailed,
     // Whether its range has the bounds.
     Bounds(&'static [u8], &'static [u8]),
+    // How many versions of the key it keeps.
+    Kept(Text),
     // The byte of the key's value at the version.
     Get(&'static [u8], u64),
     // Whether there is more after the page of the keys from a up to the end at the version, cut to the limit, in this
@@ -177,6 +226,10 @@ fn answer(shard: &mut Shard, alloc: Global, line: Line) -> Answer {
             apply_two(shard, alloc)?;
             DONE
         }
+        Line::ApplySets => {
+            apply_sets(shard, alloc)?;
+            DONE
+        }
         Line::ApplyNone(tag, version) => {
             apply_none(shard, alloc, tag, version)?;
             DONE
@@ -189,6 +242,7 @@ fn answer(shard: &mut Shard, alloc: Global, line: Line) -> Answer {
         Line::Floor => Ok(Some(shard.floor())),
         Line::HasFailed => Ok(Some(u64::from(shard.is_failed()))),
         Line::Bounds(begin, end) => Ok(Some(u64::from(has_bounds(shard.range(), begin, end)))),
+        Line::Kept(key) => Ok(Some(kept(shard, alloc, key)?)),
         Line::Get(key, version) => Ok(get(shard, alloc, key, version)?.map(u64::from)),
         Line::Page(end, version, limit, reverse, pairs) => {
             let asked = Asked {
@@ -210,7 +264,7 @@ struct Case {
     lines: &'static [(Line, Answer)],
 }
 
-static CASES: [Case; 5] = [
+static CASES: [Case; 7] = [
     Case {
         what: "only the shard's own keys are read",
         range: (b"", b"m"),
@@ -280,6 +334,38 @@ static CASES: [Case; 5] = [
             (Line::Floor, Ok(Some(200))),
             (Line::Get(b"a", 100), Err(Refusal::TransactionTooOld)),
             (Line::Get(b"a", 200), Ok(Some(b'3' as u64))),
+        ],
+    },
+    Case {
+        what: "a version that none shows any more is dropped",
+        range: (b"", b"m"),
+        lines: &[
+            (Line::Kept(b"a"), Ok(Some(0))),
+            (Line::ApplySets, DONE),
+            (Line::Kept(b"a"), Ok(Some(2))),
+            (Line::Forget(299), DONE),
+            (Line::Kept(b"a"), Ok(Some(2))),
+            (Line::Get(b"a", 299), Ok(Some(b'1' as u64))),
+            (Line::Forget(300), DONE),
+            (Line::Kept(b"a"), Ok(Some(1))),
+            (Line::Get(b"a", 300), Ok(Some(b'3' as u64))),
+        ],
+    },
+    Case {
+        what: "a key that was cleared goes with the versions before",
+        range: (b"", b"m"),
+        lines: &[
+            (Line::ApplyTwo, DONE),
+            (Line::Kept(b"a"), Ok(Some(2))),
+            (Line::Kept(b"l"), Ok(Some(2))),
+            (Line::Forget(199), DONE),
+            (Line::Get(b"l", 199), Ok(Some(b'7' as u64))),
+            (Line::Kept(b"l"), Ok(Some(2))),
+            (Line::Forget(200), DONE),
+            (Line::Kept(b"a"), Ok(Some(1))),
+            (Line::Kept(b"l"), Ok(Some(0))),
+            (Line::Get(b"l", 200), NO_VALUE),
+            (Line::Page(b"m", 200, 0, true, &[(b'a', b'3')]), NO),
         ],
     },
 ];

@@ -213,7 +213,7 @@ each_served_version_counts = (cleared, still_serves)
       version = 200;
       floor = 100;
       is_failed = false;
-      messages = [];
+      keys = [];
     }) → ⊥
     still_serves serves =
         let nothing = serves 100 (codes "a") (omega arith) (omega arith) refl in

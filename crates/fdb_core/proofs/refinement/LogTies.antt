@@ -106,7 +106,7 @@ module _ (config : Config) (book : List Entry) where
         let number : log_of config.logs tag ≡ l = ap (λ (n : ℕ). log_of n tag) (sym before.logs) ∙ own.1
         ∙ before.number in
         let there_is : tag < suc (length config.shard_splits) = subst (λ (n : ℕ). tag < n) before.tags own.0 in
-        taken.kept tag
+        taken.kept tag kept_before
         ∙ ap₂ (λ (old : List TagMsg) (one : TagMsg). old ++ one ∷ []) (before.kept tag kept_before)
         (ap (tag_message tag)
         (is ∙ ap (λ (log : ℕ). log_message config.resolver_splits config.shard_splits config.logs log role.taken

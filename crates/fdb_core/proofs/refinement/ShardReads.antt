@@ -2,36 +2,43 @@
 use Rattle.std.proofs.Common.{◌≡◌, ◌∙◌, refl, sym, ap, ap₂, ◌<◌, ◌≤◌, ℕ, zero, suc, ◌+◌, Bool, true, false, ◌&&◌, ◌||◌}
 use Rattle.std.proofs.Common.{List, [], ◌∷◌, length, take, map, Option, Some, None, ⊎_elim, slice_get, arith}
 use Rattle.std.specs.Prelude.{nat_eq, nat_lt, ◌==◌, if◌then◌else◌}
-use Rattle.std.specs.List.{list_any}
+use Rattle.std.specs.List.{filter, list_any}
 use Rattle.std.specs.FinMap.{get, empty, get-empty}
 use Rattle.std.specs.Option.{option_map}
 use Rattle.std.proofs.lemmas.Bool.{cases_Bool, both_ways, and_parts, and_from, or_left, or_right, cond-true, cond-false}
-use Rattle.std.proofs.lemmas.Bool.{not-true, ltb-true, ltb-false, lt-ltb, le-ltb, eqb-true, eqb-false, eq-eqb}
+use Rattle.std.proofs.lemmas.Bool.{not-true, ltb-true, ltb-false, eqb-true, eq-eqb, false_from_ne_true}
 use Rattle.std.proofs.Math.Seq.{take-length}
 use Rattle.std.proofs.lemmas.List.{length-take, take_min}
 use Rattle.std.proofs.lemmas.Option.{slice_get-map, slice_get_within}
 use Rattle.fdb_keys.specs.Points.{Point, point_lt}
-use Rattle.fdb_keys.specs.Ranges.{Range, in_range, ranges_meet}
+use Rattle.fdb_keys.specs.Clipping.{clipped_range, in_clipped}
+use Rattle.fdb_keys.specs.Ranges.{Range, in_range, is_within, ranges_meet}
 use Rattle.fdb_keys.specs.Texts.{is_bound}
 use Rattle.fdb_keys.specs.declared.refusal.Refusal.{Refusal}
 use Rattle.fdb_keys.specs.declared.refusal.Refusal.TheVariants.{FutureVersion, TransactionTooOld}
+use Rattle.fdb_keys.proofs.ClippingLemmas.{in_clipped-points}
 use Rattle.fdb_keys.proofs.PointOrder.{lt_le_chain}
 use Rattle.fdb_keys.proofs.RangesLemmas.{in_range_parts, common_from_meet, meet_from_common}
+use Rattle.fdb_keys.proofs.WithinLemmas.{within-points}
 use Rattle.fdb_mutations.specs.Maps.{Map}
-use Rattle.fdb_mutations.specs.Pairs.{first_of, pairs_in}
-use Rattle.fdb_mutations.proofs.PairsLemmas.{same_values}
+use Rattle.fdb_mutations.specs.Pairs.{pairs_in}
+use Rattle.fdb_mutations.proofs.OrderedLemmas.{filter_none}
+use Rattle.fdb_mutations.proofs.PairsLemmas.{pairs_in-part, all_in-pairs_in}
+use Rattle.fdb_interval.proofs.BreaksLemmas.{all_imply}
 use Rattle.fdb_txn.specs.rules.Owners.{first_owner}
-use Rattle.fdb_txn.specs.rules.Splits.{end_of_keys}
+use Rattle.fdb_txn.specs.rules.Splits.{end_of_keys, piece}
 use Rattle.fdb_txn.proofs.rules.AskedLemmas.{owner-exists}
 use Rattle.fdb_txn.proofs.rules.SplitsLemmas.{pieces_part_the_keys}
 use Rattle.fdb_client.specs.Pages.{IsPage}
 use Rattle.fdb_client.specs.declared.snapshot.Page.{Page}
-use Rattle.fdb_storage.specs.Shards.{serving_fault, part_fault, value_at, HasCopied}
+use Rattle.fdb_storage.specs.Shards.{serving_fault, value_at, HasValuesOf}
+use Rattle.fdb_storage.specs.Shards as storage
 use Rattle.fdb_core.specs.declared.roles.shard.ShardRole.{ShardRole}
 use Rattle.fdb_core.specs.machine.RoleSteps.{shard_fault}
 use Rattle.fdb_core.specs.refinement.Logs.{progress_of}
 use Rattle.fdb_core.specs.refinement.RangeFaults.{of-range, too-old-range, served-range, held_by_one}
-use Rattle.fdb_core.specs.refinement.ShardReads.{ShardReads, AreReadable, HasTheRunIn, key_fault, range_fault, run_map}
+use Rattle.fdb_core.specs.refinement.ShardReads.{ShardReads, AreReadable, key_fault, range_fault, run_map}
+use Rattle.fdb_core.specs.refinement.ShardReads.{pairs_held}
 use Rattle.fdb_core.proofs.common.AllLemmas.{within-item}
 
 -- an item that passes a test, with its number, where the list has one
@@ -53,7 +60,7 @@ any-at p (y ∷ ys) zero x there passes =
 any-at p (y ∷ ys) (suc i) x there passes = or_right (p y) (list_any p ys) (any-at p ys i x there passes)
 
 -- a point of a range with a legal end comes before the end of the keys
-below-end : (range : Range) (x : Point) → is_bound range.end ≡ true → in_range range x ≡ true
+pub below-end : (range : Range) (x : Point) → is_bound range.end ≡ true → in_range range x ≡ true
     → point_lt x end_of_keys ≡ true
 below-end range x legal inside =
     lt_le_chain x range.end end_of_keys (in_range_parts range x inside).1 (not-true _ (and_parts _ _ legal).1)
@@ -89,73 +96,11 @@ is_behind_floor version range role = ranges_meet role.core.range range && nat_lt
 abbrev pub is_ahead_of : ℕ → Range → ShardRole → Bool
 is_ahead_of version range role = ranges_meet role.core.range range && nat_lt role.core.version version
 
--- the first items, as many as the limit says
-first-are : {A : Type 0} (limit : ℕ) (given all : List A) → given ≡ first_of limit all
-    → (given ≡ take (length given) all) × (nat_eq limit 0 ≡ false → length given ≤ limit)
-    × (nat_lt (length given) (length all) ≡ true → 0 < length given)
-first-are {A} limit given all is = ⊎_elim whole cut (cases_Bool (nat_eq limit 0))
-  where
-    AreFirst : Type 0
-    AreFirst =
-        (given ≡ take (length given) all) × (nat_eq limit 0 ≡ false → length given ≤ limit)
-        × (nat_lt (length given) (length all) ≡ true → 0 < length given)
-
-    whole : nat_eq limit 0 ≡ true → AreFirst
-    whole none =
-        let same : given ≡ all = is ∙ cond-true (nat_eq limit 0) all (take limit all) none in
-        let long = ap (λ (xs : List A). length xs) same in (
-          same ∙ sym (ap (λ (n : ℕ). take n all) long ∙ take-length all),
-          λ some. absurd (both_ways _ some none),
-          λ more. absurd (omega (arith, long, ltb-true (length given) (length all) more)),
-        )
-
-    cut : nat_eq limit 0 ≡ false → AreFirst
-    cut some =
-        let same : given ≡ take limit all = is ∙ cond-false (nat_eq limit 0) all (take limit all) some in
-        let long = ap (λ (xs : List A). length xs) same ∙ length-take limit all in (
-          same ∙ sym (ap (λ (n : ℕ). take n all) long ∙ take_min limit all),
-          λ _. omega (arith, long),
-          λ more. omega (arith, long, ltb-true (length given) (length all) more, eqb-false limit 0 some),
-        )
-
--- a page of a map that has the run in the range is one of the run
-pub page-of : (reads : ShardReads) (range : Range) (limit : ℕ) (is_reverse : Bool) (copy : Map) (page : Page)
-    → HasTheRunIn reads range copy
-    → (page.pairs ≡ first_of limit (pairs_in copy range is_reverse))
-    × (page.more ≡ nat_lt (length page.pairs) (length (pairs_in copy range is_reverse)))
-    → IsPage (run_map reads) range limit is_reverse page
-page-of reads range limit is_reverse copy page has is =
-    let all = pairs_in (run_map reads) range is_reverse in
-    let same : pairs_in copy range is_reverse ≡ all = same_values copy (run_map reads) range is_reverse has in
-    let first = first-are limit page.pairs all
-    (is.0 ∙ ap (λ (pairs : List (Point × List ℕ)). first_of limit pairs) same) in
-    let more : page.more ≡ nat_lt (length page.pairs) (length all) =
-    is.1 ∙ ap (λ (pairs : List (Point × List ℕ)). nat_lt (length page.pairs) (length pairs)) same in
-    record {
-      first = first.0;
-      within = first.1;
-      more = more;
-      goes_on = λ further. first.2 (sym more ∙ further);
-    }
-
--- the map has in the range what the run has where the first n shards hold it, and nothing elsewhere
-abbrev pub HasFirst : ShardReads → Range → ℕ → Map → Type 0
-HasFirst reads range n map =
-    (x : Point) → in_range range x ≡ true
-    → get map x ≡ (if nat_lt (first_owner reads.config.shard_splits x) n then get (run_map reads) x else None)
-
--- the empty map has what no shards have
-pub none-copied : (reads : ShardReads) (range : Range) → HasFirst reads range 0 empty
-none-copied reads range x inside =
-    get-empty _ x
-    ∙ sym (cond-false (nat_lt (first_owner reads.config.shard_splits x) 0) (get (run_map reads) x) None
-    (le-ltb _ 0 (omega arith)))
-
 module _ (reads : ShardReads) (readable : AreReadable reads) where
   abbrev pub owner : Point → ℕ
   owner x = first_owner reads.config.shard_splits x
 
-  owner-within : (x : Point) → owner x < length reads.shards
+  pub owner-within : (x : Point) → owner x < length reads.shards
   owner-within x =
       let few : owner x < suc (length reads.config.shard_splits) =
       owner-exists reads.config.shard_splits 0 [] x 0 tt in
@@ -285,53 +230,68 @@ module _ (reads : ShardReads) (readable : AreReadable reads) where
       point-served x inside =
           served-range reads.config.shard_splits range (key_fault reads) (held_by_one reads) x inside served
 
-      -- each shard gives its part of a range that is served
-      pub part-served : (i : ℕ) (role : ShardRole) → slice_get reads.shards i ≡ Some role
-          → part_fault role.core range reads.version ≡ None
-      part-served i role there = rw (readable.each i role there).works (⊎_elim
-          (λ meets. cond-true (ranges_meet range role.core.range) _ _ meets
-          ∙ (let common = common_from_meet range role.core.range meets in
-          let point = met i role there (meet_from_common role.core.range range common.0 common.2 common.1) in
-          sym point.2 ∙ point-served point.0 point.1))
-          (λ apart. cond-false (ranges_meet range role.core.range) _ _ apart)
-          (cases_Bool (ranges_meet range role.core.range)))
+      -- a shard that holds some of a range that is served serves the version
+      shard-served : (i : ℕ) (role : ShardRole) → slice_get reads.shards i ≡ Some role
+          → ranges_meet role.core.range range ≡ true
+          → serving_fault reads.version role.core.floor role.core.version ≡ None
+      shard-served i role there meets =
+          let point = met i role there meets in
+          sym point.2 ∙ point-served point.0 point.1
 
-      -- with the part of one more shard the map has what one more has
-      pub one-copied : (n : ℕ) (role : ShardRole) (old new : Map) → slice_get reads.shards n ≡ Some role
-          → HasFirst reads range n old → HasCopied role.core range reads.version old new
-          → HasFirst reads range (n + 1) new
-      one-copied n role old new there before copied x inside = ⊎_elim own other (cases_Bool (owner x == n))
+      module _ (i : ℕ) (role : ShardRole) (there : slice_get reads.shards i ≡ Some role) (part : Range)
+          (clipped : clipped_range range role.core.range ≡ Some part) where
+        part-of : (x : Point) → in_range part x ≡ (in_range range x && in_range role.core.range x)
+        part-of x =
+            ap (λ (clip : Option Range). in_clipped clip x) (sym clipped)
+            ∙ in_clipped-points range role.core.range x
+
+        meets-part : ranges_meet role.core.range range ≡ true
+        meets-part = ⊎_elim
+            (λ meets.
+            let common = common_from_meet range role.core.range meets in
+            meet_from_common role.core.range range common.0 common.2 common.1)
+            (λ apart.
+            let nothing : None ≡ Some part = sym (cond-false (ranges_meet range role.core.range) _ _ apart) ∙ clipped in
+            cc)
+            (cases_Bool (ranges_meet range role.core.range))
+
+        -- it gives a page of what it holds of the range
+        pub page-served : storage.range_fault role.core part reads.version ≡ None
+        page-served =
+            let within : is_within part role.core.range ≡ true =
+            (within-points part role.core.range).1
+            (λ x inside. (and_parts (in_range range x) _ (sym (part-of x) ∙ inside)).1) in
+            rw ((readable.each i role there).works, within) (shard-served i role there meets-part)
+
+        -- which is one of the serial map
+        pub has-values : HasValuesOf role.core reads.version part (run_map reads)
+        has-values x inside = sym
+            (value-of i role x there (and_parts (in_range range x) _ (sym (part-of x) ∙ inside)).1
+            (shard-served i role there meets-part))
+
+        -- with the pairs whose keys it holds
+        pub pairs-of-part : (is_reverse : Bool)
+            → pairs_in (run_map reads) part is_reverse ≡ pairs_held reads i range is_reverse
+        pairs-of-part is_reverse =
+            pairs_in-part (run_map reads) range part (in_range (piece reads.config.shard_splits i))
+            (λ x. part-of x
+            ∙ ap (λ (whole : Range). in_range range x && in_range whole x) (readable.each i role there).range) is_reverse
+
+      -- one that holds nothing of it has no pair of it
+      pub none-held : (i : ℕ) (role : ShardRole) → slice_get reads.shards i ≡ Some role
+          → clipped_range range role.core.range ≡ None → (is_reverse : Bool) → pairs_held reads i range is_reverse ≡ []
+      none-held i role there clipped is_reverse =
+          filter_none (λ pair. in_range (piece reads.config.shard_splits i) pair.0)
+          (pairs_in (run_map reads) range is_reverse)
+          (all_imply (λ pair. in_range range pair.0 ≡ true)
+          (λ pair. in_range (piece reads.config.shard_splits i) pair.0 ≡ false)
+          (λ pair inside. outside pair.0 inside) (pairs_in (run_map reads) range is_reverse)
+          (all_in-pairs_in (run_map reads) range is_reverse))
         where
-          held : in_range role.core.range x ≡ (owner x == n)
-          held = held-by n role x there (below-end range x legal inside)
-
-          own : (owner x == n) ≡ true
-              → get new x ≡ (if nat_lt (owner x) (n + 1) then get (run_map reads) x else None)
-          own is =
-              let same = eqb-true (owner x) n is in
-              copied.inside x inside (held ∙ is)
-              (before x inside ∙ cond-false (nat_lt (owner x) n) _ _ (le-ltb (owner x) n (omega (arith, same))))
-              ∙ value-of n role x there (held ∙ is)
-              (sym (fault-of n role x there same) ∙ point-served x inside)
-              ∙ sym (cond-true (nat_lt (owner x) (n + 1)) _ _ (lt-ltb (owner x) (n + 1) (omega (arith, same))))
-
-          same_test : (owner x == n) ≡ false → nat_lt (owner x) n ≡ nat_lt (owner x) (n + 1)
-          same_test differs = ⊎_elim
-              (λ less. less ∙ sym (lt-ltb (owner x) (n + 1) (omega (arith, ltb-true (owner x) n less))))
-              (λ more. more ∙ sym (le-ltb (owner x) (n + 1)
-              (omega (arith, ltb-false (owner x) n more, eqb-false (owner x) n differs))))
-              (cases_Bool (nat_lt (owner x) n))
-
-          other : (owner x == n) ≡ false
-              → get new x ≡ (if nat_lt (owner x) (n + 1) then get (run_map reads) x else None)
-          other differs =
-              copied.outside x (ap₂ (λ (a b : Bool). a && b) inside (held ∙ differs))
-              ∙ before x inside
-              ∙ ap (λ (test : Bool). if test then get (run_map reads) x else None) (same_test differs)
-
-  -- with those of all it has what the run has
-  pub all-copied : (range : Range) (copy : Map) → HasFirst reads range (length reads.shards) copy
-      → HasTheRunIn reads range copy
-  all-copied range copy before x inside =
-      before x inside ∙ cond-true (nat_lt (owner x) (length reads.shards)) _ _
-      (lt-ltb (owner x) (length reads.shards) (owner-within x))
+          outside : (x : Point) → in_range range x ≡ true → in_range (piece reads.config.shard_splits i) x ≡ false
+          outside x inside = false_from_ne_true _ (λ held.
+              let apart : false ≡ (in_range range x && in_range role.core.range x) =
+              ap (λ (clip : Option Range). in_clipped clip x) (sym clipped)
+              ∙ in_clipped-points range role.core.range x in
+              both_ways _ (sym apart) (and_from _ _ inside
+              (ap (λ (whole : Range). in_range whole x) (readable.each i role there).range ∙ held)))

@@ -183,7 +183,7 @@ AnEmptyShardDoesNotServe =
       version = 100;
       floor = 0;
       is_failed = false;
-      messages = [];
+      keys = [];
     }) → ⊥
 
 -- the key a is set at version 100, and cleared at 200
@@ -209,7 +209,7 @@ EachServedVersionCounts =
       version = 200;
       floor = floor;
       is_failed = false;
-      messages = [];
+      keys = [];
     }
 
 -- the one log after it took the entry's message, which has nothing for any tag
@@ -221,7 +221,8 @@ empty_message_taken = record {
   last = 100;
   is_failed = false;
   popped = 0 ∷ [];
-  messages = record { log = 0; index = 0; version = 100; prev = 0; body = [] } ∷ [];
+  queues = (record { version = 100; prev = 0; body = [] } ∷ []) ∷ [];
+  waiting = [];
 }
 
 -- the one resolver's part of the entry, which asks it about no place

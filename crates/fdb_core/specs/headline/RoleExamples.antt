@@ -30,7 +30,16 @@ OtherSequencersAreElsewhere =
 -- the one log, which took the entry, popped its tag through a version and keeps no message
 abbrev pub popped_to : ℕ → Log
 popped_to through =
-    record { log = 0; logs = 1; tags = 1; last = 100; is_failed = false; popped = through ∷ []; messages = [] }
+    record {
+      log = 0;
+      logs = 1;
+      tags = 1;
+      last = 100;
+      is_failed = false;
+      popped = through ∷ [];
+      queues = [] ∷ [];
+      waiting = [];
+    }
 
 -- The one log that popped its tag through the entry's version, and so keeps no message, is at the entry. One that
 -- popped it through a greater version isn't, and neither is one that keeps a message of the entry without its mutation.
@@ -56,5 +65,5 @@ OtherShardsAreElsewhere =
       version = version;
       floor = floor;
       is_failed = false;
-      messages = [];
+      keys = [];
     }

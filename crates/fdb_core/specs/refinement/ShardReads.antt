@@ -1,11 +1,12 @@
 -- The shards, read at a version.
-use Rattle.std.specs.Prelude.{◌≡◌, ◌≤◌, ℕ, suc, true, false, List, map, take, length, Option, slice_get}
+use Rattle.std.specs.Prelude.{◌≡◌, ◌≤◌, ℕ, suc, ◌-◌, Bool, true, false, nat_eq, nat_lt, List, filter, map, take, length}
+use Rattle.std.specs.Prelude.{Option, Some, None, slice_get, if◌then◌else◌}
 use Rattle.std.specs.FinMap.{get}
 use Rattle.fdb_keys.specs.declared.refusal.Refusal.{Refusal}
 use Rattle.fdb_keys.specs.Points.{Point}
 use Rattle.fdb_keys.specs.Ranges.{Range, in_range}
 use Rattle.fdb_mutations.specs.Maps.{Map}
-use Rattle.fdb_mutations.specs.PairLaws.{AgreeIn}
+use Rattle.fdb_mutations.specs.Pairs.{pairs_in}
 use Rattle.fdb_txn.specs.declared.entry.Entry.{Entry}
 use Rattle.fdb_txn.specs.book.Book.{seen_of, last_version}
 use Rattle.fdb_txn.specs.rules.Owners.{first_owner}
@@ -38,9 +39,19 @@ key_fault reads x =
 abbrev pub range_fault : ShardReads → Range → Option Refusal
 range_fault reads range = fault_among (key_fault reads) (shard_begins reads.config.shard_splits range)
 
--- the map has at each point of the range what the serial map has
-abbrev pub HasTheRunIn : ShardReads → Range → Map → Type 0
-HasTheRunIn reads range map = AgreeIn range map (run_map reads)
+-- of the pairs of a range on the serial map those whose keys shard i holds
+abbrev pub pairs_held : ShardReads → ℕ → Range → Bool → List (Point × List ℕ)
+pairs_held reads i range is_reverse =
+    filter (λ pair. in_range (piece reads.config.shard_splits i) pair.0) (pairs_in (run_map reads) range is_reverse)
+
+-- no more than are wanted, where 0 stands for all
+abbrev pub AreFew : ℕ → List (Point × List ℕ) → Type 0
+AreFew wanted pairs = nat_eq wanted 0 ≡ false → length pairs ≤ wanted
+
+-- how many are still wanted beside so many, where 0 stands for all
+abbrev pub left_of : ℕ → ℕ → Option ℕ
+left_of wanted count =
+    if nat_eq wanted 0 then Some 0 else (if nat_lt count wanted then Some (wanted - count) else None)
 
 -- A shard holds its piece of the keys, and answers from the run where it serves the version.
 pub record IsReadable (reads : ShardReads) (i : ℕ) (role : ShardRole) : Type 0 where

@@ -1,17 +1,18 @@
 // The shards, read at a version.
-ghost use Rattle.std.specs.Prelude.{◌≡◌, ⊤, ◌&&◌, nat_lt, None, IsTrue};
+ghost use Rattle.std.specs.Prelude.{◌≡◌, ⊤, ◌++◌, ◌&&◌, ℕ, nat_lt, slice_get, None, Some, IsTrue};
 ghost use Rattle.std.specs.List.{list_any};
 ghost use Rattle.fdb_keys.specs.Answers.{Answers, AnswersExactly};
 ghost use Rattle.fdb_keys.specs.Ranges.{ranges_meet};
 ghost use Rattle.fdb_keys.specs.Texts.{is_bound};
 ghost use Rattle.fdb_core.specs.declared.roles.shard.ShardRole.{ShardRole as Role};
-ghost use Rattle.fdb_core.specs.refinement.ShardReads.{range_fault, HasTheRunIn};
+ghost use Rattle.fdb_mutations.specs.Pairs.{pairs_in, first_of};
+ghost use Rattle.fdb_core.specs.refinement.ShardReads.{range_fault, run_map, left_of, AreFew, pairs_held};
 
 use crate::roles::shard::ShardRole;
 use bytes::Bytes;
 use fdb_client::{Page, Snapshot};
-use fdb_keys::{Key, KeyRange, Refusal};
-use fdb_mutations::PlainMap;
+use fdb_keys::{Items, Key, KeyRange, Refusal};
+use fdb_mutations::{one_more, page_of};
 use fdb_proxy::Config;
 use fdb_storage::ShardMap;
 use fdb_txn::Entry;
@@ -68,17 +69,69 @@ impl<'a> ShardReads<'a> {
         Ok(())
     }
 
-    // A map that has in the range what the shards have there.
-    fn copy_range(&self, range: &KeyRange) -> Result<PlainMap, Refusal>
+    // The first pairs of the range, so many at most unless that is 0: shard after shard, each asked for no more than is
+    // still wanted.
+    fn first_pairs(
+        &self,
+        range: &KeyRange,
+        wanted: u32,
+        reverse: bool,
+    ) -> Result<Items<(Key, Bytes)>, Refusal>
         requires legal { IsTrue (is_bound range.now.end) }
         requires served { range_fault self.now range.now ≡ None }
-        ensures { Answers result None (HasTheRunIn self.now range.now) }
+        ensures { Answers result None
+            (λ pairs. pairs ≡ first_of wanted (pairs_in (run_map self.now) range.now reverse)) }
     {
-        let mut map = PlainMap::new(self.alloc);
-        for role in self.shards {
-            role.core.copy_into(&mut map, range, self.version)?;
+        let mut pairs = Vec::new(self.alloc);
+        let count = self.shards.len();
+        for step in 0..count {
+            let number = if reverse { count - 1 - step } else { step };
+            self.add_pairs_of(&mut pairs, &self.shards[number], range, wanted, reverse)?;
         }
-        Ok(map)
+        Ok(Items::from_vec(pairs))
+    }
+
+    // Adds to pairs what the shard has of the range, so that they are so many at most unless that is 0.
+    fn add_pairs_of(
+        &self,
+        pairs: &mut Vec<(Key, Bytes)>,
+        role: &ShardRole,
+        range: &KeyRange,
+        wanted: u32,
+        reverse: bool,
+    ) -> Result<(), Refusal>
+        requires few { AreFew wanted pairs.old.items }
+        requires legal { IsTrue (is_bound range.now.end) }
+        requires served { range_fault self.now range.now ≡ None }
+        ensures { (i : ℕ) → slice_get self.now.shards i ≡ Some role.now → Answers result None (λ _.
+            pairs.new.items ≡ first_of wanted (pairs.old.items ++ pairs_held self.now i range.now reverse)) }
+    {
+        if let Some(limit) = left_of(wanted, pairs.len()) {
+            pairs.append(&mut self.pairs_of(role, range, limit, reverse)?)?;
+        }
+        Ok(())
+    }
+
+    // The first pairs that the shard has of the range, so many at most unless that is 0.
+    fn pairs_of(
+        &self,
+        role: &ShardRole,
+        range: &KeyRange,
+        limit: u32,
+        reverse: bool,
+    ) -> Result<Vec<(Key, Bytes)>, Refusal>
+        requires legal { IsTrue (is_bound range.now.end) }
+        requires served { range_fault self.now range.now ≡ None }
+        ensures { (i : ℕ) → slice_get self.now.shards i ≡ Some role.now → Answers result None (λ pairs.
+            pairs.items ≡ first_of limit (pairs_held self.now i range.now reverse)) }
+    {
+        match range.clip(role.core.range())? {
+            Some(part) => {
+                let page = role.core.page(&part, self.version, limit, reverse)?;
+                Ok(page.pairs.into_vec())
+            }
+            None => Ok(Vec::new(self.alloc)),
+        }
     }
 }
 
@@ -107,8 +160,8 @@ impl<'a> Snapshot for ShardReads<'a> {
 
     fn page(&self, range: &KeyRange, limit: u32, reverse: bool) -> Result<Page, Refusal> {
         self.check_range(range)?;
-        let map = self.copy_range(range)?;
-        let (pairs, more) = map.page(range, limit, reverse)?;
+        let found = self.first_pairs(range, one_more(limit), reverse)?;
+        let (pairs, more) = page_of(found, limit);
         Ok(Page { pairs, more })
     }
 }
@@ -127,4 +180,19 @@ fn is_ahead(shards: &[ShardRole], version: u64, range: &KeyRange) -> bool
         ranges_meet role.core.range range.now && nat_lt role.core.version version) shards.now }
 {
     shards.iter().any(|role| role.core.range().meets(range) && role.core.version() < version)
+}
+
+// How many pairs are still wanted of so many, of which there are some already: 0 where all are wanted, and none where
+// that many are there.
+fn left_of(wanted: u32, count: usize) -> Option<u32>
+    ensures { result ≡ left_of wanted count }
+{
+    if wanted == 0 {
+        return Some(0);
+    }
+    if count < wanted as usize {
+        Some(wanted - count as u32)
+    } else {
+        None
+    }
 }

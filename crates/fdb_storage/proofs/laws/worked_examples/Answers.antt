@@ -1,56 +1,28 @@
-use Rattle.std.proofs.Common.{◌≡◌, ◌∙◌, sym, ap, ap₂, refl, arith, ℕ, ◌≤◌, Bool, true, false, nat_lt, List, [], ◌∷◌}
-use Rattle.std.proofs.Common.{map, fold, reverse, length, Option, None, if◌then◌else◌}
-use Rattle.std.specs.Ordering.{nat_cmp}
-use Rattle.std.specs.Cmp.Lexicographic.{slice_cmp}
-use Rattle.std.specs.FinMap.{entries, from_entries, entries-insert}
-use Rattle.std.specs.FinMap.Entries.{put}
+use Rattle.std.proofs.Common.{◌≡◌, ◌∙◌, sym, ap, ap₂, refl, arith, ℕ, suc, ◌+◌, max, ◌≤◌, Bool, true, false, not}
+use Rattle.std.proofs.Common.{nat_lt}
+use Rattle.std.proofs.Common.{List, fold, length, Option, is_some, if◌then◌else◌}
+use Rattle.std.specs.FinMap.{from_entries}
 use Rattle.std.specs.List.Sorted.{IsStrictlySortedBy}
-use Rattle.std.proofs.lemmas.Cmp.{nat_list_cmp_total}
 use Rattle.fdb_keys.specs.Points.{Point, point_lt}
-use Rattle.fdb_keys.specs.Ranges.{Range}
-use Rattle.fdb_mutations.specs.declared.mutation.Mutation.{Mutation}
-use Rattle.fdb_mutations.specs.declared.mutation.Mutation.TheVariants.{Set}
+use Rattle.fdb_keys.specs.Ranges.{Range, in_range}
 use Rattle.fdb_mutations.specs.Examples.{one}
 use Rattle.fdb_mutations.specs.Maps.{Map}
-use Rattle.fdb_mutations.specs.Mutations.{effect, effects, value_after}
-use Rattle.fdb_mutations.specs.PairExamples.{pair}
-use Rattle.fdb_mutations.specs.Pairs.{pairs_in, pairs_within, first_of}
-use Rattle.fdb_mutations.proofs.MapsLemmas.{entries-sorted, get-pairs}
-use Rattle.fdb_txn.proofs.rules.MessagesLemmas.{get-effects}
+use Rattle.fdb_mutations.specs.Pairs.{pairs_in, first_of}
+use Rattle.fdb_txn.specs.rules.Messages.{value_with, value_in}
 use Rattle.fdb_storage.specs.Examples.{span}
 use Rattle.fdb_storage.specs.declared.page.Page.{Page}
-use Rattle.fdb_storage.specs.Shards.{Shard, value_at, HasValuesOf, IsPage}
-use Rattle.fdb_storage.specs.ValueExamples.{growing}
+use Rattle.fdb_storage.specs.Shards.{Shard, value_at, kept_of, HasValuesOf, IsNewShard, IsPage, HasApplied}
+use Rattle.fdb_storage.specs.Shards.{HasForgotten}
+use Rattle.fdb_storage.specs.ValueExamples.{changes, growing, peek, rewriting}
+use Rattle.fdb_storage.specs.VersionLists.{changes_at, same_value, kept_from}
+use Rattle.fdb_storage.specs.KeyPages.{pairs_at, pairs_of}
+use Rattle.fdb_storage.specs.VersionMaps.{AreSorted}
+use Rattle.fdb_storage.proofs.PairsLemmas.{has-pairs, pairs-in_map}
+use Rattle.fdb_storage.proofs.VersionCountLemmas.{count-same}
 use Rattle.fdb_storage.proofs.laws.worked_examples.Goals as goal
 
 abbrev Pairs : Type 0
 Pairs = List (Point × List ℕ)
-
-abbrev set_all : Pairs → List Mutation
-set_all pairs = map (λ (held : Point × List ℕ). Set held.0 held.1) pairs
-
-abbrev put_all : Pairs → Pairs → Pairs
-put_all all pairs =
-    fold (λ (before : Pairs) (held : Point × List ℕ). put (slice_cmp nat_cmp) held.0 held.1 before) all pairs
-
-abbrev nothing : Map
-nothing = from_entries []
-
-entries_of_nothing : entries nothing ≡ []
-unfolding IsStrictlySortedBy
-entries_of_nothing = entries-sorted [] tt
-
--- the pairs that sets leave, since nothing can be computed with the entries of a map
-entries-sets : (old : Map) (pairs : Pairs) → entries (effects old (set_all pairs)) ≡ put_all (entries old) pairs
-unfolding effect
-entries-sets old [] = refl
-entries-sets old (held ∷ pairs) =
-    entries-sets (effect old (Set held.0 held.1)) pairs
-    ∙ ap (λ (all : Pairs). put_all all pairs) (entries-insert nat_list_cmp_total old held.0 held.1)
-
-abbrev read_from : Pairs → Range → Bool → Pairs
-read_from all range is_reverse =
-    if is_reverse then reverse (pairs_within range all) else pairs_within range all
 
 abbrev page_with : Pairs → Bool → Page
 page_with pairs more = record { pairs = pairs; more = more }
@@ -58,26 +30,18 @@ page_with pairs more = record { pairs = pairs; more = more }
 abbrev page_by : Pairs → ℕ → Page
 page_by all limit = page_with (first_of limit all) (nat_lt (length (first_of limit all)) (length all))
 
--- the page of a shard at a version at which it has what the sets leave
-module _ (shard : Shard) (v : ℕ) (sets : Pairs)
-    (values : (x : Point) → value_at shard v x ≡ fold (value_after x) None (set_all sets)) where
-  has : (range : Range) → HasValuesOf shard v range (effects nothing (set_all sets))
-  has range x inside =
-      get-effects nothing (set_all sets) x
-      ∙ ap (λ (old : Option (List ℕ)). fold (value_after x) old (set_all sets)) (get-pairs [] x)
-      ∙ sym (values x)
-
-  page_is : (range : Range) (limit : ℕ) (is_reverse : Bool) (page : Page) → IsPage shard range v limit is_reverse page
-      → page ≡ page_by (read_from (put_all [] sets) range is_reverse) limit
-  page_is range limit is_reverse page is =
-      let left : Map = effects nothing (set_all sets) in
-      let every : pairs_in left range is_reverse ≡ read_from (put_all [] sets) range is_reverse =
-      ap (λ (pairs : Pairs). read_from pairs range is_reverse) (entries-sets nothing sets
-      ∙ ap (λ (pairs : Pairs). put_all pairs sets) entries_of_nothing) in
-      let given : page.pairs ≡ first_of limit (read_from (put_all [] sets) range is_reverse) =
-      (is left (has range)).0 ∙ ap (first_of limit) every in
-      ap₂ page_with given ((is left (has range)).1
-      ∙ ap₂ (λ (some whole : Pairs). nat_lt (length some) (length whole)) given every)
+-- a page is the one that the pairs of the shard's keys make
+page_is : (shard : Shard) (v : ℕ) → AreSorted shard.keys → (range : Range) (limit : ℕ) (is_reverse : Bool) (page : Page)
+    → IsPage shard range v limit is_reverse page → page ≡ page_by (pairs_of shard.keys v range is_reverse) limit
+page_is shard v sorted range limit is_reverse page is =
+    let map : Map = from_entries (pairs_at v shard.keys) in
+    let has : HasValuesOf shard v range map = λ x inside. has-pairs v x shard.keys sorted in
+    let every : pairs_in map range is_reverse ≡ pairs_of shard.keys v range is_reverse =
+    sym (pairs-in_map v range is_reverse shard.keys map sorted has) in
+    let given : page.pairs ≡ first_of limit (pairs_of shard.keys v range is_reverse) =
+    (is map has).0 ∙ ap (first_of limit) every in
+    ap₂ page_with given ((is map has).1
+    ∙ ap₂ (λ (some whole : Pairs). nat_lt (length some) (length whole)) given every)
 
 pub returns-clause-values : goal.returns-clause-values
 unfolding point_lt
@@ -97,26 +61,24 @@ returns-clause-values c = (
   refl,
 )
 
-abbrev two : Pairs
-two = pair 12 5 ∷ pair 15 7 ∷ []
-
-abbrev all : Pairs
-all = pair 12 5 ∷ pair 15 7 ∷ pair 17 9 ∷ []
+rising : AreSorted growing.keys
+unfolding IsStrictlySortedBy
+rising = ((refl, (refl, tt)), ((refl, tt), (tt, tt)))
 
 pub returns-clause-pages : goal.returns-clause-pages
 unfolding point_lt
 returns-clause-pages c = λ page. (
-  page_is growing 100 all (λ x. refl) (span 10 20) 0 false page,
-  page_is growing 100 all (λ x. refl) (span 10 20) 2 false page,
-  page_is growing 100 all (λ x. refl) (span 10 20) 3 false page,
-  page_is growing 100 all (λ x. refl) (span 10 20) 4 false page,
-  page_is growing 100 all (λ x. refl) (span 10 20) 2 true page,
-  page_is growing 100 all (λ x. refl) (span 13 18) 1 false page,
-  page_is growing 100 all (λ x. refl) (span 13 17) 1 false page,
-  page_is growing 100 all (λ x. refl) (span 18 20) 1 false page,
-  page_is growing 60 two (λ x. refl) (span 10 20) 2 false page,
-  page_is growing 99 two (λ x. refl) (span 10 20) 1 true page,
-  page_is growing 59 [] (λ x. refl) (span 10 20) 0 false page,
+  page_is growing 100 rising (span 10 20) 0 false page,
+  page_is growing 100 rising (span 10 20) 2 false page,
+  page_is growing 100 rising (span 10 20) 3 false page,
+  page_is growing 100 rising (span 10 20) 4 false page,
+  page_is growing 100 rising (span 10 20) 2 true page,
+  page_is growing 100 rising (span 13 18) 1 false page,
+  page_is growing 100 rising (span 13 17) 1 false page,
+  page_is growing 100 rising (span 18 20) 1 false page,
+  page_is growing 60 rising (span 10 20) 2 false page,
+  page_is growing 99 rising (span 10 20) 1 true page,
+  page_is growing 59 rising (span 10 20) 0 false page,
 )
 
 pub returns-clause-replays : goal.returns-clause-replays
@@ -176,6 +138,87 @@ returns-clause-forgotten c = λ new. (
     forgotten.values 99 (one 17) (above 99 new forgotten.floor (omega arith)) (omega arith) refl,
     forgotten.values 100 (one 17) (above 100 new forgotten.floor (omega arith)) (omega arith) refl,
   )),
+)
+
+-- a new shard answers what the messages leave
+followed : (empty new : Shard) → IsNewShard 3 (span 10 20) empty → HasApplied empty (peek 0 100 changes) new → (v : ℕ)
+    (x : Point) → v ≤ 100 → in_range (span 10 20) x ≡ true → value_at new v x ≡ value_in v x changes
+followed empty new is_new applied v x below inside =
+    applied.after v x (omega (arith, is_new.version)) (omega (arith, below, applied.version))
+    (ap (λ (range : Range). in_range range x) is_new.range ∙ inside)
+    ∙ ap (λ (before : Option (List ℕ)). fold (value_with v x) before changes) (is_new.empty empty.version x)
+
+pub returns-clause-followed : goal.returns-clause-followed
+unfolding point_lt
+returns-clause-followed c = λ empty new is_new applied. (
+  followed empty new is_new applied 59 (one 12) (omega arith) refl,
+  followed empty new is_new applied 60 (one 12) (omega arith) refl,
+  followed empty new is_new applied 79 (one 12) (omega arith) refl,
+  followed empty new is_new applied 80 (one 12) (omega arith) refl,
+  followed empty new is_new applied 60 (one 15) (omega arith) refl,
+  followed empty new is_new applied 79 (one 15) (omega arith) refl,
+  followed empty new is_new applied 80 (one 15) (omega arith) refl,
+  followed empty new is_new applied 99 (one 15) (omega arith) refl,
+  followed empty new is_new applied 100 (one 15) (omega arith) refl,
+  followed empty new is_new applied 99 (one 17) (omega arith) refl,
+  followed empty new is_new applied 100 (one 17) (omega arith) refl,
+  followed empty new is_new applied 100 (one 13) (omega arith) refl,
+)
+
+-- values that agree from the floor on are kept alike
+kept-same : (one other : ℕ → Option (List ℕ)) (floor through : ℕ) → floor ≤ through
+    → ((v : ℕ) → floor ≤ v → v ≤ through → one v ≡ other v)
+    → kept_from one floor through ≡ kept_from other floor through
+kept-same one other floor through serves same =
+    ap₂ (λ (count : ℕ) (value : Option (List ℕ)). count + (if is_some value then 1 else 0))
+    (count-same (changes_at one) (changes_at other) floor through
+    (λ v from below. ap₂ (λ (after before : Option (List ℕ)). not (same_value after before))
+    (same (suc v) (omega arith) (omega arith)) (same v from (omega arith))))
+    (same floor (omega arith) serves)
+
+-- what the messages leave at a key is kept, and from the last version on
+module _ (empty old new : Shard) (is_new : IsNewShard 3 (span 10 20) empty)
+    (applied : HasApplied empty (peek 0 300 rewriting) old) (forgotten : HasForgotten old 300 new) (x : Point)
+    (inside : in_range (span 10 20) x ≡ true) where
+  held : in_range empty.range x ≡ true
+  held = ap (λ (range : Range). in_range range x) is_new.range ∙ inside
+
+  old_floor : old.floor ≡ 0
+  old_floor = applied.floor ∙ is_new.floor
+
+  new_floor : new.floor ≡ 300
+  new_floor = forgotten.floor ∙ ap (λ (n : ℕ). max n 300) old_floor
+
+  new_version : new.version ≡ 300
+  new_version = forgotten.version ∙ applied.version
+
+  old_value : (v : ℕ) → v ≤ 300 → value_at old v x ≡ value_in v x rewriting
+  old_value v below =
+      applied.after v x (omega (arith, is_new.version)) (omega (arith, below, applied.version)) held
+      ∙ ap (λ (before : Option (List ℕ)). fold (value_with v x) before rewriting) (is_new.empty empty.version x)
+
+  kept_old : kept_of old x ≡ kept_from (λ (v : ℕ). value_in v x rewriting) 0 300
+  kept_old =
+      ap₂ (λ (floor through : ℕ). kept_from (λ (v : ℕ). value_at old v x) floor through) old_floor applied.version
+      ∙ kept-same (λ (v : ℕ). value_at old v x) (λ (v : ℕ). value_in v x rewriting) 0 300 (omega arith)
+      (λ v from below. old_value v below)
+
+  kept_new : kept_of new x ≡ kept_from (λ (v : ℕ). value_in v x rewriting) 300 300
+  kept_new =
+      ap₂ (λ (floor through : ℕ). kept_from (λ (v : ℕ). value_at new v x) floor through) new_floor new_version
+      ∙ kept-same (λ (v : ℕ). value_at new v x) (λ (v : ℕ). value_in v x rewriting) 300 300 (omega arith)
+      (λ v from below.
+      forgotten.values v x (omega (arith, new_floor, from)) (omega (arith, applied.version, below))
+      (ap (λ (range : Range). in_range range x) applied.range ∙ held)
+      ∙ old_value v below)
+
+pub returns-clause-kept : goal.returns-clause-kept
+unfolding point_lt
+returns-clause-kept c = λ empty old new is_new applied forgotten. (
+  kept_old empty old new is_new applied forgotten (one 12) refl,
+  kept_new empty old new is_new applied forgotten (one 12) refl,
+  kept_old empty old new is_new applied forgotten (one 13) refl,
+  kept_new empty old new is_new applied forgotten (one 13) refl,
 )
 
 pub returns-clause-copied : goal.returns-clause-copied

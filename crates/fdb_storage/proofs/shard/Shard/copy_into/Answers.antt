@@ -1,49 +1,49 @@
-use Rattle.std.proofs.Common.{◌≡◌, ◌∙◌, sym, ap, Option, Some, fold}
+use Rattle.std.proofs.Common.{◌≡◌, ◌∙◌, sym, ap, ap₂, Bool, Option, Some}
+use Rattle.std.proofs.lemmas.Result.{err_from_is_err_and}
 use Rattle.std.specs.Prelude.{◌&&◌}
-use Rattle.std.specs.FinMap.{get}
 use Rattle.fdb_keys.specs.Points.{Point}
 use Rattle.fdb_keys.specs.Ranges.{Range, in_range}
 use Rattle.fdb_keys.specs.Clipping.{in_clipped}
-use Rattle.fdb_mutations.specs.Maps.{Map}
-use Rattle.fdb_storage.specs.CutMaps.{cut_with}
-use Rattle.fdb_storage.specs.Shards.{Shard, HasCopied, part_fault}
-use Rattle.fdb_storage.proofs.CutLemmas.{copied-inside, copied-outside}
-use Rattle.fdb_storage.proofs.FaultLemmas.{none-of, given}
+use Rattle.fdb_storage.specs.Shards.{Shard, IsKeptOutside, part_fault, value_at}
+use Rattle.fdb_storage.proofs.FaultLemmas.{none-of, given-also, refused-as, part_fault-none}
 use Rattle.fdb_storage.proofs.shard.Shard.copy_into.Goals as goal
-use Rattle.fdb_storage.proofs.shard.Shard.copy_into.Goals.{In_ok-apply_messages}
+use Rattle.fdb_storage.proofs.shard.Shard.copy_into.Goals.{After-copy_part}
 
 -- the part that is given is that of the range which the shard holds
-in-both : (c : In_ok-apply_messages) (x : Point) → in_clipped (Some c.in-Some.part) x
+in-both : (c : After-copy_part) (x : Point) → in_clipped (Some c.in-Some.part) x
     ≡ (in_range c.args.range.now x && in_range c.args.self.now.range x)
 in-both c x =
     ap (λ (part : Option Range). in_clipped part x) (sym c.in-Some.is)
     ∙ c.in_ok-part.ensures.points x
     ∙ ap (λ (it : Shard). in_range c.args.range.now x && in_range it.range x) c.self.view_is
 
-copied : (c : In_ok-apply_messages)
-    → HasCopied c.args.self.now c.args.range.now c.args.version c.args.map.now c.apply_messages.new.map
-copied c =
-    let shard = c.args.self.now in
-    let range = c.args.range.now in
-    let old = c.args.map.now in
-    let version = c.args.version in
-    let messages : c.deref.result.now ≡ shard.messages =
-    c.deref.ensures.value ∙ ap (λ (it : Shard). it.messages) c.self.view_is in
-    let built : c.apply_messages.new.map ≡ fold (cut_with c.in-Some.part version) old shard.messages =
-    c.in_ok-apply_messages.ensures.answers ∙ ap (fold (cut_with c.in-Some.part version) old) messages in
-    record {
-      inside = λ x inside there none. ap (λ (map : Map). get map x) built
-          ∙ copied-inside range shard.range (Some c.in-Some.part) version old shard.messages x (in-both c x) inside
-          there none;
-      outside = λ x apart. ap (λ (map : Map). get map x) built
-          ∙ copied-outside (Some c.in-Some.part) version old shard.messages x (in-both c x ∙ apart);
-    }
+outside : (c : After-copy_part)
+    → IsKeptOutside c.args.self.now c.args.range.now c.args.map.now c.copy_part.new.target
+outside c x apart = c.copy_part.ensures.outside x (in-both c x ∙ apart)
 
-pub returns-in_ok-apply_messages-clause-answers : goal.returns-in_ok-apply_messages-clause-answers
-returns-in_ok-apply_messages-clause-answers c =
-    given tt (part_fault c.args.self.now c.args.range.now c.args.version) _ (none-of _ _ _ c.in_ok-check_part.ensures)
-    (copied (goal.at.returns-in_ok-apply_messages-clause-answers c).In_ok-apply_messages)
+pub copy_part-requires : goal.copy_part-requires
+copy_part-requires c =
+    c.self.invariant.legal_keys (ap (λ (shard : Shard). shard.is_failed) c.self.view_is
+    ∙ part_fault-none c.args.self.now c.args.range.now c.args.version (none-of _ _ _ c.in_ok-check_part.ensures))
 
-pub returns-in_ok-apply_messages-clause-outside : goal.returns-in_ok-apply_messages-clause-outside
-returns-in_ok-apply_messages-clause-outside c =
-    (copied (goal.at.returns-in_ok-apply_messages-clause-outside c).In_ok-apply_messages).outside
+pub returns-in-Some-clause-answers : goal.returns-in-Some-clause-answers
+returns-in-Some-clause-answers c =
+    let here = (goal.at.returns-in-Some-clause-answers c).After-copy_part in
+    given-also c.copy_part.result (part_fault c.args.self.now c.args.range.now c.args.version) _ _
+    (none-of _ _ _ c.in_ok-check_part.ensures)
+    (λ done copied. record {
+      inside = λ x inside there none.
+          copied x (in-both here x ∙ ap₂ (λ (a b : Bool). a && b) inside there) none
+          ∙ ap (λ (it : Shard). value_at it c.args.version x) c.self.view_is;
+      outside = outside here;
+    })
+    c.copy_part.ensures.answers
+
+pub returns-in-Some-clause-outside : goal.returns-in-Some-clause-outside
+returns-in-Some-clause-outside c = outside (goal.at.returns-in-Some-clause-outside c).After-copy_part
+
+pub returns-in_err-check_part-clause-answers : goal.returns-in_err-check_part-clause-answers
+returns-in_err-check_part-clause-answers c =
+    let refused = err_from_is_err_and c.from_residual.result c.from_residual.ensures.1 in
+    refused-as c.from_residual.result refused.0 _ (part_fault c.args.self.now c.args.range.now c.args.version) _ _
+    refused.1 refused.2 c.in_err-check_part.ensures

@@ -1,7 +1,9 @@
+use Rattle.std.proofs.Common.{◌∙◌, ap, ℕ}
 use Rattle.std.specs.Prelude.{⊤}
-use Rattle.fdb_core.specs.refinement.ShardReads.{HasTheRunIn, range_fault}
+use Rattle.fdb_mutations.specs.Pairs.{first_of, pairs_in}
+use Rattle.fdb_core.specs.refinement.ShardReads.{range_fault, run_map}
 use Rattle.fdb_core.proofs.common.FaultLemmas.{given-fault}
-use Rattle.fdb_core.proofs.refinement.ShardReads.{page-of}
+use Rattle.fdb_core.proofs.refinement.ShardPages.{page-first}
 use Rattle.fdb_core.proofs.roles.shard_reads.ShardReadsSnapshot.page.Goals as goal
 
 pub returns : goal.returns
@@ -10,5 +12,7 @@ returns c =
     let range = c.args.range.now in
     let served = given-fault (range_fault reads range) c.in_ok-check_range.field-0 (λ _. ⊤)
     c.in_ok-check_range.ensures.answers in
-    let has : HasTheRunIn reads range c.in_ok-map.map = c.in_ok-map.ensures in
-    rw served.0 (page-of reads range c.args.limit c.args.reverse c.in_ok-map.map _ has c.in_ok-pairs.ensures)
+    let all = pairs_in (run_map reads) range c.args.reverse in
+    let cut = c.page_of-pairs.ensures all
+    (c.in_ok-found.ensures ∙ ap (λ (count : ℕ). first_of count all) c.one_more.ensures) in
+    rw served.0 (page-first (run_map reads) range c.args.limit c.args.reverse _ cut.0 cut.1)
