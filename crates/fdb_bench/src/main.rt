@@ -1,13 +1,16 @@
 //! Measures parts of the transaction system: what they do, and how long it takes by the clock.
 #![tactic(auto)]
 
+mod log;
 mod numbers;
 mod parts;
 mod resolver;
 mod serial;
+mod storage;
 
 use crate::numbers::{Fault, number_of};
 use crate::parts::Setting;
+use crate::storage::Setting as Sets;
 use std::env;
 use std::process::ExitCode;
 use std::time::Duration;
@@ -18,6 +21,11 @@ fdb_bench parts RESOLVERS BATCH TRANSACTIONS MOVES
     A commit proxy commits so many transactions, after it learnt so many moves.
 fdb_bench serial TRANSACTIONS
     So many transactions of a world, each of which sets a key, are checked against a run of one at a time.
+fdb_bench storage SETS KEYS BYTES
+    A shard applies so many sets of so many keys to values of so many bytes, in entries of 100, answers as many gets,
+    and a tenth as many pages of ten pairs.
+fdb_bench log ENTRIES
+    A log and its shard take so many entries of ten sets of 1,000 keys each.
 ";
 
 fn main(rt: HostRuntime) -> ExitCode {
@@ -51,6 +59,15 @@ fn obey(rt: &HostRuntime, words: &[&str]) -> Result<(), Fault> {
             },
         ),
         ["serial", transactions] => run_serial(rt, number_of(transactions)?),
+        ["storage", sets, keys, bytes] => run_storage(
+            rt,
+            &Sets {
+                sets: number_of(sets)?,
+                keys: number_of(keys)?,
+                bytes: number_of(bytes)?,
+            },
+        ),
+        ["log", entries] => run_log(rt, number_of(entries)?),
         _ => {
             print!(rt; "{}", USAGE)?;
             Ok(())
@@ -77,6 +94,23 @@ fn run_parts(rt: &HostRuntime, setting: &Setting) -> Result<(), Fault> {
 fn run_serial(rt: &HostRuntime, transactions: u32) -> Result<(), Fault> {
     let took = serial::measure(rt, rt.alloc(), transactions)?;
     report(rt, "serial", &[("transactions", transactions)], took)
+}
+
+fn run_storage(rt: &HostRuntime, setting: &Sets) -> Result<(), Fault> {
+    let took = storage::measure(rt, rt.alloc(), setting)?;
+    let numbers = [
+        ("sets", setting.sets),
+        ("keys", setting.keys),
+        ("bytes", setting.bytes),
+    ];
+    report(rt, "storage apply", &numbers, took.applying)?;
+    report(rt, "storage get", &numbers, took.getting)?;
+    report(rt, "storage page", &numbers, took.paging)
+}
+
+fn run_log(rt: &HostRuntime, entries: u32) -> Result<(), Fault> {
+    let took = log::measure(rt, rt.alloc(), entries)?;
+    report(rt, "log", &[("entries", entries)], took)
 }
 
 // Prints one line of JSON: what was measured, its numbers, and the time in microseconds.

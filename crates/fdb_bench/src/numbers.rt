@@ -50,6 +50,16 @@ pub(crate) fn random_range(alloc: Global, random: &mut Pcg32) -> Result<KeyRange
     KeyRange::new(alloc, &text_of(begin), &text_of(begin + count))
 }
 
+/// A random key of 16 bytes.
+pub(crate) fn random_key(alloc: Global, random: &mut Pcg32) -> Result<Key, Refusal> {
+    let mut text = Vec::new(alloc);
+    // No key begins with the byte FF.
+    let head = random.next_u64() >> 1;
+    text.extend_from_slice(&head.to_be_bytes())?;
+    text.extend_from_slice(&random.next_u64().to_be_bytes())?;
+    Key::new(alloc, text.as_slice())
+}
+
 /// The keys that split all into so many pieces of equally many.
 pub(crate) fn even_splits(alloc: Global, pieces: u32) -> Result<Items<Key>, Refusal> {
     let mut splits = Items::new(alloc);
