@@ -1,12 +1,24 @@
 -- What a transcript was answered, operation by operation.
-use Rattle.std.proofs.Common.{◌≡◌, ◌∙◌, sym, ap, subst, ℕ, ◌+◌, true, List, [], ◌∷◌, ◌++◌, take, drop, append_assoc}
-use Rattle.std.proofs.Common.{append-nil, take-append-drop, Some}
+use Rattle.std.proofs.Common.{◌≡◌, ◌∙◌, sym, ap, subst, refl, ℕ, ◌+◌, Bool, true, false, ◌&&◌, ◌↔◌, List, [], ◌∷◌, ◌++◌}
+use Rattle.std.proofs.Common.{take, drop, append_assoc, append-nil, take-append-drop, Option, Some}
+use Rattle.std.specs.Prelude.{nat_eq}
+use Rattle.std.specs.Bool.{Decides}
+use Rattle.std.specs.Cmp.Lexicographic.{pointwise, bytes_decides}
+use Rattle.std.specs.FinMap.{get}
 use Rattle.std.specs.List.{slice_get}
+use Rattle.std.proofs.lemmas.Bool.Decides.{Decides-and}
 use Rattle.std.proofs.lemmas.List.{take_more}
 use Rattle.std.proofs.lemmas.Option.{slice_get_within, get_or_from_slice_get}
+use Rattle.fdb_keys.specs.Equality.{key_eq, key_eq_decides, items_eq_decides}
+use Rattle.fdb_keys.specs.Points.{Point}
+use Rattle.fdb_keys.specs.Ranges.{Range}
 use Rattle.fdb_mutations.specs.Maps.{Map}
+use Rattle.fdb_mutations.specs.PairLaws.{given_of}
 use Rattle.fdb_client.specs.declared.program.Op.{Op}
+use Rattle.fdb_client.specs.declared.program.Op.TheVariants.{Get}
+use Rattle.fdb_client.specs.declared.program.Op.TheVariants as operation
 use Rattle.fdb_client.specs.declared.program.Reply.{Reply}
+use Rattle.fdb_client.specs.declared.program.Reply.TheVariants.{Value, Pairs}
 use Rattle.fdb_client.specs.ProgramLaws.{is_ordinary, AgreeWhereOrdinary}
 use Rattle.fdb_client.specs.Programs.{program, copy, reply_on, exec, replies_of}
 use Rattle.fdb_client.proofs.ProgramLemmas.{program-push, replies-push}
@@ -25,6 +37,11 @@ one-more : (ops : List (Op × Reply)) (i : ℕ) (done : Op × Reply) → slice_g
 one-more ops i done there =
     take_more ops i done (slice_get_within ops i done there)
     ∙ ap (λ (one : Op × Reply). take i ops ++ one ∷ []) (get_or_from_slice_get ops i done done there)
+
+-- the program of the first operations with one more
+pub program-next : (ops : List (Op × Reply)) (i : ℕ) (done : Op × Reply) → slice_get ops i ≡ Some done
+    → program (take (i + 1) ops) ≡ done.0 ∷ program (take i ops)
+program-next ops i done there = ap program (one-more ops i done there) ∙ program-push (take i ops) done
 
 -- one operation more
 answered-push : (map : Map) (ops : List (Op × Reply)) (done : Op × Reply)
@@ -59,3 +76,43 @@ answered-at map ops i done there all =
     (subst (AnsweredSoFar map) (one-more ops i done there)
     (answered-front map (take (i + 1) ops) (drop (i + 1) ops)
     (subst (AnsweredSoFar map) (sym (take-append-drop (i + 1) ops)) all)))).0
+
+-- a read that isn't a snapshot read was answered as on the copy just where it was told what the copy has
+pub answered-get : (map : Map) (earlier : List Op) (op : Op) (reply : Reply) (key : Point)
+    (value : Option (List ℕ)) (same : Bool) → op ≡ Get key false → value ≡ get (copy map earlier) key
+    → (same ≡ true) ↔ (reply ≡ Value value)
+    → (same ≡ true) ↔ (is_ordinary op ≡ true → reply ≡ reply_on (copy map earlier) op)
+answered-get map earlier op reply key value same is has told =
+    subst (λ (read : Op). (same ≡ true) ↔ (is_ordinary read ≡ true → reply ≡ reply_on (copy map earlier) read)) (sym is) (
+      λ yes ordinary. told.0 yes ∙ ap Value has,
+      λ answered. told.1 (answered refl ∙ ap Value (sym has)),
+    )
+
+-- and such a read of a range
+pub answered-range : (map : Map) (earlier : List Op) (op : Op) (reply : Reply) (range : Range) (limit : ℕ)
+    (is_reverse : Bool) (pairs : List (Point × List ℕ)) (same : Bool)
+    → op ≡ operation.Range range limit is_reverse false
+    → pairs ≡ given_of (copy map earlier) range limit is_reverse
+    → (same ≡ true) ↔ (reply ≡ Pairs pairs)
+    → (same ≡ true) ↔ (is_ordinary op ≡ true → reply ≡ reply_on (copy map earlier) op)
+answered-range map earlier op reply range limit is_reverse pairs same is has told =
+    subst (λ (read : Op). (same ≡ true) ↔ (is_ordinary read ≡ true → reply ≡ reply_on (copy map earlier) read)) (sym is) (
+      λ yes ordinary. told.0 yes ∙ ap Pairs has,
+      λ answered. told.1 (answered refl ∙ ap Pairs (sym has)),
+    )
+
+-- `==` of two pairs
+abbrev pub pair_eq : Point × List ℕ → Point × List ℕ → Bool
+pair_eq a b = key_eq a.0 b.0 && pointwise nat_eq a.1 b.1
+
+pair_eq_decides : (a b : Point × List ℕ) → Decides (pair_eq a b) (a ≡ b)
+pair_eq_decides a b =
+    let parts = Decides-and (key_eq a.0 b.0) (pointwise nat_eq a.1 b.1) (key_eq_decides a.0 b.0)
+    (bytes_decides a.1 b.1) in (
+      λ equal. let same = parts.0 equal in λ i. (same.0 i, same.1 i),
+      λ same. parts.1 (ap (λ (pair : Point × List ℕ). pair.0) same, ap (λ (pair : Point × List ℕ). pair.1) same),
+    )
+
+-- `==` of two lists of pairs says that they are the same
+pub pairs_eq_decides : (a b : List (Point × List ℕ)) → Decides (pointwise pair_eq a b) (a ≡ b)
+pairs_eq_decides a b = items_eq_decides pair_eq pair_eq_decides a b

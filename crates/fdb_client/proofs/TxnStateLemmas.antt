@@ -1,5 +1,5 @@
 -- One operation more of what a transaction keeps.
-use Rattle.std.proofs.Common.{◌≡◌, ◌∙◌, sym, ap, ap₂, List, [], ◌∷◌, ◌++◌, None, false}
+use Rattle.std.proofs.Common.{◌≡◌, ◌∙◌, sym, ap, ap₂, subst, List, [], ◌∷◌, ◌++◌, None, false}
 use Rattle.std.specs.List.{AllByRecursion}
 use Rattle.std.specs.FinMap.{get}
 use Rattle.fdb_keys.specs.Points.{Point}
@@ -13,17 +13,32 @@ use Rattle.fdb_client.specs.declared.own_writes.OwnWrites.{OwnWrites}
 use Rattle.fdb_client.specs.declared.program.Op.{Op}
 use Rattle.fdb_client.specs.declared.program.Reply.{Reply}
 use Rattle.fdb_client.specs.LeftAt.{left_at, HasLegalKeys}
-use Rattle.fdb_client.specs.OwnWrites.{left_by, left_by_ops, is_value, value_over}
-use Rattle.fdb_client.specs.TxnState.{AreOf, WritesNothing}
+use Rattle.fdb_client.specs.OwnWrites.{left_by, is_value, value_over}
+use Rattle.fdb_client.specs.TxnState.{AreOf, AreWritesOf, WritesNothing}
 use Rattle.fdb_client.specs.Programs.{program, copy, decided, add_decided, add_reads, add_writes, add_mutation}
-use Rattle.fdb_client.specs.Programs.{decided_ranges, read_ranges, write_ranges, mutations_of}
+use Rattle.fdb_client.specs.Programs.{read_ranges, mutations_of}
 use Rattle.fdb_client.proofs.DecidedLemmas.{in_decided_ranges}
 use Rattle.fdb_client.proofs.OwnWritesLemmas.{decided-left, copy-left, unwritten-left}
 use Rattle.fdb_client.proofs.ProgramLemmas.{program-push, replies-push}
 use Rattle.fdb_client.proofs.WriteSetLemmas.{in_write_ranges}
 
+-- what is kept of a program's writes with one operation more: each part has what the operation adds to it
+pub writes-push : (ops : List Op) (op : Op) (own after : OwnWrites) (writes new_writes : List Range)
+    → AreWritesOf ops own writes
+    → ((x : Point) → left_at after x ≡ left_by x (left_at own x) op)
+    → HasLegalKeys after
+    → after.decided ≡ add_decided op own.decided
+    → new_writes ≡ add_writes op writes
+    → AreWritesOf (op ∷ ops) after new_writes
+writes-push ops op own after writes new_writes are there keys decides written = record {
+  left_there = λ x. there x ∙ ap (λ (before : Left). left_by x before op) (are.left_there x);
+  legal_keys = keys;
+  are_decided = decides ∙ ap (add_decided op) are.are_decided;
+  are_written = written ∙ ap (add_writes op) are.are_written;
+}
+
 module _ (ops : List (Op × Reply)) (done : Op × Reply) where
-  -- what is kept with one operation more: each part has what the operation adds to it
+  -- and so what is kept of the operations
   pub are-push : (own after : OwnWrites) (reads writes new_reads new_writes : List Range)
       (mutations new_mutations : List Mutation) → AreOf ops own reads writes mutations
       → ((x : Point) → left_at after x ≡ left_by x (left_at own x) done.0)
@@ -38,13 +53,10 @@ module _ (ops : List (Op × Reply)) (done : Op × Reply) where
       added legal =
       let pushed = sym (program-push ops done) in
       record {
-        left_there = λ x. there x ∙ ap (λ (before : Left). left_by x before done.0) (are.left_there x)
-            ∙ ap (λ (program : List Op). left_by_ops program x) pushed;
-        legal_keys = keys;
-        are_decided = decides ∙ ap (add_decided done.0) are.are_decided ∙ ap decided_ranges pushed;
+        written = subst (λ (all : List Op). AreWritesOf all after new_writes) pushed
+            (writes-push (program ops) done.0 own after writes new_writes are.written there keys decides written);
         are_read = read ∙ ap (add_reads (program ops) done.0 done.1) are.are_read
             ∙ ap₂ read_ranges pushed (sym (replies-push ops done));
-        are_written = written ∙ ap (add_writes done.0) are.are_written ∙ ap write_ranges pushed;
         are_mutations = added ∙ ap (add_mutation done.0) are.are_mutations ∙ ap mutations_of pushed;
         legal = legal;
       }
@@ -56,32 +68,30 @@ module _ (ops : List (Op × Reply)) (done : Op × Reply) where
       → AreOf (ops ++ done ∷ []) own new_reads writes mutations
   are-noted own reads writes new_reads mutations are nothing read =
       are-push own own reads writes new_reads writes mutations mutations are
-      (λ x. sym (nothing.0 x (left_at own x))) are.legal_keys (sym (nothing.1 own.decided)) read
+      (λ x. sym (nothing.0 x (left_at own x))) are.written.legal_keys (sym (nothing.1 own.decided)) read
       (sym (nothing.2 writes)) (sym (nothing.3 mutations)) are.legal
 
-module _ (ops : List (Op × Reply)) (own : OwnWrites) (reads writes : List Range) (mutations : List Mutation)
-    (are : AreOf ops own reads writes mutations) (key : Point) where
+module _ (ops : List Op) (own : OwnWrites) (writes : List Range) (are : AreWritesOf ops own writes) (key : Point) where
   -- the writes that are kept decide a key exactly where the operations do
-  pub left_at-decides : is_value (left_at own key) ≡ decided (program ops) key
-  left_at-decides = ap is_value (are.left_there key) ∙ decided-left (program ops) key
+  pub left_at-decides : is_value (left_at own key) ≡ decided ops key
+  left_at-decides = ap is_value (are.left_there key) ∙ decided-left ops key
 
   -- and where the set of what they decide has it
   pub left_at-decided : in_set own.decided key ≡ is_value (left_at own key)
   left_at-decided =
-      ap (λ (set : List Range). in_set set key) are.are_decided ∙ in_decided_ranges (program ops) key
-      ∙ sym left_at-decides
+      ap (λ (set : List Range). in_set set key) are.are_decided ∙ in_decided_ranges ops key ∙ sym left_at-decides
 
   -- and make of what a map has there what the operations make of it
-  pub left_at-value : (map : Map) → value_over (left_at own key) (get map key) ≡ get (copy map (program ops)) key
+  pub left_at-value : (map : Map) → value_over (left_at own key) (get map key) ≡ get (copy map ops) key
   left_at-value map =
-      ap (λ (there : Left). value_over there (get map key)) (are.left_there key) ∙ sym (copy-left map (program ops) key)
+      ap (λ (there : Left). value_over there (get map key)) (are.left_there key) ∙ sym (copy-left map ops key)
 
   -- where nothing is written nothing is left
   pub left_at-unwritten : in_set writes key ≡ false → left_at own key ≡ Changes []
   left_at-unwritten none =
       are.left_there key
-      ∙ unwritten-left (program ops) key
-      (sym (ap (λ (set : List Range). in_set set key) are.are_written ∙ in_write_ranges (program ops) key) ∙ none)
+      ∙ unwritten-left ops key
+      (sym (ap (λ (set : List Range). in_set set key) are.are_written ∙ in_write_ranges ops key) ∙ none)
 
 -- one more legal mutation
 pub legal-push : (mutations : List Mutation) (mutation : Mutation)

@@ -28,15 +28,20 @@ WritesNothing op =
     × ((ranges : List Range) → add_writes op ranges ≡ ranges)
     × ((mutations : List Mutation) → add_mutation op mutations ≡ mutations)
 
--- what is kept of the operations: what the writes leave at each point, under legal keys alone, what they decide, the
--- read set and the write set, and the mutations, each of which is a legal one
+-- what is kept of a program's writes: what they leave at each point, under legal keys alone, what they decide, and the
+-- write set
+pub record AreWritesOf (ops : List Op) (own : OwnWrites) (writes : List Range) : Type 0 where
+  pub left_there : (x : Point) → left_at own x ≡ left_by_ops ops x
+  pub legal_keys : HasLegalKeys own
+  pub are_decided : own.decided ≡ decided_ranges ops
+  pub are_written : writes ≡ write_ranges ops
+
+-- what is kept of the operations: what is kept of their writes, the read set, and the mutations, each of which is a legal
+-- one
 pub record AreOf (ops : List (Op × Reply)) (own : OwnWrites) (reads writes : List Range)
     (mutations : List Mutation) : Type 0 where
-  pub left_there : (x : Point) → left_at own x ≡ left_by_ops (program ops) x
-  pub legal_keys : HasLegalKeys own
-  pub are_decided : own.decided ≡ decided_ranges (program ops)
+  pub written : AreWritesOf (program ops) own writes
   pub are_read : reads ≡ read_ranges (program ops) (replies_of ops)
-  pub are_written : writes ≡ write_ranges (program ops)
   pub are_mutations : mutations ≡ mutations_of (program ops)
   pub legal : AllByRecursion (λ (mutation : Mutation). mutation_fault mutation ≡ None) mutations
 

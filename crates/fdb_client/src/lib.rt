@@ -2,6 +2,7 @@
 //! what it reads and writes.
 #![tactic(auto)]
 
+mod answered;
 mod buffering;
 mod finished;
 pub mod laws;
@@ -16,6 +17,7 @@ mod snapshot;
 mod txn;
 mod txn_state;
 
+pub use answered::is_answered_on;
 pub use finished::Finished;
 pub use plain_snapshot::PlainSnapshot;
 pub use program::{Op, Reply, Transcript};

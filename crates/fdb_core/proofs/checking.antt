@@ -1,9 +1,7 @@
 pub mod BodyLemmas
-pub mod ComparingLemmas
 pub mod HoldingLemmas
 pub mod JudgedLemmas
 pub mod JudgingLemmas
-pub mod PartLemmas
 pub mod ReplayLemmas
 pub mod RunningLemmas
 pub mod SoundChecks

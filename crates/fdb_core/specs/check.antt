@@ -1,9 +1,7 @@
 pub mod Bodies
 pub mod Checking
-pub mod Comparing
 pub mod Holding
 pub mod Judged
 pub mod Judging
 pub mod Running
 pub mod Spots
-pub mod Values

@@ -12,8 +12,8 @@ mod step;
 mod steps;
 mod world;
 
-pub use check::compare::is_answered_on;
 pub use check::serial::serial_check;
+pub use fdb_client::is_answered_on;
 pub use fdb_proxy::{Config, Outcome};
 pub use fdb_resolver::Verdict;
 pub use in_flight::InFlight;

@@ -1,17 +1,18 @@
 -- Where a shard has the serial map.
-use Rattle.std.proofs.Common.{◌≡◌, ◌∙◌, sym, subst, ◌↔◌, ℕ, suc, ◌+◌, ◌≤◌, arith, true, false, nat_lt, List, [], ◌∷◌}
+use Rattle.std.proofs.Common.{◌≡◌, ◌∙◌, sym, ap, subst, ◌↔◌, ℕ, suc, ◌+◌, ◌≤◌, arith, true, false, nat_lt, List, [], ◌∷◌}
 use Rattle.std.proofs.Common.{take, length, Option, Some, None, Result, Ok, Err, MatchResult, inl, inr, ⊎_elim, refl}
 use Rattle.std.specs.List.{AllByRecursion, slice_get}
 use Rattle.std.specs.Prelude.{OnOk, IfErr}
 use Rattle.std.specs.Ordering.{nat_cmp}
 use Rattle.std.specs.Cmp.Lexicographic.{slice_cmp}
-use Rattle.std.specs.FinMap.{get, empty, get-empty}
-use Rattle.std.proofs.lemmas.Bool.{cases_Bool, and_from, ltb-true, ltb-false, lt-ltb, le-leb}
+use Rattle.std.specs.FinMap.{get, empty, get-empty, find}
+use Rattle.std.proofs.lemmas.Bool.{cases_Bool, cond-true, and_from, ltb-true, ltb-false, lt-ltb, le-leb}
 use Rattle.fdb_keys.specs.Points.{Point}
-use Rattle.fdb_keys.specs.Ranges.{in_range}
+use Rattle.fdb_keys.specs.Ranges.{Range, in_range}
 use Rattle.fdb_mutations.specs.Maps.{Map}
 use Rattle.fdb_mutations.specs.Pairs.{pairs_in}
-use Rattle.fdb_mutations.proofs.PairsLemmas.{same_values}
+use Rattle.fdb_mutations.specs.PairLaws.{AgreeIn}
+use Rattle.fdb_mutations.proofs.PairsLemmas.{find-within, same_values}
 use Rattle.fdb_storage.specs.Shards.{Shard, HasCopied, value_at}
 use Rattle.fdb_txn.specs.declared.entry.Entry.{Entry}
 use Rattle.fdb_txn.specs.book.Book.{last_version, seen_of, seen_before}
@@ -24,7 +25,14 @@ use Rattle.fdb_core.specs.declared.world.CheckFault.TheVariants.{NoMemory}
 use Rattle.fdb_core.specs.check.Holding.{HasTheMap, HoldsTheRun, HasTheMapThere, ShardDiffers, StopsByShard, is_between}
 use Rattle.fdb_core.proofs.common.AllLemmas.{all-both}
 use Rattle.fdb_core.proofs.checking.RunningLemmas.{IsUntil, map-here, last-next, until-next, until-end}
-use Rattle.fdb_core.proofs.checking.PartLemmas.{same_pairs}
+
+-- maps with the same pairs in a range have the same values there
+same_pairs : (map other : Map) (range : Range) → pairs_in map range false ≡ pairs_in other range false
+    → AgreeIn range map other
+same_pairs map other range same x inside =
+    sym (cond-true _ _ _ inside) ∙ sym (find-within map range x)
+    ∙ ap (λ (pairs : List (Point × List ℕ)). find (slice_cmp nat_cmp) x pairs) same
+    ∙ find-within other range x ∙ cond-true _ _ _ inside
 
 -- a shard has the map where the copy that it gives has the map's pairs in the shard's range
 pub has-map : (shard : Shard) (held map : Map) → HasCopied shard shard.range shard.version empty held

@@ -3,12 +3,20 @@ use Rattle.std.proofs.Common.{◌≡◌, ◌∙◌, refl, ap, ℕ, List, [], ◌
 use Rattle.std.specs.FinMap.{get}
 use Rattle.fdb_keys.specs.Points.{Point}
 use Rattle.fdb_mutations.specs.Maps.{Map}
+use Rattle.fdb_mutations.specs.Mutations.{value_after}
 use Rattle.fdb_mutations.proofs.Effects.{at_every_point}
 use Rattle.fdb_client.specs.declared.program.Op.{Op}
 use Rattle.fdb_client.specs.declared.program.Op.TheVariants as op
 use Rattle.fdb_client.specs.declared.program.Reply.{Reply}
 use Rattle.fdb_client.specs.Programs.{program, copy}
-use Rattle.fdb_core.specs.check.Values.{value_after_op}
+
+-- what stands at a point after an operation, by what stood there
+abbrev pub value_after_op : Point → Option (List ℕ) → Op × Reply → Option (List ℕ)
+value_after_op x value (op.Get key snapshot, reply) = value
+value_after_op x value (op.Range range limit is_reverse snapshot, reply) = value
+value_after_op x value (op.Write mutation, reply) = value_after x value mutation
+value_after_op x value (op.AddRead range, reply) = value
+value_after_op x value (op.AddWrite range, reply) = value
 
 -- a transcript's operations after earlier ones
 abbrev after : List Op → List (Op × Reply) → List Op

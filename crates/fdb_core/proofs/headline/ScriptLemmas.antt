@@ -29,7 +29,6 @@ use Rattle.fdb_client.specs.declared.program.Op.TheVariants as op
 use Rattle.fdb_client.specs.declared.program.Reply.{Reply}
 use Rattle.fdb_client.specs.declared.program.Reply.TheVariants as reply
 use Rattle.fdb_client.specs.declared.program.Transcript.{Transcript}
-use Rattle.fdb_core.specs.check.Values.{value_after_op}
 use Rattle.fdb_core.specs.declared.step.Answered.{Answered}
 use Rattle.fdb_core.specs.declared.step.Answered.TheVariants as answered
 use Rattle.fdb_core.specs.declared.step.Step.{Step}
@@ -45,7 +44,7 @@ use Rattle.fdb_core.specs.machine.Sessions.{Session, SessionState, Sessions, Idl
 use Rattle.fdb_core.specs.machine.Sessions.{session_of, is_busy, has_used_up, begins_next, open_of, serve, tell_all}
 use Rattle.fdb_core.specs.machine.Steps.{next, answer_of, after}
 use Rattle.fdb_core.specs.machine.Worlds.{start, IsRun}
-use Rattle.fdb_core.proofs.checking.ValueLemmas.{get-copy}
+use Rattle.fdb_core.proofs.checking.ValueLemmas.{get-copy, value_after_op}
 use Rattle.fdb_core.proofs.machine.SessionMaps.{session-put, session-new}
 
 -- sessions with their numbers, the last one that changed first

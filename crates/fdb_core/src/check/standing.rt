@@ -9,12 +9,11 @@ ghost use Rattle.fdb_core.specs.check.Spots.{entries_through, moment_of};
 ghost use Rattle.fdb_core.specs.headline.Headline.{AnsweredOn, WroteNothing, IsSerializedAt, IsReadOnlyAt};
 ghost use Rattle.fdb_core.specs.headline.Headline.{IsSerialized};
 
-use crate::check::compare::is_answered_on;
 use crate::check::run::{Run, commits, go_to, outcomes_at};
 use crate::check::visits::Visit;
 use crate::roles::client::Placed;
 use crate::world::CheckFault;
-use fdb_client::{Transcript, has_written_nothing, is_request_of};
+use fdb_client::{Transcript, has_written_nothing, is_answered_on, is_request_of};
 use fdb_keys::Refusal;
 use fdb_mutations::PlainMap;
 use fdb_txn::{Entry, Sealed, Spot};

@@ -7,6 +7,6 @@ use Rattle.fdb_client.proofs.txn.Txn.write_conflicts.Goals as goal
 
 pub returns-clause-points : goal.returns-clause-points
 returns-clause-points c = λ x.
-    ap (λ (set : List Range). in_set set x) c.self.invariant.are_written
+    ap (λ (set : List Range). in_set set x) c.self.invariant.written.are_written
     ∙ in_write_ranges (program c.self.inside.state.transcript.ops) x
     ∙ ap (λ (t : Transcript). write_set (program t.ops) x) c.self.view_is

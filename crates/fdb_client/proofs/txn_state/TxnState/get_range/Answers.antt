@@ -10,7 +10,7 @@ pairs_of-requires-clause-copy g c =
     let now = c.args.self.now in
     let map = g.S.Snapshot.map c.args.snapshot.now in (
       copy map (program now.transcript.ops),
-      λ x. sym (left_at-value now.transcript.ops now.own now.reads now.writes now.mutations c.requires x map),
+      λ x. sym (left_at-value (program now.transcript.ops) now.own now.writes c.requires.written x map),
     )
 
 pub note_range-requires-clause-given : goal.note_range-requires-clause-given
@@ -21,8 +21,8 @@ note_range-requires-clause-given g c =
     let read = given c.in_ok-pairs.pairs (g.S.Snapshot.range_fault c.args.snapshot.now c.args.range.now) _
     c.in_ok-pairs.ensures in (
       after,
-      read.1 after (λ x. sym (left_at-value now.transcript.ops now.own now.reads now.writes now.mutations
-          c.requires x map)),
+      read.1 after (λ x. sym (left_at-value (program now.transcript.ops) now.own now.writes c.requires.written
+          x map)),
     )
 
 pub returns-clause-answers : goal.returns-clause-answers
@@ -32,5 +32,4 @@ returns-clause-answers g c =
     let after : Map = copy map (program now.transcript.ops) in
     let read = given c.in_ok-pairs.pairs (g.S.Snapshot.range_fault c.args.snapshot.now c.args.range.now) _
     c.in_ok-pairs.ensures in
-    rw read.0 (read.1 after (λ x. sym (left_at-value now.transcript.ops now.own now.reads now.writes now.mutations
-    c.requires x map)))
+    rw read.0 (read.1 after (λ x. sym (left_at-value (program now.transcript.ops) now.own now.writes c.requires.written x map)))

@@ -1,11 +1,12 @@
+use Rattle.fdb_client.specs.Programs.{program}
 use Rattle.fdb_client.proofs.TxnStateLemmas.{left_at-decides, left_at-value}
 use Rattle.fdb_client.proofs.txn_state.TxnState.read.Goals as goal
 
 pub returns : goal.returns
 returns g c =
     let now = c.args.self.now in
-    let decides = left_at-decides now.transcript.ops now.own now.reads now.writes now.mutations c.requires
+    let decides = left_at-decides (program now.transcript.ops) now.own now.writes c.requires.written
     c.args.key.now in
-    let value = left_at-value now.transcript.ops now.own now.reads now.writes now.mutations c.requires
+    let value = left_at-value (program now.transcript.ops) now.own now.writes c.requires.written
     c.args.key.now (g.S.Snapshot.map c.args.snapshot.now) in
     rw decides at (rw value at c.value_of.ensures)

@@ -7,6 +7,6 @@ use Rattle.fdb_client.proofs.txn_state.TxnState.seal.Goals as goal
 
 pub from_joined-requires-clause-named : goal.from_joined-requires-clause-named
 from_joined-requires-clause-named c = λ x named.
-    ap (λ (set : List Range). in_set set x) (c.requires.writes ∙ c.requires.kept.are_written)
+    ap (λ (set : List Range). in_set set x) (c.requires.writes ∙ c.requires.kept.written.are_written)
     ∙ commit_request_of-names c.args.self.transcript x
     (sym (ap (λ (mutations : List Mutation). some_names mutations x) c.requires.kept.are_mutations) ∙ named)

@@ -9,21 +9,21 @@ use Rattle.fdb_client.specs.declared.program.Op.TheVariants as operation
 use Rattle.fdb_client.specs.declared.program.Reply.TheVariants as answer
 use Rattle.fdb_client.specs.LeftAt.{left_at, HasLegalKeys}
 use Rattle.fdb_client.specs.OwnWrites.{left_with, is_value}
-use Rattle.fdb_client.specs.Programs.{add_decided}
+use Rattle.fdb_client.specs.Programs.{program, add_decided}
 use Rattle.fdb_client.proofs.TxnStateLemmas.{are-push, left_at-decided, left_at-unwritten, legal-push}
 use Rattle.fdb_client.proofs.txn_state.TxnState.write.Goals as goal
 
 pub buffer-requires-clause-legal_keys : goal.buffer-requires-clause-legal_keys
 buffer-requires-clause-legal_keys c =
     let own = ap (λ (state : TxnState). state.own) c.in_ok-list_write.ensures.answers in
-    subst HasLegalKeys (sym own) c.requires.kept.legal_keys
+    subst HasLegalKeys (sym own) c.requires.kept.written.legal_keys
 
 pub buffer-requires-clause-decided : goal.buffer-requires-clause-decided
 buffer-requires-clause-decided c =
     let old = c.args.self.now in
     let own = ap (λ (state : TxnState). state.own) c.in_ok-list_write.ensures.answers in
     subst (λ (there : OwnWrites). (x : Point) → in_set there.decided x ≡ is_value (left_at there x)) (sym own)
-    (λ x. left_at-decided old.transcript.ops old.own old.reads old.writes old.mutations c.requires.kept x)
+    (λ x. left_at-decided (program old.transcript.ops) old.own old.writes c.requires.kept.written x)
 
 pub buffer-requires-clause-written : goal.buffer-requires-clause-written
 buffer-requires-clause-written c = λ x none.
@@ -32,7 +32,7 @@ buffer-requires-clause-written c = λ x none.
     let own = ap (λ (state : TxnState). state.own) listed in
     let writes = ap (λ (state : TxnState). state.writes) listed in
     ap (λ (there : OwnWrites). left_at there x) own
-    ∙ left_at-unwritten old.transcript.ops old.own old.reads old.writes old.mutations c.requires.kept x
+    ∙ left_at-unwritten (program old.transcript.ops) old.own old.writes c.requires.kept.written x
     (sym (ap (λ (set : List Range). in_set set x) writes) ∙ none)
 
 pub returns-clause-kept : goal.returns-clause-kept

@@ -2,9 +2,9 @@ use Rattle.std.proofs.Common.{◌≡◌, ◌∙◌, sym, false}
 use Rattle.std.specs.FinMap.{empty}
 use Rattle.fdb_mutations.specs.Pairs.{pairs_in}
 use Rattle.fdb_storage.specs.Shards.{HasCopied, part_fault}
+use Rattle.fdb_client.proofs.AnsweredLemmas.{pairs_eq_decides}
 use Rattle.fdb_core.proofs.common.FaultLemmas.{answers-fault}
 use Rattle.fdb_core.proofs.checking.HoldingLemmas.{has-map}
-use Rattle.fdb_core.proofs.checking.PartLemmas.{pairs_eq_decides}
 use Rattle.fdb_core.proofs.check.shards.has_map.Goals as goal
 
 pub returns : goal.returns

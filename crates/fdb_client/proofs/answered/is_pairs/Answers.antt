@@ -1,7 +1,7 @@
 use Rattle.std.proofs.Common.{◌≡◌, ◌∙◌, sym, ap}
 use Rattle.fdb_client.specs.declared.program.Reply.TheVariants.{Pairs}
-use Rattle.fdb_core.proofs.checking.PartLemmas.{pairs_eq_decides}
-use Rattle.fdb_core.proofs.check.compare.is_pairs.Goals as goal
+use Rattle.fdb_client.proofs.AnsweredLemmas.{pairs_eq_decides}
+use Rattle.fdb_client.proofs.answered.is_pairs.Goals as goal
 
 pub returns-in-Pairs : goal.returns-in-Pairs
 returns-in-Pairs c =
