@@ -3,6 +3,7 @@ pub mod DecidingLemmas
 pub mod HeldLemmas
 pub mod LoggingLemmas
 pub mod MessageLemmas
+pub mod NameLemmas
 pub mod OutcomeLemmas
 pub mod PartingLemmas
 pub mod RequestLemmas

@@ -9,6 +9,7 @@ pub mod Flags
 pub mod Held
 pub mod Logging
 pub mod MessageLaws
+pub mod Names
 pub mod Parting
 pub mod RequestFields
 pub mod Requests

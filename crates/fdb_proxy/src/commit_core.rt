@@ -126,8 +126,8 @@ impl CommitCore {
     }
 
     /// Makes room for one more request, so that a `submit` that comes next takes no memory. It is promised of that one
-    /// alone: what any other call that changes the proxy leaves of the room isn't said. Nothing else changes. Refused
-    /// as `Failed`, and as `NoMemory`.
+    /// alone: what any other call that changes the proxy leaves of the room isn't said. Nothing else changes. It takes
+    /// O(1) expected time, amortised over the requests that are submitted. Refused as `Failed`, and as `NoMemory`.
     pub fn reserve(&mut self) -> Result<(), Refusal>
         ensures answers { Answers result (failed_fault self.old.proxy) (λ _. 1 ≤ self.new.spare) }
         ensures same { self.new.proxy ≡ self.old.proxy }
@@ -140,7 +140,8 @@ impl CommitCore {
     /// Takes a request, which waits for a batch after those that wait already. It takes no memory where there is room
     /// for one more. Refused as `Failed`; as `Repeated` where a request of its id is in flight or waits, with the place
     /// of that one, counted from the first place of the batch in flight on through those that wait (and no higher than
-    /// 2^32 - 1); and as `NoMemory`. A refusal hands the request back, and nothing changes.
+    /// 2^32 - 1); and as `NoMemory`. A refusal hands the request back, and nothing changes. It takes O(1) expected time,
+    /// amortised where it makes room, and where it is refused as `Repeated` O(n) for n requests in flight and waiting.
     pub fn submit(&mut self, sealed: Sealed) -> Result<(), Refused<Sealed>>
         ensures answers { AnswersOrHandsBack result sealed (submit_fault self.old.proxy sealed)
             (λ _. self.new.proxy ≡ submitting self.old.proxy sealed) }
@@ -197,8 +198,8 @@ impl CommitCore {
     }
 
     /// Drops those that wait, and answers their ids in order. Those in flight stay and aren't named, so neither is a
-    /// batch whose ticket was learnt, or for whose ticket memory ran out. It takes no memory, and O(n) time for n
-    /// requests, ranges and mutations that are dropped.
+    /// batch whose ticket was learnt, or for whose ticket memory ran out. It takes no memory, and O(n) expected time for
+    /// n requests, ranges and mutations that are dropped.
     pub fn refuse_all(&mut self) -> Items<TxnId>
         ensures ids { result ≡ map (λ (t : Transaction). t.id) self.old.proxy.waiting }
         ensures left { self.new.proxy ≡ record self.old.proxy { waiting = [] } }
@@ -338,8 +339,9 @@ impl CommitCore {
     }
 
     /// The batch is done: answers the id of each transaction with what became of it, by place. The next batch may be
-    /// sealed. It takes no memory. Refused as `Failed`, and as `WrongState` unless all logs have acknowledged the
-    /// batch. Then nothing changes.
+    /// sealed. It takes no memory, and O(n) expected time for n requests in flight and waiting, and ranges and mutations
+    /// that are dropped. Refused as `Failed`, and as `WrongState` unless all logs have acknowledged the batch. Then
+    /// nothing changes.
     pub fn done(&mut self) -> Result<Items<(TxnId, Outcome)>, Refusal>
         ensures answers { AnswersExactly result (done_fault self.old.proxy) (λ answers.
             (answers ≡ answers_in self.old.proxy.stage) × (self.new.proxy ≡ finishing self.old.proxy)) }

@@ -8,6 +8,7 @@ mod flags;
 mod grv_core;
 pub mod laws;
 mod logging;
+mod names;
 mod outcome;
 mod parting;
 mod position;

@@ -3,6 +3,7 @@ ghost use Rattle.std.specs.Prelude.{◌≡◌, ◌+◌, ◌≤◌, ◌++◌, len
 ghost use Rattle.fdb_txn.specs.book.Transactions.{Transaction};
 ghost use Rattle.fdb_proxy.specs.Requests.{place_of};
 
+use crate::names::Names;
 use fdb_keys::Items;
 use fdb_txn::{Batch, PLACE_LIMIT, Sealed, TxnId};
 use std::alloc::{AllocError, AllocFailed, Global};
@@ -13,6 +14,9 @@ use std::mem;
 ///
 /// Who gives the batch up, or refuses those that wait, must not need memory for that. So there is always room for the
 /// ids of all, and while somebody waits there is as much again for the ids of the batch.
+///
+/// No two requests have the same id. Whether one has an id is told by the names alone, so that the list is gone through
+/// only for the place of a request that is there.
 #[derive(Drop)]
 pub(crate) struct Requests {
     // the batch, and then those that wait
@@ -22,6 +26,8 @@ pub(crate) struct Requests {
     // both empty, and kept for their room
     ids: Vec<TxnId>,
     room: Vec<TxnId>,
+    // the ids of all
+    names: Names,
 }
 
 impl Model for Requests {
@@ -36,8 +42,8 @@ impl Model for Requests {
 }
 
 impl Requests {
-    ghost use Rattle.std.specs.Prelude.{◌≡◌, ◌==◌, ◌≤◌, ◌++◌, [], ◌∷◌, take, drop, length, map, IsOk, IfOk, IfErr};
-    ghost use Rattle.std.specs.Prelude.{OnOk, OnErr};
+    ghost use Rattle.std.specs.Prelude.{◌≡◌, ◌==◌, ◌≤◌, ◌++◌, [], ◌∷◌, None, take, drop, length, map, IsOk};
+    ghost use Rattle.std.specs.Prelude.{IfOk, IfErr, OnOk, OnErr};
     ghost use Rattle.fdb_txn.specs.Limits.{place_limit};
     ghost use Rattle.fdb_txn.specs.book.Transactions.{Transaction};
     ghost use Rattle.fdb_proxy.specs.Requests.{Holds, place_of};
@@ -51,6 +57,7 @@ impl Requests {
             taken: 0,
             ids: Vec::new(alloc),
             room: Vec::new(alloc),
+            names: Names::new(alloc),
         }
     }
 
@@ -62,12 +69,14 @@ impl Requests {
     {
         self.list.reserve(1)?;
         self.ids.reserve(self.list.len() + 1)?;
+        self.names.reserve()?;
         self.room.reserve(self.taken)
     }
 
-    /// One more waits, the last one. It takes no memory where there is room for one more. Where memory runs out, the
-    /// error hands the transaction back and nothing changes.
+    /// One more waits, the last one, whose id no other has. It takes no memory where there is room for one more. Where
+    /// memory runs out, the error hands the transaction back and nothing changes.
     pub(crate) fn submit(&mut self, sealed: Sealed) -> Result<(), AllocFailed<Sealed>>
+        requires { place_of sealed.id (self.old.batch ++ self.old.waiting) ≡ None }
         ensures ok { OnOk result (Holds self.new self.old.batch (self.old.waiting ++ sealed ∷ [])) }
         ensures err { OnErr result (Holds self.new self.old.batch self.old.waiting) }
         ensures back { IfErr result (λ failed. failed.value ≡ sealed) }
@@ -76,14 +85,19 @@ impl Requests {
         if self.reserve().is_err() {
             return Err(AllocFailed { value: sealed });
         }
+        self.names.add(sealed.id());
         self.list.push_reserved(sealed);
         Ok(())
     }
 
-    /// The place of the first request with the id, counted from the first place of the batch.
+    /// The place of the first request with the id, counted from the first place of the batch. It takes O(1) expected
+    /// time where there is none, and else O(n) for n requests.
     pub(crate) fn place_of(&self, id: TxnId) -> Option<usize>
         ensures { result ≡ place_of id (self.now.batch ++ self.now.waiting) }
     {
+        if !self.names.contains(id) {
+            return None;
+        }
         place_in(&self.list, id)
     }
 
@@ -135,6 +149,7 @@ impl Requests {
             return Items::new(alloc);
         }
         push_ids(&mut self.ids, &self.list[self.taken..]);
+        self.names.remove_all(&self.list[self.taken..]);
         self.list.truncate(self.taken);
         let room = mem::replace(&mut self.room, Vec::new(alloc));
         Items::from_vec(mem::replace(&mut self.ids, room))
@@ -144,6 +159,7 @@ impl Requests {
     pub(crate) fn finish(&mut self)
         ensures { Holds self.new [] self.old.waiting }
     {
+        self.names.remove_all(&self.list[..self.taken]);
         drop(self.list.drain(..self.taken));
         self.taken = 0;
     }
