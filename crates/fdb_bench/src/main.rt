@@ -1,23 +1,25 @@
 //! Measures parts of the transaction system: what they do, and how long it takes by the clock.
 #![tactic(auto)]
 
+mod answered;
+mod client;
+mod commit;
 mod log;
 mod numbers;
-mod parts;
 mod resolver;
+mod sealed;
 mod serial;
+mod sets;
 mod storage;
 
 use crate::numbers::{Fault, number_of};
-use crate::parts::Setting;
-use crate::storage::Setting as Sets;
 use std::env;
 use std::process::ExitCode;
 use std::time::Duration;
 
 const USAGE: &str = "fdb_bench resolver ITEMS
     A resolver takes so many items in batches of 100, each with a read range and a write range.
-fdb_bench parts RESOLVERS BATCH TRANSACTIONS MOVES
+fdb_bench commit RESOLVERS BATCH TRANSACTIONS MOVES
     A commit proxy commits so many transactions, after it learnt so many moves.
 fdb_bench serial TRANSACTIONS
     So many transactions of a world, each of which sets a key, are checked against a run of one at a time.
@@ -26,6 +28,14 @@ fdb_bench storage SETS KEYS BYTES
     and a tenth as many pages of ten pairs.
 fdb_bench log ENTRIES
     A log and its shard take so many entries of ten sets of 1,000 keys each.
+fdb_bench client TRANSACTIONS OPERATIONS
+    A client begins and finishes so many transactions, each with so many gets of 1,000 keys and as many sets.
+fdb_bench sets RANGES
+    A new set of ranges takes so many ranges of one key each at once.
+fdb_bench sealed MUTATIONS
+    So many sets of a key each are sealed as one transaction.
+fdb_bench answered OPERATIONS
+    The transcript of so many operations, half of them gets of 1,000 keys and half sets, is compared with its map.
 ";
 
 fn main(rt: HostRuntime) -> ExitCode {
@@ -49,25 +59,16 @@ fn run(rt: &HostRuntime) -> Result<(), Fault> {
 fn obey(rt: &HostRuntime, words: &[&str]) -> Result<(), Fault> {
     match words {
         ["resolver", items] => run_resolver(rt, number_of(items)?),
-        ["parts", resolvers, batch, transactions, moves] => run_parts(
-            rt,
-            &Setting {
-                resolvers: number_of(resolvers)?,
-                batch: number_of(batch)?,
-                transactions: number_of(transactions)?,
-                moves: number_of(moves)?,
-            },
-        ),
+        ["commit", resolvers, batch, transactions, moves] => {
+            run_commit(rt, resolvers, batch, transactions, moves)
+        }
         ["serial", transactions] => run_serial(rt, number_of(transactions)?),
-        ["storage", sets, keys, bytes] => run_storage(
-            rt,
-            &Sets {
-                sets: number_of(sets)?,
-                keys: number_of(keys)?,
-                bytes: number_of(bytes)?,
-            },
-        ),
+        ["storage", sets, keys, bytes] => run_storage(rt, sets, keys, bytes),
         ["log", entries] => run_log(rt, number_of(entries)?),
+        ["client", transactions, operations] => run_client(rt, transactions, operations),
+        ["sets", ranges] => run_sets(rt, number_of(ranges)?),
+        ["sealed", mutations] => run_sealed(rt, number_of(mutations)?),
+        ["answered", operations] => run_answered(rt, number_of(operations)?),
         _ => {
             print!(rt; "{}", USAGE)?;
             Ok(())
@@ -80,15 +81,27 @@ fn run_resolver(rt: &HostRuntime, items: u32) -> Result<(), Fault> {
     report(rt, "resolver", &[("items", items)], took)
 }
 
-fn run_parts(rt: &HostRuntime, setting: &Setting) -> Result<(), Fault> {
-    let took = parts::measure(rt, rt.alloc(), setting)?;
+fn run_commit(
+    rt: &HostRuntime,
+    resolvers: &str,
+    batch: &str,
+    transactions: &str,
+    moves: &str,
+) -> Result<(), Fault> {
+    let setting = commit::Setting {
+        resolvers: number_of(resolvers)?,
+        batch: number_of(batch)?,
+        transactions: number_of(transactions)?,
+        moves: number_of(moves)?,
+    };
+    let took = commit::measure(rt, rt.alloc(), &setting)?;
     let numbers = [
         ("resolvers", setting.resolvers),
         ("batch", setting.batch),
         ("transactions", setting.transactions),
         ("moves", setting.moves),
     ];
-    report(rt, "parts", &numbers, took)
+    report(rt, "commit", &numbers, took)
 }
 
 fn run_serial(rt: &HostRuntime, transactions: u32) -> Result<(), Fault> {
@@ -96,8 +109,13 @@ fn run_serial(rt: &HostRuntime, transactions: u32) -> Result<(), Fault> {
     report(rt, "serial", &[("transactions", transactions)], took)
 }
 
-fn run_storage(rt: &HostRuntime, setting: &Sets) -> Result<(), Fault> {
-    let took = storage::measure(rt, rt.alloc(), setting)?;
+fn run_storage(rt: &HostRuntime, sets: &str, keys: &str, bytes: &str) -> Result<(), Fault> {
+    let setting = storage::Setting {
+        sets: number_of(sets)?,
+        keys: number_of(keys)?,
+        bytes: number_of(bytes)?,
+    };
+    let took = storage::measure(rt, rt.alloc(), &setting)?;
     let numbers = [
         ("sets", setting.sets),
         ("keys", setting.keys),
@@ -111,6 +129,34 @@ fn run_storage(rt: &HostRuntime, setting: &Sets) -> Result<(), Fault> {
 fn run_log(rt: &HostRuntime, entries: u32) -> Result<(), Fault> {
     let took = log::measure(rt, rt.alloc(), entries)?;
     report(rt, "log", &[("entries", entries)], took)
+}
+
+fn run_client(rt: &HostRuntime, transactions: &str, operations: &str) -> Result<(), Fault> {
+    let setting = client::Setting {
+        transactions: number_of(transactions)?,
+        operations: number_of(operations)?,
+    };
+    let took = client::measure(rt, rt.alloc(), &setting)?;
+    let numbers = [
+        ("transactions", setting.transactions),
+        ("operations", setting.operations),
+    ];
+    report(rt, "client", &numbers, took)
+}
+
+fn run_sets(rt: &HostRuntime, ranges: u32) -> Result<(), Fault> {
+    let took = sets::measure(rt, rt.alloc(), ranges)?;
+    report(rt, "sets", &[("ranges", ranges)], took)
+}
+
+fn run_sealed(rt: &HostRuntime, mutations: u32) -> Result<(), Fault> {
+    let took = sealed::measure(rt, rt.alloc(), mutations)?;
+    report(rt, "sealed", &[("mutations", mutations)], took)
+}
+
+fn run_answered(rt: &HostRuntime, operations: u32) -> Result<(), Fault> {
+    let took = answered::measure(rt, rt.alloc(), operations)?;
+    report(rt, "answered", &[("operations", operations)], took)
 }
 
 // Prints one line of JSON: what was measured, its numbers, and the time in microseconds.

@@ -28,6 +28,8 @@ pub(crate) enum Fault {
     NotSerialized,
     #[error("not all transactions were checked")]
     Miscounted,
+    #[error("a transcript was not answered as on its map")]
+    NotAnswered,
 }
 
 /// The number that the word gives.

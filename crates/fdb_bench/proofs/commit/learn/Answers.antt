@@ -1,8 +1,7 @@
 use Rattle.std.proofs.Common.{◌<◌, length, subst, refl}
 use Rattle.std.specs.List.{AllByRecursion}
 use Rattle.fdb_txn.specs.book.Transactions.{Transaction}
-use Rattle.fdb_proxy.specs.CommitProxies.{IsTicketFor}
-use Rattle.fdb_bench.proofs.parts.learn.Goals as goal
+use Rattle.fdb_bench.proofs.commit.learn.Goals as goal
 
 pub learn-requires : goal.learn-requires
 learn-requires c =
