@@ -1,6 +1,6 @@
 pub mod CommitLemmas
 pub mod CommitProxyLemmas
-pub mod GatheringLemmas
+pub mod LentShardLemmas
 pub mod TurnLemmas
 pub mod ReadingLemmas
 pub mod ReplyLemmas

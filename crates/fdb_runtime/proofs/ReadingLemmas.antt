@@ -1,19 +1,19 @@
 -- Why a read at shards is refused.
-use Rattle.std.proofs.Common.{◌≡◌, ◌∙◌, refl, sym, ap, inl, inr, ◌⊎◌, ℕ, Bool, true, false, ◌&&◌, not, List}
+use Rattle.std.proofs.Common.{◌≡◌, ◌∙◌, refl, sym, ap, inl, inr, ◌⊎◌, ℕ, true, List}
 use Rattle.std.proofs.Common.{Option, Some, None, Result, Ok, Err}
 use Rattle.std.specs.Prelude.{IfSome, if◌then◌else◌}
 use Rattle.fdb_keys.specs.Answers.{Answers}
 use Rattle.fdb_keys.specs.Points.{Point}
-use Rattle.fdb_keys.specs.Ranges.{Range, in_range}
+use Rattle.fdb_keys.specs.Ranges.{Range, in_range, is_within}
 use Rattle.fdb_keys.specs.declared.refusal.Refusal.{Refusal}
-use Rattle.fdb_keys.specs.declared.refusal.Refusal.TheVariants.{NoMemory, KeyOutsideLegalRange}
+use Rattle.fdb_keys.specs.declared.refusal.Refusal.TheVariants.{NoMemory}
+use Rattle.fdb_keys.proofs.WithinLemmas.{within-points}
 use Rattle.fdb_txn.specs.declared.entry.Entry.{Entry}
 use Rattle.fdb_storage.specs.Shards as shards
 use Rattle.fdb_client.specs.Programs.{program, decided}
 use Rattle.fdb_client.specs.declared.program.Transcript.{Transcript}
 use Rattle.fdb_core.specs.refinement.Sessions.{OfOpen}
-use Rattle.fdb_runtime.specs.Gatherings as gathered
-use Rattle.fdb_runtime.specs.Gatherings.{Gathering}
+use Rattle.fdb_runtime.specs.LentShards.{LentShards, lending_fault, range_fault}
 use Rattle.fdb_runtime.specs.Reading.{RefusedBy}
 use Rattle.fdb_runtime.specs.ShardViews.{ShardView, key_fault}
 use Rattle.fdb_runtime.specs.ShardsAtFronts.{ShardAtFront}
@@ -62,16 +62,26 @@ shard-fault (Some transcript) at view own shared key is same =
     ∙ ap (λ (it : ℕ × List Entry). if decided (program transcript.ops) key then None
     else shards.key_fault at.shard key it.0) same
 
--- a gathering of which nothing is gathered refuses each key
-pub nothing-fault : (current : Option Transcript) (it : Gathering) (key : Point) → it.left ≡ it.range
-    → IfSome current (λ transcript. (if decided (program transcript.ops) key then None else gathered.key_fault it key)
-    ≡ (if decided (program transcript.ops) key then None else Some KeyOutsideLegalRange))
-nothing-fault None it key all = tt
-nothing-fault (Some transcript) it key all =
-    ap (λ (fault : Option Refusal). if decided (program transcript.ops) key then None else fault)
-    (ap (λ (left : Range). if in_range it.range key && not (in_range left key) then None
-    else Some KeyOutsideLegalRange) all ∙ by_test (in_range it.range key))
+-- what refuses every key
+pub refuses-each : (current : Option Transcript) (key : Point) (own given : Option Refusal) → own ≡ given
+    → IfSome current (λ transcript. (if decided (program transcript.ops) key then None else own)
+    ≡ (if decided (program transcript.ops) key then None else given))
+refuses-each None key own given same = tt
+refuses-each (Some transcript) key own given same =
+    ap (λ (fault : Option Refusal). if decided (program transcript.ops) key then None else fault) same
+
+-- shards that were lent for a range at the version of a share refuse it as little as they were refused
+pub lent-faults : (current : Option Transcript) (shared : ℕ × List Entry) (own : List Entry) (lent : LentShards)
+    (range : Range) (shards : List ShardAtFront) → lending_fault shared.0 range shards ≡ None → lent.range ≡ range
+    → OfOpen {T = ℕ × List Entry} current (Ok shared) (λ transcript. shared ≡ (transcript.read_version, own))
+    → IfSome current (λ transcript. range_fault lent range ≡ lending_fault transcript.read_version range shards)
+lent-faults None shared own lent range shards none is same = tt
+lent-faults (Some transcript) shared own lent range shards none is same =
+    unrefused ∙ sym none ∙ ap (λ (it : ℕ × List Entry). lending_fault it.0 range shards) same
   where
-    by_test : (b : Bool) → (if b && not b then None else Some KeyOutsideLegalRange) ≡ Some KeyOutsideLegalRange
-    by_test true = refl
-    by_test false = refl
+    within : is_within range lent.range ≡ true
+    within = (within-points range lent.range).1
+        (λ x inside. ap (λ (whole : Range). in_range whole x) is ∙ inside)
+
+    unrefused : range_fault lent range ≡ None
+    unrefused = rw within refl

@@ -1,6 +1,7 @@
 -- What a shard answers is what stands on the serial map of the reader's front.
-use Rattle.std.proofs.Common.{◌≡◌, ◌∙◌, refl, sym, ap, subst, ◌≤◌, le_of_lt, ℕ, Bool, true, false, List, [], length}
+use Rattle.std.proofs.Common.{◌≡◌, ◌∙◌, refl, sym, ap, subst, ◌≤◌, le_of_lt, ℕ, Bool, true, false, List, length}
 use Rattle.std.proofs.Common.{None, Ok, ⊎_elim}
+use Rattle.std.specs.Prelude.{nat_lt}
 use Rattle.std.specs.FinMap.{get}
 use Rattle.std.proofs.lemmas.Bool.{cases_lt}
 use Rattle.fdb_keys.specs.Answers.{Answers}
@@ -8,6 +9,7 @@ use Rattle.fdb_keys.specs.Points.{Point}
 use Rattle.fdb_keys.specs.Ranges.{Range, in_range, is_within}
 use Rattle.fdb_keys.proofs.WithinLemmas.{within-points}
 use Rattle.fdb_mutations.specs.Maps.{Map}
+use Rattle.fdb_mutations.specs.Pairs.{first_of, pairs_in}
 use Rattle.fdb_txn.specs.declared.entry.Entry.{Entry}
 use Rattle.fdb_txn.specs.book.Book.{last_version}
 use Rattle.fdb_txn.specs.book.History.{AreEntries}
@@ -48,15 +50,23 @@ module _ (config : Config) (view : ShardView) (there : IsThere config view.kept)
       at.serves view.version x from until (ap (λ (keys : Range). in_range keys x) (sym at.range) ∙ inside)
       ∙ ap (λ (map : Map). get map x) (one (subst (λ (last : ℕ). view.version ≤ last) at.version until))
 
-  -- a page of what it has is one of the serial map
+  -- the first pairs of what it has are those of the serial map
+  pub first-are : (range : Range) (limit : ℕ) (is_reverse : Bool) (found : stored.Page) → range_fault view range ≡ None
+      → shards.IsPage view.kept.shard range view.version limit is_reverse found
+      → (found.pairs ≡ first_of limit (pairs_in (run_map config view) range is_reverse))
+      × (found.more ≡ nat_lt (length found.pairs) (length (pairs_in (run_map config view) range is_reverse)))
+  first-are range limit is_reverse found none is =
+      let shard = view.kept.shard in
+      let may = served shard (is_within range shard.range) view.version none in
+      is (run_map config view) (λ x inside. sym (value-is may.1 may.2 may.3 x
+      ((within-points range shard.range).0 may.0 x inside)))
+
+  -- so a page of it is one of the serial map
   pub page-is : (range : Range) (limit : ℕ) (is_reverse : Bool) (found : stored.Page) → range_fault view range ≡ None
       → shards.IsPage view.kept.shard range view.version limit is_reverse found
       → IsPage (run_map config view) range limit is_reverse (record { pairs = found.pairs; more = found.more })
   page-is range limit is_reverse found none is =
-      let shard = view.kept.shard in
-      let may = served shard (is_within range shard.range) view.version none in
-      let first = is (run_map config view) (λ x inside. sym (value-is may.1 may.2 may.3 x
-      ((within-points range shard.range).0 may.0 x inside))) in
+      let first = first-are range limit is_reverse found none is in
       page-first (run_map config view) range limit is_reverse (record { pairs = found.pairs; more = found.more })
       first.0 first.1
 
@@ -67,7 +77,7 @@ fault-is at own view range is also =
     ap (λ (it : ShardAtFront). shards.range_fault it.shard range own.version) is
     ∙ ap (λ (it : ShardView). range_fault it range) also
 
--- and a page is given alike
+-- and its pairs are given alike
 module _ (config : Config) (at : ShardAtFront) (own view : ShardView) (is : at ≡ own.kept) (also : own ≡ view)
     (there : IsThere config at) (one : HasTheRunOf config own.version own.kept.front own.front) where
   pub gives-page : (range : Range) (limit : ℕ) (is_reverse : Bool) (found : stored.Page)
@@ -85,3 +95,20 @@ module _ (config : Config) (at : ShardAtFront) (own view : ShardView) (is : at �
       (page-is config own (subst (IsThere config) is there) one range limit is_reverse found
       (sym (fault-is at own own range is refl) ∙ given.0)
       (subst (λ (it : ShardAtFront). shards.IsPage it.shard range own.version limit is_reverse found) is given.1)))
+
+  pub gives-first : (range : Range) (limit : ℕ) (is_reverse : Bool) (found : stored.Page)
+      → Answers {T = stored.Page} (Ok found) (shards.range_fault at.shard range own.version)
+      (shards.IsPage at.shard range own.version limit is_reverse)
+      → (range_fault view range ≡ None)
+      × (found.pairs ≡ first_of limit (pairs_in (run_map config view) range is_reverse))
+  gives-first range limit is_reverse found answers =
+      let given = answers-fault (shards.range_fault at.shard range own.version) found
+      (shards.IsPage at.shard range own.version limit is_reverse) answers in
+      let none : range_fault view range ≡ None = sym (fault-is at own view range is also) ∙ given.0 in (
+        none,
+        subst (λ (it : ShardView). found.pairs ≡ first_of limit (pairs_in (run_map config it) range is_reverse)) also
+            (first-are config own (subst (IsThere config) is there) one range limit is_reverse found
+            (sym (fault-is at own own range is refl) ∙ given.0)
+            (subst (λ (it : ShardAtFront). shards.IsPage it.shard range own.version limit is_reverse found) is
+            given.1)).0,
+      )

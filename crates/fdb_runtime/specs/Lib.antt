@@ -2,7 +2,7 @@ pub mod CommitProxiesAtFronts
 pub mod Databases
 pub mod Endings
 pub mod Issuing
-pub mod Gatherings
+pub mod LentShards
 pub mod Messages
 pub mod Reading
 pub mod Receipts

@@ -1,12 +1,9 @@
 -- What a session reads at shards.
-use Rattle.std.specs.Prelude.{◌≡◌, ◌⊎◌, ℕ, ◌==◌, ◌&&◌, Bool, false, List, length, Option, Some, None, Result, Ok, Err}
-use Rattle.std.specs.Prelude.{IfSome, if◌then◌else◌}
+use Rattle.std.specs.Prelude.{◌≡◌, ◌⊎◌, Bool, false, List, Option, Some, None, Result, Ok, Err}
+use Rattle.std.specs.Prelude.{IfSome}
 use Rattle.fdb_keys.specs.Points.{Point}
-use Rattle.fdb_keys.specs.Ranges.{is_empty_range}
 use Rattle.fdb_keys.specs.declared.refusal.Refusal.{Refusal}
-use Rattle.fdb_keys.specs.declared.refusal.Refusal.TheVariants.{NoMemory, Stale, KeyOutsideLegalRange}
-use Rattle.fdb_txn.specs.declared.entry.Entry.{Entry}
-use Rattle.fdb_runtime.specs.Gatherings.{Gathering}
+use Rattle.fdb_keys.specs.declared.refusal.Refusal.TheVariants.{NoMemory}
 use Rattle.fdb_txn.specs.book.Book.{seen_of}
 use Rattle.fdb_txn.specs.rules.SerialMap.{serial_map_at}
 use Rattle.fdb_client.specs.Programs.{program, copy, decided, reply_on}
@@ -30,17 +27,6 @@ HasRead splits old op reply new =
 abbrev pub own_writes_decide : Option Transcript → Point → Bool
 own_writes_decide None key = false
 own_writes_decide (Some transcript) key = decided (program transcript.ops) key
-
--- why a front is no share of a session's: it is longer or shorter
-abbrev pub share_fault : (own theirs : List Entry) → Option Refusal
-share_fault own theirs = if length own == length theirs then None else Some Stale
-
--- why a gathering isn't read at a version by who has a front: it is at another one or by another one, or isn't done
-abbrev pub gathering_fault : List Entry → ℕ → Gathering → Option Refusal
-gathering_fault own version it =
-    if it.version == version && length own == length it.front
-    then (if is_empty_range it.left then None else Some KeyOutsideLegalRange)
-    else Some Stale
 
 -- The call is refused where there is a fault, with that fault unless memory ran out first, and else only as NoMemory.
 abbrev pub RefusedBy : {T : Type 0} → Result T Refusal → Option Refusal → Type 0

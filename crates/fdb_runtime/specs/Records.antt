@@ -1,5 +1,5 @@
 -- What a database holds at a version, with the front that it is of.
-use Rattle.std.specs.Prelude.{◌≡◌, ◌≤◌, ◌==◌, ◌&&◌, ℕ, Bool, false, List, [], ◌∷◌, length, Option, Some}
+use Rattle.std.specs.Prelude.{◌≡◌, ◌≤◌, ◌==◌, ◌&&◌, ℕ, Bool, false, List, [], ◌∷◌, length, Option, Some, None}
 use Rattle.std.specs.Prelude.{if◌then◌else◌}
 use Rattle.fdb_keys.specs.Points.{Point}
 use Rattle.fdb_keys.specs.Ranges.{Range}
@@ -10,7 +10,6 @@ use Rattle.fdb_txn.specs.declared.entry.Entry.{Entry}
 use Rattle.fdb_txn.specs.book.Book.{last_version}
 use Rattle.fdb_txn.specs.rules.Splits.{end_of_keys}
 use Rattle.fdb_proxy.specs.declared.config.Config.{Config}
-use Rattle.fdb_runtime.specs.Gatherings.{Gathering, range_fault}
 use Rattle.fdb_runtime.specs.ShardViews.{run_of}
 
 pub record RecordAtFront : Type 0 where
@@ -32,9 +31,9 @@ is_end_of_keys (byte ∷ other ∷ bytes) = false
 abbrev pub is_every_key : Range → Bool
 is_every_key range = (length range.begin == 0) && is_end_of_keys range.end
 
--- why what is gathered is no record: it isn't of every key, or some of that is left
-abbrev pub record_fault : Gathering → Option Refusal
-record_fault it = if is_every_key it.range then range_fault it it.range else Some KeyOutsideLegalRange
+-- why what shards were lent for is no record: it isn't every key
+abbrev pub record_fault : Range → Option Refusal
+record_fault range = if is_every_key range then None else Some KeyOutsideLegalRange
 
 -- the front reaches the version, and the pairs are those of every key on its serial map there, in key order
 abbrev pub IsRecord : Config → RecordAtFront → Type 0

@@ -8,10 +8,11 @@ use crate::gate::Gate;
 use crate::messages::grant_message::GrantMessage;
 use crate::name::ClusterName;
 use crate::record::{Record, every_key};
-use crate::roles::shard::gathering::Gathering;
+use crate::roles::shard::lent_shards::LentShards;
+use crate::roles::shard::reader::Reader;
 use crate::session::Session;
 use crate::shared::Shared;
-use crate::shared::shard::SharedShard;
+use crate::shared::shard::{ShardState, hold_all, lent_of};
 use crate::threads::team::Team;
 use crate::threads::workers::Workers;
 use fdb_book::{Blank, Book};
@@ -19,7 +20,7 @@ use fdb_keys::{KeyRange, Refusal};
 use fdb_proxy::Config;
 use std::alloc::Global;
 use std::marker::Model;
-use std::sync::{Arc, Wait};
+use std::sync::{Arc, MutexGuard, Wait};
 use std::thread::Threads;
 
 /// A running database: a thread for each resolver, shard and proxy of either kind. It stays on the thread that started
@@ -196,30 +197,19 @@ fn record_at<B: ClusterName, R: Wait>(
     granted: &GrantMessage<B>,
 ) -> Result<Record<B>, Refusal> {
     let range = every_key(shared.alloc)?;
-    let gathering = gather_all(rt, shared, granted, &range)?;
-    Record::of(&gathering)
+    let held = hold_all(rt, shared.alloc, shared.shards())?;
+    record_held(shared.alloc, granted, &range, held.as_slice())
 }
 
-// What all shards have of the range.
-fn gather_all<'a, B: ClusterName, R: Wait>(
-    rt: &R,
-    shared: &Shared<B>,
-    granted: &'a GrantMessage<B>,
-    range: &'a KeyRange,
-) -> Result<Gathering<'a, B>, Refusal> {
-    let mut gathering = Gathering::new(shared.alloc, granted.committed, &granted.front, range)?;
-    for shard in shared.shards() {
-        gathering = gather_part(rt, shard, gathering)?;
-    }
-    Ok(gathering)
-}
-
-// With what the shard has of it.
-fn gather_part<'a, B: ClusterName, R: Wait>(
-    rt: &R,
-    shard: &SharedShard<B>,
-    gathering: Gathering<'a, B>,
-) -> Result<Gathering<'a, B>, Refusal> {
-    let kept = shard.lock(rt);
-    gathering.take(&kept.at)
+// What the shards have of the range, which is that of every key.
+fn record_held<B: ClusterName>(
+    alloc: Global,
+    granted: &GrantMessage<B>,
+    range: &KeyRange,
+    held: &[MutexGuard<'_, ShardState<B>>],
+) -> Result<Record<B>, Refusal> {
+    let kept = lent_of(alloc, held)?;
+    let reader = Reader::new(alloc, granted.committed, &granted.front);
+    let lent = LentShards::new(reader, range, kept.as_slice())?;
+    Record::of(&lent)
 }

@@ -7,7 +7,7 @@ ghost use Rattle.fdb_runtime.specs.Records.{every_key, is_end_of_keys, is_every_
 ghost use Rattle.fdb_runtime.specs.ShardViews.{run_of};
 
 use crate::name::ClusterName;
-use crate::roles::shard::gathering::Gathering;
+use crate::roles::shard::lent_shards::LentShards;
 use crate::sealed_front::SealedFront;
 use bytes::Bytes;
 use fdb_book::Front;
@@ -61,22 +61,21 @@ impl<B: ClusterName> Model for Record<B> {
 }
 
 impl<B: ClusterName> Record<B> {
-    /// What is gathered of every key. Refused as `KeyOutsideLegalRange` where it is gathered of another range and where
-    /// some is left, and as `NoMemory`. It takes O(p) time for p pairs.
-    pub(crate) fn of(gathered: &Gathering<B>) -> Result<Self, Refusal>
-        ensures { Answers result (record_fault gathered.now) (λ it. it ≡ record {
-          front = gathered.now.front;
-          committed = gathered.now.version;
-          pairs = pairs_in (run_of B.config gathered.now.version gathered.now.front) every_key false;
+    /// What shards have that were lent for every key. Refused as `KeyOutsideLegalRange` where they were lent for another
+    /// range, and as `NoMemory`. It takes the time of `LentShards::pairs`.
+    pub(crate) fn of(lent: &LentShards<B>) -> Result<Self, Refusal>
+        ensures { Answers result (record_fault lent.now.range) (λ it. it ≡ record {
+          front = lent.now.front;
+          committed = lent.now.version;
+          pairs = pairs_in (run_of B.config lent.now.version lent.now.front) every_key false;
         }) }
     {
-        let range = gathered.range();
-        if !is_every_key(range) {
+        if !is_every_key(lent.range()) {
             return Err(Refusal::KeyOutsideLegalRange);
         }
-        let pairs = gathered.pairs(range)?;
-        let front = gathered.front().share()?;
-        let committed = gathered.version();
+        let pairs = lent.pairs()?;
+        let front = lent.front().share()?;
+        let committed = lent.version();
         Ok(Record {
             front,
             committed,

@@ -15,12 +15,10 @@ ghost use Rattle.fdb_runtime.specs.Sessions.{learning, with_current};
 use crate::messages::grant_message::GrantMessage;
 use crate::name::ClusterName;
 use crate::receipt::Receipt;
-use crate::roles::shard::gathering::Gathering;
-use crate::sealed_front::SealedFront;
 use crate::session_state::SessionState;
 use crate::session_state::settling::Ended;
 use crate::shared::Shared;
-use crate::shared::shard::SharedShard;
+use crate::shared::shard::{hold_met, lent_of};
 use crate::threads::channel::roomy;
 use crate::threads::reply::{CommitReply, GrantReply};
 use crate::threads::request::{BeginRequest, CommitRequest};
@@ -193,10 +191,14 @@ impl<B: ClusterName> Session<B> {
 
     /// The pairs of the range after the open transaction's own writes, the first `limit` of them in key order, from the
     /// last one backwards where `reverse`, and all where `limit` is 0: on the serial map of what the session has seen
-    /// of the book, at the transaction's read version. It is noted in the transcript. It waits for the shards that the
-    /// range meets, one after another, and copies what they have of the range, whatever the limit.
+    /// of the book, at the transaction's read version. It is noted in the transcript. It waits for each of the shards
+    /// that the range meets, holding none meanwhile. Then it takes their locks in the order of their numbers, and holds
+    /// them while it reads.
     ///
-    /// Refused as `get` is; then nothing changes.
+    /// Refused as `get` is; then nothing changes. Each shard is asked for no more than the limit still needs, in the
+    /// order in which the pairs are given, and asked again as often as the own writes hide what it gave. It takes O(s)
+    /// time for each asking of s shards, O(log n) comparisons of the n keys of each shard that is asked, and O(log v)
+    /// for the v versions of each pair that it gives, of one more, and of each key between them at which nothing stands.
     pub fn get_range<R: Wait>(
         &mut self,
         rt: &R,
@@ -211,10 +213,13 @@ impl<B: ClusterName> Session<B> {
         ensures none { self.old.current ≡ None → result ≡ Err NoTransaction }
         ensures refused { OnErr result (self.new ≡ self.old) }
     {
-        let (version, front) = self.state.share_open()?;
-        let gathering = gather(rt, alloc, &*self.shared, version, &front, range)?;
+        let Some(version) = self.state.read_version() else {
+            return Err(Refusal::NoTransaction);
+        };
+        let held = hold_met(rt, alloc, self.shared.shards_from(range), version, range)?;
+        let lent = lent_of(alloc, held.as_slice())?;
         self.state
-            .get_range_of(&gathering, limit, reverse, is_snapshot)
+            .get_range_at(alloc, lent.as_slice(), range, limit, reverse, is_snapshot)
     }
 
     /// Commits the open transaction, and gives its receipt, after which none is open. What wrote nothing is committed
@@ -267,40 +272,4 @@ impl<B: ClusterName> Session<B> {
             _ => CommitReply::Refused(Refusal::CommitUnknownResult),
         }
     }
-}
-
-// What shards have of the range, those that it meets in the order of their ranges. None is held while another one is
-// waited for.
-fn gather<'a, B: ClusterName, R: Wait>(
-    rt: &R,
-    alloc: Global,
-    shared: &Shared<B>,
-    version: u64,
-    front: &'a SealedFront<B>,
-    range: &'a KeyRange,
-) -> Result<Gathering<'a, B>, Refusal>
-    requires { version ≤ last_version front.now }
-    ensures { IfOk result (λ it. it.range ≡ range.now) }
-{
-    let mut gathering = Gathering::new(alloc, version, front, range)?;
-    for shard in shared.shards_from(range) {
-        if gathering.is_done() {
-            break;
-        }
-        gathering = gather_more(rt, shard, version, gathering)?;
-    }
-    Ok(gathering)
-}
-
-// With what the shard has of it once it has come to the version.
-fn gather_more<'a, B: ClusterName, R: Wait>(
-    rt: &R,
-    shard: &SharedShard<B>,
-    version: u64,
-    gathering: Gathering<'a, B>,
-) -> Result<Gathering<'a, B>, Refusal>
-    ensures { IfOk result (λ it. it.range ≡ gathering.entry.range) }
-{
-    let kept = shard.at_version(rt, version)?;
-    gathering.take(&kept.at)
 }

@@ -26,7 +26,8 @@ pub(crate) mod inbox;
 pub(crate) mod log;
 pub(crate) mod shard;
 
-/// What all threads of a database and its sessions share. Each lock in it is taken with no other one held.
+/// What all threads of a database and its sessions share. Each lock in it is taken with no other one held, but for those
+/// of shards by who reads several: they are taken in the order of the shards.
 #[derive(Drop)]
 pub(crate) struct Shared<B: ClusterName> {
     pub(crate) alloc: Global,

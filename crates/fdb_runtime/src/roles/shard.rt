@@ -1,10 +1,10 @@
-ghost use Rattle.std.specs.Prelude.{◌≡◌, ◌+◌, ◌<◌, ◌⊎◌, [], suc, false, length, None, IsSome, IsNone, OnErr};
+ghost use Rattle.std.specs.Prelude.{◌≡◌, ◌+◌, ◌<◌, ◌⊎◌, ⊤, [], suc, true, false, length, None, IsSome, IsNone, OnErr};
 ghost use Rattle.fdb_book.specs.Fronts.{IsPrefix};
 ghost use Rattle.fdb_keys.specs.Answers.{Answers, AnswersExactly};
 ghost use Rattle.fdb_txn.specs.book.Book.{last_version};
 ghost use Rattle.fdb_txn.specs.book.History.{AreEntries};
 ghost use Rattle.fdb_txn.specs.rules.Splits.{piece};
-ghost use Rattle.fdb_storage.specs.Shards.{IsNewShard, HasFailed, HasForgotten, forget_fault};
+ghost use Rattle.fdb_storage.specs.Shards.{IsNewShard, HasFailed, HasForgotten, forget_fault, read_fault};
 ghost use Rattle.fdb_core.specs.headline.RoleLaws.{IsShardAt};
 ghost use Rattle.fdb_runtime.specs.ShardsAtFronts.{peek_fault, shorter_fault, front_through, HasGoneOn};
 
@@ -18,7 +18,8 @@ use fdb_txn::check_turn;
 use std::alloc::Global;
 use std::marker::Model;
 
-pub(crate) mod gathering;
+pub(crate) mod lent_shards;
+pub(crate) mod reader;
 pub(crate) mod view;
 
 /// A shard, which applied the entries of its front. Its tag is kept beside the core, which doesn't tell it.
@@ -82,6 +83,31 @@ impl<B: ClusterName> ShardAt<B> {
         ensures { result ≡ self.now.shard.floor }
     {
         self.shard.floor()
+    }
+
+    /// The range of keys that the shard holds. It takes no memory, and O(1) time.
+    pub(crate) fn range(&self) -> &KeyRange
+        ensures { result.now ≡ self.now.shard.range }
+    {
+        self.shard.range()
+    }
+
+    /// Refused as a read of what the shard holds is at the version: as `Failed` once memory ran out in `apply`, as
+    /// `TransactionTooOld` where the version is below the floor, and as `FutureVersion` where it is above the shard's.
+    /// It takes no memory, and O(1) time.
+    pub(crate) fn check_version(&self, version: u64) -> Result<(), Refusal>
+        ensures { AnswersExactly result (read_fault self.now.shard true version) (λ _. ⊤) }
+    {
+        if self.shard.is_failed() {
+            return Err(Refusal::Failed);
+        }
+        if version < self.shard.floor() {
+            return Err(Refusal::TransactionTooOld);
+        }
+        if self.shard.version() < version {
+            return Err(Refusal::FutureVersion);
+        }
+        Ok(())
     }
 
     /// Whether memory ran out in `apply`. It takes no memory, and O(1) time.

@@ -7,7 +7,8 @@ ghost use Rattle.fdb_runtime.specs.Waiting.{is_closed, reach_fault};
 use crate::messages::peek_message::PeekMessage;
 use crate::name::ClusterName;
 use crate::roles::shard::ShardAt;
-use fdb_keys::Refusal;
+use fdb_keys::{KeyRange, Refusal};
+use std::alloc::{AllocError, Global};
 use std::sync::{Condvar, Mutex, MutexGuard, Wait};
 
 /// A shard beside what its readers wait for.
@@ -115,4 +116,76 @@ impl<B: ClusterName> SharedShard<B> {
     pub(crate) fn lock<'a, R: Wait>(&'a self, rt: &R) -> MutexGuard<'a, ShardState<B>> {
         self.state.lock(rt)
     }
+
+    // Waits until the shard has come to the version, and tells whether the range goes on behind it. Its lock is held no
+    // longer. Refused as `at_version` is.
+    fn is_passed<R: Wait>(&self, rt: &R, version: u64, range: &KeyRange) -> Result<bool, Refusal> {
+        let kept = self.at_version(rt, version)?;
+        Ok(range.contains_text(kept.at.range().end()))
+    }
+}
+
+// How many of the shards the range meets, from the first one on. It waits until each of them has come to the version,
+// and holds none meanwhile. Refused as `at_version` is.
+fn count_met<B: ClusterName, R: Wait>(
+    rt: &R,
+    shards: &[SharedShard<B>],
+    version: u64,
+    range: &KeyRange,
+) -> Result<usize, Refusal> {
+    if range.is_empty() {
+        return Ok(0);
+    }
+    for (index, shard) in shards.iter().enumerate() {
+        if !shard.is_passed(rt, version, range)? {
+            return Ok(index + 1);
+        }
+    }
+    Ok(shards.len())
+}
+
+/// Lends those of the shards that the range meets, from the first one on, once each of them has come to the version.
+/// Refused as `at_version` is, and as `NoMemory`.
+pub(crate) fn hold_met<'a, B: ClusterName, R: Wait>(
+    rt: &R,
+    alloc: Global,
+    shards: &'a [SharedShard<B>],
+    version: u64,
+    range: &KeyRange,
+) -> Result<Vec<MutexGuard<'a, ShardState<B>>>, Refusal> {
+    let count = count_met(rt, shards, version, range)?;
+    let mut held = Vec::with_capacity(alloc, count)?;
+    // A shard that came to a version stays there, so nobody waits for one here but for its lock. All who hold several
+    // take them in this order, and the threads that change shards hold one at a time: so of all that are waited for
+    // the last one's holder goes on.
+    for shard in shards.iter().take(count) {
+        held.push(shard.at_version(rt, version)?)?;
+    }
+    Ok(held)
+}
+
+/// Lends all of the shards as they are. Refused only as `NoMemory`.
+pub(crate) fn hold_all<'a, B: ClusterName, R: Wait>(
+    rt: &R,
+    alloc: Global,
+    shards: &'a [SharedShard<B>],
+) -> Result<Vec<MutexGuard<'a, ShardState<B>>>, AllocError> {
+    let mut held = Vec::with_capacity(alloc, shards.len())?;
+    // In the order in which all take them.
+    for shard in shards {
+        held.push(shard.lock(rt))?;
+    }
+    Ok(held)
+}
+
+/// The shards whose locks are held. Refused only as `NoMemory`.
+pub(crate) fn lent_of<'a, B: ClusterName>(
+    alloc: Global,
+    held: &'a [MutexGuard<'_, ShardState<B>>],
+) -> Result<Vec<&'a ShardAt<B>>, AllocError> {
+    let mut lent = Vec::with_capacity(alloc, held.len())?;
+    for state in held {
+        lent.push(&state.at)?;
+    }
+    Ok(lent)
 }

@@ -15,29 +15,136 @@ use std::process::Abort;
 use std::sync::{Arc, Wait};
 use std::test::Fail;
 
+// An own write: of no key, of all keys from one up to another, or of one byte to a key.
+#[derive(Clone, Copy)]
+enum Own {
+    Clear(&'static [u8]),
+    ClearRange(&'static [u8], &'static [u8]),
+    Set(&'static [u8], u8),
+}
+
+// What one session commits, what the other one reads of it, what that one writes then, and what it reads after that: in
+// ranges, and at keys.
+struct Case {
+    pairs: &'static [(u8, u8)],
+    committed: &'static [Asked],
+    own: &'static [Own],
+    after: &'static [Asked],
+    keys: &'static [(&'static [u8], Option<u8>)],
+}
+
 const FOUR: &[(u8, u8)] = &[(b'a', 1), (b'b', 2), (b'c', 3), (b'd', 4)];
 
-// What is read of these.
-const COMMITTED: &[Asked] = &[
-    (b"a", b"e", 0, false, FOUR),
-    (b"a", b"e", 3, false, &[(b'a', 1), (b'b', 2), (b'c', 3)]),
-    (b"a", b"e", 3, true, &[(b'd', 4), (b'c', 3), (b'b', 2)]),
-    (b"b", b"d", 0, true, &[(b'c', 3), (b'b', 2)]),
-    (b"e", b"z", 0, false, &[]),
+// Two shards, which hold two of four pairs each.
+static TWO_SHARDS: Case = Case {
+    pairs: FOUR,
+    committed: &[
+        (b"a", b"e", 0, false, FOUR),
+        (b"a", b"e", 3, false, &[(b'a', 1), (b'b', 2), (b'c', 3)]),
+        (b"a", b"e", 3, true, &[(b'd', 4), (b'c', 3), (b'b', 2)]),
+        (b"b", b"d", 0, true, &[(b'c', 3), (b'b', 2)]),
+        (b"e", b"z", 0, false, &[]),
+        (b"c", b"c", 0, false, &[]),
+    ],
+    own: &[Own::Clear(b"b"), Own::Set(b"c", 9), Own::Set(b"e", 5)],
+    after: &[
+        (
+            b"a",
+            b"z",
+            0,
+            false,
+            &[(b'a', 1), (b'c', 9), (b'd', 4), (b'e', 5)],
+        ),
+        (b"a", b"z", 2, true, &[(b'e', 5), (b'd', 4)]),
+        (b"b", b"c", 0, false, &[]),
+    ],
+    keys: &[(b"b", None), (b"c", Some(9)), (b"d", Some(4))],
+};
+
+const NINE: &[(u8, u8)] = &[
+    (b'a', 1),
+    (b'b', 2),
+    (b'c', 3),
+    (b'd', 4),
+    (b'e', 5),
+    (b'f', 6),
+    (b'g', 7),
+    (b'h', 8),
+    (b'i', 9),
 ];
 
-// The same after the transaction's own clear of b, and its sets of c to 9 and e to 5.
-const OWN: &[Asked] = &[
-    (
-        b"a",
-        b"z",
-        0,
-        false,
-        &[(b'a', 1), (b'c', 9), (b'd', 4), (b'e', 5)],
-    ),
-    (b"a", b"z", 2, true, &[(b'e', 5), (b'd', 4)]),
-    (b"b", b"c", 0, false, &[]),
-];
+// Three shards, which hold three of nine pairs each. Limits end within a shard, between two, and behind several. The own
+// writes hide what the first shard gives at first, from either end, so that more than one page is asked for.
+static THREE_SHARDS: Case = Case {
+    pairs: NINE,
+    committed: &[
+        (b"a", b"z", 3, false, &[(b'a', 1), (b'b', 2), (b'c', 3)]),
+        (
+            b"a",
+            b"z",
+            4,
+            false,
+            &[(b'a', 1), (b'b', 2), (b'c', 3), (b'd', 4)],
+        ),
+        (
+            b"b",
+            b"z",
+            6,
+            false,
+            &[
+                (b'b', 2),
+                (b'c', 3),
+                (b'd', 4),
+                (b'e', 5),
+                (b'f', 6),
+                (b'g', 7),
+            ],
+        ),
+        (
+            b"a",
+            b"z",
+            4,
+            true,
+            &[(b'i', 9), (b'h', 8), (b'g', 7), (b'f', 6)],
+        ),
+        (
+            b"a",
+            b"h",
+            5,
+            true,
+            &[(b'g', 7), (b'f', 6), (b'e', 5), (b'd', 4), (b'c', 3)],
+        ),
+        (b"d", b"g", 2, true, &[(b'f', 6), (b'e', 5)]),
+        (b"a", b"z", 0, false, NINE),
+    ],
+    own: &[
+        Own::ClearRange(b"a", b"c"),
+        Own::ClearRange(b"h", b"j"),
+        Own::Set(b"e", 50),
+    ],
+    after: &[
+        (b"a", b"z", 1, false, &[(b'c', 3)]),
+        (b"a", b"z", 2, false, &[(b'c', 3), (b'd', 4)]),
+        (
+            b"a",
+            b"z",
+            4,
+            false,
+            &[(b'c', 3), (b'd', 4), (b'e', 50), (b'f', 6)],
+        ),
+        (b"a", b"z", 1, true, &[(b'g', 7)]),
+        (b"a", b"z", 3, true, &[(b'g', 7), (b'f', 6), (b'e', 50)]),
+        (
+            b"a",
+            b"z",
+            0,
+            true,
+            &[(b'g', 7), (b'f', 6), (b'e', 50), (b'd', 4), (b'c', 3)],
+        ),
+        (b"a", b"c", 2, false, &[]),
+    ],
+    keys: &[(b"a", None), (b"c", Some(3)), (b"e", Some(50))],
+};
 
 // The session reads each of them, by ordinary reads and by snapshot reads.
 fn read_each<B: ClusterName, R: Wait + Abort>(
@@ -53,40 +160,70 @@ fn read_each<B: ClusterName, R: Wait + Abort>(
     }
 }
 
-fn commit_four<B: ClusterName, R: Wait>(
+// The same of keys.
+fn get_each<B: ClusterName, R: Wait + Abort>(
     rt: &R,
     alloc: Global,
     session: &mut Session<B>,
+    keys: &[(&[u8], Option<u8>)],
+) {
+    for (row, (key, value)) in keys.iter().enumerate() {
+        let ordinary = coded(byte_of(rt, alloc, session, *key));
+        let snapshot = coded(snapshot_of(rt, alloc, session, *key));
+        same(rt, (row, ordinary, snapshot), (row, Ok(*value), Ok(*value)));
+    }
+}
+
+fn commit_pairs<B: ClusterName, R: Wait>(
+    rt: &R,
+    alloc: Global,
+    session: &mut Session<B>,
+    pairs: &[(u8, u8)],
 ) -> Result<u32, Refusal> {
     session.begin(rt, alloc)?;
-    for (key, value) in FOUR {
+    for (key, value) in pairs {
         write(session, Mutation::set(alloc, &[*key], &[*value]))?;
     }
     Ok(commit_code(rt, alloc, session).0)
 }
 
-fn write_own<B: ClusterName>(alloc: Global, session: &mut Session<B>) -> Result<(), Refusal> {
-    write(session, Mutation::clear(alloc, b"b"))?;
-    write(session, Mutation::set(alloc, b"c", &[9]))?;
-    write(session, Mutation::set(alloc, b"e", &[5]))
+fn mutation_of(alloc: Global, own: Own) -> Result<Mutation, Refusal> {
+    match own {
+        Own::Clear(key) => Mutation::clear(alloc, key),
+        Own::ClearRange(begin, end) => Mutation::clear_range(alloc, begin, end),
+        Own::Set(key, value) => Mutation::set(alloc, key, &[value]),
+    }
 }
 
-// One session commits four pairs, and the other one reads them, and then with its own writes.
+fn write_own<B: ClusterName>(
+    alloc: Global,
+    session: &mut Session<B>,
+    own: &[Own],
+) -> Result<(), Refusal> {
+    for each in own {
+        write(session, mutation_of(alloc, *each))?;
+    }
+    Ok(())
+}
+
+// One session commits the pairs, and the other one reads them, and then with its own writes.
 fn read_ranges<B: ClusterName, R: Wait + Abort>(
     rt: &R,
     alloc: Global,
     writer: &mut Session<B>,
     reader: &mut Session<B>,
+    case: &Case,
 ) {
-    same(rt, coded(commit_four(rt, alloc, writer)), Ok(0));
+    same(
+        rt,
+        coded(commit_pairs(rt, alloc, writer, case.pairs)),
+        Ok(0),
+    );
     same(rt, coded(reader.begin(rt, alloc)), Ok(100));
-    read_each(rt, alloc, reader, COMMITTED);
-    same(rt, coded(write_own(alloc, reader)), Ok(()));
-    read_each(rt, alloc, reader, OWN);
-    same(rt, coded(byte_of(rt, alloc, reader, b"b")), Ok(None));
-    same(rt, coded(byte_of(rt, alloc, reader, b"c")), Ok(Some(9)));
-    same(rt, coded(byte_of(rt, alloc, reader, b"d")), Ok(Some(4)));
-    same(rt, coded(snapshot_of(rt, alloc, reader, b"d")), Ok(Some(4)));
+    read_each(rt, alloc, reader, case.committed);
+    same(rt, coded(write_own(alloc, reader, case.own)), Ok(()));
+    read_each(rt, alloc, reader, case.after);
+    get_each(rt, alloc, reader, case.keys);
 }
 
 // The same in the database's first two sessions.
@@ -94,23 +231,30 @@ fn read_in_two<B: Named, R: Host>(
     rt: &R,
     alloc: Global,
     database: &mut Database<B>,
+    case: &Case,
 ) -> Result<(), Refusal> {
     match two_sessions(alloc, database) {
         Ok((mut first, mut second)) => {
-            read_ranges(rt, alloc, &mut first, &mut second);
+            read_ranges(rt, alloc, &mut first, &mut second, case);
             Ok(())
         }
         Err(why) => Err(why),
     }
 }
 
-fn use_ranges<B: Named, R: Host>(rt: &R, alloc: Global, blank: Blank, config: &Config) -> Done
+fn use_ranges<B: Named, R: Host>(
+    rt: &R,
+    alloc: Global,
+    blank: Blank,
+    config: &Config,
+    case: &Case,
+) -> Done
     requires cells { blank ≡ B.cells }
     requires config { config.now ≡ B.config }
 {
     let gate = Arc::new(alloc, NoGate)?;
     let mut database: Database<B> = Database::start(rt, alloc, blank, config, 100, &gate)?;
-    let told = read_in_two(rt, alloc, &mut database);
+    let told = read_in_two(rt, alloc, &mut database, case);
     let record = database.close(rt);
     same(rt, coded(told), Ok(()));
     same(rt, record.is_ok(), true);
@@ -123,7 +267,17 @@ fn ranges_are_read_over_two_shards(rt: HostRuntime) -> Result<(), Fail> {
     let mut config = count_config(alloc, 1, 1, 100);
     config.shard_splits = keys_of(alloc, &[b"c"])?;
     let blank = Blank::new(alloc, 100)?;
-    use_ranges::<Brand, HostRuntime>(&rt, alloc, blank, &config)?;
+    use_ranges::<Brand, HostRuntime>(&rt, alloc, blank, &config, &TWO_SHARDS)?;
+    Ok(())
+}
+
+#[test]
+fn ranges_are_read_over_three_shards(rt: HostRuntime) -> Result<(), Fail> {
+    let alloc = rt.alloc();
+    let mut config = count_config(alloc, 1, 1, 100);
+    config.shard_splits = keys_of(alloc, &[b"d", b"g"])?;
+    let blank = Blank::new(alloc, 100)?;
+    use_ranges::<Brand, HostRuntime>(&rt, alloc, blank, &config, &THREE_SHARDS)?;
     Ok(())
 }
 

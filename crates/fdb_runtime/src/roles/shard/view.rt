@@ -1,6 +1,9 @@
 // A shard, read by who has seen a front of its own.
 ghost use Rattle.std.specs.Prelude.{◌≡◌, ◌≤◌};
+ghost use Rattle.fdb_keys.specs.Answers.{Answers};
+ghost use Rattle.fdb_mutations.specs.Pairs.{pairs_in, first_of};
 ghost use Rattle.fdb_txn.specs.book.Book.{last_version};
+ghost use Rattle.fdb_runtime.specs.ShardViews.{range_fault, run_map};
 
 use crate::name::ClusterName;
 use crate::roles::shard::ShardAt;
@@ -42,6 +45,22 @@ impl<'a, B: ClusterName> ShardView<'a, B> {
             front,
             kept,
         }
+    }
+
+    /// The first pairs of the range, in the order of keys or in the reverse order, and at most `limit` of them unless
+    /// that is 0. Refused as a page of it is. It takes the time of one `Shard::page`.
+    pub(crate) fn first_pairs(
+        &self,
+        range: &KeyRange,
+        limit: u32,
+        reverse: bool,
+    ) -> Result<Vec<(Key, Bytes)>, Refusal>
+        ensures { Answers result (range_fault self.now range.now) (λ pairs. pairs.items
+            ≡ first_of limit (pairs_in (run_map B.config self.now) range.now reverse)) }
+    {
+        let kept = self.kept;
+        let found = kept.shard.page(range, self.version, limit, reverse)?;
+        Ok(found.pairs.into_vec())
     }
 }
 
