@@ -3,6 +3,7 @@ ghost use Rattle.fdb_keys.specs.Answers.{Answers, AnswersExactly};
 ghost use Rattle.fdb_keys.specs.declared.refusal.Refusal.TheVariants.{Failed, NoMemory};
 ghost use Rattle.fdb_proxy.specs.Configs.{config_fault};
 ghost use Rattle.fdb_runtime.specs.Databases.{start_fault, session_fault, new_session};
+ghost use Rattle.fdb_runtime.specs.Databases.{AnswersMove, is_bad_move};
 
 use crate::gate::Gate;
 use crate::messages::grant_message::GrantMessage;
@@ -18,6 +19,7 @@ use crate::threads::workers::Workers;
 use fdb_book::{Blank, Book};
 use fdb_keys::{KeyRange, Refusal};
 use fdb_proxy::Config;
+use fdb_txn::Move;
 use std::alloc::Global;
 use std::marker::Model;
 use std::sync::{Arc, MutexGuard, Wait};
@@ -107,6 +109,19 @@ impl<B: ClusterName + Send + Sync + 'static> Database<B> {
         let session = Session::new(alloc, number, shared)?;
         self.sessions = next;
         Ok(session)
+    }
+
+    /// Hands the keys of the range over to the resolver with the number, from the version of the next entry on. It waits
+    /// for the sequencer alone, and changes nothing that a session is told but which transactions are turned down for
+    /// what another resolver said.
+    ///
+    /// Refused as `BadConfig` where there is no such resolver or the range is empty, as `MovesFull` after 65,536 moves,
+    /// and as `NoMemory`; then nothing changes. It takes O(1) time.
+    pub fn move_range<R: Wait>(&self, rt: &R, range: &KeyRange, to: u32) -> Result<(), Refusal>
+        ensures { AnswersMove (is_bad_move B.config (record { range = range.now; to = to })) result }
+    {
+        let range = range.clone()?;
+        self.shared.move_to(rt, Move { range, to })
     }
 
     /// Closes the database, and gives what it holds. What waits is refused as `Closed`, batches in flight end where no

@@ -2,6 +2,7 @@
 ghost use Rattle.std.specs.Prelude.{◌≡◌, ⊤, suc, length, None, IfOk};
 ghost use Rattle.fdb_keys.specs.Answers.{Answers, AnswersExactly};
 ghost use Rattle.fdb_proxy.specs.Configs.{config_fault};
+ghost use Rattle.fdb_runtime.specs.Databases.{AnswersMove, is_bad_move};
 
 use crate::messages::grant_message::GrantMessage;
 use crate::name::ClusterName;
@@ -15,7 +16,7 @@ use fdb_keys::{Key, KeyRange, Refusal};
 use fdb_proxy::Config;
 use fdb_sequencer::Ticket;
 use fdb_storage::ShardMap;
-use fdb_txn::Batch;
+use fdb_txn::{Batch, Move};
 use inbox::SharedInbox;
 use log::SharedLog;
 use shard::SharedShard;
@@ -120,6 +121,13 @@ impl<B: ClusterName> Shared<B> {
     /// it.
     pub(crate) fn report<R: Wait>(&self, rt: &R, version: u64) -> Result<(), Refusal> {
         self.sequencer.lock(rt).report(version)
+    }
+
+    /// Hands a move to the sequencer, as `SequencerAt::move_to` takes and refuses it.
+    pub(crate) fn move_to<R: Wait>(&self, rt: &R, one_move: Move) -> Result<(), Refusal>
+        ensures { AnswersMove (is_bad_move B.config one_move) result }
+    {
+        self.sequencer.lock(rt).move_to(one_move)
     }
 
     /// The greatest version that was reported. It takes no memory.

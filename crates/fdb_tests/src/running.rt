@@ -43,6 +43,19 @@ pub(crate) fn two_sessions<B: Named>(
     both(database.session(alloc), database.session(alloc))
 }
 
+/// Hands the keys from `begin` up to but not including `end` over to the resolver.
+pub(crate) fn move_keys<B: Named, R: Wait>(
+    rt: &R,
+    alloc: Global,
+    database: &Database<B>,
+    begin: &[u8],
+    end: &[u8],
+    to: u32,
+) -> Result<(), Refusal> {
+    let range = KeyRange::new(alloc, begin, end)?;
+    database.move_range(rt, &range, to)
+}
+
 /// How many entries the record has.
 pub(crate) fn length_of<B: ClusterName>(
     record: Result<Record<B>, Refusal>,

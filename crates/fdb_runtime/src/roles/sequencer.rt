@@ -124,6 +124,7 @@ impl<B: ClusterName> SequencerAt<B> {
     pub(crate) fn move_to(&mut self, one_move: Move) -> Result<(), Refusal>
         ensures answers { Answers result (move_fault self.old.core one_move)
             (λ _. self.new ≡ record { front = self.old.front; core = moving self.old.core one_move }) }
+        ensures resolvers { self.old.core.resolvers ≡ suc (length B.config.resolver_splits) }
         ensures refused { OnErr result (self.new ≡ self.old) }
     {
         self.core.move_to(one_move)

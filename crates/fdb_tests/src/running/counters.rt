@@ -2,7 +2,7 @@
 ghost use Rattle.std.specs.Prelude.{◌≡◌};
 
 use crate::making::{coded, count_config, keys_of, same};
-use crate::running::{Done, Host, Named, byte_of, receipt_of, write};
+use crate::running::{Done, Host, Named, byte_of, move_keys, receipt_of, write};
 use bytes::Bytes;
 use fdb_book::Blank;
 use fdb_keys::{Key, Refusal};
@@ -14,6 +14,7 @@ use std::sync::{Arc, Wait};
 use std::test::Fail;
 use std::thread;
 use std::thread::{JoinHandle, Threads};
+use std::time::Duration;
 
 const CLIENTS: u8 = 4;
 
@@ -26,6 +27,9 @@ const SUM: &[u8] = b"sum";
 const TRANSACTIONS: u8 = 200;
 
 const PAIRS: usize = 21;
+
+// How many moves are made where keys are moved.
+const MOVES: u32 = 100;
 
 // What a client's keys have, as it was acknowledged.
 type Model = [Option<u8>; KEYS];
@@ -107,16 +111,32 @@ fn join_clients<R: Threads>(
     Ok((models, are_known))
 }
 
-// The same of clients that are started on the database.
+// Hands keys that clients use to one resolver after another, a move about each millisecond.
+fn move_back_and_forth<B: Named, R: Host>(
+    rt: &R,
+    alloc: Global,
+    database: &Database<B>,
+    moves: u32,
+) -> Result<(), Refusal> {
+    for number in 0..moves {
+        move_keys(rt, alloc, database, b"c", b"q", number % 4)?;
+        thread::sleep(rt, Duration::from_millis(1));
+    }
+    Ok(())
+}
+
+// The same of clients that are started on the database, while so many moves are made.
 fn play_clients<B: Named, R: Host>(
     rt: &R,
     alloc: Global,
     database: &mut Database<B>,
+    moves: u32,
 ) -> Result<(Vec<Model>, bool), Refusal> {
     let mut clients = Vec::new(alloc);
     let started = start_clients(rt, alloc, database, &mut clients);
+    let moved = move_back_and_forth(rt, alloc, database, moves);
     let joined = join_clients(rt, alloc, clients);
-    started.and(joined)
+    started.and(moved).and(joined)
 }
 
 // Whether the record has the pair.
@@ -155,13 +175,19 @@ fn told_of<B: ClusterName>(
     Ok((count, pairs.len(), is_sum, has_all(pairs, models)))
 }
 
-fn count<B: Named, R: Host>(rt: &R, alloc: Global, blank: Blank, config: &Config) -> Done
+fn count<B: Named, R: Host>(
+    rt: &R,
+    alloc: Global,
+    blank: Blank,
+    config: &Config,
+    moves: u32,
+) -> Done
     requires cells { blank ≡ B.cells }
     requires config { config.now ≡ B.config }
 {
     let gate = Arc::new(alloc, NoGate)?;
     let mut database: Database<B> = Database::start(rt, alloc, blank, config, 1_000, &gate)?;
-    let played = play_clients(rt, alloc, &mut database);
+    let played = play_clients(rt, alloc, &mut database, moves);
     let record = database.close(rt);
     let (models, are_known) = played?;
     same(rt, are_known, true);
@@ -174,13 +200,28 @@ fn count<B: Named, R: Host>(rt: &R, alloc: Global, blank: Blank, config: &Config
     Ok(())
 }
 
-#[test]
-fn four_clients_read_what_they_wrote(rt: HostRuntime) -> Result<(), Fail> {
-    let alloc = rt.alloc();
+// Three proxies of each kind, two logs, four resolvers and three shards.
+fn config_of_many(alloc: Global) -> Result<Config, Refusal> {
     let mut config = count_config(alloc, 3, 2, 1_000);
     config.resolver_splits = keys_of(alloc, &[b"b", b"l", b"s"])?;
     config.shard_splits = keys_of(alloc, &[b"k", b"t"])?;
+    Ok(config)
+}
+
+#[test]
+fn four_clients_read_what_they_wrote(rt: HostRuntime) -> Result<(), Fail> {
+    let alloc = rt.alloc();
+    let config = config_of_many(alloc)?;
     let blank = Blank::new(alloc, 1_000)?;
-    count::<Brand, HostRuntime>(&rt, alloc, blank, &config)?;
+    count::<Brand, HostRuntime>(&rt, alloc, blank, &config, 0)?;
+    Ok(())
+}
+
+#[test]
+fn four_clients_read_what_they_wrote_while_keys_are_moved(rt: HostRuntime) -> Result<(), Fail> {
+    let alloc = rt.alloc();
+    let config = config_of_many(alloc)?;
+    let blank = Blank::new(alloc, 1_000)?;
+    count::<Brand, HostRuntime>(&rt, alloc, blank, &config, MOVES)?;
     Ok(())
 }

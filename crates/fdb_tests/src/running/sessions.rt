@@ -3,7 +3,8 @@ ghost use Rattle.std.specs.Prelude.{◌≡◌};
 
 use crate::making::{are_pairs, coded, count_config, same};
 use crate::running::{
-    Asked, Done, Host, Named, add_read, add_write, byte_of, reads_just, two_sessions, write,
+    Asked, Done, Host, Named, add_read, add_write, byte_of, move_keys, reads_just, two_sessions,
+    write,
 };
 use fdb_book::Blank;
 use fdb_keys::Refusal;
@@ -114,6 +115,16 @@ fn tell_in_two<B: Named, R: Host>(
     }
 }
 
+// Moves that name no resolver that there is, or no key.
+fn refuse_moves<B: Named, R: Host>(rt: &R, alloc: Global, database: &Database<B>) {
+    let unknown = move_keys(rt, alloc, database, b"a", b"b", 1);
+    same(rt, coded(unknown), Err(9009));
+    let empty = move_keys(rt, alloc, database, b"a", b"a", 0);
+    same(rt, coded(empty), Err(9009));
+    let whole = move_keys(rt, alloc, database, b"a", b"b", 0);
+    same(rt, coded(whole), Ok(()));
+}
+
 fn run_two<B: Named, R: Host>(rt: &R, alloc: Global, blank: Blank, config: &Config) -> Done
     requires cells { blank ≡ B.cells }
     requires config { config.now ≡ B.config }
@@ -121,6 +132,7 @@ fn run_two<B: Named, R: Host>(rt: &R, alloc: Global, blank: Blank, config: &Conf
     let gate = Arc::new(alloc, NoGate)?;
     let mut database: Database<B> = Database::start(rt, alloc, blank, config, 100, &gate)?;
     let told = tell_in_two(rt, alloc, &mut database);
+    refuse_moves(rt, alloc, &database);
     let record = database.close(rt);
     same(rt, coded(told), Ok(()));
     same(rt, told_of(record), Ok((1, 100, true)));
