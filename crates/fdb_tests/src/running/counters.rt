@@ -200,28 +200,23 @@ fn count<B: Named, R: Host>(
     Ok(())
 }
 
-// Three proxies of each kind, two logs, four resolvers and three shards.
-fn config_of_many(alloc: Global) -> Result<Config, Refusal> {
+// On a database of three proxies of each kind, two logs, four resolvers and three shards.
+fn count_on_many<R: Host>(rt: &R, alloc: Global, moves: u32) -> Done {
     let mut config = count_config(alloc, 3, 2, 1_000);
     config.resolver_splits = keys_of(alloc, &[b"b", b"l", b"s"])?;
     config.shard_splits = keys_of(alloc, &[b"k", b"t"])?;
-    Ok(config)
+    let blank = Blank::new(alloc, 1_000)?;
+    count::<Brand, R>(rt, alloc, blank, &config, moves)
 }
 
 #[test]
 fn four_clients_read_what_they_wrote(rt: HostRuntime) -> Result<(), Fail> {
-    let alloc = rt.alloc();
-    let config = config_of_many(alloc)?;
-    let blank = Blank::new(alloc, 1_000)?;
-    count::<Brand, HostRuntime>(&rt, alloc, blank, &config, 0)?;
+    count_on_many(&rt, rt.alloc(), 0)?;
     Ok(())
 }
 
 #[test]
 fn four_clients_read_what_they_wrote_while_keys_are_moved(rt: HostRuntime) -> Result<(), Fail> {
-    let alloc = rt.alloc();
-    let config = config_of_many(alloc)?;
-    let blank = Blank::new(alloc, 1_000)?;
-    count::<Brand, HostRuntime>(&rt, alloc, blank, &config, MOVES)?;
+    count_on_many(&rt, rt.alloc(), MOVES)?;
     Ok(())
 }

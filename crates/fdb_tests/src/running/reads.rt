@@ -261,23 +261,23 @@ fn use_ranges<B: Named, R: Host>(
     Ok(())
 }
 
+// On a database of one of each role, but for shards between the splits.
+fn use_ranges_between<R: Host>(rt: &R, alloc: Global, splits: &[&[u8]], case: &Case) -> Done {
+    let mut config = count_config(alloc, 1, 1, 100);
+    config.shard_splits = keys_of(alloc, splits)?;
+    let blank = Blank::new(alloc, 100)?;
+    use_ranges::<Brand, R>(rt, alloc, blank, &config, case)
+}
+
 #[test]
 fn ranges_are_read_over_two_shards(rt: HostRuntime) -> Result<(), Fail> {
-    let alloc = rt.alloc();
-    let mut config = count_config(alloc, 1, 1, 100);
-    config.shard_splits = keys_of(alloc, &[b"c"])?;
-    let blank = Blank::new(alloc, 100)?;
-    use_ranges::<Brand, HostRuntime>(&rt, alloc, blank, &config, &TWO_SHARDS)?;
+    use_ranges_between(&rt, rt.alloc(), &[b"c"], &TWO_SHARDS)?;
     Ok(())
 }
 
 #[test]
 fn ranges_are_read_over_three_shards(rt: HostRuntime) -> Result<(), Fail> {
-    let alloc = rt.alloc();
-    let mut config = count_config(alloc, 1, 1, 100);
-    config.shard_splits = keys_of(alloc, &[b"d", b"g"])?;
-    let blank = Blank::new(alloc, 100)?;
-    use_ranges::<Brand, HostRuntime>(&rt, alloc, blank, &config, &THREE_SHARDS)?;
+    use_ranges_between(&rt, rt.alloc(), &[b"d", b"g"], &THREE_SHARDS)?;
     Ok(())
 }
 

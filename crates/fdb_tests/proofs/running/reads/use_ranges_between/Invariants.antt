@@ -1,4 +1,4 @@
-use Rattle.fdb_tests.proofs.running.reads.ranges_are_read_over_two_shards.Given as goal
+use Rattle.fdb_tests.proofs.running.reads.use_ranges_between.Given as goal
 
 abbrev pub ghosts-use_ranges-B-BookName : goal.ghosts-use_ranges-B-BookName
 ghosts-use_ranges-B-BookName g a = record { cells = a.blank }

@@ -1,4 +1,4 @@
-use Rattle.fdb_tests.proofs.running.counters.four_clients_read_what_they_wrote.Given as goal
+use Rattle.fdb_tests.proofs.running.counters.count_on_many.Given as goal
 
 abbrev pub ghosts-count-B-BookName : goal.ghosts-count-B-BookName
 ghosts-count-B-BookName g a = record { cells = a.blank }
