@@ -1,4 +1,5 @@
 pub mod Commands
+pub mod Random
 pub mod Streams
 pub mod play
 pub mod print

@@ -9,6 +9,7 @@ ghost use Rattle.fdb_sim.specs.Commands.{status_of};
 mod command;
 mod play;
 mod print;
+mod random;
 mod script;
 mod streams;
 #[cfg(test)]
