@@ -1,33 +1,37 @@
 //! Steps that are drawn from a seed, and taken by a world of two proxies of each kind, two resolvers, two logs and two
 //! shards.
-ghost use Rattle.std.specs.Prelude.{◌≡◌, ◌≤◌, Option, ℕ, IfOk, IfErr};
-ghost use Rattle.fdb_sim.specs.Random.{ReportPrints, RunPrints, report_of};
-ghost use Rattle.fdb_sim.specs.Streams.{FailsWith, IsStreamError};
+ghost use Rattle.std.specs.Prelude.{◌≡◌, ◌≤◌, ◌⊎◌, IfOk, IfErr};
+ghost use Rattle.fdb_sim.specs.Random.{EndsWith, IsEnded, IsReportOf, ReportPrints, RunPrints};
+ghost use Rattle.fdb_sim.specs.Streams.{IsStreamError};
+ghost use Rattle.fdb_sim.specs.declared.random.ended.Ended.TheVariants.{Io};
 ghost use Rattle.fdb_sim.specs.play.Scripts.{Printed};
-ghost use Rattle.fdb_sim.specs.declared.random.tally.Tally.{Tally};
 
 pub mod acts;
 pub mod drawing;
+pub mod ended;
 pub mod report;
 pub mod tally;
 pub mod watch;
 
-use crate::play::stop::Stop;
-use crate::print::endings::print_stop;
+use crate::print::endings::print_refusal;
 use crate::random::acts::{SPLIT, take};
 use crate::random::drawing::{Drawing, LOGS, PROXIES};
+use crate::random::ended::Ended;
 use crate::random::report::Report;
 use crate::random::tally::Tally;
 use crate::random::watch::{Nobody, Teller, Watch};
 use crate::streams::Sink;
 use fdb_core::{CheckFault, Config, World};
 use fdb_keys::{Items, Key, Refusal};
-use std::alloc::{AllocError, Global};
+use std::alloc::Global;
 use std::io;
 use std::time::Clock;
 
 /// How many entries the book has room for.
 const BOOK: u32 = 1_000_000;
+
+/// The status of a run that came to no report.
+const ENDED: u8 = 2;
 
 /// Runs so many steps that are drawn from the seed, prints the report to `out` as a line, and answers the status: 0
 /// where the check at the end holds, 1 where it finds a difference, 2 where memory runs out, which is printed as a
@@ -46,31 +50,41 @@ pub fn run_random<C: Clock, O: Sink, E: Sink>(
         (λ printed. RunPrints steps printed status)) }
     ensures errors { IfErr result (IsStreamError O.errors E.errors) }
 {
-    let ran = match clock {
+    match run_told(alloc, seed, steps, clock, err) {
+        Ok((_tally, report)) => print_report(alloc, report, out),
+        Err(ended) => print_ended(ended, out),
+    }
+}
+
+// Takes the steps, and prints how many are done where there is a clock.
+fn run_told<C: Clock, E: Sink>(
+    alloc: Global,
+    seed: u64,
+    steps: u32,
+    clock: Option<&C>,
+    err: &mut E,
+) -> Result<(Tally, Report), Ended>
+    ensures report { IfOk result (λ ran. IsReportOf steps ran.0 ran.1) }
+    ensures errors { IfErr result (EndsWith E.errors) }
+{
+    match clock {
         Some(clock) => run_steps(alloc, seed, steps, &mut Teller::new(clock, err)),
         None => run_steps(alloc, seed, steps, &mut Nobody),
-    };
-    match ran {
-        Ok((_tally, report)) => print_report(alloc, report, out),
-        Err(stop) => print_stop(stop, out),
     }
 }
 
 /// Takes so many steps that are drawn from the seed in a new world, and checks it. Answers what the steps were
-/// answered, and the report of it. It stops where memory runs out, and where telling the watch fails.
+/// answered, and the report of it. It ends before where memory runs out, and where telling the watch fails.
 pub fn run_steps<W: Watch>(
     alloc: Global,
     seed: u64,
     steps: u32,
     watch: &mut W,
-) -> Result<(Tally, Report), Stop>
-    ensures report { IfOk result (λ ran. (checked : Option ℕ) × (ran.1 ≡ report_of ran.0 steps checked)) }
-    ensures errors { IfErr result (FailsWith W.errors) }
+) -> Result<(Tally, Report), Ended>
+    ensures report { IfOk result (λ ran. IsReportOf steps ran.0 ran.1) }
+    ensures errors { IfErr result (EndsWith W.errors) }
 {
-    let mut world = match new_world(alloc) {
-        Ok(world) => world,
-        Err(why) => return Err(Stop::Refused(why)),
-    };
+    let mut world = new_world(alloc)?;
     let ran = run_in(&mut world, alloc, seed, steps, watch);
     drop(world);
     ran
@@ -107,9 +121,9 @@ fn run_in<W: Watch>(
     seed: u64,
     steps: u32,
     watch: &mut W,
-) -> Result<(Tally, Report), Stop>
-    ensures report { IfOk result (λ ran. (checked : Option ℕ) × (ran.1 ≡ report_of ran.0 steps checked)) }
-    ensures errors { IfErr result (FailsWith W.errors) }
+) -> Result<(Tally, Report), Ended>
+    ensures report { IfOk result (λ ran. IsReportOf steps ran.0 ran.1) }
+    ensures errors { IfErr result (EndsWith W.errors) }
 {
     let tally = take_all(world, alloc, seed, steps, watch)?;
     let checked = check(world)?;
@@ -123,8 +137,8 @@ fn take_all<W: Watch>(
     seed: u64,
     steps: u32,
     watch: &mut W,
-) -> Result<Tally, Stop>
-    ensures errors { IfErr result (FailsWith W.errors) }
+) -> Result<Tally, Ended>
+    ensures errors { IfErr result (EndsWith W.errors) }
 {
     let mut drawing = Drawing::new(seed);
     let mut tally = Tally::new();
@@ -141,21 +155,25 @@ fn take_one(
     alloc: Global,
     drawing: &mut Drawing,
     tally: &mut Tally,
-) -> Result<(), AllocError> {
+) -> Result<(), Refusal> {
     let act = drawing.draw(world);
     let answer = take(world, alloc, act);
     drawing.note(&answer);
     tally.note(act, &answer);
     let has_run_out = matches!(answer, Err(Refusal::NoMemory));
     drop(answer);
-    if has_run_out { Err(AllocError) } else { Ok(()) }
+    if has_run_out {
+        Err(Refusal::NoMemory)
+    } else {
+        Ok(())
+    }
 }
 
 // How many transactions were compared, if there is no difference. Fails only where memory runs out.
-fn check(world: &World) -> Result<Option<u64>, AllocError> {
+fn check(world: &World) -> Result<Option<u64>, Refusal> {
     match world.check() {
         Ok(count) => Ok(Some(count)),
-        Err(CheckFault::NoMemory) => Err(AllocError),
+        Err(CheckFault::NoMemory) => Err(Refusal::NoMemory),
         Err(CheckFault::Txn(_)) | Err(CheckFault::Shard(_)) => Ok(None),
     }
 }
@@ -172,6 +190,23 @@ fn print_report<O: Sink>(alloc: Global, report: Report, out: &mut O) -> Result<u
             writeln!(out, "{text}")?;
             Ok(report.status())
         }
-        Err(_error) => print_stop(Stop::NoMemory, out),
+        Err(_error) => print_ended(Ended::Refused(Refusal::NoMemory), out),
+    }
+}
+
+// Prints why the run ended before its report, and answers the status. It takes no memory. An error is answered as that
+// error.
+fn print_ended<O: Sink>(ended: Ended, out: &mut O) -> Result<u8, io::Error>
+    ensures bound { IfOk result (λ status. status ≤ 2) }
+    ensures printed { IfOk result (λ status. Printed (O.contents out.old) (O.contents out.new)
+        (λ printed. IsEnded printed status)) }
+    ensures errors { IfErr result (λ error. (ended ≡ Io error) ⊎ O.errors error) }
+{
+    match ended {
+        Ended::Refused(why) => {
+            print_refusal(why, out)?;
+            Ok(ENDED)
+        }
+        Ended::Io(error) => Err(error),
     }
 }

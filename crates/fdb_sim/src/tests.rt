@@ -5,6 +5,7 @@ mod large;
 mod limits;
 mod lines;
 mod playing;
+mod random;
 mod scripts;
 mod tables;
 mod words;

@@ -98,7 +98,8 @@ pub fn print_stop<W: Sink>(stop: Stop, writer: &mut W) -> Result<u8, io::Error>
     Ok(ENDED)
 }
 
-fn print_refusal<W: Sink>(refusal: Refusal, writer: &mut W) -> Result<(), io::Error>
+/// Prints the refusal as a line. It takes no memory.
+pub fn print_refusal<W: Sink>(refusal: Refusal, writer: &mut W) -> Result<(), io::Error>
     ensures printed { OnOk result (Appends (W.contents writer.old) (W.contents writer.new) (refused_line refusal)) }
     ensures errors { IfErr result W.errors }
 {

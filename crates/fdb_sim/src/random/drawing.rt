@@ -253,7 +253,7 @@ impl Drawing {
         if world.txn(session).is_none() {
             return self.begin(world, session);
         }
-        if self.rarely(5) {
+        if self.rarely(8) {
             return Act::Submit {
                 session,
                 proxy: self.below(PROXIES),
@@ -282,15 +282,20 @@ impl Drawing {
         Act::Seal { proxy, advance }
     }
 
-    // A batch begins, or takes the next of its steps, or at times one too early.
+    // A batch takes the next of its steps. A proxy without one begins it, or gets one more transaction before.
     fn drive(&mut self, world: &World) -> Act {
         let proxy = self.below(PROXIES);
         match world.in_flight(proxy) {
             Ok(flight) => self.go_on(flight, proxy),
-            Err(_why) => self.seal(proxy),
+            Err(_why) if self.rarely(4) => self.seal(proxy),
+            Err(_why) => Act::Submit {
+                session: self.below(SESSIONS),
+                proxy,
+            },
         }
     }
 
+    // The next step of the batch, or at times one too early.
     fn go_on(&mut self, flight: InFlight, proxy: u32) -> Act {
         let behind = self.behind(proxy, flight.entry);
         if self.rarely(16) {
@@ -324,7 +329,7 @@ impl Drawing {
 
     // One of the last entries, or one that isn't there.
     fn entry(&mut self, world: &World) -> u32 {
-        let count = world.book().len() as u32;
+        let count = u32::try_from(world.book().len()).unwrap_or(u32::MAX);
         match self.below(8) {
             0 => u32::MAX,
             ago => count.saturating_add(1).saturating_sub(ago),

@@ -1,11 +1,12 @@
 // What is printed of a run: one line of JSON.
-ghost use Rattle.std.specs.Prelude.{◌≡◌, Option, ℕ, IfOk, string_bytes};
-ghost use Rattle.serde_json.specs.View.{view};
+ghost use Rattle.std.specs.Prelude.{◌≡◌, IfOk, OnOk, string_bytes};
+ghost use Rattle.serde_json.specs.Data.{no_members, object};
+ghost use Rattle.serde_json.specs.View.{members_view, view};
 ghost use Rattle.serde_json.specs.Written.{compact_text};
-ghost use Rattle.fdb_sim.specs.Random.{report_data, report_of, report_status};
+ghost use Rattle.fdb_sim.specs.Random.{report_members, report_of, report_status};
 
 use crate::random::tally::Tally;
-use serde_json::{Value, json};
+use serde_json::{Map, Value, put};
 use std::alloc::{AllocError, Global};
 
 /// The status of a run whose check found no difference.
@@ -54,24 +55,42 @@ impl Report {
         if self.ok { CHECKED } else { FAILED }
     }
 
+    // Puts what the report says into an object that has no member yet.
+    fn fill(self, alloc: Global, members: &mut Map<String, Value>) -> Result<(), AllocError>
+        requires { members_view members.old.entries ≡ no_members }
+        ensures { OnOk result (members_view members.new.entries ≡ report_members self) }
+    {
+        put(members, alloc, "aborted", Value::from(self.aborted))?;
+        put(
+            members,
+            alloc,
+            "acknowledged",
+            Value::from(self.acknowledged),
+        )?;
+        put(members, alloc, "checked", Value::from(self.checked))?;
+        put(
+            members,
+            alloc,
+            "mode",
+            Value::try_from_str(alloc, "random")?,
+        )?;
+        put(members, alloc, "ok", Value::from(self.ok))?;
+        put(members, alloc, "refused", Value::from(self.refused))?;
+        put(members, alloc, "steps", Value::from(self.steps))
+    }
+
     // The report as an object of JSON.
     fn value(self, alloc: Global) -> Result<Value, AllocError>
-        ensures { IfOk result (λ value. view value ≡ report_data self) }
+        ensures { IfOk result (λ value. view value ≡ object (report_members self)) }
     {
-        json!(in alloc; {
-            "aborted": self.aborted,
-            "acknowledged": self.acknowledged,
-            "checked": self.checked,
-            "mode": "random",
-            "ok": self.ok,
-            "refused": self.refused,
-            "steps": self.steps
-        })
+        let mut members = Map::new(alloc);
+        self.fill(alloc, &mut members)?;
+        Ok(Value::Object(members))
     }
 
     /// The text of the report: an object of JSON in its compact form, with the keys in the order of their bytes.
     pub fn text(self, alloc: Global) -> Result<String, AllocError>
-        ensures { IfOk result (λ text. string_bytes text ≡ compact_text (report_data self)) }
+        ensures { IfOk result (λ text. string_bytes text ≡ compact_text (object (report_members self))) }
     {
         let value = self.value(alloc)?;
         value.to_string(alloc)

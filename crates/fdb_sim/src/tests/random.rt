@@ -1,0 +1,62 @@
+// Runs of drawn steps.
+use crate::random::acts::KINDS;
+use crate::random::report::Report;
+use crate::random::tally::Tally;
+use crate::random::watch::Nobody;
+use crate::random::{run_random, run_steps};
+use std::alloc::Global;
+use std::test::Fail;
+
+/// How many steps a run has.
+const STEPS: u32 = 4_000;
+
+// How often this or that came that each run should have: steps of each kind that were accepted, refusals of the usual
+// codes, and each outcome of a transaction.
+fn has_all(tally: &Tally) -> bool {
+    let codes = [1009, 9002, 9003, 9014, 9016];
+    (0..KINDS).all(|kind| tally.accepted_of(kind) > 0)
+        && codes.iter().all(|code| tally.refused_with(*code) > 0)
+        && tally.committed > 20
+        && tally.read_only > 0
+        && tally.conflicting > 0
+        && tally.old > 0
+}
+
+// Whether the check held, and compared all transactions that were answered with their spot.
+fn is_checked(report: &Report) -> bool {
+    report.ok && report.checked == report.acknowledged && report.steps == STEPS
+}
+
+fn is_whole(alloc: Global, seed: u64) -> bool {
+    match run_steps(alloc, seed, STEPS, &mut Nobody) {
+        Ok((tally, report)) => has_all(&tally) && is_checked(&report),
+        Err(_stop) => false,
+    }
+}
+
+#[test]
+fn steps_of_all_kinds_are_taken(rt: HostRuntime) {
+    for seed in 1..3 {
+        assert!(rt; is_whole(rt.alloc(), seed), "at {seed}");
+    }
+}
+
+// The status of a run without a clock, with what it prints.
+fn output_of(rt: &HostRuntime, seed: u64) -> Result<(u8, Vec<u8>), Fail> {
+    let mut out: Vec<u8> = Vec::new(rt.alloc());
+    let mut err: Vec<u8> = Vec::new(rt.alloc());
+    let none: Option<&HostRuntime> = None;
+    let status = run_random(rt.alloc(), seed, 1_000, none, &mut out, &mut err)?;
+    Ok((status, out))
+}
+
+#[test]
+fn a_seed_gives_one_line(rt: HostRuntime) -> Result<(), Fail> {
+    let first = output_of(&rt, 1)?;
+    let again = output_of(&rt, 1)?;
+    let other = output_of(&rt, 2)?;
+    assert!(rt; first.0 == 0 && first.1.as_slice() == again.1.as_slice());
+    assert!(rt; first.1.as_slice() != other.1.as_slice());
+    assert!(rt; first.1.starts_with(b"{\"aborted\":") && first.1.ends_with(b",\"steps\":1000}\n"));
+    Ok(())
+}
