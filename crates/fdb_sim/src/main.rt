@@ -14,6 +14,7 @@ mod script;
 mod streams;
 #[cfg(test)]
 mod tests;
+mod threads;
 
 use crate::command::run_words;
 use std::io::{BufWriter, Write};
