@@ -8,4 +8,5 @@ mod playing;
 mod random;
 mod scripts;
 mod tables;
+mod threads;
 mod words;

@@ -1,25 +1,27 @@
 //! Clients in threads that run transactions on a running database, and what is checked of it in the end.
-ghost use Rattle.std.specs.Prelude.{◌≤◌, IfOk, IfErr};
-ghost use Rattle.fdb_sim.specs.Streams.{FailsWith, IsStreamError};
+ghost use Rattle.std.specs.Prelude.{◌≤◌, List, ℕ, IfOk, IfErr};
+ghost use Rattle.std.specs.Io.KnownBytes.{Appends};
+ghost use Rattle.fdb_sim.specs.Streams.{IsStreamError};
+ghost use Rattle.fdb_sim.specs.threads.Reports.{PrintsEnd};
 
 mod client;
 mod clients;
 mod counters;
 mod halt;
 pub(crate) mod judging;
-mod names;
+pub(crate) mod names;
 pub(crate) mod played;
 pub(crate) mod report;
 mod ring;
 mod run;
 pub(crate) mod running;
+mod sums;
 mod tally;
 mod transfers;
 mod values;
-mod watch;
+pub(crate) mod watch;
 pub(crate) mod workload;
 
-use crate::play::stop::Stop;
 use crate::print::endings::print_stop;
 use crate::streams::Sink;
 use crate::threads::report::print_report;
@@ -71,24 +73,12 @@ pub fn run_threads<R: Threads + Wait + Clock + Copy + Send + Sync + 'static, O: 
     err: &mut E,
 ) -> Result<u8, io::Error>
     ensures bound { IfOk result (λ status. status ≤ 2) }
+    ensures printed { IfOk result (λ status. (printed : List ℕ) × PrintsEnd printed status
+        × Appends (O.contents out.old) (O.contents out.new) printed) }
     ensures errors { IfErr result (IsStreamError O.errors E.errors) }
 {
-    match run_and_print(rt, alloc, load, out, err) {
-        Ok(status) => Ok(status),
+    match run_load(rt, alloc, load, PACE, err) {
+        Ok(report) => print_report(alloc, &report, out),
         Err(stop) => print_stop(stop, out),
     }
-}
-
-fn run_and_print<R: Threads + Wait + Clock + Copy + Send + Sync + 'static, O: Sink, E: Sink>(
-    rt: &R,
-    alloc: Global,
-    load: &Load,
-    out: &mut O,
-    err: &mut E,
-) -> Result<u8, Stop>
-    ensures bound { IfOk result (λ status. status ≤ 2) }
-    ensures errors { IfErr result (FailsWith (IsStreamError O.errors E.errors)) }
-{
-    let report = run_load(rt, alloc, load, PACE, err)?;
-    print_report(alloc, &report, out)
 }

@@ -5,6 +5,7 @@ mod commits;
 mod counters;
 mod gates;
 mod growths;
+mod moves;
 mod reads;
 mod sessions;
 mod transfers;

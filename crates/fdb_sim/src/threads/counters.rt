@@ -1,7 +1,7 @@
 // Numbers to which all clients add, without reading them.
 use crate::threads::halt::Halt;
 use crate::threads::names::name_of;
-use crate::threads::transfers::sum_of;
+use crate::threads::sums::sum_of;
 use crate::threads::values::{add, put};
 use bytes::Bytes;
 use fdb_keys::{Key, Refusal};

@@ -1,7 +1,11 @@
 // Whether a run was right: what clients were told, the record's entries and its pairs agree.
-ghost use Rattle.std.specs.Prelude.{◌≡◌, suc, length, None};
+ghost use Rattle.std.specs.Prelude.{◌≡◌, ◌↔◌, ◌+◌, suc, true, length, None, IsTrue, IfOk, IfSome, IfErr};
+ghost use Rattle.std.specs.List.{AllByRecursion};
+ghost use Rattle.fdb_keys.specs.declared.refusal.Refusal.TheVariants.{NoMemory};
 ghost use Rattle.fdb_txn.specs.book.History.{IsBook};
 ghost use Rattle.fdb_proxy.specs.Configs.{config_fault};
+ghost use Rattle.fdb_core.specs.headline.Headline.{IsSerialized};
+ghost use Rattle.fdb_sim.specs.threads.Judging.{IsSerial};
 
 use crate::threads::played::Played;
 use crate::threads::report::Report;
@@ -34,7 +38,9 @@ pub(crate) struct Kept<'a> {
 }
 
 /// Whether all tries were told of.
-pub(crate) fn is_all(acknowledged: u64, aborted: u64, unknown: u64, txns: u64) -> bool {
+pub(crate) fn is_all(acknowledged: u64, aborted: u64, unknown: u64, txns: u64) -> bool
+    ensures { IsTrue result ↔ (acknowledged + aborted + unknown ≡ txns) }
+{
     match acknowledged.checked_add(aborted) {
         Some(known) => known.checked_add(unknown) == Some(txns),
         None => false,
@@ -58,6 +64,14 @@ pub(crate) fn judge(
 ) -> Result<Report, Refusal>
     requires legal { config_fault kept.now.config.now ≡ None }
     requires book { IsBook (suc (length kept.now.config.now.resolver_splits)) kept.now.entries.now }
+    ensures serial { IfOk result (λ report. report.ok ≡ true
+        → IsSerial kept.now.config.now.resolver_splits kept.now.entries.now played.now.placed.items asked.now.txns
+        report) }
+    ensures acknowledged { IfOk result (λ report. report.acknowledged ≡ length played.now.placed.items) }
+    ensures aborted { IfOk result (λ report. report.aborted ≡ played.now.aborted) }
+    ensures unknown { IfOk result (λ report. report.unknown ≡ length played.now.doubtful.items) }
+    ensures entries { IfOk result (λ report. report.entries ≡ length kept.now.entries.now) }
+    ensures err { IfErr result (λ why. why ≡ NoMemory) }
 {
     let checked = count_serialized(alloc, kept, played.placed.as_slice())?;
     let places = committed(alloc, asked.first, played, kept)?;
@@ -89,6 +103,9 @@ fn count_serialized(
 ) -> Result<Option<u64>, Refusal>
     requires legal { config_fault kept.now.config.now ≡ None }
     requires book { IsBook (suc (length kept.now.config.now.resolver_splits)) kept.now.entries.now }
+    ensures serial { IfOk result (λ counted. IfSome counted (λ count. (count ≡ length placed.now)
+        × AllByRecursion (IsSerialized kept.now.config.now.resolver_splits kept.now.entries.now) placed.now)) }
+    ensures err { IfErr result (λ why. why ≡ NoMemory) }
 {
     match serial_check(alloc, kept.config, kept.entries, placed) {
         Ok(count) => Ok(Some(count)),
@@ -106,6 +123,7 @@ fn committed(
 ) -> Result<Vec<Place>, Refusal>
     requires legal { config_fault kept.now.config.now ≡ None }
     requires book { IsBook (suc (length kept.now.config.now.resolver_splits)) kept.now.entries.now }
+    ensures { IfErr result (λ why. why ≡ NoMemory) }
 {
     let mut places = Vec::new(alloc);
     push_spot(&mut places, first)?;
@@ -120,7 +138,9 @@ fn committed(
 }
 
 // Adds the place of the spot, if it is in an entry.
-fn push_spot(places: &mut Vec<Place>, spot: Spot) -> Result<(), Refusal> {
+fn push_spot(places: &mut Vec<Place>, spot: Spot) -> Result<(), Refusal>
+    ensures { IfErr result (λ why. why ≡ NoMemory) }
+{
     if let Spot::Entry { index, place, .. } = spot {
         places.push(Place { index, place })?;
     }
@@ -136,6 +156,7 @@ fn push_doubtful(
 ) -> Result<(), Refusal>
     requires legal { config_fault kept.now.config.now ≡ None }
     requires book { IsBook (suc (length kept.now.config.now.resolver_splits)) kept.now.entries.now }
+    ensures { IfErr result (λ why. why ≡ NoMemory) }
 {
     let Some((place, version)) = place_of(kept.entries, transcript.id) else {
         return Ok(());

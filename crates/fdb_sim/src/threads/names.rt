@@ -1,4 +1,6 @@
 // The names of a workload's keys: a letter, `/` and two digits. So their order is that of their numbers.
+ghost use Rattle.std.specs.Prelude.{◌≡◌, ◌<◌, ◌+◌, ◌/◌, ◌%◌, ◌∷◌, [], IfSome};
+
 use crate::threads::workload::Workload;
 use fdb_keys::{Items, Key, KeyRange, Refusal};
 use std::alloc::Global;
@@ -7,12 +9,16 @@ use std::alloc::Global;
 pub(crate) type Name = [u8; 4];
 
 /// The name of the key with the number, which is below 100.
-pub(crate) fn name_of(letter: u8, number: u8) -> Name {
+pub(crate) fn name_of(letter: u8, number: u8) -> Name
+    ensures { result ≡ letter ∷ 47 ∷ (48 + number / 10 % 10) ∷ (48 + number % 10) ∷ [] }
+{
     [letter, b'/', b'0' + number / 10 % 10, b'0' + number % 10]
 }
 
 /// The name that the value is, if it has the length of one.
-pub(crate) fn name_in(value: &[u8]) -> Option<Name> {
+pub(crate) fn name_in(value: &[u8]) -> Option<Name>
+    ensures { IfSome result (λ name. name ≡ value.now) }
+{
     match value {
         [letter, slash, ten, one] => Some([*letter, *slash, *ten, *one]),
         _ => None,
@@ -38,7 +44,7 @@ fn split_of(alloc: Global, workload: Workload, piece: u32, pieces: u32) -> Resul
     requires { 0 < pieces }
 {
     let parts = u64::from(workload.keys()) * 256;
-    let at = u64::from(piece) * parts / u64::from(pieces);
+    let at = u64::from(piece).saturating_mul(parts) / u64::from(pieces);
     let name = name_of(workload.letter(), (at / 256 % 100) as u8);
     between(alloc, &name, (at % 256) as u8)
 }

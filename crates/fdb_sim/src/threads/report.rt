@@ -1,9 +1,17 @@
 // What a run prints in the end.
+ghost use Rattle.std.specs.Prelude.{◌≡◌, ◌≤◌, List, ℕ, IfOk, IfErr, string_bytes};
+ghost use Rattle.std.specs.Io.KnownBytes.{Appends};
+ghost use Rattle.serde_json.specs.View.{view};
+ghost use Rattle.serde_json.specs.Written.{compact_text};
+ghost use Rattle.fdb_sim.specs.threads.Reports.{report_data, PrintsEnd};
+
 use crate::play::stop::Stop;
+use crate::print::endings::print_stop;
 use crate::streams::Sink;
 use crate::threads::workload::Workload;
-use serde_json::json;
+use serde_json::{Value, json};
 use std::alloc::{AllocError, Global};
+use std::io;
 
 /// What came of a run.
 #[derive(Clone, Copy)]
@@ -24,9 +32,11 @@ pub(crate) struct Report {
     pub(crate) workload: Workload,
 }
 
-// The report as a line of JSON, without its end.
-fn line_of(alloc: Global, report: &Report) -> Result<String, AllocError> {
-    let value = json!(in alloc; {
+// The report as a value of JSON.
+fn value_of(alloc: Global, report: &Report) -> Result<Value, AllocError>
+    ensures { IfOk result (λ value. view value ≡ report_data report.now) }
+{
+    json!(in alloc; {
         "aborted": report.aborted,
         "acknowledged": report.acknowledged,
         "checked": report.checked,
@@ -35,17 +45,34 @@ fn line_of(alloc: Global, report: &Report) -> Result<String, AllocError> {
         "ok": report.ok,
         "unknown": report.unknown,
         "workload": report.workload.name()
-    })?;
+    })
+}
+
+// The same as a line, without its end.
+fn line_of(alloc: Global, report: &Report) -> Result<String, AllocError>
+    ensures { IfOk result (λ line. string_bytes line ≡ compact_text (report_data report.now)) }
+{
+    let value = value_of(alloc, report)?;
     value.to_string(alloc)
 }
 
-/// Prints the report, and answers the status: 0 where all checks held, and else 1.
+/// Prints the report, and answers the status: 0 where all checks held, and else 1. Where memory runs out, it prints that
+/// instead, and answers 2.
 pub(crate) fn print_report<O: Sink>(
     alloc: Global,
     report: &Report,
     out: &mut O,
-) -> Result<u8, Stop> {
-    let line = line_of(alloc, report)?;
-    writeln!(out, "{line}")?;
-    Ok(u8::from(!report.ok))
+) -> Result<u8, io::Error>
+    ensures bound { IfOk result (λ status. status ≤ 2) }
+    ensures printed { IfOk result (λ status. (printed : List ℕ) × PrintsEnd printed status
+        × Appends (O.contents out.old) (O.contents out.new) printed) }
+    ensures errors { IfErr result O.errors }
+{
+    match line_of(alloc, report) {
+        Ok(line) => {
+            writeln!(out, "{line}")?;
+            Ok(u8::from(!report.ok))
+        }
+        Err(_) => print_stop(Stop::NoMemory, out),
+    }
 }

@@ -1,4 +1,11 @@
 // The run of committed transactions, one at a time, over a plain map.
+ghost use Rattle.std.specs.Prelude.{◌≡◌, ◌↔◌, IsTrue, None, false};
+ghost use Rattle.std.specs.Option.{option_copied};
+ghost use Rattle.fdb_keys.specs.Answers.{Answers};
+ghost use Rattle.fdb_mutations.specs.Mutations.{effects};
+ghost use Rattle.fdb_mutations.specs.Pairs.{pairs_in};
+ghost use Rattle.fdb_sim.specs.threads.Runs.{txn_at, mutations_of, run_from, run_of, have_places, every_key};
+
 use bytes::Bytes;
 use fdb_keys::{Key, KeyRange, Refusal};
 use fdb_mutations::{Mutation, PlainMap};
@@ -47,33 +54,72 @@ pub(crate) fn are_pairs_of(
     entries: &[Entry],
     places: &[Place],
     pairs: &[(Key, Bytes)],
-) -> Result<bool, Refusal> {
-    let mut map = PlainMap::new(alloc);
-    if !run_all(&mut map, entries, places)? {
+) -> Result<bool, Refusal>
+    ensures { Answers result None (λ are. IsTrue are ↔ (IsTrue (have_places entries.now places.now)
+        × (pairs.now ≡ pairs_in (run_of entries.now places.now) every_key false))) }
+{
+    if !have_places(entries, places) {
         return Ok(false);
     }
-    let range = KeyRange::new(alloc, &[], &[0xff])?;
+    let mut map = PlainMap::new(alloc);
+    run_all(&mut map, entries, places)?;
+    has_pairs(alloc, &map, pairs)
+}
+
+// The range that has every key.
+#[tactic(auto, unfolding(fdb_keys::specs::Points::point_lt))]
+fn every_key(alloc: Global) -> Result<KeyRange, Refusal>
+    ensures { Answers result None (λ range. range ≡ every_key) }
+{
+    KeyRange::new(alloc, &[], &[0xff])
+}
+
+// Whether the pairs are all of the map's.
+fn has_pairs(alloc: Global, map: &PlainMap, pairs: &[(Key, Bytes)]) -> Result<bool, Refusal>
+    ensures { Answers result None (λ has. IsTrue has ↔ (pairs.now ≡ pairs_in map.now every_key false)) }
+{
+    let range = every_key(alloc)?;
     let left = map.range(&range, 0, false)?;
-    Ok(left.as_slice() == pairs)
+    Ok(pairs == left.as_slice())
 }
 
-// Runs the transactions at the places, and says whether there are all of them.
-fn run_all(map: &mut PlainMap, entries: &[Entry], places: &[Place]) -> Result<bool, Refusal> {
+fn have_places(entries: &[Entry], places: &[Place]) -> bool
+    ensures { result ≡ have_places entries.now places.now }
+{
+    places.iter().all(|place| txn_at(entries, *place).is_some())
+}
+
+// Runs the transactions at the places.
+fn run_all(map: &mut PlainMap, entries: &[Entry], places: &[Place]) -> Result<(), Refusal>
+    ensures { Answers result None (λ _. map.new ≡ run_from map.old entries.now places.now) }
+{
     for place in places {
-        match txn_at(entries, *place) {
-            Some(txn) => run(map, txn.mutations())?,
-            None => return Ok(false),
-        }
+        run(map, mutations_at(entries, *place))?;
     }
-    Ok(true)
+    Ok(())
 }
 
-fn txn_at(entries: &[Entry], place: Place) -> Option<&Sealed> {
+// The transaction at the place, if there is one.
+fn txn_at(entries: &[Entry], place: Place) -> Option<&Sealed>
+    ensures { option_copied result ≡ txn_at entries.now place }
+{
     let entry = entries.get(place.index as usize)?;
     entry.batch.as_slice().get(place.place as usize)
 }
 
-fn run(map: &mut PlainMap, mutations: &[Mutation]) -> Result<(), Refusal> {
+// Its mutations.
+fn mutations_at(entries: &[Entry], place: Place) -> &[Mutation]
+    ensures { result.now ≡ mutations_of (txn_at entries.now place) }
+{
+    match txn_at(entries, place) {
+        Some(txn) => txn.mutations(),
+        None => &[],
+    }
+}
+
+fn run(map: &mut PlainMap, mutations: &[Mutation]) -> Result<(), Refusal>
+    ensures { Answers result None (λ _. map.new ≡ effects map.old mutations.now) }
+{
     for mutation in mutations {
         map.apply(mutation)?;
     }

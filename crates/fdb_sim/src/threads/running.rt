@@ -132,7 +132,7 @@ fn run_in<
 }
 
 // What came of the clients, and where the first transaction stands.
-fn run_clients<
+pub(crate) fn run_clients<
     B: ClusterName + Send + Sync + 'static,
     R: Threads + Wait + Clock + Copy + Send + Sync + 'static,
     E: Sink,
@@ -235,7 +235,7 @@ fn play_all<
 
 // How many transactions all clients try.
 fn txns_of(load: &Load) -> u64 {
-    u64::from(load.clients) * u64::from(load.txns)
+    u64::from(load.clients).saturating_mul(u64::from(load.txns))
 }
 
 // What the record shows of the run, where no client ended by a refusal.

@@ -1,7 +1,8 @@
 // Accounts between which amounts are moved.
 use crate::threads::halt::Halt;
 use crate::threads::names::name_of;
-use crate::threads::values::{number_in, put, read_number};
+use crate::threads::sums::sum_of;
+use crate::threads::values::{put, read_number};
 use bytes::Bytes;
 use fdb_keys::{Key, Refusal};
 use fdb_runtime::{ClusterName, Session};
@@ -75,13 +76,4 @@ fn two_accounts(random: &mut Pcg32) -> (u8, u8) {
 /// Whether the pairs are those of all accounts, and have together what they had at first.
 pub(crate) fn is_whole(pairs: &[(Key, Bytes)]) -> bool {
     pairs.len() == usize::from(KEYS) && sum_of(pairs) == Some(SUM)
-}
-
-/// The sum of the numbers that the values are, if each is one.
-pub(crate) fn sum_of(pairs: &[(Key, Bytes)]) -> Option<u64> {
-    let mut sum: u64 = 0;
-    for (_key, value) in pairs {
-        sum = sum.checked_add(number_in(value.as_slice())?)?;
-    }
-    Some(sum)
 }

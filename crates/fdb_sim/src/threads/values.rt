@@ -1,20 +1,13 @@
 // What a transaction reads at a key, and what it writes there.
 use crate::threads::halt::Halt;
 use crate::threads::names::{Name, name_in};
+use crate::threads::sums::number_in;
 use bytes::Bytes;
 use fdb_keys::{Key, Refusal};
 use fdb_mutations::Mutation;
 use fdb_runtime::{ClusterName, Session};
 use std::alloc::Global;
 use std::sync::Wait;
-
-/// The number that the value is, eight bytes with the lowest one first, if it has that length.
-pub(crate) fn number_in(value: &[u8]) -> Option<u64> {
-    match value {
-        [a, b, c, d, e, f, g, h] => Some(u64::from_le_bytes([*a, *b, *c, *d, *e, *f, *g, *h])),
-        _ => None,
-    }
-}
 
 /// The value that the pairs have for the key.
 pub(crate) fn value_of<'a>(pairs: &'a [(Key, Bytes)], key: &[u8]) -> Option<&'a [u8]> {

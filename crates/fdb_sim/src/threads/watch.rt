@@ -1,4 +1,7 @@
 // What the main thread does while clients run: it moves keys between resolvers, and tells how far the clients are.
+ghost use Rattle.std.specs.Prelude.{◌<◌, IfErr};
+ghost use Rattle.fdb_sim.specs.Streams.{FailsWith};
+
 use crate::play::stop::Stop;
 use crate::streams::Sink;
 use crate::threads::names::range_of;
@@ -49,7 +52,9 @@ pub(crate) fn watch<B: ClusterName + Send + Sync + 'static, R: Wait + Clock, E: 
     run: &Run,
     tally: &Tally,
     err: &mut E,
-) -> Result<(), Stop> {
+) -> Result<(), Stop>
+    ensures { IfErr result (FailsWith E.errors) }
+{
     let mut random = Pcg32::new(u64::MAX, 0);
     let mut next = run.pace.tries;
     let mut teller = Teller::new(rt);
@@ -76,7 +81,9 @@ fn move_some<B: ClusterName + Send + Sync + 'static, R: Wait>(
     database: &Database<B>,
     run: &Run,
     random: &mut Pcg32,
-) -> Result<(), Stop> {
+) -> Result<(), Stop>
+    ensures { IfErr result (FailsWith (λ _. ⊥)) }
+{
     if run.resolvers < 2 {
         return Ok(());
     }
@@ -90,7 +97,9 @@ fn move_some<B: ClusterName + Send + Sync + 'static, R: Wait>(
     }
 }
 
-fn refused(answer: Result<(), Refusal>) -> Result<(), Stop> {
+fn refused(answer: Result<(), Refusal>) -> Result<(), Stop>
+    ensures { IfErr result (FailsWith (λ _. ⊥)) }
+{
     match answer {
         Ok(()) => Ok(()),
         Err(why) => Err(Stop::Refused(why)),
@@ -119,7 +128,9 @@ impl Teller {
         txns: u64,
         tally: &Tally,
         err: &mut E,
-    ) -> io::Result<()> {
+    ) -> io::Result<()>
+        ensures { IfErr result E.errors }
+    {
         let Some(millis) = self.millis(rt) else {
             return Ok(());
         };

@@ -1,4 +1,7 @@
 // What clients do, and what has to hold of it in the end.
+ghost use Rattle.std.specs.Prelude.{◌≡◌, ◌<◌, ◌≤◌};
+ghost use Rattle.fdb_sim.specs.threads.Reports.{workload_name};
+
 use crate::threads::halt::Halt;
 use crate::threads::{counters, ring, transfers};
 use bytes::Bytes;
@@ -22,7 +25,9 @@ pub enum Workload {
 
 impl Workload {
     /// Its name.
-    pub(crate) fn name(self) -> &'static str {
+    pub(crate) fn name(self) -> &'static str
+        ensures { result.now ≡ workload_name self }
+    {
         match self {
             Workload::Ring => "ring",
             Workload::Transfers => "transfers",
@@ -40,7 +45,10 @@ impl Workload {
     }
 
     /// How many keys it has.
-    pub(crate) fn keys(self) -> u8 {
+    pub(crate) fn keys(self) -> u8
+        ensures some { 0 < result }
+        ensures bound { result ≤ 32 }
+    {
         match self {
             Workload::Ring => ring::KEYS,
             Workload::Transfers => transfers::KEYS,

@@ -1,0 +1,4 @@
+pub mod Judging
+pub mod Reports
+pub mod Runs
+pub mod Sums

@@ -1,0 +1,38 @@
+-- What a run prints, and the status that it ends with.
+use Rattle.std.specs.Prelude.{◌≡◌, ℕ, List, codes, Some, ◌⊎◌, if◌then◌else◌}
+use Rattle.serde_json.specs.Data.{Data, number, unsigned, string, boolean, object, member, no_members}
+use Rattle.serde_json.specs.Written.{compact_text}
+use Rattle.fdb_sim.specs.declared.play.stop.Stop.{Stop}
+use Rattle.fdb_sim.specs.declared.threads.report.Report.{Report}
+use Rattle.fdb_sim.specs.declared.threads.workload.Workload.{Workload}
+use Rattle.fdb_sim.specs.declared.threads.workload.Workload.TheVariants.{Ring, Transfers, Counters}
+use Rattle.fdb_sim.specs.play.Scripts.{printed_line, stop_text}
+
+abbrev pub workload_name : Workload → List ℕ
+workload_name Ring = codes "ring"
+workload_name Transfers = codes "transfers"
+workload_name Counters = codes "counters"
+
+-- the report as an object of JSON, with its members in this order
+abbrev pub report_data : Report → Data
+report_data report = object
+    (member (codes "aborted") (number (unsigned report.aborted))
+    (member (codes "acknowledged") (number (unsigned report.acknowledged))
+    (member (codes "checked") (number (unsigned report.checked))
+    (member (codes "entries") (number (unsigned report.entries))
+    (member (codes "mode") (string (codes "threads"))
+    (member (codes "ok") (boolean report.ok)
+    (member (codes "unknown") (number (unsigned report.unknown))
+    (member (codes "workload") (string (workload_name report.workload)) no_members))))))))
+
+-- the report is printed, and the status says whether all checks held
+abbrev pub PrintsReport : Report → List ℕ → ℕ → Type 0
+PrintsReport report printed status =
+    (printed ≡ printed_line (compact_text (report_data report))) × (status ≡ (if report.ok then 0 else 1))
+
+-- why there is no report is printed
+abbrev pub PrintsStop : List ℕ → ℕ → Type 0
+PrintsStop printed status = (stop : Stop) × (stop_text stop ≡ Some printed) × (status ≡ 2)
+
+abbrev pub PrintsEnd : List ℕ → ℕ → Type 0
+PrintsEnd printed status = ((report : Report) × PrintsReport report printed status) ⊎ PrintsStop printed status

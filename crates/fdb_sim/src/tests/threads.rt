@@ -1,0 +1,421 @@
+// Clients in threads, and what is found where something of a run is changed by hand.
+ghost use Rattle.std.specs.Prelude.{◌≡◌};
+
+use crate::play::stop::Stop;
+use crate::threads::judging::{Asked, Kept, is_all, judge};
+use crate::threads::played::Played;
+use crate::threads::report::{Report, print_report};
+use crate::threads::running::{config_of, run_clients, run_load};
+use crate::threads::watch::Pace;
+use crate::threads::workload::Workload;
+use crate::threads::{Load, run_threads};
+use bytes::Bytes;
+use fdb_core::Placed;
+use fdb_keys::{Key, Refusal};
+use fdb_runtime::{Blank, ClusterName, Config, Database, NoGate, Record, Spot};
+use std::alloc::Global;
+use std::fmt::Debug;
+use std::marker::Brand;
+use std::process::Abort;
+use std::sync::{Arc, Wait};
+use std::test::Fail;
+use std::thread::Threads;
+use std::time::Clock;
+
+// What runs clients in threads, and stops a test that fails.
+trait Host: Threads + Wait + Abort + Clock + Copy + Send + Sync + Drop + 'static {}
+
+impl<R: Threads + Wait + Abort + Clock + Copy + Send + Sync + Drop + 'static> Host for R {}
+
+// The test fails where it isn't what is wanted.
+fn same<T: PartialEq + Debug + Drop>(rt: &impl Abort, given: T, wanted: T) {
+    assert_eq!(rt; given, wanted);
+}
+
+// Four clients with 50 transactions each, on four resolvers and two proxies of each kind.
+fn load_of(workload: Workload) -> Load {
+    Load {
+        clients: 4,
+        txns: 50,
+        resolvers: 4,
+        proxies: 2,
+        workload,
+        progress: false,
+    }
+}
+
+// What a report says beside its numbers: whether each try was told of, each receipt was checked, nothing is unknown,
+// and all checks held.
+fn told_by(report: Result<Report, Stop>, txns: u64) -> [bool; 4] {
+    match report {
+        Ok(report) => [
+            report.acknowledged.saturating_add(report.aborted) == txns,
+            report.checked == report.acknowledged,
+            report.unknown == 0,
+            report.ok,
+        ],
+        Err(_stop) => [false; 4],
+    }
+}
+
+const WORKLOADS: &[Workload] = &[Workload::Ring, Workload::Transfers, Workload::Counters];
+
+#[test]
+fn each_workload_is_run(rt: HostRuntime) -> Result<(), Fail> {
+    let alloc = rt.alloc();
+    let pace = Pace {
+        millis: 1,
+        tries: 20,
+    };
+    for workload in WORKLOADS {
+        let mut err: Vec<u8> = Vec::new(alloc);
+        let report = run_load(&rt, alloc, &load_of(*workload), pace, &mut err);
+        same(&rt, told_by(report, 200), [true; 4]);
+    }
+    Ok(())
+}
+
+#[test]
+fn eight_clients_run_on_four_resolvers(rt: HostRuntime) -> Result<(), Fail> {
+    let alloc = rt.alloc();
+    let load = Load {
+        clients: 8,
+        txns: 200,
+        resolvers: 4,
+        proxies: 3,
+        workload: Workload::Ring,
+        progress: true,
+    };
+    let mut out: Vec<u8> = Vec::new(alloc);
+    let mut err: Vec<u8> = Vec::new(alloc);
+    let status = run_threads(&rt, alloc, &load, &mut out, &mut err)?;
+    let end = b",\"mode\":\"threads\",\"ok\":true,\"unknown\":0,\"workload\":\"ring\"}\n";
+    same(&rt, (status, out.as_slice().ends_with(end)), (0, true));
+    Ok(())
+}
+
+#[test]
+fn keys_are_moved_while_clients_run(rt: HostRuntime) -> Result<(), Fail> {
+    let alloc = rt.alloc();
+    // A move each few entries.
+    let pace = Pace {
+        millis: 1,
+        tries: 1,
+    };
+    let mut err: Vec<u8> = Vec::new(alloc);
+    let report = run_load(&rt, alloc, &load_of(Workload::Ring), pace, &mut err);
+    same(&rt, told_by(report, 200), [true; 4]);
+    Ok(())
+}
+
+#[test]
+fn a_report_is_a_line_of_json(rt: HostRuntime) -> Result<(), Fail> {
+    let report = Report {
+        aborted: 1,
+        acknowledged: 2,
+        checked: 3,
+        entries: 4,
+        ok: false,
+        unknown: 5,
+        workload: Workload::Transfers,
+    };
+    let mut out: Vec<u8> = Vec::new(rt.alloc());
+    let status = print_report(rt.alloc(), &report, &mut out);
+    let line =
+        b"{\"aborted\":1,\"acknowledged\":2,\"checked\":3,\"entries\":4,\"mode\":\"threads\",\"ok\":false,\"unknown\":5,\"workload\":\"transfers\"}\n";
+    let is_printed = out.as_slice() == line.as_slice();
+    same(&rt, (matches!(&status, Ok(1)), is_printed), (true, true));
+    Ok(())
+}
+
+// Pairs of the keys of the letter, with these numbers.
+fn pairs_of(alloc: Global, letter: u8, numbers: &[u64]) -> Result<Vec<(Key, Bytes)>, Refusal> {
+    let mut pairs = Vec::new(alloc);
+    for (number, value) in numbers.iter().enumerate() {
+        let name = crate::threads::names::name_of(letter, (number % 100) as u8);
+        let key = Key::new(alloc, &name)?;
+        pairs.push((key, Bytes::copy_from_slice(alloc, &value.to_le_bytes())?))?;
+    }
+    Ok(pairs)
+}
+
+// Whether the numbers are such as so many committed transactions leave.
+fn holds(alloc: Global, workload: Workload, numbers: &[u64], committed: u64) -> Option<bool> {
+    match pairs_of(alloc, workload.letter(), numbers) {
+        Ok(pairs) => Some(workload.holds(pairs.as_slice(), committed)),
+        Err(_why) => None,
+    }
+}
+
+#[test]
+fn numbers_are_summed(rt: HostRuntime) -> Result<(), Fail> {
+    let alloc = rt.alloc();
+    let sums = [
+        holds(alloc, Workload::Counters, &[1, 2, 3, 4], 10),
+        holds(alloc, Workload::Counters, &[1, 2, 3, 4], 9),
+        holds(alloc, Workload::Counters, &[1, 2, 7], 10),
+        holds(alloc, Workload::Counters, &[u64::MAX, 1, 0, 0], 0),
+    ];
+    same(
+        &rt,
+        sums,
+        [Some(true), Some(false), Some(false), Some(false)],
+    );
+    let mut amounts = [1_000; 32];
+    let at_first = holds(alloc, Workload::Transfers, &amounts, 0);
+    amounts[0] = 990;
+    amounts[31] = 1_010;
+    let moved = holds(alloc, Workload::Transfers, &amounts, 1);
+    amounts[31] = 1_011;
+    let more = holds(alloc, Workload::Transfers, &amounts, 1);
+    same(
+        &rt,
+        [at_first, moved, more],
+        [Some(true), Some(true), Some(false)],
+    );
+    Ok(())
+}
+
+#[test]
+fn tries_are_counted(rt: HostRuntime) -> Result<(), Fail> {
+    let counts = [
+        is_all(5, 3, 2, 10),
+        is_all(5, 3, 1, 10),
+        is_all(5, 3, 3, 10),
+        is_all(u64::MAX, 11, 0, 10),
+    ];
+    same(&rt, counts, [true, false, false, false]);
+    Ok(())
+}
+
+// What is changed of a run of the ring, which stays right in all else.
+#[derive(Clone, Copy)]
+enum Change {
+    Nothing,
+    // A receipt is lost, and its try had no effect.
+    Lost,
+    // Of a transaction with a receipt it isn't known whether it was committed.
+    Doubted,
+    // A receipt is there twice, of two tries.
+    Twice,
+    // A receipt has the place of another transaction.
+    Misplaced,
+    // A receipt's transcript has another id.
+    Renamed,
+    // A receipt's transcript has another read version.
+    Reread,
+    // One more try had no effect.
+    Aborted,
+    // One more was to be tried.
+    Missing,
+    // It isn't known where the first transaction stands.
+    Headless,
+    // A pair is lost.
+    Unpaired,
+    // A pair has another value.
+    Revalued,
+}
+
+const CHANGES: &[(Change, bool)] = &[
+    (Change::Nothing, true),
+    (Change::Lost, false),
+    (Change::Doubted, true),
+    (Change::Twice, false),
+    (Change::Misplaced, false),
+    (Change::Renamed, false),
+    (Change::Reread, false),
+    (Change::Aborted, false),
+    (Change::Missing, false),
+    (Change::Headless, false),
+    (Change::Unpaired, false),
+    (Change::Revalued, false),
+];
+
+fn copy_of(placed: &Placed) -> Result<Placed, Refusal> {
+    Ok(Placed {
+        spot: placed.spot,
+        transcript: placed.transcript.clone()?,
+    })
+}
+
+fn copies_of(alloc: Global, played: &Played) -> Result<Played, Refusal> {
+    let mut copies = Played::new(alloc);
+    for placed in &played.placed {
+        copies.placed.push(copy_of(placed)?)?;
+    }
+    copies.aborted = played.aborted;
+    Ok(copies)
+}
+
+fn copied_pairs(alloc: Global, pairs: &[(Key, Bytes)]) -> Result<Vec<(Key, Bytes)>, Refusal> {
+    let mut copies = Vec::new(alloc);
+    for (key, value) in pairs {
+        copies.push((key.clone()?, value.clone()?))?;
+    }
+    Ok(copies)
+}
+
+// Makes the change of what clients were told.
+fn change_told(asked: &mut Asked, played: &mut Played, change: Change) -> Result<(), Refusal> {
+    match change {
+        Change::Lost => {
+            let _lost = played.placed.pop();
+            played.aborted = played.aborted.saturating_add(1);
+        }
+        Change::Doubted => {
+            if let Some(placed) = played.placed.pop() {
+                played.doubtful.push(placed.transcript)?;
+            }
+        }
+        Change::Twice => {
+            if let Some(placed) = played.placed.first() {
+                let copy = copy_of(placed)?;
+                played.placed.push(copy)?;
+            }
+            asked.txns = asked.txns.saturating_add(1);
+        }
+        Change::Aborted => played.aborted = played.aborted.saturating_add(1),
+        Change::Missing => asked.txns = asked.txns.saturating_add(1),
+        Change::Headless => asked.first = Spot::ReadOnly { version: 0 },
+        _ => {}
+    }
+    Ok(())
+}
+
+// Makes the change of the first receipt.
+fn change_receipt(placed: &mut Placed, first: Spot, change: Change) {
+    match change {
+        Change::Misplaced => placed.spot = first,
+        Change::Renamed => placed.transcript.id.number = 100,
+        Change::Reread => placed.transcript.read_version = 1,
+        _ => {}
+    }
+}
+
+// Makes the change of the pairs.
+fn change_pairs(
+    alloc: Global,
+    pairs: &mut Vec<(Key, Bytes)>,
+    change: Change,
+) -> Result<(), Refusal> {
+    match change {
+        Change::Unpaired => {
+            let _lost = pairs.pop();
+        }
+        Change::Revalued => {
+            if let Some(pair) = pairs.first_mut() {
+                pair.1 = Bytes::copy_from_slice(alloc, b"r/00")?;
+            }
+        }
+        _ => {}
+    }
+    Ok(())
+}
+
+// Whether all checks hold of the run after the change.
+fn is_right_after<B: ClusterName>(
+    alloc: Global,
+    config: &Config,
+    ran: &(Spot, Played),
+    record: &Record<B>,
+    change: Change,
+) -> Result<bool, Refusal>
+    requires { config.now ≡ B.config }
+{
+    config.check()?;
+    let entries = record.front().entries()?;
+    let mut pairs = copied_pairs(alloc, record.pairs())?;
+    change_pairs(alloc, &mut pairs, change)?;
+    let mut played = copies_of(alloc, &ran.1)?;
+    let mut asked = Asked {
+        txns: 6,
+        workload: Workload::Ring,
+        first: ran.0,
+    };
+    change_told(&mut asked, &mut played, change)?;
+    if let Some(placed) = played.placed.first_mut() {
+        change_receipt(placed, ran.0, change);
+    }
+    let kept = Kept {
+        config,
+        entries: entries.as_slice(),
+        pairs: pairs.as_slice(),
+    };
+    match judge(alloc, &asked, &played, &kept) {
+        Ok(report) => Ok(report.ok),
+        Err(why) => Err(why),
+    }
+}
+
+// Runs the ring on the database, and makes each change of what came of it.
+fn change_each<B: ClusterName + Send + Sync + 'static, R: Host>(
+    rt: &R,
+    alloc: Global,
+    blank: Blank,
+    config: &Config,
+    load: &Load,
+) -> Result<(), Stop>
+    requires cells { blank ≡ B.cells }
+    requires config { config.now ≡ B.config }
+{
+    let gate = Arc::new(alloc, NoGate)?;
+    let pace = Pace {
+        millis: 1,
+        tries: 1,
+    };
+    let mut err: Vec<u8> = Vec::new(alloc);
+    match Database::<B>::start(rt, alloc, blank, config, 1_000, &gate) {
+        Ok(database) => {
+            let mut database = database;
+            let ran = run_clients(rt, alloc, &mut database, load, pace, &mut err);
+            let record = database.close(rt);
+            change_ran(rt, alloc, config, ran, record)
+        }
+        Err(why) => Err(Stop::Refused(why)),
+    }
+}
+
+fn change_ran<B: ClusterName, R: Host>(
+    rt: &R,
+    alloc: Global,
+    config: &Config,
+    ran: Result<(Spot, Played), Stop>,
+    record: Result<Record<B>, Refusal>,
+) -> Result<(), Stop>
+    requires { config.now ≡ B.config }
+{
+    match (ran, record) {
+        (Ok(ran), Ok(record)) => {
+            for (row, (change, is_right)) in CHANGES.iter().enumerate() {
+                let told = is_right_after(alloc, config, &ran, &record, *change);
+                same(rt, (row, told.ok()), (row, Some(*is_right)));
+            }
+            Ok(())
+        }
+        (Err(stop), _) => Err(stop),
+        (_, Err(why)) => Err(Stop::Refused(why)),
+    }
+}
+
+// On a database of its own. One client has no conflict with another one, so each try has a receipt.
+fn change_runs<R: Host>(rt: &R, alloc: Global) -> Result<(), Stop> {
+    let load = Load {
+        clients: 1,
+        txns: 6,
+        resolvers: 2,
+        proxies: 1,
+        workload: Workload::Ring,
+        progress: false,
+    };
+    match (config_of(alloc, &load), Blank::new(alloc, 1_048_576)) {
+        (Ok(config), Ok(blank)) => change_each::<Brand, R>(rt, alloc, blank, &config, &load),
+        (Err(why), _) | (_, Err(why)) => Err(Stop::Refused(why)),
+    }
+}
+
+#[test]
+fn a_run_that_is_changed_by_hand_is_found(rt: HostRuntime) -> Result<(), Fail> {
+    let ended = change_runs(&rt, rt.alloc());
+    same(&rt, ended.is_ok(), true);
+    Ok(())
+}
