@@ -1,15 +1,26 @@
-ghost use Rattle.std.specs.Prelude.{◌≡◌, ◌≤◌, ◌⊎◌, IfOk, IfErr, OnOk, map};
+ghost use Rattle.std.specs.Prelude.{◌≡◌, ◌≤◌, IfOk, IfErr, OnOk, map};
 ghost use Rattle.std.specs.Io.KnownBytes.{Appends};
-ghost use Rattle.clap.specs.Words.{FailsBy, app_of, fault_of, kind_of};
+ghost use Rattle.clap.specs.Words.{kind_of};
 ghost use Rattle.fdb_sim.specs.Streams.{IsLimitedError, IsStreamError};
-ghost use Rattle.fdb_sim.specs.Commands.{EndsBy, LackMemory, Obeys, commands, out_of_memory};
+ghost use Rattle.fdb_sim.specs.Random.{RunPrints};
+ghost use Rattle.fdb_sim.specs.play.Scripts.{Printed};
+ghost use Rattle.fdb_sim.specs.Commands.{EndsBy, LackMemory, Obeys, out_of_memory};
 
+mod options;
+mod task;
+
+use self::task::{Schedule, Task, read_task};
 use crate::play::script::run_script;
+use crate::random::run_random;
 use crate::streams::{Sink, Source};
+use crate::threads::run_threads;
+use clap::Error;
 use clap::error::ErrorKind;
-use clap::{Command, Error};
 use std::alloc::Global;
 use std::io;
+use std::sync::Wait;
+use std::thread::Threads;
+use std::time::Clock;
 
 /// The status of words that give no command.
 const BAD_WORDS: u8 = 2;
@@ -18,51 +29,55 @@ const BAD_WORDS: u8 = 2;
 const HELPED: u8 = 0;
 
 /// Runs the command that the words give, which are those after the program's own name, and answers the
-/// status. `run` runs the script that the reader gives, and prints to `out`.
+/// status. `run` runs the script that the reader gives, `random` steps that are drawn from a seed, and `threads` clients
+/// of a database in threads; each prints to `out`, and how far the latter two are goes to `err` where it is asked for.
 ///
 /// Words that ask for help print it to `out`, with status 0. Others that give no command print what is wrong
 /// with them to `err`, with status 2 and nothing on `out`. Where memory runs out while they are read it does so too,
 /// and prints `error: out of memory`. A read or a write that fails is answered as that error, and no other error is.
-pub fn run_words<R: Source, O: Sink, E: Sink>(
+pub fn run_words<
+    R: Threads + Wait + Clock + Copy + Send + Sync + 'static,
+    I: Source,
+    O: Sink,
+    E: Sink,
+>(
+    rt: &R,
     alloc: Global,
     words: &[&str],
-    reader: &mut R,
+    reader: &mut I,
     out: &mut O,
     err: &mut E,
 ) -> Result<u8, io::Error>
     ensures bound { IfOk result (λ status. status ≤ 2) }
     ensures obeys { IfOk result
-        (λ status. Obeys (map (λ word. word.now) words.now) (R.remaining reader.old) (O.contents out.old)
+        (λ status. Obeys (map (λ word. word.now) words.now) (I.remaining reader.old) (O.contents out.old)
         (O.contents out.new) (E.contents err.old) (E.contents err.new) status) }
     ensures errors { IfErr result
-        (IsStreamError (IsLimitedError R.errors) (IsStreamError O.errors E.errors)) }
+        (IsStreamError (IsLimitedError I.errors) (IsStreamError O.errors E.errors)) }
 {
-    match read_command(alloc, words) {
-        Ok(()) => run_script(alloc, reader, out),
+    match read_task(alloc, words) {
+        Ok(Task::Run) => run_script(alloc, reader, out),
+        Ok(Task::Random(schedule)) => draw(rt, alloc, &schedule, out, err),
+        Ok(Task::Threads(load)) => run_threads(rt, alloc, &load, out, err),
         Err(fault) => print_fault(&fault, out, err),
     }
 }
 
-// Reads the words. `run` is the only command, so that words without a fault give it.
-fn read_command<'a>(alloc: Global, words: &'a [&'a str]) -> Result<(), Error>
-    ensures { FailsBy (fault_of commands (map (λ word. word.now) words.entry.now)) result }
+// Takes drawn steps, and tells how many are done where that is asked for.
+fn draw<R: Clock, O: Sink, E: Sink>(
+    rt: &R,
+    alloc: Global,
+    schedule: &Schedule,
+    out: &mut O,
+    err: &mut E,
+) -> Result<u8, io::Error>
+    ensures bound { IfOk result (λ status. status ≤ 2) }
+    ensures printed { IfOk result (λ status. Printed (O.contents out.old) (O.contents out.new)
+        (λ printed. RunPrints schedule.now.steps printed status)) }
+    ensures errors { IfErr result (IsStreamError O.errors E.errors) }
 {
-    let command = commands(alloc)?;
-    let _matches = command.try_get_matches_from(words)?;
-    Ok(())
-}
-
-fn commands<'a>(alloc: Global) -> Result<Command<'a>, Error>
-    ensures ok { IfOk result (λ command. app_of command ≡ commands) }
-    ensures err { IfErr result (λ fault. kind_of fault ≡ ErrorKind.OutOfMemory) }
-{
-    let run = Command::new(alloc, "run").about("Runs the script on standard input");
-    let command = Command::new(alloc, "fdb_sim")
-        .about("Runs steps of a transaction system and prints what each answers")
-        .no_binary_name(true)
-        .subcommand_required(true)
-        .subcommand(run)?;
-    Ok(command)
+    let clock = if schedule.progress { Some(rt) } else { None };
+    run_random(alloc, schedule.seed, schedule.steps, clock, out, err)
 }
 
 // Prints a fault to where it belongs. Help is none of the words' faults, and goes to the output.

@@ -1,5 +1,5 @@
-//! The simulator of the transaction system: `fdb_sim run` runs a script of steps, and prints what each
-//! step answers.
+//! The simulator of the transaction system: `fdb_sim run` runs a script of steps, and prints what each step answers,
+//! `fdb_sim random` runs steps that are drawn from a seed, and `fdb_sim threads` clients of a database in threads.
 #![tactic(auto)]
 
 ghost use Rattle.std.specs.Prelude.{◌≡◌, ◌≤◌, IfOk};
@@ -19,20 +19,26 @@ mod threads;
 use crate::command::run_words;
 use std::io::{BufWriter, Write};
 use std::process::ExitCode;
+use std::sync::Wait;
+use std::thread::Threads;
+use std::time::Clock;
 use std::{env, io};
 
 /// The status where the input, the output or the words fail.
 const FAULT: u8 = 2;
 
 fn main(rt: HostRuntime) -> ExitCode {
-    run_process(&rt)
+    run_process(&rt, &rt)
 }
 
-// Runs the process's words, and says on the standard error what it failed on.
-fn run_process(rt: &HostRuntime) -> ExitCode
+// Runs the process's words, with what threads are started and waited for by, and says on the standard error what it failed on.
+fn run_process<R: Threads + Wait + Clock + Copy + Send + Sync + 'static>(
+    rt: &HostRuntime,
+    threads: &R,
+) -> ExitCode
     ensures { exit_status result ≤ 2 }
 {
-    let ended = run(rt);
+    let ended = run(rt, threads);
     if let Err(error) = &ended {
         let _ = eprintln!(rt; "fdb_sim: {error}");
     }
@@ -50,7 +56,10 @@ fn exit_code(ended: &io::Result<u8>) -> ExitCode
 }
 
 // Runs the process's own words over its standard streams. What was printed before an error is flushed.
-fn run(rt: &HostRuntime) -> io::Result<u8>
+fn run<R: Threads + Wait + Clock + Copy + Send + Sync + 'static>(
+    rt: &HostRuntime,
+    threads: &R,
+) -> io::Result<u8>
     ensures { IfOk result (λ status. status ≤ 2) }
 {
     let alloc = rt.alloc();
@@ -59,7 +68,14 @@ fn run(rt: &HostRuntime) -> io::Result<u8>
     let mut input = rt.stdin();
     let mut out = BufWriter::new(alloc, rt.stdout())?;
     let mut err = rt.stderr();
-    let ended = run_words(alloc, words.as_slice(), &mut input, &mut out, &mut err);
+    let ended = run_words(
+        threads,
+        alloc,
+        words.as_slice(),
+        &mut input,
+        &mut out,
+        &mut err,
+    );
     let flushed = out.flush();
     let status = ended?;
     flushed?;

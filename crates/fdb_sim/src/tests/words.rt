@@ -2,7 +2,10 @@
 use crate::command::run_words;
 use std::alloc::Global;
 use std::io;
+use std::sync::Wait;
 use std::test::Fail;
+use std::thread::Threads;
+use std::time::Clock;
 
 /// What words led to.
 #[derive(Drop)]
@@ -12,11 +15,16 @@ struct Ended {
     err: Vec<u8>,
 }
 
-fn run_on(alloc: Global, words: &[&str], script: &[u8]) -> Ended {
+fn run_on<R: Threads + Wait + Clock + Copy + Send + Sync + 'static>(
+    rt: &R,
+    alloc: Global,
+    words: &[&str],
+    script: &[u8],
+) -> Ended {
     let mut reader = script;
     let mut out: Vec<u8> = Vec::new(alloc);
     let mut err: Vec<u8> = Vec::new(alloc);
-    let outcome = run_words(alloc, words, &mut reader, &mut out, &mut err);
+    let outcome = run_words(rt, alloc, words, &mut reader, &mut out, &mut err);
     Ended { outcome, out, err }
 }
 
@@ -34,22 +42,34 @@ fn has_text(text: &[u8], part: &[u8]) -> bool {
 #[test]
 fn bad_words(rt: HostRuntime) {
     let none: [&str; 0] = [];
-    let ended = run_on(rt.alloc(), &none, b"");
+    let ended = run_on(&rt, rt.alloc(), &none, b"");
     assert!(rt; has_status(&ended, 2));
     assert!(rt; ended.out.is_empty());
     assert!(rt; has_text(ended.err.as_slice(), b"Usage: fdb_sim"));
 }
 
+const BAD_WORDS: &[&[&str]] = &[
+    &["walk", "a"],
+    &["run", "a"],
+    &["run", "--seed"],
+    &["random", "1"],
+    &["random", "--seed", "18446744073709551616"],
+    &["random", "--steps", "0"],
+    &["random", "--steps", "1000001"],
+    &["threads", "--clients", "65"],
+    &["threads", "--clients", "0"],
+    &["threads", "--txns", "0"],
+    &["threads", "--txns", "10001"],
+    &["threads", "--resolvers", "65"],
+    &["threads", "--proxies", "17"],
+    &["threads", "--workload", "walk"],
+    &["--version", "run"],
+];
+
 #[test]
 fn unknown_words(rt: HostRuntime) {
-    for words in [
-        ["walk", "a"],
-        ["run", "a"],
-        ["run", "--seed"],
-        ["random", "1"],
-        ["--version", "run"],
-    ] {
-        let ended = run_on(rt.alloc(), &words, b"");
+    for words in BAD_WORDS {
+        let ended = run_on(&rt, rt.alloc(), words, b"");
         assert!(rt; has_status(&ended, 2));
         assert!(rt; ended.out.is_empty());
         assert!(rt; has_text(ended.err.as_slice(), b"error: "));
@@ -59,16 +79,64 @@ fn unknown_words(rt: HostRuntime) {
 #[test]
 fn help(rt: HostRuntime) {
     for word in ["--help", "-h", "help"] {
-        let ended = run_on(rt.alloc(), &[word], b"");
+        let ended = run_on(&rt, rt.alloc(), &[word], b"");
         assert!(rt; has_status(&ended, 0));
         assert!(rt; ended.err.is_empty());
         assert!(rt; has_text(ended.out.as_slice(), b"Runs the script on standard input"));
     }
 }
 
+// What the help of a command says.
+const HELP: &[(&str, &[u8])] = &[
+    ("random", b"acknowledged"),
+    ("random", b"--seed"),
+    ("threads", b"32 accounts with 1,000 each"),
+    ("threads", b"--workload"),
+];
+
+#[test]
+fn help_of_commands(rt: HostRuntime) {
+    for (command, part) in HELP {
+        let ended = run_on(&rt, rt.alloc(), &[*command, "--help"], b"");
+        assert!(rt; has_status(&ended, 0));
+        assert!(rt; ended.err.is_empty());
+        assert!(rt; has_text(ended.out.as_slice(), part));
+    }
+}
+
+// Words of the commands that draw, and a part of what is printed.
+const DRAWN: &[(&[&str], &[u8])] = &[
+    (
+        &["random", "--seed", "3", "--steps", "2"],
+        b"\"mode\":\"random\",\"ok\":true,",
+    ),
+    (&["random", "--steps=2"], b",\"steps\":2}\n"),
+    (
+        &[
+            "threads",
+            "--clients",
+            "1",
+            "--txns=1",
+            "--workload",
+            "counters",
+        ],
+        b"\"ok\":true,\"unknown\":0,\"workload\":\"counters\"}\n",
+    ),
+];
+
+#[test]
+fn runs_what_is_drawn(rt: HostRuntime) {
+    for (words, part) in DRAWN {
+        let ended = run_on(&rt, rt.alloc(), words, b"");
+        assert!(rt; has_status(&ended, 0));
+        assert!(rt; ended.err.is_empty());
+        assert!(rt; has_text(ended.out.as_slice(), part));
+    }
+}
+
 #[test]
 fn runs_a_script(rt: HostRuntime) {
-    let ended = run_on(rt.alloc(), &["run"], b"# nothing\nask");
+    let ended = run_on(&rt, rt.alloc(), &["run"], b"# nothing\nask");
     assert!(rt; has_status(&ended, 2));
     assert!(rt; ended.out.as_slice() == b"bad line 2\n".as_slice());
     assert!(rt; ended.err.is_empty());

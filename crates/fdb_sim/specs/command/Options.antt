@@ -1,0 +1,70 @@
+-- The program's commands and their options, as clap reads them.
+use Rattle.std.specs.Prelude.{◌≡◌, ℕ, List, [], ◌∷◌, Option, Some, None, true, codes, map, pos}
+use Rattle.clap.specs.Words.{App, Rule, Text, new_app, new_rule, with_rule, with_subcommand}
+use Rattle.clap.specs.declared.builder.action.ArgAction.TheVariants.{SetTrue}
+use Rattle.clap.specs.declared.builder.value_parser.ValueParser.{ValueParser}
+use Rattle.clap.specs.declared.builder.value_parser.ValueParser.TheVariants.{Names, Signed, Unsigned}
+use Rattle.std.specs.Borrow.{Bor}
+
+-- an option of this name, and the value that it has where it isn't given
+abbrev pub option : Text → Text → ValueParser → Rule
+option name value parser = record (new_rule name) {
+  long = Some name;
+  value_names = 1;
+  defaults = value ∷ [];
+  parser = Some parser;
+}
+
+-- an option without a value
+abbrev pub flag : Text → Rule
+flag name = record (new_rule name) { long = Some name; action = Some SetTrue }
+
+-- a number from 1 to the most
+abbrev pub up_to : ℕ → ValueParser
+up_to most = Signed (pos 1) (pos most)
+
+-- `run` has no option
+abbrev pub run_command : App
+run_command = new_app (codes "run")
+
+abbrev pub random_command : App
+random_command = with_rule (with_rule (with_rule (new_app (codes "random"))
+    (option (codes "seed") (codes "1") (Unsigned 0 18446744073709551615)))
+    (option (codes "steps") (codes "10000") (up_to 1000000)))
+    (flag (codes "progress"))
+
+abbrev pub workload_names : List Text
+workload_names = codes "ring" ∷ codes "transfers" ∷ codes "counters" ∷ []
+
+-- the parser takes the names of the workloads
+abbrev pub IsWorkloadParser : ValueParser → Type 0
+IsWorkloadParser parser =
+    (names : Bor (List (Bor Text))) × (parser ≡ Names names) × (map (λ name. name.now) names.now ≡ workload_names)
+
+-- how much there is of what
+abbrev pub with_sizes : App → App
+with_sizes app = with_rule (with_rule (with_rule (with_rule app
+    (option (codes "clients") (codes "4") (up_to 64)))
+    (option (codes "txns") (codes "100") (up_to 10000)))
+    (option (codes "resolvers") (codes "2") (up_to 64)))
+    (option (codes "proxies") (codes "2") (up_to 16))
+
+abbrev pub threads_command : ValueParser → App
+threads_command workloads = with_rule (with_rule (with_sizes (new_app (codes "threads")))
+    (option (codes "workload") (codes "ring") workloads))
+    (flag (codes "progress"))
+
+-- the program's name is not among the words, and one command must be given
+abbrev named : App
+named =
+    record (new_app (codes "fdb_sim")) {
+      top = record (new_app (codes "fdb_sim")).top { no_binary_name = true; subcommand_required = true };
+    }
+
+abbrev pub commands : ValueParser → App
+commands workloads =
+    with_subcommand (with_subcommand (with_subcommand named run_command.top) random_command.top)
+    (threads_command workloads).top
+
+abbrev pub AreCommands : App → Type 0
+AreCommands app = (workloads : ValueParser) × IsWorkloadParser workloads × (app ≡ commands workloads)
