@@ -2,8 +2,8 @@
 ghost use Rattle.std.specs.Prelude.{◌<◌, length, IfOk};
 
 use crate::numbers::Fault;
-use crate::storage::{one_of, pool_of, set_of};
-use fdb_keys::{Items, Key, KeyRange, Refusal};
+use crate::storage::{new_shard, one_of, pool_of, set_of};
+use fdb_keys::{Items, Key, Refusal};
 use fdb_log::{LogCore, LogMsg, Tagged};
 use fdb_storage::Shard;
 use fdb_txn::WINDOW;
@@ -23,33 +23,55 @@ const BYTES: u32 = 16;
 // How far each entry's version is above that of the one before it: 5,000 entries lie in the window.
 const ADVANCE: u64 = 1_000;
 
+// Who takes the entries.
+#[derive(Drop)]
+struct Roles {
+    log: LogCore,
+    shard: Shard,
+}
+
 /// How long a new log and its one shard take for so many entries of ten sets each: each is pushed, peeked, applied and
 /// popped, and the shard forgets what the window leaves behind. The messages are made outside of that time.
 pub(crate) fn measure<R: Clock>(rt: &R, alloc: Global, entries: u32) -> Result<Duration, Fault> {
     let mut random = Pcg32::new(1, 1);
     let pool = pool_of(alloc, &mut random, KEYS)?;
-    let mut log = LogCore::new(alloc, 0, 1, 1)?;
-    let mut shard = Shard::new(alloc, 0, KeyRange::new(alloc, &[], &[0xff])?);
+    let mut roles = new_roles(alloc)?;
+    take_all(rt, alloc, &mut roles, &mut random, pool.as_slice(), entries)
+}
+
+// A log of one tag and the shard of that tag.
+fn new_roles(alloc: Global) -> Result<Roles, Refusal> {
+    let shard = new_shard(alloc)?;
+    let log = LogCore::new(alloc, 0, 1, 1)?;
+    Ok(Roles { log, shard })
+}
+
+// How long the entries take.
+fn take_all<R: Clock>(
+    rt: &R,
+    alloc: Global,
+    roles: &mut Roles,
+    random: &mut Pcg32,
+    pool: &[Key],
+    entries: u32,
+) -> Result<Duration, Fault>
+    requires { 0 < length pool.now }
+{
     let mut took = Duration::ZERO;
     for entry in 0..entries {
-        let message = message_of(alloc, &mut random, pool.as_slice(), entry)?;
-        took = took.saturating_add(go_through(rt, &mut log, &mut shard, &message)?);
+        let message = message_of(alloc, random, pool, entry)?;
+        took = took.saturating_add(take(rt, roles, &message)?);
     }
     Ok(took)
 }
 
 // How long the entry's message takes through both.
-fn go_through<R: Clock>(
-    rt: &R,
-    log: &mut LogCore,
-    shard: &mut Shard,
-    message: &LogMsg,
-) -> Result<Duration, Fault>
+fn take<R: Clock>(rt: &R, roles: &mut Roles, message: &LogMsg) -> Result<Duration, Fault>
     requires { message.now.prev < message.now.version }
 {
     let begin = Instant::now(rt)?;
-    log.push(message)?;
-    pull(log, shard)?;
+    roles.log.push(message)?;
+    pull(&mut roles.log, &mut roles.shard)?;
     let took = begin.elapsed(rt)?;
     Ok(took)
 }

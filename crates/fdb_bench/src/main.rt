@@ -58,25 +58,28 @@ fn run(rt: &HostRuntime) -> Result<(), Fault> {
 
 fn obey(rt: &HostRuntime, words: &[&str]) -> Result<(), Fault> {
     match words {
-        ["resolver", items] => run_resolver(rt, number_of(items)?),
+        ["resolver", items] => run_resolver(rt, items),
         ["commit", resolvers, batch, transactions, moves] => {
             run_commit(rt, resolvers, batch, transactions, moves)
         }
-        ["serial", transactions] => run_serial(rt, number_of(transactions)?),
+        ["serial", transactions] => run_serial(rt, transactions),
         ["storage", sets, keys, bytes] => run_storage(rt, sets, keys, bytes),
-        ["log", entries] => run_log(rt, number_of(entries)?),
+        ["log", entries] => run_log(rt, entries),
         ["client", transactions, operations] => run_client(rt, transactions, operations),
-        ["sets", ranges] => run_sets(rt, number_of(ranges)?),
-        ["sealed", mutations] => run_sealed(rt, number_of(mutations)?),
-        ["answered", operations] => run_answered(rt, number_of(operations)?),
-        _ => {
-            print!(rt; "{}", USAGE)?;
-            Ok(())
-        }
+        ["sets", ranges] => run_sets(rt, ranges),
+        ["sealed", mutations] => run_sealed(rt, mutations),
+        ["answered", operations] => run_answered(rt, operations),
+        _ => show_usage(rt),
     }
 }
 
-fn run_resolver(rt: &HostRuntime, items: u32) -> Result<(), Fault> {
+fn show_usage(rt: &HostRuntime) -> Result<(), Fault> {
+    print!(rt; "{}", USAGE)?;
+    Ok(())
+}
+
+fn run_resolver(rt: &HostRuntime, items: &str) -> Result<(), Fault> {
+    let items = number_of(items)?;
     let took = resolver::measure(rt, rt.alloc(), items)?;
     report(rt, "resolver", &[("items", items)], took)
 }
@@ -104,7 +107,8 @@ fn run_commit(
     report(rt, "commit", &numbers, took)
 }
 
-fn run_serial(rt: &HostRuntime, transactions: u32) -> Result<(), Fault> {
+fn run_serial(rt: &HostRuntime, transactions: &str) -> Result<(), Fault> {
+    let transactions = number_of(transactions)?;
     let took = serial::measure(rt, rt.alloc(), transactions)?;
     report(rt, "serial", &[("transactions", transactions)], took)
 }
@@ -126,7 +130,8 @@ fn run_storage(rt: &HostRuntime, sets: &str, keys: &str, bytes: &str) -> Result<
     report(rt, "storage page", &numbers, took.paging)
 }
 
-fn run_log(rt: &HostRuntime, entries: u32) -> Result<(), Fault> {
+fn run_log(rt: &HostRuntime, entries: &str) -> Result<(), Fault> {
+    let entries = number_of(entries)?;
     let took = log::measure(rt, rt.alloc(), entries)?;
     report(rt, "log", &[("entries", entries)], took)
 }
@@ -144,17 +149,20 @@ fn run_client(rt: &HostRuntime, transactions: &str, operations: &str) -> Result<
     report(rt, "client", &numbers, took)
 }
 
-fn run_sets(rt: &HostRuntime, ranges: u32) -> Result<(), Fault> {
+fn run_sets(rt: &HostRuntime, ranges: &str) -> Result<(), Fault> {
+    let ranges = number_of(ranges)?;
     let took = sets::measure(rt, rt.alloc(), ranges)?;
     report(rt, "sets", &[("ranges", ranges)], took)
 }
 
-fn run_sealed(rt: &HostRuntime, mutations: u32) -> Result<(), Fault> {
+fn run_sealed(rt: &HostRuntime, mutations: &str) -> Result<(), Fault> {
+    let mutations = number_of(mutations)?;
     let took = sealed::measure(rt, rt.alloc(), mutations)?;
     report(rt, "sealed", &[("mutations", mutations)], took)
 }
 
-fn run_answered(rt: &HostRuntime, operations: u32) -> Result<(), Fault> {
+fn run_answered(rt: &HostRuntime, operations: &str) -> Result<(), Fault> {
+    let operations = number_of(operations)?;
     let took = answered::measure(rt, rt.alloc(), operations)?;
     report(rt, "answered", &[("operations", operations)], took)
 }

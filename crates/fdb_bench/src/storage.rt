@@ -58,17 +58,30 @@ pub(crate) fn measure<R: Clock>(rt: &R, alloc: Global, setting: &Setting) -> Res
     }
     let mut random = Pcg32::new(1, 1);
     let pool = pool_of(alloc, &mut random, setting.keys)?;
-    let mut shard = Shard::new(alloc, 0, KeyRange::new(alloc, &[], &[0xff])?);
-    let applying = apply_all(rt, alloc, &mut shard, &mut random, pool.as_slice(), setting)?;
-    let getting = get_all(rt, &shard, &mut random, pool.as_slice(), setting.sets)?;
-    let paging = page_all(
-        rt,
-        alloc,
-        &shard,
-        &mut random,
-        pool.as_slice(),
-        setting.sets / 10,
-    )?;
+    let mut shard = new_shard(alloc)?;
+    measure_on(rt, alloc, &mut shard, &mut random, pool.as_slice(), setting)
+}
+
+/// A new shard, which holds every key.
+pub(crate) fn new_shard(alloc: Global) -> Result<Shard, Refusal> {
+    let range = KeyRange::new(alloc, &[], &[0xff])?;
+    Ok(Shard::new(alloc, 0, range))
+}
+
+// The same on the shard and the keys.
+fn measure_on<R: Clock>(
+    rt: &R,
+    alloc: Global,
+    shard: &mut Shard,
+    random: &mut Pcg32,
+    pool: &[Key],
+    setting: &Setting,
+) -> Result<Took, Fault>
+    requires { 0 < length pool.now }
+{
+    let applying = apply_all(rt, alloc, shard, random, pool, setting)?;
+    let getting = get_all(rt, shard, random, pool, setting.sets)?;
+    let paging = page_all(rt, alloc, shard, random, pool, setting.sets / 10)?;
     Ok(Took {
         applying,
         getting,
@@ -220,9 +233,21 @@ fn page_all<R: Clock>(
     for _page in 0..count {
         let version = version_of(random, shard);
         let range = KeyRange::new(alloc, one_of(random, pool).bytes(), &[0xff])?;
-        let begin = Instant::now(rt)?;
-        let _page = shard.page(&range, version, PAGE, false)?;
-        took = took.saturating_add(begin.elapsed(rt)?);
+        took = took.saturating_add(page(rt, shard, &range, version)?);
     }
     Ok(took)
+}
+
+// How long it takes for the first page of the range.
+fn page<R: Clock>(
+    rt: &R,
+    shard: &Shard,
+    range: &KeyRange,
+    version: u64,
+) -> Result<Duration, Fault> {
+    let begin = Instant::now(rt)?;
+    let page = shard.page(range, version, PAGE, false)?;
+    let took = begin.elapsed(rt);
+    drop(page);
+    Ok(took?)
 }
