@@ -18,13 +18,7 @@ use Rattle.fdb_runtime.specs.Reading.{RefusedBy}
 use Rattle.fdb_runtime.specs.ShardViews.{ShardView, key_fault}
 use Rattle.fdb_runtime.specs.ShardsAtFronts.{ShardAtFront}
 
--- where memory ran out, nothing is said of a fault
-pub ran-out : (current : Option Transcript) (why : Refusal) (fault : Transcript → Option Refusal)
-    → why ≡ NoMemory → IfSome current (λ transcript. (why ≡ NoMemory) ⊎ (fault transcript ≡ Some why))
-ran-out (Some transcript) why fault lacks = inl lacks
-ran-out None why fault lacks = tt
-
--- nor where it ran out in a call on the open transaction that has no other fault
+-- where memory ran out in a call on the open transaction that has no other fault, nothing is said of one
 pub open-ran-out : (T : Type 0) (current : Option Transcript) (why : Refusal) (fault : Transcript → Option Refusal)
     → OfOpen {T = T} current (Err why) (λ transcript. why ≡ NoMemory)
     → IfSome current (λ transcript. (why ≡ NoMemory) ⊎ (fault transcript ≡ Some why))

@@ -14,6 +14,7 @@ use crate::roles::shard::reader::Reader;
 use crate::session::Session;
 use crate::shared::Shared;
 use crate::shared::shard::{ShardState, hold_all, lent_of};
+use crate::threads::gated::Gated;
 use crate::threads::team::Team;
 use crate::threads::workers::Workers;
 use fdb_book::{Blank, Book};
@@ -173,9 +174,10 @@ fn start_team<
     requires legal { config_fault config.now ≡ None }
     ensures { Answers result None (λ _. ⊤) }
 {
+    let gated = Gated::share(shared, gate)?;
     let mut workers = Workers::new(shared.alloc);
     workers.add_all(rt, &**shared, config)?;
-    team.start(rt, shared, gate, &mut workers)
+    team.start(rt, &gated, &mut workers)
 }
 
 // What a closed database is refused as that doesn't give its record.

@@ -18,6 +18,26 @@ pub trait Gate: Send + Sync + Drop {
     fn after(&self, role: Role, entry: u32);
 }
 
+/// A gate as a worker calls it. A worker's trait doesn't know which threads may call what it is lent: so this one asks
+/// nothing of the kind.
+pub(crate) trait Pass: Drop {
+    /// As `Gate::before`.
+    fn before(&self, role: Role, entry: u32);
+
+    /// As `Gate::after`.
+    fn after(&self, role: Role, entry: u32);
+}
+
+impl<G: Gate> Pass for G {
+    fn before(&self, role: Role, entry: u32) {
+        Gate::before(self, role, entry);
+    }
+
+    fn after(&self, role: Role, entry: u32) {
+        Gate::after(self, role, entry);
+    }
+}
+
 /// A gate that does nothing, for use.
 #[derive(Drop)]
 pub struct NoGate;

@@ -4,6 +4,7 @@
 
 mod database;
 mod gate;
+mod making;
 mod messages;
 mod name;
 mod receipt;

@@ -4,6 +4,7 @@ ghost use Rattle.fdb_keys.specs.Answers.{Answers, AnswersExactly};
 ghost use Rattle.fdb_proxy.specs.Configs.{config_fault};
 ghost use Rattle.fdb_runtime.specs.Databases.{AnswersMove, is_bad_move};
 
+use crate::making::both;
 use crate::messages::grant_message::GrantMessage;
 use crate::name::ClusterName;
 use crate::roles::log::LogAt;
@@ -76,9 +77,11 @@ impl<B: ClusterName> Shared<B> {
         requires tags { tags ≡ suc (length B.config.shard_splits) }
         ensures { Answers result None (λ _. ⊤) }
     {
-        let sequencer = SequencerAt::new(alloc, &book, config.proxies, resolvers)?;
-        let (commits, begins) = make_all_inboxes(alloc, config.proxies)?;
-        let (shard_map, logs, shards) = make_logs_and_shards(alloc, &book, config, tags)?;
+        let sequencer = SequencerAt::new(alloc, &book, config.proxies, resolvers);
+        let kept = make_logs_and_shards(alloc, &book, config, tags);
+        let inboxes = make_all_inboxes(alloc, config.proxies);
+        let (sequencer, (kept, (commits, begins))) = both(sequencer, both(kept, inboxes))?;
+        let (shard_map, logs, shards) = kept;
         Ok(Shared {
             alloc,
             book,

@@ -2,17 +2,17 @@ ghost use Rattle.std.specs.Prelude.{◌≡◌, ◌==◌, ◌≤◌, ⊤, true, n
 ghost use Rattle.fdb_keys.specs.Answers.{Answers, AnswersExactly, AnswersOrHandsBack, AnswersExactlyOrHandsBack};
 ghost use Rattle.fdb_txn.specs.Limits.{place_limit};
 ghost use Rattle.fdb_txn.specs.book.Transactions.{Transaction};
-ghost use Rattle.fdb_proxy.specs.CommitProxies.{new_fault, IsNewProxy, failed_fault, submit_fault, submitting};
+ghost use Rattle.fdb_proxy.specs.CommitProxies.{new_fault, IsNewProxy, submit_fault, submitting};
 ghost use Rattle.fdb_proxy.specs.CommitProxies.{seal_fault, sealing, unsealing, logged_fault, with_logged};
-ghost use Rattle.fdb_proxy.specs.CommitProxies.{all_logged_fault, is_idle, parts_fault, parts_in, with_verdict};
+ghost use Rattle.fdb_proxy.specs.CommitProxies.{parts_fault, parts_in, with_verdict};
 ghost use Rattle.fdb_proxy.specs.CommitProxies.{decide_fault, deciding, messages_fault, messages_of, done_fault};
 ghost use Rattle.fdb_proxy.specs.CommitProxies.{answers_in, finishing};
-ghost use Rattle.fdb_owners.specs.Ownership.{resolvers_of};
 ghost use Rattle.fdb_runtime.specs.CommitProxiesAtFronts.{hear_fault, AreLastParts, AreLastMessages, AreOutcomes};
 ghost use Rattle.fdb_runtime.specs.Messages.{IsLastPart, IsLastMessage};
 ghost use Rattle.fdb_runtime.specs.Receipts.{IsOutcome};
 ghost use Rattle.fdb_runtime.specs.Ticketing.{AnswersTicket, LeftByTicket};
 
+use crate::making::beside;
 use crate::messages::log_message::LogMessage;
 use crate::messages::outcome_message::OutcomeMessage;
 use crate::messages::part_message::PartMessage;
@@ -63,18 +63,8 @@ impl<B: ClusterName> CommitProxyAt<B> {
             (λ at. (at.front ≡ []) × IsNewProxy index config.now at.core.proxy) }
     {
         let core = CommitCore::new(alloc, index, config)?;
-        let front = SealedFront::empty(alloc, book)?;
+        let (core, front) = beside(core, SealedFront::empty(alloc, book))?;
         Ok(CommitProxyAt { front, core })
-    }
-
-    /// Makes room for one more request, so that a `submit` that comes next takes no memory. Nothing else changes.
-    /// Refused as `Failed`, and as `NoMemory`.
-    pub(crate) fn reserve(&mut self) -> Result<(), Refusal>
-        ensures answers { Answers result (failed_fault self.old.core.proxy) (λ _. 1 ≤ self.new.core.spare) }
-        ensures same { self.new.core.proxy ≡ self.old.core.proxy }
-        ensures front { self.new.front ≡ self.old.front }
-    {
-        self.core.reserve()
     }
 
     /// Takes a request, which waits for a batch after those that wait already. It takes no memory where there is room
@@ -142,47 +132,11 @@ impl<B: ClusterName> CommitProxyAt<B> {
         self.core.logged(ack)
     }
 
-    /// Whether all logs have acknowledged the batch. It takes no memory. Refused as `Failed`, as `WrongState` unless
-    /// the batch is decided and isn't done, and as `NotYet` with the least log whose acknowledgement hasn't come.
-    pub(crate) fn all_logged(&self) -> Result<(), Refusal>
-        ensures { AnswersExactly result (all_logged_fault self.now.core.proxy) (λ _. ⊤) }
-    {
-        self.core.all_logged()
-    }
-
-    /// The front whose entries it has, lent.
-    pub(crate) fn front(&self) -> &SealedFront<B>
-        ensures { result.now ≡ self.now.front }
-    {
-        &self.front
-    }
-
     /// Whether a request waits for a batch. It takes no memory, and O(1) time.
     pub(crate) fn waits(&self) -> bool
         ensures { result ≡ not (length self.now.core.proxy.waiting == 0) }
     {
         self.core.waits()
-    }
-
-    /// Whether no batch is in flight. It takes no memory, and O(1) time.
-    pub(crate) fn is_idle(&self) -> bool
-        ensures { result ≡ is_idle self.now.core.proxy.stage }
-    {
-        self.core.is_idle()
-    }
-
-    /// Whether the proxy has failed. It takes no memory, and O(1) time.
-    pub(crate) fn is_failed(&self) -> bool
-        ensures { result ≡ self.now.core.proxy.is_failed }
-    {
-        self.core.is_failed()
-    }
-
-    /// How many resolvers it asks. It takes no memory, and O(1) time.
-    pub(crate) fn resolvers(&self) -> u32
-        ensures { result ≡ resolvers_of self.now.core.proxy.owners }
-    {
-        self.core.resolvers()
     }
 
     /// How many requests are in the batch in flight, 0 where there is none. It takes no memory, and O(1) time.

@@ -55,13 +55,6 @@ impl<B: ClusterName> LogAt<B> {
         Ok(LogAt { front, core })
     }
 
-    /// The front whose entries it took, lent.
-    pub(crate) fn front(&self) -> &SealedFront<B>
-        ensures { result.now ≡ self.now.front }
-    {
-        &self.front
-    }
-
     /// The version of the last entry that it took, 0 at first. It takes no memory, and O(1) time.
     pub(crate) fn version(&self) -> u64
         ensures { result ≡ self.now.core.last }

@@ -6,7 +6,7 @@ ghost use Rattle.fdb_txn.specs.book.History.{AreEntries};
 ghost use Rattle.fdb_txn.specs.rules.Splits.{piece};
 ghost use Rattle.fdb_storage.specs.Shards.{IsNewShard, HasFailed, HasForgotten, forget_fault, read_fault};
 ghost use Rattle.fdb_core.specs.headline.RoleLaws.{IsShardAt};
-ghost use Rattle.fdb_runtime.specs.ShardsAtFronts.{peek_fault, shorter_fault, front_through, HasGoneOn};
+ghost use Rattle.fdb_runtime.specs.ShardsAtFronts.{peek_fault, shorter_fault, HasGoneOn};
 
 use crate::messages::peek_message::PeekMessage;
 use crate::name::ClusterName;
@@ -60,14 +60,6 @@ impl<B: ClusterName> ShardAt<B> {
         Ok(ShardAt { tag, front, shard })
     }
 
-    /// The shard's tag. It takes no memory, and O(1) time.
-    pub(crate) fn tag(&self) -> u32
-        ensures value { result ≡ self.now.shard.tag }
-        ensures exists { result < suc (length B.config.shard_splits) }
-    {
-        self.tag
-    }
-
     /// The greatest version that the shard serves, which is that of its front unless it has failed. It takes no memory,
     /// and O(1) time.
     pub(crate) fn version(&self) -> u64
@@ -76,13 +68,6 @@ impl<B: ClusterName> ShardAt<B> {
     {
         let _ = &self.front;
         self.shard.version()
-    }
-
-    /// The least version that the shard serves. It takes no memory, and O(1) time.
-    pub(crate) fn floor(&self) -> u64
-        ensures { result ≡ self.now.shard.floor }
-    {
-        self.shard.floor()
     }
 
     /// The range of keys that the shard holds. It takes no memory, and O(1) time.

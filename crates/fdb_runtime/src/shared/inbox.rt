@@ -3,7 +3,7 @@ ghost use Rattle.std.specs.Option.{is_none, option_or};
 ghost use Rattle.fdb_keys.specs.Answers.{AnswersOrHandsBack};
 
 use fdb_keys::{Refusal, Refused};
-use std::alloc::{AllocError, Global};
+use std::alloc::Global;
 use std::mem;
 use std::sync::{Condvar, Mutex, Wait};
 

@@ -9,7 +9,7 @@ use crate::name::ClusterName;
 use crate::roles::log::LogAt;
 use fdb_keys::Refusal;
 use fdb_log::LogAck;
-use std::sync::{Condvar, Mutex, MutexGuard, Wait};
+use std::sync::{Condvar, Mutex, Wait};
 
 /// A log beside what its users wait for.
 #[derive(Drop)]

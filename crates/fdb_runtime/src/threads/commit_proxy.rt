@@ -2,7 +2,7 @@ ghost use Rattle.std.specs.Prelude.{◌≡◌};
 ghost use Rattle.fdb_runtime.specs.Messages.{IsLastPart, IsLastMessage};
 ghost use Rattle.fdb_runtime.specs.Receipts.{IsOutcome};
 
-use crate::gate::{Gate, Role};
+use crate::gate::{Pass, Role};
 use crate::messages::log_message::LogMessage;
 use crate::messages::verdict_message::VerdictMessage;
 use crate::name::ClusterName;
@@ -11,9 +11,11 @@ use crate::sealed_front::SealedFront;
 use crate::shared::Shared;
 use crate::shared::inbox::SharedInbox;
 use crate::threads::channel::{reply_with, send_to};
+use crate::threads::gated::Gated;
 use crate::threads::reply::CommitReply;
 use crate::threads::request::CommitRequest;
 use crate::threads::resolver::SentPart;
+use crate::threads::worker::Worker;
 use crossbeam_channel::{Receiver, Sender};
 use fdb_keys::Refusal;
 use fdb_log::{LogAck, LogMsg};
@@ -49,6 +51,26 @@ pub(crate) struct CommitWorker<B: ClusterName> {
     verdicts: Vec<Receiver<Option<VerdictMessage<B>>>>,
 }
 
+impl<B: ClusterName + Send + Sync + 'static, G: Pass + Send + Sync + 'static> Worker<Gated<B, G>>
+    for CommitWorker<B> {
+    // Commits what it is asked to, batch by batch, until the inbox ends, or the proxy fails: then it says so to all
+    // others.
+    fn work<R: Wait>(&mut self, rt: &R, lent: &Gated<B, G>) {
+        let shared = &*lent.shared;
+        let Some(inbox) = shared.commits().get(self.number as usize) else {
+            return;
+        };
+        for _ in rt.forever() {
+            if let Some(why) = self.take_all(rt, inbox) {
+                return self.refuse(rt, shared, why);
+            }
+            if self.turn(rt, &*lent.gate, shared).is_err() {
+                return self.fail(rt, shared, inbox);
+            }
+        }
+    }
+}
+
 impl<B: ClusterName> CommitWorker<B> {
     /// Nobody has asked. It takes no memory.
     pub(crate) fn new(
@@ -65,27 +87,6 @@ impl<B: ClusterName> CommitWorker<B> {
             entered: 0,
             parts,
             verdicts,
-        }
-    }
-
-    /// Commits what it is asked to, batch by batch, until the inbox ends, or the proxy fails: then it says so to all
-    /// others.
-    pub(crate) fn run<R: Wait, G: Gate>(self, rt: &R, gate: &G, shared: &Shared<B>) {
-        let mut worker = self;
-        worker.work(rt, gate, shared);
-    }
-
-    fn work<R: Wait, G: Gate>(&mut self, rt: &R, gate: &G, shared: &Shared<B>) {
-        let Some(inbox) = shared.commits().get(self.number as usize) else {
-            return;
-        };
-        for _ in rt.forever() {
-            if let Some(why) = self.take_all(rt, inbox) {
-                return self.refuse(rt, shared, why);
-            }
-            if self.turn(rt, gate, shared).is_err() {
-                return self.fail(rt, shared, inbox);
-            }
         }
     }
 
@@ -156,7 +157,7 @@ impl<B: ClusterName> CommitWorker<B> {
     }
 
     // Commits one batch, if a request waits.
-    fn turn<R: Wait, G: Gate>(
+    fn turn<R: Wait, G: Pass>(
         &mut self,
         rt: &R,
         gate: &G,
@@ -176,7 +177,7 @@ impl<B: ClusterName> CommitWorker<B> {
     }
 
     // Commits the batch that has an entry.
-    fn commit<R: Wait, G: Gate>(
+    fn commit<R: Wait, G: Pass>(
         &mut self,
         rt: &R,
         gate: &G,

@@ -1,7 +1,9 @@
+use crate::gate::Pass;
 use crate::messages::grant_message::GrantMessage;
 use crate::name::ClusterName;
 use crate::shared::Shared;
 use crate::threads::channel::reply_with;
+use crate::threads::gated::Gated;
 use crate::threads::reply::GrantReply;
 use crate::threads::request::BeginRequest;
 use crate::threads::worker::Worker;
@@ -45,11 +47,21 @@ pub(crate) struct ReadVersionWorker<B: ClusterName> {
     replies: VecDeque<Sender<Option<GrantReply<B>>>>,
 }
 
-impl<B: ClusterName + Send + Sync + 'static> Worker<Shared<B>> for ReadVersionWorker<B> {
+impl<B: ClusterName + Send + Sync + 'static, G: Pass + Send + Sync + 'static> Worker<Gated<B, G>>
+    for ReadVersionWorker<B> {
     // Answers who asks for a read version, until the inbox ends.
-    fn run<R: Wait>(self, rt: &R, shared: &Shared<B>) {
-        let mut worker = self;
-        worker.work(rt, shared);
+    fn work<R: Wait>(&mut self, rt: &R, lent: &Gated<B, G>) {
+        let shared = &*lent.shared;
+        let Some(inbox) = shared.begins().get(self.number as usize) else {
+            return;
+        };
+        for _ in rt.forever() {
+            let (asked, ended) = inbox.next(rt);
+            self.turn(rt, shared, asked);
+            if ended.is_some() {
+                return;
+            }
+        }
     }
 }
 
@@ -60,19 +72,6 @@ impl<B: ClusterName> ReadVersionWorker<B> {
             number,
             core: GrvCore::new(alloc),
             replies: VecDeque::new(alloc),
-        }
-    }
-
-    fn work<R: Wait>(&mut self, rt: &R, shared: &Shared<B>) {
-        let Some(inbox) = shared.begins().get(self.number as usize) else {
-            return;
-        };
-        for _ in rt.forever() {
-            let (asked, ended) = inbox.next(rt);
-            self.turn(rt, shared, asked);
-            if ended.is_some() {
-                return;
-            }
         }
     }
 

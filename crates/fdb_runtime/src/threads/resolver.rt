@@ -1,12 +1,14 @@
 ghost use Rattle.std.specs.Prelude.{◌≡◌, ⊤, None};
 ghost use Rattle.fdb_keys.specs.Answers.{Answers};
 
-use crate::gate::{Gate, Role};
+use crate::gate::{Pass, Role};
 use crate::messages::part_message::PartMessage;
 use crate::messages::verdict_message::VerdictMessage;
 use crate::name::ClusterName;
 use crate::roles::resolver::ResolverAt;
 use crate::threads::channel::send_to;
+use crate::threads::gated::Gated;
+use crate::threads::worker::Worker;
 use crossbeam_channel::{Receiver, Sender};
 use fdb_keys::Refusal;
 use fdb_txn::Room;
@@ -30,6 +32,21 @@ pub(crate) struct ResolverWorker<B: ClusterName> {
     parts: Receiver<Option<SentPart<B>>>,
     // One channel for each commit proxy, so that each of them sees at once that the resolver ended.
     verdicts: Vec<Sender<Option<VerdictMessage<B>>>>,
+}
+
+impl<B: ClusterName + Send + Sync + 'static, G: Pass + Send + Sync + 'static> Worker<Gated<B, G>>
+    for ResolverWorker<B> {
+    // Answers parts until all commit proxies have ended, one of them has failed, or the resolver itself fails.
+    fn work<R: Wait>(&mut self, rt: &R, lent: &Gated<B, G>) {
+        for _ in rt.forever() {
+            let Ok(Some(sent)) = self.parts.recv(rt) else {
+                return;
+            };
+            if self.turn(rt, &*lent.gate, sent).is_err() {
+                return;
+            }
+        }
+    }
 }
 
 impl<B: ClusterName> ResolverWorker<B> {
@@ -57,25 +74,8 @@ impl<B: ClusterName> ResolverWorker<B> {
         Ok(())
     }
 
-    /// Answers parts until all commit proxies have ended, one of them has failed, or the resolver itself fails.
-    pub(crate) fn run<R: Wait, G: Gate>(self, rt: &R, gate: &G) {
-        let mut worker = self;
-        worker.work(rt, gate);
-    }
-
-    fn work<R: Wait, G: Gate>(&mut self, rt: &R, gate: &G) {
-        for _ in rt.forever() {
-            let Ok(Some(sent)) = self.parts.recv(rt) else {
-                return;
-            };
-            if self.turn(rt, gate, sent).is_err() {
-                return;
-            }
-        }
-    }
-
     // Keeps the part until its turn, and answers all parts whose turn has come.
-    fn turn<R: Wait, G: Gate>(
+    fn turn<R: Wait, G: Pass>(
         &mut self,
         rt: &R,
         gate: &G,
@@ -96,7 +96,7 @@ impl<B: ClusterName> ResolverWorker<B> {
     }
 
     // Answers all parts whose turn has come.
-    fn answer_ready<R: Wait, G: Gate>(&mut self, rt: &R, gate: &G) -> Result<(), Refusal> {
+    fn answer_ready<R: Wait, G: Pass>(&mut self, rt: &R, gate: &G) -> Result<(), Refusal> {
         for _ in rt.forever() {
             let Some(ready) = self.early.ready(self.at.version()) else {
                 break;
@@ -109,7 +109,7 @@ impl<B: ClusterName> ResolverWorker<B> {
     }
 
     // Takes a part, and sends the verdicts to who sent it.
-    fn answer<R: Wait, G: Gate>(
+    fn answer<R: Wait, G: Pass>(
         &mut self,
         rt: &R,
         gate: &G,

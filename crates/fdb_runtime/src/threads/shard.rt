@@ -1,7 +1,9 @@
+use crate::gate::Pass;
 use crate::name::ClusterName;
 use crate::shared::Shared;
 use crate::shared::log::SharedLog;
 use crate::shared::shard::SharedShard;
+use crate::threads::gated::Gated;
 use crate::threads::worker::Worker;
 use fdb_keys::Refusal;
 use fdb_txn::WINDOW;
@@ -16,10 +18,10 @@ pub(crate) struct ShardWorker {
     pub(crate) tag: u32,
 }
 
-impl<B: ClusterName> Worker<Shared<B>> for ShardWorker {
+impl<B: ClusterName, G: Pass> Worker<Gated<B, G>> for ShardWorker {
     // Pulls what the log keeps for the shard until the log has ended and has no more, or the shard fails.
-    fn run<R: Wait>(self, rt: &R, shared: &Shared<B>) {
-        run_shard(rt, shared, self.tag);
+    fn work<R: Wait>(&mut self, rt: &R, lent: &Gated<B, G>) {
+        run_shard(rt, &*lent.shared, self.tag);
     }
 }
 

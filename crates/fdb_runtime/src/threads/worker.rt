@@ -8,10 +8,10 @@ use std::sync::{Arc, Wait};
 use std::thread::{JoinHandle, Threads};
 use std::{mem, thread};
 
-/// What a thread of a database has, and does with what all of them share.
+/// What a thread of a database has, and does with what all of them are lent.
 pub(crate) trait Worker<S>: Drop + Send + 'static {
     /// Works until nothing can come any more, or the role fails.
-    fn run<R: Wait>(self, rt: &R, shared: &S);
+    fn work<R: Wait>(&mut self, rt: &R, lent: &S);
 }
 
 /// Starts a thread for each of the workers, adds its handle, and leaves none. Refused only as `NoMemory`, and then some
@@ -22,7 +22,7 @@ pub(crate) fn start_all<
     R: Threads + Wait + Copy + Send + Sync + 'static,
 >(
     rt: &R,
-    shared: &Arc<S>,
+    lent: &Arc<S>,
     workers: &mut Vec<W>,
     threads: &mut Vec<JoinHandle<()>>,
 ) -> Result<(), Refusal>
@@ -31,7 +31,7 @@ pub(crate) fn start_all<
     // The room for the handles comes before the threads, so that none is left that can't be joined.
     threads.reserve(workers.len())?;
     for worker in taken(workers) {
-        threads.push(start(rt, shared, worker)?)?;
+        threads.push(start(rt, lent, worker)?)?;
     }
     Ok(())
 }
@@ -41,19 +41,25 @@ fn start<
     S: Drop + Send + Sync + 'static,
     W: Worker<S>,
     R: Threads + Wait + Copy + Send + Sync + 'static,
->(rt: &R, shared: &Arc<S>, worker: W) -> Result<JoinHandle<()>, Refusal>
+>(rt: &R, lent: &Arc<S>, worker: W) -> Result<JoinHandle<()>, Refusal>
     ensures { Answers result None (λ _. ⊤) }
 {
-    let shared = Arc::try_clone(shared)?;
+    let lent = Arc::try_clone(lent)?;
     let handle = *rt;
-    match thread::spawn(rt, move || worker.run(&handle, &*shared)) {
+    match thread::spawn(rt, move || run(worker, &handle, &*lent)) {
         Ok(thread) => Ok(thread),
         Err(_) => Err(Refusal::NoMemory),
     }
 }
 
-/// Takes all of them out. It takes no memory.
-pub(crate) fn taken<W: Drop>(workers: &mut Vec<W>) -> Vec<W> {
+// Has it work, and drops it.
+fn run<S, W: Worker<S>, R: Wait>(worker: W, rt: &R, lent: &S) {
+    let mut worker = worker;
+    worker.work(rt, lent);
+}
+
+// Takes all of them out. It takes no memory.
+fn taken<W: Drop>(workers: &mut Vec<W>) -> Vec<W> {
     let alloc = *workers.allocator();
     mem::replace(workers, Vec::new(alloc))
 }

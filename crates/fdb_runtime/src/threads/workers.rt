@@ -3,6 +3,7 @@ ghost use Rattle.std.specs.Prelude.{◌≡◌, ◌<◌, ⊤, suc, length, None};
 ghost use Rattle.fdb_keys.specs.Answers.{Answers};
 ghost use Rattle.fdb_proxy.specs.Configs.{config_fault};
 
+use crate::making::add;
 use crate::messages::verdict_message::VerdictMessage;
 use crate::name::ClusterName;
 use crate::roles::commit_proxy::CommitProxyAt;
@@ -101,9 +102,8 @@ impl<B: ClusterName> Workers<B> {
         let (to, from) = roomy(rt, shared.alloc, room)?;
         self.parts.push(to)?;
         let at = ResolverAt::new(shared.alloc, shared.book(), number)?;
-        self.resolvers
-            .push(ResolverWorker::new(shared.alloc, number, at, from))?;
-        Ok(())
+        let worker = ResolverWorker::new(shared.alloc, number, at, from);
+        add(&mut self.resolvers, Ok(worker))
     }
 
     // Adds the shards with the first tags. Refused only as `NoMemory`.
@@ -121,7 +121,7 @@ impl<B: ClusterName> Workers<B> {
         ensures { Answers result None (λ _. ⊤) }
     {
         for number in 0..count {
-            self.begins.push(ReadVersionWorker::new(alloc, number))?;
+            add(&mut self.begins, Ok(ReadVersionWorker::new(alloc, number)))?;
         }
         Ok(())
     }
@@ -138,34 +138,12 @@ impl<B: ClusterName> Workers<B> {
         ensures { Answers result None (λ _. ⊤) }
     {
         for number in 0..config.proxies {
-            let at = CommitProxyAt::new(shared.alloc, shared.book(), number, config)?;
-            self.add_commit(rt, shared.alloc, number, at)?;
+            let ties = self.tie(rt, shared.alloc)?;
+            add(
+                &mut self.commits,
+                commit_worker(shared, number, config, ties),
+            )?;
         }
-        Ok(())
-    }
-
-    // Adds the commit proxy with the number, tied to all resolvers. Refused only as `NoMemory`.
-    fn add_commit<R: Wait>(
-        &mut self,
-        rt: &R,
-        alloc: Global,
-        number: u32,
-        at: CommitProxyAt<B>,
-    ) -> Result<(), Refusal>
-        ensures { Answers result None (λ _. ⊤) }
-    {
-        match self.tie(rt, alloc) {
-            Ok((parts, verdicts)) => {
-                self.push_commit(CommitWorker::new(alloc, number, at, parts, verdicts))
-            }
-            Err(why) => Err(why),
-        }
-    }
-
-    fn push_commit(&mut self, worker: CommitWorker<B>) -> Result<(), Refusal>
-        ensures { Answers result None (λ _. ⊤) }
-    {
-        self.commits.push(worker)?;
         Ok(())
     }
 
@@ -193,6 +171,23 @@ impl<B: ClusterName> Workers<B> {
         }
         Ok(())
     }
+}
+
+// The worker of the commit proxy with the number. Refused only as `NoMemory`.
+fn commit_worker<B: ClusterName>(
+    shared: &Shared<B>,
+    number: u32,
+    config: &Config,
+    ties: Ties<B>,
+) -> Result<CommitWorker<B>, Refusal>
+    requires config { config.now ≡ B.config }
+    requires legal { config_fault B.config ≡ None }
+    requires number { number < config.now.proxies }
+    ensures { Answers result None (λ _. ⊤) }
+{
+    let (parts, verdicts) = ties;
+    let at = CommitProxyAt::new(shared.alloc, shared.book(), number, config)?;
+    Ok(CommitWorker::new(shared.alloc, number, at, parts, verdicts))
 }
 
 // Ties the next commit proxy to the resolver, and gives the end that it hears. Refused only as `NoMemory`.

@@ -1,5 +1,5 @@
 //! Whether a ticket is that of a front's last entry.
-ghost use Rattle.std.specs.Prelude.{◌≡◌, ◌++◌, List, drop, length};
+ghost use Rattle.std.specs.Prelude.{◌≡◌, ◌++◌, List, drop};
 ghost use Rattle.std.specs.Bool.{Decides};
 ghost use Rattle.std.specs.Option.{option_copied};
 ghost use Rattle.std.specs.Cmp.Lexicographic.{pointwise};

@@ -4,7 +4,6 @@ ghost use Rattle.fdb_keys.specs.Answers.{Answers, AnswersExactly};
 ghost use Rattle.fdb_mutations.specs.Pairs.{pairs_in};
 ghost use Rattle.fdb_txn.specs.book.Book.{last_version};
 ghost use Rattle.fdb_runtime.specs.LentShards.{lent_shards, lending_fault, next_fault, row_begin, row_fault};
-ghost use Rattle.fdb_runtime.specs.LentShards.{range_fault};
 ghost use Rattle.fdb_runtime.specs.ShardViews.{run_of};
 
 use crate::name::ClusterName;

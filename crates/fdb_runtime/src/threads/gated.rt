@@ -1,0 +1,28 @@
+// What every thread of a database is lent.
+ghost use Rattle.std.specs.Prelude.{◌≡◌, ⊤, None};
+ghost use Rattle.fdb_keys.specs.Answers.{Answers};
+
+use crate::gate::Pass;
+use crate::name::ClusterName;
+use crate::shared::Shared;
+use fdb_keys::Refusal;
+use std::sync::Arc;
+
+/// What the threads of a database share, beside the gate that some of them call.
+#[derive(Drop)]
+pub(crate) struct Gated<B: ClusterName, G: Pass> {
+    pub(crate) shared: Arc<Shared<B>>,
+    pub(crate) gate: Arc<G>,
+}
+
+impl<B: ClusterName, G: Pass> Gated<B, G> {
+    /// Shares of both, for all threads. Refused only as `NoMemory`.
+    pub(crate) fn share(shared: &Arc<Shared<B>>, gate: &Arc<G>) -> Result<Arc<Self>, Refusal>
+        ensures { Answers result None (λ _. ⊤) }
+    {
+        let alloc = shared.alloc;
+        let shared = Arc::try_clone(shared)?;
+        let gate = Arc::try_clone(gate)?;
+        Ok(Arc::new(alloc, Gated { shared, gate })?)
+    }
+}
