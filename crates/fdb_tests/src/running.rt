@@ -14,7 +14,7 @@ use crate::making::{are_pairs, both, made_of};
 use fdb_core::{CheckFault, serial_check};
 use fdb_keys::{Key, KeyRange, Refusal, Refused};
 use fdb_mutations::Mutation;
-use fdb_runtime::{ClusterName, Config, Database, Receipt, Record, Session, Spot, Transcript};
+use fdb_runtime::{ClusterName, Config, Database, Receipt, Record, Session, Spot};
 use std::alloc::Global;
 use std::marker::Brand;
 use std::process::Abort;
@@ -74,10 +74,10 @@ pub(crate) fn put<B: ClusterName, R: Wait>(
 ) -> Result<Spot, Refusal> {
     session.begin(rt, alloc)?;
     write(session, Mutation::set(alloc, key, &[value]))?;
-    match session.commit(rt, alloc) {
-        Ok(receipt) => Ok(receipt.spot()),
-        Err(refused) => Err(refused.why),
-    }
+    let receipt = receipt_of(session.commit(rt, alloc))?;
+    let spot = receipt.spot();
+    drop(receipt);
+    Ok(spot)
 }
 
 /// The session writes the key, to the mutation that is made.
@@ -94,18 +94,21 @@ pub(crate) fn commit_code<B: ClusterName, R: Wait>(
     alloc: Global,
     session: &mut Session<B>,
 ) -> (u32, bool) {
-    match session.commit(rt, alloc) {
-        Ok(_receipt) => (0, false),
+    refusal_code(session.commit(rt, alloc))
+}
+
+// The code of the refusal, 0 where there is none, and whether something is handed back.
+fn refusal_code<T: Drop, U: Drop>(answer: Result<T, Refused<Option<U>>>) -> (u32, bool) {
+    match answer {
+        Ok(_given) => (0, false),
         Err(refused) => (refused.why.code(), refused.back.is_some()),
     }
 }
 
 /// The receipt, or why there is none.
-pub(crate) fn receipt_of<B: ClusterName>(
-    answer: Result<Receipt<B>, Refused<Option<Transcript>>>,
-) -> Result<Receipt<B>, Refusal> {
+pub(crate) fn receipt_of<T, U: Drop>(answer: Result<T, Refused<U>>) -> Result<T, Refusal> {
     match answer {
-        Ok(receipt) => Ok(receipt),
+        Ok(given) => Ok(given),
         Err(refused) => Err(refused.why),
     }
 }

@@ -145,10 +145,10 @@ fn tell_in_two<B: Named, R: Host>(
 ) -> Result<[(bool, bool); 5], Refusal>
     requires { config.now ≡ B.config }
 {
-    match two_sessions(alloc, database) {
-        Ok((mut first, mut second)) => tell(rt, alloc, config, &mut first, &mut second),
-        Err(why) => Err(why),
-    }
+    let (mut first, mut second) = two_sessions(alloc, database)?;
+    let told = tell(rt, alloc, config, &mut first, &mut second);
+    drop((first, second));
+    told
 }
 
 fn use_kinds<B: Named, R: Host>(rt: &R, alloc: Global, blank: Blank, config: &Config) -> Done

@@ -141,10 +141,10 @@ fn commit_alone<B: Named, R: Host>(
     alloc: Global,
     database: &mut Database<B>,
 ) -> Result<[(u32, u64); 2], Refusal> {
-    match database.session(alloc) {
-        Ok(mut session) => commit_two(rt, alloc, &mut session),
-        Err(why) => Err(why),
-    }
+    let mut session = database.session(alloc)?;
+    let told = commit_two(rt, alloc, &mut session);
+    drop(session);
+    told
 }
 
 fn cross<B: Named, R: Host>(rt: &R, alloc: Global, blank: Blank, config: &Config) -> Done
@@ -199,10 +199,10 @@ fn commit_both<B: Named, R: Host>(
     alloc: Global,
     database: &mut Database<B>,
 ) -> Result<u32, Refusal> {
-    match two_sessions(alloc, database) {
-        Ok((mut first, mut second)) => commit_at_once(rt, alloc, &mut first, &mut second),
-        Err(why) => Err(why),
-    }
+    let (mut first, mut second) = two_sessions(alloc, database)?;
+    let sum = commit_at_once(rt, alloc, &mut first, &mut second);
+    drop((first, second));
+    sum
 }
 
 fn meet<B: Named, R: Host>(rt: &R, alloc: Global, blank: Blank, config: &Config) -> Done
@@ -273,10 +273,10 @@ fn read_in_two<B: Named, R: Host>(
     gate: &HeldProxy<R>,
     database: &mut Database<B>,
 ) -> Result<Meanwhile, Refusal> {
-    match two_sessions(alloc, database) {
-        Ok((mut first, mut second)) => commit_and_read(rt, alloc, gate, &mut first, &mut second),
-        Err(why) => Err(why),
-    }
+    let (mut first, mut second) = two_sessions(alloc, database)?;
+    let told = commit_and_read(rt, alloc, gate, &mut first, &mut second);
+    drop((first, second));
+    told
 }
 
 fn hold<B: Named, R: Host>(rt: &R, alloc: Global, blank: Blank, config: &Config) -> Done

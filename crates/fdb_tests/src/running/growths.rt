@@ -126,10 +126,10 @@ fn play_in_two<B: Named, R: Host>(
 ) -> Result<Ends, Refusal>
     requires { config.now ≡ B.config }
 {
-    match two_sessions(alloc, database) {
-        Ok((mut first, mut second)) => play_at_once(rt, alloc, config, &mut first, &mut second),
-        Err(why) => Err(why),
-    }
+    let (mut first, mut second) = two_sessions(alloc, database)?;
+    let ends = play_at_once(rt, alloc, config, &mut first, &mut second);
+    drop((first, second));
+    ends
 }
 
 fn play_four<B: Named, R: Host>(

@@ -233,13 +233,10 @@ fn read_in_two<B: Named, R: Host>(
     database: &mut Database<B>,
     case: &Case,
 ) -> Result<(), Refusal> {
-    match two_sessions(alloc, database) {
-        Ok((mut first, mut second)) => {
-            read_ranges(rt, alloc, &mut first, &mut second, case);
-            Ok(())
-        }
-        Err(why) => Err(why),
-    }
+    let (mut first, mut second) = two_sessions(alloc, database)?;
+    read_ranges(rt, alloc, &mut first, &mut second, case);
+    drop((first, second));
+    Ok(())
 }
 
 fn use_ranges<B: Named, R: Host>(
@@ -376,10 +373,10 @@ fn overtake_in_two<B: Named, R: Host>(
     alloc: Global,
     database: &mut Database<B>,
 ) -> Result<(), Refusal> {
-    match two_sessions(alloc, database) {
-        Ok((mut first, mut second)) => overtake_each(rt, alloc, &mut first, &mut second),
-        Err(why) => Err(why),
-    }
+    let (mut first, mut second) = two_sessions(alloc, database)?;
+    let told = overtake_each(rt, alloc, &mut first, &mut second);
+    drop((first, second));
+    told
 }
 
 fn use_meetings<B: Named, R: Host>(rt: &R, alloc: Global, blank: Blank, config: &Config) -> Done

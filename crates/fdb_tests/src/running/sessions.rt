@@ -3,8 +3,8 @@ ghost use Rattle.std.specs.Prelude.{◌≡◌};
 
 use crate::making::{are_pairs, coded, count_config, same};
 use crate::running::{
-    Asked, Done, Host, Named, add_read, add_write, byte_of, move_keys, reads_just, two_sessions,
-    write,
+    Asked, Done, Host, Named, add_read, add_write, byte_of, move_keys, reads_just, receipt_of,
+    two_sessions, write,
 };
 use fdb_book::Blank;
 use fdb_keys::Refusal;
@@ -35,7 +35,7 @@ fn numbers_of_spot(spot: Spot) -> (Option<(u32, u32)>, u64) {
 // operations it has; how many entries its front has.
 type Shown = ((Option<(u32, u32)>, u64), (u32, u64, u64, usize), usize);
 
-fn shown_by<B: ClusterName>(receipt: Receipt<B>) -> Shown {
+fn shown_by<B: ClusterName>(receipt: &Receipt<B>) -> Shown {
     let length = receipt.front().len();
     let spot = numbers_of_spot(receipt.spot());
     let transcript = receipt.transcript();
@@ -57,13 +57,12 @@ fn commit_and_tell<B: ClusterName, R: Wait>(
     second: &mut Session<B>,
 ) -> Result<Shown, Refusal> {
     write(first, Mutation::set(alloc, b"a", &[7]))?;
-    match first.commit(rt, alloc) {
-        Ok(receipt) => match second.learn(&receipt) {
-            Ok(()) => Ok(shown_by(receipt)),
-            Err(why) => Err(why),
-        },
-        Err(refused) => Err(refused.why),
-    }
+    let receipt = receipt_of(first.commit(rt, alloc))?;
+    let learnt = second.learn(&receipt);
+    let shown = shown_by(&receipt);
+    drop(receipt);
+    learnt?;
+    Ok(shown)
 }
 
 // What two sessions are told, of which the second learns the first one's receipt.
@@ -106,13 +105,10 @@ fn tell_in_two<B: Named, R: Host>(
     alloc: Global,
     database: &mut Database<B>,
 ) -> Result<(), Refusal> {
-    match two_sessions(alloc, database) {
-        Ok((mut first, mut second)) => {
-            tell(rt, alloc, &mut first, &mut second);
-            Ok(())
-        }
-        Err(why) => Err(why),
-    }
+    let (mut first, mut second) = two_sessions(alloc, database)?;
+    tell(rt, alloc, &mut first, &mut second);
+    drop((first, second));
+    Ok(())
 }
 
 // Moves that name no resolver that there is, or no key.

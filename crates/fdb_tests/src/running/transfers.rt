@@ -36,10 +36,10 @@ fn put_amount<B: ClusterName>(
     account: &[u8],
     amount: u8,
 ) -> Result<(), Refusal> {
-    match Mutation::set(alloc, account, &[amount]) {
-        Ok(set) => session.write(&set),
-        Err(why) => Err(why),
-    }
+    let set = Mutation::set(alloc, account, &[amount])?;
+    let written = session.write(&set);
+    drop(set);
+    written
 }
 
 /// Moves one unit from the one account to the other one, in the open transaction, if there is one to move.
