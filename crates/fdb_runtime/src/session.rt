@@ -19,11 +19,10 @@ use crate::session_state::SessionState;
 use crate::session_state::settling::Ended;
 use crate::shared::Shared;
 use crate::shared::shard::{hold_met, lent_of};
-use crate::threads::channel::roomy;
+use crate::shared::slot::Slot;
 use crate::threads::reply::{CommitReply, GrantReply};
 use crate::threads::request::{BeginRequest, CommitRequest};
 use bytes::Bytes;
-use crossbeam_channel::Receiver;
 use fdb_client::Transcript;
 use fdb_keys::{Items, Key, KeyRange, Refusal, Refused};
 use fdb_mutations::Mutation;
@@ -41,6 +40,8 @@ pub struct Session<B: ClusterName> {
     number: u32,
     shared: Arc<Shared<B>>,
     state: SessionState<B>,
+    grants: Arc<Slot<GrantReply<B>>>,
+    outcomes: Arc<Slot<CommitReply<B>>>,
 }
 
 impl<B: ClusterName> Model for Session<B> {
@@ -62,6 +63,8 @@ impl<B: ClusterName> Session<B> {
             number,
             shared,
             state,
+            grants: Arc::new(alloc, Slot::new())?,
+            outcomes: Arc::new(alloc, Slot::new())?,
         })
     }
 
@@ -85,30 +88,29 @@ impl<B: ClusterName> Session<B> {
         }) }
         ensures refused { OnErr result (self.new ≡ self.old) }
     {
-        let granted = self.ask_version(rt, alloc)?;
+        let granted = self.ask_version(rt)?;
         self.state.begin(alloc, &granted)
     }
 
     // Asks its read-version proxy.
-    fn ask_version<R: Wait>(&self, rt: &R, alloc: Global) -> Result<GrantMessage<B>, Refusal> {
+    fn ask_version<R: Wait>(&self, rt: &R) -> Result<GrantMessage<B>, Refusal> {
         let inboxes = self.shared.begins();
         if inboxes.is_empty() {
             return Err(Refusal::Failed);
         }
         let inbox = &inboxes[self.number as usize % inboxes.len()];
-        let (to, from) = roomy(rt, alloc, 1)?;
         let request = BeginRequest {
             session: self.number,
             mark: self.state.mark(),
-            reply: to,
+            reply: Arc::try_clone(&self.grants)?,
         };
         if let Err(refused) = inbox.put(rt, request) {
             return Err(refused.why);
         }
-        match from.recv(rt) {
-            Ok(Some(GrantReply::Granted(granted))) => Ok(granted),
-            Ok(Some(GrantReply::Refused(why))) => Err(why),
-            _ => Err(Refusal::Failed),
+        match self.grants.take(rt) {
+            Some(GrantReply::Granted(granted)) => Ok(granted),
+            Some(GrantReply::Refused(why)) => Err(why),
+            None => Err(Refusal::Failed),
         }
     }
 
@@ -238,14 +240,14 @@ impl<B: ClusterName> Session<B> {
     ) -> Result<Receipt<B>, Refused<Option<Transcript>>>
         ensures { CommitAnswers B.config self.old result self.new }
     {
-        let (to, from) = match roomy(rt, alloc, 1) {
-            Ok(ends) => ends,
-            Err(why) => return Err(Refused { why, back: None }),
+        let reply = match Arc::try_clone(&self.outcomes) {
+            Ok(reply) => reply,
+            Err(_) => return Err(Refused { why: Refusal::NoMemory, back: None }),
         };
         match self.state.finish_or_receipt() {
             Ok(Ended::Acknowledged(receipt)) => Ok(self.state.acknowledge(receipt)),
             Ok(Ended::ToCommit(sealed, transcript)) => {
-                let told = self.submit(rt, CommitRequest { sealed, reply: to }, &from);
+                let told = self.submit(rt, CommitRequest { sealed, reply });
                 self.state.end(alloc, self.shared.limit(), transcript, told)
             }
             Err(why) => Err(Refused { why, back: None }),
@@ -257,7 +259,6 @@ impl<B: ClusterName> Session<B> {
         &self,
         rt: &R,
         request: CommitRequest<B>,
-        from: &Receiver<Option<CommitReply<B>>>,
     ) -> CommitReply<B> {
         let inboxes = self.shared.commits();
         if inboxes.is_empty() {
@@ -267,9 +268,8 @@ impl<B: ClusterName> Session<B> {
         if let Err(refused) = inbox.put(rt, request) {
             return CommitReply::Refused(refused.why);
         }
-        match from.recv(rt) {
-            Ok(Some(reply)) => reply,
-            _ => CommitReply::Refused(Refusal::CommitUnknownResult),
-        }
+        self.outcomes
+            .take(rt)
+            .unwrap_or(CommitReply::Refused(Refusal::CommitUnknownResult))
     }
 }

@@ -2,6 +2,7 @@ ghost use Rattle.std.specs.Prelude.{◌≡◌, ◌==◌, ◌&&◌, ◌++◌, [],
 ghost use Rattle.std.specs.Option.{is_none, option_or};
 ghost use Rattle.fdb_keys.specs.Answers.{AnswersOrHandsBack};
 
+use crate::shared::waiting::give_way;
 use fdb_keys::{Refusal, Refused};
 use std::alloc::Global;
 use std::mem;
@@ -119,6 +120,7 @@ impl<T: Drop> SharedInbox<T> {
 
     /// The same once something waits or the inbox has ended. It takes no memory.
     pub(crate) fn next<R: Wait>(&self, rt: &R) -> (Vec<T>, Option<Refusal>) {
+        give_way(rt, &self.inbox, |inbox| inbox.is_idle());
         let guard = self.inbox.lock(rt);
         let mut inbox = self.changed.wait_while(rt, guard, |inbox| inbox.is_idle());
         inbox.take_out()

@@ -7,6 +7,7 @@ use crate::messages::log_message::LogMessage;
 use crate::messages::peek_message::PeekMessage;
 use crate::name::ClusterName;
 use crate::roles::log::LogAt;
+use crate::shared::waiting::give_way;
 use fdb_keys::Refusal;
 use fdb_log::LogAck;
 use std::sync::{Condvar, Mutex, Wait};
@@ -71,6 +72,7 @@ impl<B: ClusterName> SharedLog<B> {
     /// which nothing is pushed any more, if there is one, else as `LogAt::push` refuses it.
     pub(crate) fn push<R: Wait>(&self, rt: &R, message: &LogMessage<B>) -> Result<LogAck, Refusal> {
         let prev = message.message.prev;
+        give_way(rt, &self.state, |state| state.is_before(prev));
         let guard = self.state.lock(rt);
         let mut state = self
             .changed
@@ -90,6 +92,7 @@ impl<B: ClusterName> SharedLog<B> {
         after: u64,
         limit: u32,
     ) -> Result<PeekMessage<B>, Refusal> {
+        give_way(rt, &self.state, |state| state.is_behind(after));
         let guard = self.state.lock(rt);
         let state = self
             .changed

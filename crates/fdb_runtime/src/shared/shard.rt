@@ -7,6 +7,7 @@ ghost use Rattle.fdb_runtime.specs.Waiting.{is_closed, reach_fault};
 use crate::messages::peek_message::PeekMessage;
 use crate::name::ClusterName;
 use crate::roles::shard::ShardAt;
+use crate::shared::waiting::give_way;
 use fdb_keys::{KeyRange, Refusal};
 use std::alloc::{AllocError, Global};
 use std::sync::{Condvar, Mutex, MutexGuard, Wait};
@@ -75,6 +76,7 @@ impl<B: ClusterName> SharedShard<B> {
         ensures { IfOk result (λ guard. let shard = (mutex_guard_value guard).at.shard in
             shard.is_failed ≡ false → version ≤ shard.version) }
     {
+        give_way(rt, &self.state, |state| state.is_behind(version));
         let guard = self.state.lock(rt);
         let state = self
             .changed

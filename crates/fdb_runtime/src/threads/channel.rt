@@ -45,8 +45,3 @@ pub(crate) fn send_to<T: Drop, R: Wait>(
         Err(_) => Err(Refusal::Failed),
     }
 }
-
-/// Answers who waits for the reply. One that waits no longer isn't there to be told.
-pub(crate) fn reply_with<T: Drop, R: Wait>(rt: &R, reply: &Sender<Option<T>>, answer: T) {
-    let _ = reply.send(rt, Some(answer));
-}

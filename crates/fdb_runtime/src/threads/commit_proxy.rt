@@ -10,7 +10,8 @@ use crate::roles::commit_proxy::CommitProxyAt;
 use crate::sealed_front::SealedFront;
 use crate::shared::Shared;
 use crate::shared::inbox::SharedInbox;
-use crate::threads::channel::{reply_with, send_to};
+use crate::shared::slot::Slot;
+use crate::threads::channel::send_to;
 use crate::threads::gated::Gated;
 use crate::threads::reply::CommitReply;
 use crate::threads::request::CommitRequest;
@@ -25,7 +26,7 @@ use fdb_sequencer::Ticket;
 use fdb_txn::Sealed;
 use std::alloc::Global;
 use std::collections::VecDeque;
-use std::sync::Wait;
+use std::sync::{Arc, Wait};
 
 /// Refuses all of them.
 pub(crate) fn refuse_commits<B: ClusterName, R: Wait>(
@@ -34,7 +35,7 @@ pub(crate) fn refuse_commits<B: ClusterName, R: Wait>(
     why: Refusal,
 ) {
     for request in asked {
-        reply_with(rt, &request.reply, CommitReply::Refused(why));
+        request.reply.put(rt, CommitReply::Refused(why));
     }
 }
 
@@ -44,7 +45,7 @@ pub(crate) fn refuse_commits<B: ClusterName, R: Wait>(
 pub(crate) struct CommitWorker<B: ClusterName> {
     number: u32,
     at: CommitProxyAt<B>,
-    replies: VecDeque<Sender<Option<CommitReply<B>>>>,
+    replies: VecDeque<Arc<Slot<CommitReply<B>>>>,
     // How many of the first replies are of a batch that has an entry.
     entered: usize,
     parts: Vec<Sender<Option<SentPart<B>>>>,
@@ -114,7 +115,7 @@ impl<B: ClusterName> CommitWorker<B> {
         // The reply's place is the request's.
         if let Some(reply) = self.keep(reply) {
             drop(sealed);
-            return reply_with(rt, &reply, CommitReply::Refused(Refusal::NoMemory));
+            return reply.put(rt, CommitReply::Refused(Refusal::NoMemory));
         }
         if let Some(why) = self.submit(sealed) {
             self.refuse_last(rt, why);
@@ -124,8 +125,8 @@ impl<B: ClusterName> CommitWorker<B> {
     // Keeps who waits last, and hands it back where there is no memory.
     fn keep(
         &mut self,
-        reply: Sender<Option<CommitReply<B>>>,
-    ) -> Option<Sender<Option<CommitReply<B>>>> {
+        reply: Arc<Slot<CommitReply<B>>>,
+    ) -> Option<Arc<Slot<CommitReply<B>>>> {
         match self.replies.push_back(reply) {
             Ok(()) => None,
             Err(failed) => Some(failed.value),
@@ -143,7 +144,7 @@ impl<B: ClusterName> CommitWorker<B> {
     // Refuses who waits last.
     fn refuse_last<R: Wait>(&mut self, rt: &R, why: Refusal) {
         if let Some(reply) = self.replies.pop_back() {
-            reply_with(rt, &reply, CommitReply::Refused(why));
+            reply.put(rt, CommitReply::Refused(why));
         }
     }
 
@@ -152,7 +153,7 @@ impl<B: ClusterName> CommitWorker<B> {
         ensures { self.new.at.front ≡ self.old.at.front }
     {
         if let Some(reply) = self.replies.pop_front() {
-            reply_with(rt, &reply, answer);
+            reply.put(rt, answer);
         }
     }
 

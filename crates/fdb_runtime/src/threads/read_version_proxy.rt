@@ -2,17 +2,16 @@ use crate::gate::Pass;
 use crate::messages::grant_message::GrantMessage;
 use crate::name::ClusterName;
 use crate::shared::Shared;
-use crate::threads::channel::reply_with;
+use crate::shared::slot::Slot;
 use crate::threads::gated::Gated;
 use crate::threads::reply::GrantReply;
 use crate::threads::request::BeginRequest;
 use crate::threads::worker::Worker;
-use crossbeam_channel::Sender;
 use fdb_keys::Refusal;
 use fdb_proxy::GrvCore;
 use std::alloc::Global;
 use std::collections::VecDeque;
-use std::sync::Wait;
+use std::sync::{Arc, Wait};
 
 /// Refuses all of them.
 pub(crate) fn refuse_begins<B: ClusterName, R: Wait>(
@@ -21,7 +20,7 @@ pub(crate) fn refuse_begins<B: ClusterName, R: Wait>(
     why: Refusal,
 ) {
     for request in asked {
-        reply_with(rt, &request.reply, GrantReply::Refused(why));
+        request.reply.put(rt, GrantReply::Refused(why));
     }
 }
 
@@ -44,7 +43,7 @@ fn grant_of<B: ClusterName>(granted: &GrantMessage<B>, version: u64) -> GrantRep
 pub(crate) struct ReadVersionWorker<B: ClusterName> {
     number: u32,
     core: GrvCore,
-    replies: VecDeque<Sender<Option<GrantReply<B>>>>,
+    replies: VecDeque<Arc<Slot<GrantReply<B>>>>,
 }
 
 impl<B: ClusterName + Send + Sync + 'static, G: Pass + Send + Sync + 'static> Worker<Gated<B, G>>
@@ -94,11 +93,11 @@ impl<B: ClusterName> ReadVersionWorker<B> {
             reply,
         } = request;
         if self.core.ask(session, mark).is_err() {
-            reply_with(rt, &reply, GrantReply::Refused(Refusal::NoMemory));
+            reply.put(rt, GrantReply::Refused(Refusal::NoMemory));
             return;
         }
         if let Err(failed) = self.replies.push_back(reply) {
-            reply_with(rt, &failed.value, GrantReply::Refused(Refusal::NoMemory));
+            failed.value.put(rt, GrantReply::Refused(Refusal::NoMemory));
         }
     }
 
@@ -109,7 +108,7 @@ impl<B: ClusterName> ReadVersionWorker<B> {
             let Some(reply) = self.replies.pop_front() else {
                 return;
             };
-            reply_with(rt, &reply, grant_of(granted, version));
+            reply.put(rt, grant_of(granted, version));
         }
     }
 
@@ -120,7 +119,7 @@ impl<B: ClusterName> ReadVersionWorker<B> {
             let Some(reply) = self.replies.pop_front() else {
                 return;
             };
-            reply_with(rt, &reply, GrantReply::Refused(why));
+            reply.put(rt, GrantReply::Refused(why));
         }
     }
 }
