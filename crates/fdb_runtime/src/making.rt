@@ -1,23 +1,9 @@
 // Values that are made one after another, any of which may lack memory. Their types are parameters here, so that where
 // one is dropped the loan check doesn't go over what it holds.
-ghost use Rattle.std.specs.Prelude.{◌≡◌, ◌⊎◌, ⊤, None, Ok, Err, IfOk, IfErr};
-ghost use Rattle.fdb_keys.specs.Answers.{Answers};
+ghost use Rattle.std.specs.Prelude.{◌≡◌, ◌⊎◌, Ok, Err, IfOk, IfErr};
+ghost use Rattle.fdb_keys.specs.declared.refusal.Refusal.TheVariants.{NoMemory};
 
 use fdb_keys::Refusal;
-
-/// The value beside what was made after it, if that could be made.
-pub(crate) fn beside<S: Drop, T: Drop>(
-    value: S,
-    made: Result<T, Refusal>,
-) -> Result<(S, T), Refusal>
-    ensures given { IfOk result (λ both. (both.0 ≡ value) × (made ≡ Ok both.1)) }
-    ensures refused { IfErr result (λ why. made ≡ Err why) }
-{
-    match made {
-        Ok(made) => Ok((value, made)),
-        Err(why) => Err(why),
-    }
-}
 
 /// Both values, if both could be made.
 pub(crate) fn both<S: Drop, T: Drop>(
@@ -33,10 +19,9 @@ pub(crate) fn both<S: Drop, T: Drop>(
     }
 }
 
-/// Adds the item, if it could be made. Refused only as `NoMemory`.
+/// Adds the item, if it could be made.
 pub(crate) fn add<T: Drop>(items: &mut Vec<T>, made: Result<T, Refusal>) -> Result<(), Refusal>
-    requires { Answers made None (λ _. ⊤) }
-    ensures { Answers result None (λ _. ⊤) }
+    ensures { IfErr result (λ why. (made ≡ Err why) ⊎ (why ≡ NoMemory)) }
 {
     items.push(made?)?;
     Ok(())

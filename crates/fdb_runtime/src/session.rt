@@ -19,8 +19,7 @@ use crate::session_state::SessionState;
 use crate::session_state::settling::Ended;
 use crate::shared::Shared;
 use crate::shared::shard::{hold_met, lent_of};
-use crate::shared::slot::Slot;
-use crate::threads::reply::{CommitReply, GrantReply};
+use crate::threads::reply::{CommitReply, GrantReply, Slots};
 use crate::threads::request::{BeginRequest, CommitRequest};
 use bytes::Bytes;
 use fdb_client::Transcript;
@@ -40,8 +39,7 @@ pub struct Session<B: ClusterName> {
     number: u32,
     shared: Arc<Shared<B>>,
     state: SessionState<B>,
-    grants: Arc<Slot<GrantReply<B>>>,
-    outcomes: Arc<Slot<CommitReply<B>>>,
+    slots: Slots<B>,
 }
 
 impl<B: ClusterName> Model for Session<B> {
@@ -58,13 +56,13 @@ impl<B: ClusterName> Session<B> {
         ensures { Answers result None (λ it. it
             ≡ record { number = number; next_number = 0; front = []; mark = 0; current = None }) }
     {
+        let slots = Slots::new(alloc)?;
         let state = SessionState::new(alloc, shared.book(), number)?;
         Ok(Session {
             number,
             shared,
             state,
-            grants: Arc::new(alloc, Slot::new())?,
-            outcomes: Arc::new(alloc, Slot::new())?,
+            slots,
         })
     }
 
@@ -102,12 +100,12 @@ impl<B: ClusterName> Session<B> {
         let request = BeginRequest {
             session: self.number,
             mark: self.state.mark(),
-            reply: Arc::try_clone(&self.grants)?,
+            reply: self.slots.grants()?,
         };
         if let Err(refused) = inbox.put(rt, request) {
             return Err(refused.why);
         }
-        match self.grants.take(rt) {
+        match self.slots.next_grant(rt) {
             Some(GrantReply::Granted(granted)) => Ok(granted),
             Some(GrantReply::Refused(why)) => Err(why),
             None => Err(Refusal::Failed),
@@ -240,9 +238,9 @@ impl<B: ClusterName> Session<B> {
     ) -> Result<Receipt<B>, Refused<Option<Transcript>>>
         ensures { CommitAnswers B.config self.old result self.new }
     {
-        let reply = match Arc::try_clone(&self.outcomes) {
+        let reply = match self.slots.outcomes() {
             Ok(reply) => reply,
-            Err(_) => return Err(Refused { why: Refusal::NoMemory, back: None }),
+            Err(why) => return Err(Refused { why, back: None }),
         };
         match self.state.finish_or_receipt() {
             Ok(Ended::Acknowledged(receipt)) => Ok(self.state.acknowledge(receipt)),
@@ -255,11 +253,7 @@ impl<B: ClusterName> Session<B> {
     }
 
     // What its commit proxy tells of the request.
-    fn submit<R: Wait>(
-        &self,
-        rt: &R,
-        request: CommitRequest<B>,
-    ) -> CommitReply<B> {
+    fn submit<R: Wait>(&self, rt: &R, request: CommitRequest<B>) -> CommitReply<B> {
         let inboxes = self.shared.commits();
         if inboxes.is_empty() {
             return CommitReply::Refused(Refusal::Failed);
@@ -268,8 +262,8 @@ impl<B: ClusterName> Session<B> {
         if let Err(refused) = inbox.put(rt, request) {
             return CommitReply::Refused(refused.why);
         }
-        self.outcomes
-            .take(rt)
+        self.slots
+            .next_outcome(rt)
             .unwrap_or(CommitReply::Refused(Refusal::CommitUnknownResult))
     }
 }

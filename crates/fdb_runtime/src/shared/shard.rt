@@ -4,6 +4,7 @@ ghost use Rattle.std.specs.Sync.Mutex.{mutex_guard_value};
 ghost use Rattle.fdb_keys.specs.Answers.{AnswersExactly};
 ghost use Rattle.fdb_runtime.specs.Waiting.{is_closed, reach_fault};
 
+use crate::making::add;
 use crate::messages::peek_message::PeekMessage;
 use crate::name::ClusterName;
 use crate::roles::shard::ShardAt;
@@ -161,7 +162,7 @@ pub(crate) fn hold_met<'a, B: ClusterName, R: Wait>(
     // take them in this order, and the threads that change shards hold one at a time: so of all that are waited for
     // the last one's holder goes on.
     for shard in shards.iter().take(count) {
-        held.push(shard.at_version(rt, version)?)?;
+        add(&mut held, shard.at_version(rt, version))?;
     }
     Ok(held)
 }

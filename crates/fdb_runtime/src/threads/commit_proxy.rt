@@ -123,10 +123,7 @@ impl<B: ClusterName> CommitWorker<B> {
     }
 
     // Keeps who waits last, and hands it back where there is no memory.
-    fn keep(
-        &mut self,
-        reply: Arc<Slot<CommitReply<B>>>,
-    ) -> Option<Arc<Slot<CommitReply<B>>>> {
+    fn keep(&mut self, reply: Arc<Slot<CommitReply<B>>>) -> Option<Arc<Slot<CommitReply<B>>>> {
         match self.replies.push_back(reply) {
             Ok(()) => None,
             Err(failed) => Some(failed.value),

@@ -1,4 +1,5 @@
 use crate::gate::Pass;
+use crate::messages::peek_message::PeekMessage;
 use crate::name::ClusterName;
 use crate::shared::Shared;
 use crate::shared::log::SharedLog;
@@ -50,10 +51,23 @@ fn pull<B: ClusterName, R: Wait>(
 ) -> Result<bool, Refusal> {
     let after = shard.version(rt);
     let given = log.peek(rt, tag, after, PULL_LIMIT)?;
+    let taken = take(rt, shard, log, tag, &given);
+    drop(given);
+    taken
+}
+
+// Applies what the log gave, and drops it there. Answers whether it was any.
+fn take<B: ClusterName, R: Wait>(
+    rt: &R,
+    shard: &SharedShard<B>,
+    log: &SharedLog<B>,
+    tag: u32,
+    given: &PeekMessage<B>,
+) -> Result<bool, Refusal> {
     if given.peek.messages.is_empty() {
         return Ok(false);
     }
-    shard.apply(rt, &given)?;
+    shard.apply(rt, given)?;
     log.pop(rt, tag, given.peek.through)?;
     Ok(true)
 }
