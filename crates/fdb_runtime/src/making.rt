@@ -5,6 +5,20 @@ ghost use Rattle.fdb_keys.specs.declared.refusal.Refusal.TheVariants.{NoMemory};
 
 use fdb_keys::Refusal;
 
+/// The value beside what was made after it, if that could be made.
+pub(crate) fn beside<S: Drop, T: Drop>(
+    value: S,
+    made: Result<T, Refusal>,
+) -> Result<(S, T), Refusal>
+    ensures given { IfOk result (λ both. (both.0 ≡ value) × (made ≡ Ok both.1)) }
+    ensures refused { IfErr result (λ why. made ≡ Err why) }
+{
+    match made {
+        Ok(made) => Ok((value, made)),
+        Err(why) => Err(why),
+    }
+}
+
 /// Both values, if both could be made.
 pub(crate) fn both<S: Drop, T: Drop>(
     one: Result<S, Refusal>,

@@ -1,6 +1,7 @@
 // Databases that run in threads.
 ghost use Rattle.std.specs.Prelude.{◌≡◌};
 
+mod closings;
 mod commits;
 mod counters;
 mod gates;

@@ -12,6 +12,7 @@ ghost use Rattle.fdb_runtime.specs.Messages.{IsLastPart, IsLastMessage};
 ghost use Rattle.fdb_runtime.specs.Receipts.{IsOutcome};
 ghost use Rattle.fdb_runtime.specs.Ticketing.{AnswersTicket, LeftByTicket};
 
+use crate::making::beside;
 use crate::messages::log_message::LogMessage;
 use crate::messages::outcome_message::OutcomeMessage;
 use crate::messages::part_message::PartMessage;
@@ -62,7 +63,7 @@ impl<B: ClusterName> CommitProxyAt<B> {
             (λ at. (at.front ≡ []) × IsNewProxy index config.now at.core.proxy) }
     {
         let core = CommitCore::new(alloc, index, config)?;
-        let front = SealedFront::empty(alloc, book)?;
+        let (core, front) = beside(core, SealedFront::empty(alloc, book))?;
         Ok(CommitProxyAt { front, core })
     }
 

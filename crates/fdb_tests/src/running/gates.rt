@@ -20,7 +20,7 @@ use std::time::{Clock, Duration};
 const TURNS: u32 = 10_000;
 
 // Waits until the word is no less than the number, and says whether it came to that.
-fn wait_for<C: Clock>(clock: &C, word: &AtomicU64, least: u64) -> bool {
+pub(crate) fn wait_for<C: Clock>(clock: &C, word: &AtomicU64, least: u64) -> bool {
     for _turn in 0..TURNS {
         if word.load(Ordering::SeqCst) >= least {
             return true;
