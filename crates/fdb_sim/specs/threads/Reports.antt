@@ -1,6 +1,6 @@
 -- What a run prints, and the status that it ends with.
 use Rattle.std.specs.Prelude.{◌≡◌, ℕ, List, codes, Some, ◌⊎◌, if◌then◌else◌}
-use Rattle.serde_json.specs.Data.{Data, number, unsigned, string, boolean, object, member, no_members}
+use Rattle.serde_json.specs.Data.{Data, Members, number, unsigned, string, boolean, object, member, no_members}
 use Rattle.serde_json.specs.Written.{compact_text}
 use Rattle.fdb_sim.specs.declared.play.stop.Stop.{Stop}
 use Rattle.fdb_sim.specs.declared.threads.report.Report.{Report}
@@ -13,9 +13,9 @@ workload_name Ring = codes "ring"
 workload_name Transfers = codes "transfers"
 workload_name Counters = codes "counters"
 
--- the report as an object of JSON, with its members in this order
-abbrev pub report_data : Report → Data
-report_data report = object
+-- the members of the report as an object of JSON, in this order
+abbrev pub report_members : Report → Members
+report_members report =
     (member (codes "aborted") (number (unsigned report.aborted))
     (member (codes "acknowledged") (number (unsigned report.acknowledged))
     (member (codes "checked") (number (unsigned report.checked))
@@ -24,6 +24,9 @@ report_data report = object
     (member (codes "ok") (boolean report.ok)
     (member (codes "unknown") (number (unsigned report.unknown))
     (member (codes "workload") (string (workload_name report.workload)) no_members))))))))
+
+abbrev pub report_data : Report → Data
+report_data report = object (report_members report)
 
 -- the report is printed, and the status says whether all checks held
 abbrev pub PrintsReport : Report → List ℕ → ℕ → Type 0

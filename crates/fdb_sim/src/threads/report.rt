@@ -1,15 +1,16 @@
 // What a run prints in the end.
-ghost use Rattle.std.specs.Prelude.{◌≡◌, ◌≤◌, List, ℕ, IfOk, IfErr, string_bytes};
+ghost use Rattle.std.specs.Prelude.{◌≡◌, ◌≤◌, List, ℕ, IfOk, IfErr, OnOk, string_bytes};
 ghost use Rattle.std.specs.Io.KnownBytes.{Appends};
-ghost use Rattle.serde_json.specs.View.{view};
+ghost use Rattle.serde_json.specs.Data.{string, no_members, put as with_member};
+ghost use Rattle.serde_json.specs.View.{view, members_view};
 ghost use Rattle.serde_json.specs.Written.{compact_text};
-ghost use Rattle.fdb_sim.specs.threads.Reports.{report_data, PrintsEnd};
+ghost use Rattle.fdb_sim.specs.threads.Reports.{report_data, report_members, PrintsEnd};
 
 use crate::play::stop::Stop;
 use crate::print::endings::print_stop;
 use crate::streams::Sink;
 use crate::threads::workload::Workload;
-use serde_json::{Value, json};
+use serde_json::{Map, Value, put};
 use std::alloc::{AllocError, Global};
 use std::io;
 
@@ -32,20 +33,51 @@ pub(crate) struct Report {
     pub(crate) workload: Workload,
 }
 
+// Puts the name and the value of each number and truth of the report among the members, which it is lent: so no exit
+// on the way drops any.
+fn put_members(
+    alloc: Global,
+    members: &mut Map<String, Value>,
+    report: &Report,
+) -> Result<(), AllocError>
+    ensures { members_view members.old.entries ≡ no_members
+        → OnOk result (members_view members.new.entries ≡ report_members report.now) }
+{
+    put(members, alloc, "aborted", Value::from(report.aborted))?;
+    put(
+        members,
+        alloc,
+        "acknowledged",
+        Value::from(report.acknowledged),
+    )?;
+    put(members, alloc, "checked", Value::from(report.checked))?;
+    put(members, alloc, "entries", Value::from(report.entries))?;
+    put_text(alloc, members, "mode", "threads")?;
+    put(members, alloc, "ok", Value::from(report.ok))?;
+    put(members, alloc, "unknown", Value::from(report.unknown))?;
+    put_text(alloc, members, "workload", report.workload.name())
+}
+
+fn put_text(
+    alloc: Global,
+    members: &mut Map<String, Value>,
+    key: &str,
+    text: &str,
+) -> Result<(), AllocError>
+    ensures { OnOk result
+        (members_view members.new.entries ≡ with_member key.now (string text.now) (members_view members.old.entries)) }
+{
+    let text = Value::try_from_str(alloc, text)?;
+    put(members, alloc, key, text)
+}
+
 // The report as a value of JSON.
 fn value_of(alloc: Global, report: &Report) -> Result<Value, AllocError>
     ensures { IfOk result (λ value. view value ≡ report_data report.now) }
 {
-    json!(in alloc; {
-        "aborted": report.aborted,
-        "acknowledged": report.acknowledged,
-        "checked": report.checked,
-        "entries": report.entries,
-        "mode": "threads",
-        "ok": report.ok,
-        "unknown": report.unknown,
-        "workload": report.workload.name()
-    })
+    let mut members = Map::new(alloc);
+    put_members(alloc, &mut members, report)?;
+    Ok(Value::Object(members))
 }
 
 // The same as a line, without its end.

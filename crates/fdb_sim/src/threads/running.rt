@@ -122,12 +122,26 @@ fn run_in<
     let mut database = database;
     let ran = run_clients(rt, alloc, &mut database, load, pace, err);
     let record = database.close(rt);
-    match (ran, record) {
-        (Ok((first, played)), Ok(record)) => judge_record(
-            alloc, config, load, first, &played, &record,
-        ),
-        (Err(stop), _) => Err(stop),
-        (_, Err(why)) => Err(Stop::Refused(why)),
+    match ran {
+        Ok(ran) => judge_closed(alloc, config, load, &ran, record),
+        Err(stop) => Err(stop),
+    }
+}
+
+// What came of the run, if the database gave its record.
+fn judge_closed<B: ClusterName>(
+    alloc: Global,
+    config: &Config,
+    load: &Load,
+    ran: &(Spot, Played),
+    record: Result<Record<B>, Refusal>,
+) -> Result<Report, Stop>
+    requires config { config.now ≡ B.config }
+    ensures errors { IfErr result (FailsWith (λ _. ⊥)) }
+{
+    match record {
+        Ok(record) => judge_record(alloc, config, load, ran.0, &ran.1, &record),
+        Err(why) => Err(Stop::Refused(why)),
     }
 }
 

@@ -86,8 +86,18 @@ fn write<B: ClusterName>(
     session: &mut Session<B>,
     mutation: Result<Mutation, Refusal>,
 ) -> Result<(), Refusal> {
-    match mutation {
-        Ok(mutation) => session.write(&mutation),
+    lent(mutation, |mutation| session.write(mutation))
+}
+
+// What is answered of the value that was made. A mutation goes over many kinds where it is dropped; here none is named.
+fn lent<T: Drop, F: FnOnce(&T) -> Result<(), Refusal> + Drop>(
+    made: Result<T, Refusal>,
+    next: F,
+) -> Result<(), Refusal>
+    requires { F.IsAlwaysCallable next }
+{
+    match made {
+        Ok(value) => next(&value),
         Err(why) => Err(why),
     }
 }
