@@ -1,5 +1,7 @@
 // Clients in threads, and what is found where something of a run is changed by hand.
-ghost use Rattle.std.specs.Prelude.{◌≡◌};
+ghost use Rattle.std.specs.Prelude.{◌≡◌, suc, length, None};
+ghost use Rattle.fdb_txn.specs.book.History.{IsBook};
+ghost use Rattle.fdb_proxy.specs.Configs.{config_fault};
 
 use crate::play::stop::Stop;
 use crate::threads::judging::{Asked, Kept, is_all, judge};
@@ -312,7 +314,53 @@ fn change_pairs(
     Ok(())
 }
 
-// Whether all checks hold of the run after the change.
+// The pairs after the change.
+fn changed_pairs(
+    alloc: Global,
+    pairs: &[(Key, Bytes)],
+    change: Change,
+) -> Result<Vec<(Key, Bytes)>, Refusal> {
+    let mut pairs = copied_pairs(alloc, pairs)?;
+    change_pairs(alloc, &mut pairs, change)?;
+    Ok(pairs)
+}
+
+// What clients were told, after the change.
+fn changed_told(
+    alloc: Global,
+    ran: &(Spot, Played),
+    change: Change,
+) -> Result<(Asked, Played), Refusal> {
+    let mut played = copies_of(alloc, &ran.1)?;
+    let mut asked = Asked {
+        txns: 6,
+        workload: Workload::Ring,
+        first: ran.0,
+    };
+    change_told(&mut asked, &mut played, change)?;
+    if let Some(placed) = played.placed.first_mut() {
+        change_receipt(placed, ran.0, change);
+    }
+    Ok((asked, played))
+}
+
+// Whether all checks hold after the change of what clients were told.
+fn is_right(
+    alloc: Global,
+    kept: &Kept<'_>,
+    ran: &(Spot, Played),
+    change: Change,
+) -> Result<bool, Refusal>
+    requires legal { config_fault kept.now.config.now ≡ None }
+    requires book { IsBook (suc (length kept.now.config.now.resolver_splits)) kept.now.entries.now }
+{
+    match changed_told(alloc, ran, change) {
+        Ok((asked, played)) => Ok(judge(alloc, &asked, &played, kept)?.ok),
+        Err(why) => Err(why),
+    }
+}
+
+// The same after the change of the record's pairs, too.
 fn is_right_after<B: ClusterName>(
     alloc: Global,
     config: &Config,
@@ -324,27 +372,13 @@ fn is_right_after<B: ClusterName>(
 {
     config.check()?;
     let entries = record.front().entries()?;
-    let mut pairs = copied_pairs(alloc, record.pairs())?;
-    change_pairs(alloc, &mut pairs, change)?;
-    let mut played = copies_of(alloc, &ran.1)?;
-    let mut asked = Asked {
-        txns: 6,
-        workload: Workload::Ring,
-        first: ran.0,
-    };
-    change_told(&mut asked, &mut played, change)?;
-    if let Some(placed) = played.placed.first_mut() {
-        change_receipt(placed, ran.0, change);
-    }
+    let pairs = changed_pairs(alloc, record.pairs(), change)?;
     let kept = Kept {
         config,
         entries: entries.as_slice(),
         pairs: pairs.as_slice(),
     };
-    match judge(alloc, &asked, &played, &kept) {
-        Ok(report) => Ok(report.ok),
-        Err(why) => Err(why),
-    }
+    is_right(alloc, &kept, ran, change)
 }
 
 // Runs the ring on the database, and makes each change of what came of it.
@@ -384,16 +418,42 @@ fn change_ran<B: ClusterName, R: Host>(
 ) -> Result<(), Stop>
     requires { config.now ≡ B.config }
 {
-    match (ran, record) {
-        (Ok(ran), Ok(record)) => {
-            for (row, (change, is_right)) in CHANGES.iter().enumerate() {
-                let told = is_right_after(alloc, config, &ran, &record, *change);
-                same(rt, (row, told.ok()), (row, Some(*is_right)));
-            }
+    match ran {
+        Ok(ran) => change_closed(rt, alloc, config, &ran, record),
+        Err(stop) => Err(stop),
+    }
+}
+
+fn change_closed<B: ClusterName, R: Host>(
+    rt: &R,
+    alloc: Global,
+    config: &Config,
+    ran: &(Spot, Played),
+    record: Result<Record<B>, Refusal>,
+) -> Result<(), Stop>
+    requires { config.now ≡ B.config }
+{
+    match record {
+        Ok(record) => {
+            change_recorded(rt, alloc, config, ran, &record);
             Ok(())
         }
-        (Err(stop), _) => Err(stop),
-        (_, Err(why)) => Err(Stop::Refused(why)),
+        Err(why) => Err(Stop::Refused(why)),
+    }
+}
+
+fn change_recorded<B: ClusterName, R: Host>(
+    rt: &R,
+    alloc: Global,
+    config: &Config,
+    ran: &(Spot, Played),
+    record: &Record<B>,
+)
+    requires { config.now ≡ B.config }
+{
+    for (row, (change, is_right)) in CHANGES.iter().enumerate() {
+        let told = is_right_after(alloc, config, ran, record, *change);
+        same(rt, (row, told.ok()), (row, Some(*is_right)));
     }
 }
 
