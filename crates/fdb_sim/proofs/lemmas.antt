@@ -6,6 +6,7 @@ pub mod Grammar
 pub mod Kinds
 pub mod Lines
 pub mod Numbers
+pub mod Obeying
 pub mod Options
 pub mod Pairs
 pub mod ReadBack
