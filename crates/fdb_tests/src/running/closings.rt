@@ -87,11 +87,7 @@ fn open<B: ClusterName, R: Wait>(
     write(session, Mutation::set(alloc, key, &[1]))
 }
 
-fn commit_first<B: ClusterName, R: Wait>(
-    rt: &R,
-    alloc: Global,
-    session: &mut Session<B>,
-) -> Told {
+fn commit_first<B: ClusterName, R: Wait>(rt: &R, alloc: Global, session: &mut Session<B>) -> Told {
     match open(rt, alloc, session, b"a") {
         Ok(()) => commit_code(rt, alloc, session),
         Err(why) => (why.code(), false),

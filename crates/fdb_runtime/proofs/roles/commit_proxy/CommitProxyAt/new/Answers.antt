@@ -8,8 +8,10 @@ pub returns : goal.returns
 returns g c =
     let told = answers-fault (new_fault c.args.index c.args.config.now) c.in_ok-core.core _ c.in_ok-core.ensures in
     let given = c.in_ok-core-2.ensures.given in
-    rw told.0 (rw given.1 at c.empty.ensures,
-    subst (λ (core : ProxyWithRoom). IsNewProxy c.args.index c.args.config.now core.proxy) (sym given.0) told.1)
+    rw told.0 (
+      rw given.1 at c.empty.ensures,
+      subst (λ (core : ProxyWithRoom). IsNewProxy c.args.index c.args.config.now core.proxy) (sym given.0) told.1,
+    )
 
 pub invariant_of-result : goal.invariant_of-result
 invariant_of-result g c =
