@@ -1,5 +1,5 @@
 -- The run of transactions at some places of a book, one at a time.
-use Rattle.std.specs.Prelude.{Bool, ℕ, List, [], ◌∷◌, Option, Some, None, option_and_then, is_some}
+use Rattle.std.specs.Prelude.{Bool, List, [], ◌∷◌, Option, Some, None, option_and_then, is_some}
 use Rattle.std.specs.List.{slice_get, list_all}
 use Rattle.std.specs.FinMap.{empty}
 use Rattle.fdb_keys.specs.Ranges.{Range}
