@@ -55,7 +55,9 @@ impl<C: Clock + Send + Sync + Drop> Gate for HeldResolver<C> {
     fn before(&self, role: Role, entry: u32) {
         if (role, entry) == (Role::Resolver(0), 0) {
             self.came.store(1, Ordering::SeqCst);
-            self.await_word(&self.may_go_on);
+            if !wait_for(&self.clock, &self.may_go_on, 1) {
+                self.missed.store(true, Ordering::SeqCst);
+            }
         }
     }
 
