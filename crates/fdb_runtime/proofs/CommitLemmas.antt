@@ -1,10 +1,13 @@
 -- What a session that commits is answered, by what its transaction came to.
-use Rattle.std.proofs.Common.{◌≡◌, ◌∙◌, refl, sym, ap, subst, inr, Bool, true, false, List, Option, Some, None}
-use Rattle.std.proofs.Common.{if◌then◌else◌}
-use Rattle.std.specs.Prelude.{max, Result, Ok, Err, IfSome}
+use Rattle.std.proofs.Common.{◌≡◌, ◌∙◌, refl, sym, ap, subst, inr, ⊎_elim, Bool, true, false, List, length}
+use Rattle.std.proofs.Common.{Option, Some, None, if◌then◌else◌}
+use Rattle.std.specs.Prelude.{◌⊎◌, max, Result, Ok, Err, IfSome}
+use Rattle.fdb_keys.specs.declared.refusal.Refusal.{Refusal}
+use Rattle.fdb_keys.specs.declared.refusal.Refusal.TheVariants as refusal
 use Rattle.fdb_keys.specs.declared.refusal.Refused.{Refused}
 use Rattle.fdb_txn.specs.declared.entry.Entry.{Entry}
 use Rattle.fdb_txn.specs.book.Transactions.{Transaction}
+use Rattle.fdb_txn.specs.rules.Admission.{is_fresh}
 use Rattle.fdb_book.specs.Fronts.{IsPrefix}
 use Rattle.fdb_proxy.specs.declared.config.Config.{Config}
 use Rattle.fdb_client.specs.declared.program.Transcript.{Transcript}
@@ -14,8 +17,8 @@ use Rattle.fdb_core.specs.refinement.Sessions.{OfOpen}
 use Rattle.fdb_runtime.specs.Commits.{HasReceipt, HasTranscript, CommitEnds, CommitAnswers, open_fault}
 use Rattle.fdb_runtime.specs.Commits.{is_read_only_spot}
 use Rattle.fdb_runtime.specs.Endings.{Ends}
-use Rattle.fdb_runtime.specs.Receipts.{ReceiptAtFront, read_only_receipt}
-use Rattle.fdb_runtime.specs.Sessions.{Session, with_current}
+use Rattle.fdb_runtime.specs.Receipts.{ReceiptAtFront, OutcomeAtFront, IsTurnedDown, read_only_receipt}
+use Rattle.fdb_runtime.specs.Sessions.{Session, Settles, longer, with_current}
 use Rattle.fdb_runtime.specs.declared.session_state.settling.Ended.{Ended}
 use Rattle.fdb_runtime.specs.declared.session_state.settling.Ended.TheVariants.{Acknowledged, ToCommit}
 use Rattle.fdb_runtime.proofs.SessionLemmas.{begins-itself}
@@ -78,6 +81,77 @@ to-commit {B} front (Some own) request transcript ended its is =
     by_kind false same =
         let its-own : own ≡ transcript = cc in
         ap (λ (it : Transcript). Some it) its-own
+
+-- And it is what the transcript asks to commit.
+pub request-is : {B : Type 0} (front : List Entry) (current : Option Transcript) (request : Transaction)
+    (transcript : Transcript) (ended : Ended B) → ended ≡ ToCommit request transcript
+    → OfOpen current (Ok ended) (Ends front (Ok ended)) → request ≡ commit_request_of transcript
+request-is {B} front None request transcript ended its is = absurd cc
+request-is {B} front (Some own) request transcript ended its is = by_kind (is_read_only own) is.0
+  where
+    by_kind : (kind : Bool)
+        → ended ≡ (if kind then Acknowledged (read_only_receipt front own) else ToCommit (commit_request_of own) own)
+        → request ≡ commit_request_of transcript
+    by_kind true same = absurd cc
+    by_kind false same =
+        let its-own : own ≡ transcript = cc in
+        let asked : request ≡ commit_request_of own = cc in
+        asked ∙ ap commit_request_of its-own
+
+-- What a session was told of a transaction that has no receipt, it hands on with the transcript.
+pub turned-back : (config : Config) (old new : Session) (told : OutcomeAtFront) (transcript : Transcript)
+    (refused : Refused Transcript) → old.current ≡ None → IsPrefix old.front new.front
+    → Settles old told transcript (Err refused) new
+    → (refused.why ≡ refusal.CommitUnknownResult)
+    ⊎ IsTurnedDown config.resolver_splits new.front transcript refused.why
+    → HasTranscript config old transcript (record { why = refused.why; back = Some refused.back }) new
+turned-back config old new told transcript refused none begins settles turned = record {
+  back = ap (λ (it : Transcript). Some it) settles.0;
+  tells = (
+    down refusal.NotCommitted (λ same. absurd cc),
+    down refusal.TransactionTooOld (λ same. absurd cc),
+    λ is. absurd (not-full is),
+  );
+  begins = begins;
+  left = ⊎_elim (λ heard. left (longer old.front told.front) heard.2) (λ unknown. left old.front unknown.1) settles.1;
+}
+  where
+    down : (why : Refusal) → (refusal.CommitUnknownResult ≡ why → ⊥) → refused.why ≡ why
+        → IsTurnedDown config.resolver_splits new.front transcript why
+    down why other is = ⊎_elim
+        (λ unknown. absurd (other (sym unknown ∙ is)))
+        (λ is-down. subst (IsTurnedDown config.resolver_splits new.front transcript) is is-down)
+        turned
+
+    no-reason : (fresh : Bool)
+        → refusal.BookFull ≡ (if fresh then refusal.NotCommitted else refusal.TransactionTooOld) → ⊥
+    no-reason true same = absurd cc
+    no-reason false same = absurd cc
+
+    not-full : refused.why ≡ refusal.BookFull → ⊥
+    not-full is = ⊎_elim
+        (λ unknown. absurd (let wrong : refusal.CommitUnknownResult ≡ refusal.BookFull = sym unknown ∙ is in cc))
+        (λ is-down. no-reason (is_fresh is-down.there.0) (sym is ∙ is-down.why_is))
+        turned
+
+    left : (front : List Entry) → new ≡ record old { front = front }
+        → new ≡ record old { front = new.front; current = None }
+    left front is =
+        is
+        ∙ ap (λ (it : List Entry). record old { front = it; current = old.current })
+        (sym (ap (λ (it : Session). it.front) is))
+        ∙ ap (λ (it : Option Transcript). record old { front = new.front; current = it }) none
+
+-- Nothing is known of a transaction that wasn't submitted, since memory ran out.
+pub left-unknown : (config : Config) (it : Session) (transcript back : Transcript) → back ≡ transcript
+    → it.current ≡ None
+    → CommitEnds config it transcript (Err (record { why = refusal.CommitUnknownResult; back = Some back })) it
+left-unknown config it transcript back same none = record {
+  back = ap (λ (own : Transcript). Some own) same;
+  tells = (λ wrong. absurd cc, λ wrong. absurd cc, λ wrong. absurd cc);
+  begins = begins-itself it.front;
+  left = ap (λ (current : Option Transcript). record it { front = it.front; current = current }) none;
+}
 
 -- It ends as it would have ended open.
 pub submitted : {B : Type 0} (config : Config) (old middle new : Session) (request : Transaction)

@@ -1,9 +1,10 @@
-ghost use Rattle.std.specs.Prelude.{◌≡◌, ◌≤◌, [], suc, None, Some, Err, IfOk, OnOk, OnErr};
+ghost use Rattle.std.specs.Prelude.{◌≡◌, ◌≤◌, [], suc, None, Some, Err, IfOk, IfErr, OnOk, OnErr};
 ghost use Rattle.fdb_keys.specs.declared.refusal.Refusal.TheVariants.{NoTransaction};
 ghost use Rattle.fdb_book.specs.Fronts.{IsPrefix};
 ghost use Rattle.fdb_keys.specs.Answers.{Answers};
 ghost use Rattle.fdb_txn.specs.book.Book.{last_version};
 ghost use Rattle.fdb_mutations.specs.Mutations.{mutation_fault};
+ghost use Rattle.fdb_client.specs.Programs.{commit_request_of};
 ghost use Rattle.fdb_client.specs.TxnState.{with_op};
 ghost use Rattle.fdb_client.specs.declared.program.Op.TheVariants as operation;
 ghost use Rattle.fdb_client.specs.declared.program.Reply.TheVariants as answer;
@@ -17,14 +18,17 @@ use crate::name::ClusterName;
 use crate::receipt::Receipt;
 use crate::session_state::SessionState;
 use crate::session_state::settling::Ended;
+use crate::session_state::submitted::Submitted;
 use crate::shared::Shared;
 use crate::shared::shard::{hold_met, lent_of};
+use crate::shared::slot::Slot;
 use crate::threads::reply::{CommitReply, GrantReply, Slots};
 use crate::threads::request::{BeginRequest, CommitRequest};
 use bytes::Bytes;
 use fdb_client::Transcript;
 use fdb_keys::{Items, Key, KeyRange, Refusal, Refused};
 use fdb_mutations::Mutation;
+use fdb_txn::Sealed;
 use std::alloc::Global;
 use std::marker::Model;
 use std::sync::{Arc, Wait};
@@ -245,15 +249,42 @@ impl<B: ClusterName> Session<B> {
         match self.state.finish_or_receipt() {
             Ok(Ended::Acknowledged(receipt)) => Ok(self.state.acknowledge(receipt)),
             Ok(Ended::ToCommit(sealed, transcript)) => {
-                let told = self.submit(rt, CommitRequest { sealed, reply });
-                self.state.end(alloc, self.shared.limit(), transcript, told)
+                match self.submit(rt, sealed, transcript, reply) {
+                    Ok((submitted, told)) => self.state.end(self.shared.limit(), submitted, told),
+                    Err(transcript) => Err(Refused {
+                        why: Refusal::CommitUnknownResult,
+                        back: Some(transcript),
+                    }),
+                }
             }
             Err(why) => Err(Refused { why, back: None }),
         }
     }
 
+    // Submits the request, and gives what was submitted with what its commit proxy tells. Where memory runs out for a
+    // copy of the request, nothing is submitted, and the transcript is handed back.
+    fn submit<R: Wait>(
+        &self,
+        rt: &R,
+        sealed: Sealed,
+        transcript: Transcript,
+        reply: Arc<Slot<CommitReply<B>>>,
+    ) -> Result<(Submitted, CommitReply<B>), Transcript>
+        requires { sealed ≡ commit_request_of transcript }
+        ensures its { IfOk result (λ given. given.0.transcript ≡ transcript) }
+        ensures back { IfErr result (λ back. back ≡ transcript) }
+    {
+        match Submitted::new(&sealed, transcript) {
+            Ok(submitted) => {
+                let told = self.ask_commit(rt, CommitRequest { sealed, reply });
+                Ok((submitted, told))
+            }
+            Err(transcript) => Err(transcript),
+        }
+    }
+
     // What its commit proxy tells of the request.
-    fn submit<R: Wait>(&self, rt: &R, request: CommitRequest<B>) -> CommitReply<B> {
+    fn ask_commit<R: Wait>(&self, rt: &R, request: CommitRequest<B>) -> CommitReply<B> {
         let inboxes = self.shared.commits();
         if inboxes.is_empty() {
             return CommitReply::Refused(Refusal::Failed);

@@ -33,6 +33,7 @@ use std::marker::Model;
 mod ending;
 mod reading;
 pub(crate) mod settling;
+pub(crate) mod submitted;
 
 // The longer of two fronts, once more. Refused only as `NoMemory`.
 fn share_longer<B: ClusterName>(

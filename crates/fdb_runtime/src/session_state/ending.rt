@@ -12,10 +12,10 @@ use crate::name::ClusterName;
 use crate::receipt::Receipt;
 use crate::sealed_front::SealedFront;
 use crate::session_state::SessionState;
+use crate::session_state::submitted::Submitted;
 use crate::threads::reply::CommitReply;
 use fdb_client::Transcript;
 use fdb_keys::{Refusal, Refused};
-use std::alloc::Global;
 
 // What a session is told that is refused with no front to show why. A reason that a front would show, and that memory
 // ran out on the way, leaves open what became of the transaction.
@@ -61,17 +61,16 @@ impl<B: ClusterName> SessionState<B> {
     // Settles the transaction, which is handed back where it has no receipt.
     fn settle_or_back(
         &mut self,
-        alloc: Global,
-        transcript: Transcript,
+        submitted: Submitted,
         message: &OutcomeMessage<B>,
     ) -> Result<Receipt<B>, Refused<Option<Transcript>>>
-        requires wrote { is_read_only transcript ≡ false }
+        requires wrote { is_read_only submitted.transcript ≡ false }
         requires opened { IsOpenAt B.config.resolver_splits self.old.number self.old.next_number self.old.front
-            transcript }
+            submitted.transcript }
         requires none { self.old.current ≡ None }
-        ensures { CommitEnds B.config self.old transcript result self.new }
+        ensures { CommitEnds B.config self.old submitted.transcript result self.new }
     {
-        match self.settle(alloc, transcript, message) {
+        match self.settle(submitted, message) {
             Ok(receipt) => Ok(receipt),
             Err(refused) => Err(Refused {
                 why: refused.why,
@@ -83,27 +82,26 @@ impl<B: ClusterName> SessionState<B> {
     /// Ends a transaction of the session, none of which is open any more, by what its commit proxy tells.
     pub(crate) fn end(
         &mut self,
-        alloc: Global,
         book: u32,
-        transcript: Transcript,
+        submitted: Submitted,
         told: CommitReply<B>,
     ) -> Result<Receipt<B>, Refused<Option<Transcript>>>
         requires book { book ≡ B.config.book }
-        requires wrote { is_read_only transcript ≡ false }
+        requires wrote { is_read_only submitted.transcript ≡ false }
         requires opened { IsOpenAt B.config.resolver_splits self.old.number self.old.next_number self.old.front
-            transcript }
+            submitted.transcript }
         requires none { self.old.current ≡ None }
-        ensures { CommitEnds B.config self.old transcript result self.new }
+        ensures { CommitEnds B.config self.old submitted.transcript result self.new }
     {
         match told {
-            CommitReply::Outcome(message) => self.settle_or_back(alloc, transcript, &message),
+            CommitReply::Outcome(message) => self.settle_or_back(submitted, &message),
             CommitReply::Full(front) => Err(Refused {
                 why: self.see_full(book, &front),
-                back: Some(transcript),
+                back: Some(submitted.into_transcript()),
             }),
             CommitReply::Refused(why) => Err(Refused {
                 why: plain_reason(why),
-                back: Some(transcript),
+                back: Some(submitted.into_transcript()),
             }),
         }
     }

@@ -19,12 +19,12 @@ use crate::messages::outcome_message::OutcomeMessage;
 use crate::name::ClusterName;
 use crate::receipt::Receipt;
 use crate::sealed_front::SealedFront;
+use crate::session_state::submitted::Submitted;
 use crate::session_state::{SessionState, share_longer};
-use fdb_client::{Finished, Transcript, Txn, is_request_of};
+use fdb_client::{Finished, Transcript, Txn};
 use fdb_keys::{Refusal, Refused};
 use fdb_proxy::Outcome;
 use fdb_txn::{Sealed, Spot};
-use std::alloc::Global;
 use std::mem;
 
 /// What a session's transaction comes to once it is finished.
@@ -91,41 +91,34 @@ fn transaction_told<B: ClusterName>(message: &OutcomeMessage<B>) -> Option<&Seal
     }
 }
 
-// Whether the message is of the transaction. Refused only as `NoMemory`.
-fn is_told_of<B: ClusterName>(
-    alloc: Global,
-    message: &OutcomeMessage<B>,
-    transcript: &Transcript,
-) -> Result<bool, Refusal>
-    requires { (map : Map) × AnsweredOn map transcript.now }
-    ensures { Answers result None (λ same. IsTrue same ↔ IsToldOf message.now transcript.now) }
+// Whether the message is of what was submitted. It takes no memory.
+fn is_told_of<B: ClusterName>(message: &OutcomeMessage<B>, submitted: &Submitted) -> bool
+    ensures { IsTrue result ↔ IsToldOf message.now submitted.now.transcript }
 {
     // A spot has 32 bits for the number of the entry.
     if message.front.len() > 4_294_967_296 {
-        return Ok(false);
+        return false;
     }
     match transaction_told(message) {
-        Some(sealed) => is_request_of(alloc, sealed, transcript),
-        None => Ok(false),
+        Some(sealed) => submitted.is_request(sealed),
+        None => false,
     }
 }
 
 // The longer of both fronts twice, where the message is of the transaction. Refused as `CommitUnknownResult` where it
 // isn't, and as `NoMemory`.
 fn fronts_with<B: ClusterName>(
-    alloc: Global,
     own: &SealedFront<B>,
     message: &OutcomeMessage<B>,
-    transcript: &Transcript,
+    submitted: &Submitted,
 ) -> Result<(SealedFront<B>, SealedFront<B>), Refusal>
-    requires { (map : Map) × AnsweredOn map transcript.now }
-    ensures told { OnOk result (IsToldOf message.now transcript.now) }
+    ensures told { OnOk result (IsToldOf message.now submitted.now.transcript) }
     ensures longer { IfOk result (λ fronts. (fronts.0 ≡ longer own.now message.now.front) × (fronts.1 ≡ fronts.0)) }
     ensures begins { IfOk result (λ fronts. IsPrefix own.now fronts.0 × IsPrefix message.now.front fronts.0) }
     ensures reaches { IfOk result (λ fronts. (last_version own.now ≤ last_version fronts.0)
         × (last_version message.now.front ≤ last_version fronts.0)) }
 {
-    if !is_told_of(alloc, message, transcript)? {
+    if !is_told_of(message, submitted) {
         return Err(Refusal::CommitUnknownResult);
     }
     let front = share_longer(own, &message.front)?;
@@ -202,20 +195,19 @@ impl<B: ClusterName> SessionState<B> {
     // Hears what became of the transaction. Refused as `settle` is.
     fn hear(
         &mut self,
-        alloc: Global,
-        transcript: &Transcript,
+        submitted: &Submitted,
         message: &OutcomeMessage<B>,
     ) -> Result<(SealedFront<B>, Spot), Refusal>
         requires { IsOpenAt B.config.resolver_splits self.old.number self.old.next_number self.old.front
-            transcript.now }
-        ensures answers { Hears self.old message.now transcript.now result self.new }
+            submitted.now.transcript }
+        ensures answers { Hears self.old message.now submitted.now.transcript result self.new }
         ensures begins { IsPrefix self.old.front self.new.front }
         ensures given { IfOk result (λ given. IsReceipt B.config.resolver_splits
-            (record { front = given.0; spot = given.1; transcript = transcript.now })) }
+            (record { front = given.0; spot = given.1; transcript = submitted.now.transcript })) }
         ensures turned { IfErr result (λ why. (why ≡ CommitUnknownResult)
-            ⊎ IsTurnedDown B.config.resolver_splits self.new.front transcript.now why) }
+            ⊎ IsTurnedDown B.config.resolver_splits self.new.front submitted.now.transcript why) }
     {
-        let Ok((front, share)) = fronts_with(alloc, &self.front, message, transcript) else {
+        let Ok((front, share)) = fronts_with(&self.front, message, submitted) else {
             return Err(Refusal::CommitUnknownResult);
         };
         let told = spot_told(message);
@@ -235,25 +227,27 @@ impl<B: ClusterName> SessionState<B> {
     /// front becomes the longer one, and the mark is no less than the entry's version. A refusal hands the transcript
     /// back: as `NotCommitted` where it had a conflict, and as `TransactionTooOld` where it was too old, and then the
     /// front becomes the longer one; as `CommitUnknownResult` where the message isn't of the transaction, and where
-    /// memory runs out, and then nothing changes. It takes O(n log n) time for n operations of the transaction, however
-    /// long the fronts are.
+    /// memory runs out, and then nothing changes. It takes O(n) time for the n bytes of the request, however long the
+    /// fronts are.
     pub(crate) fn settle(
         &mut self,
-        alloc: Global,
-        transcript: Transcript,
+        submitted: Submitted,
         message: &OutcomeMessage<B>,
     ) -> Result<Receipt<B>, Refused<Transcript>>
-        requires { IsOpenAt B.config.resolver_splits self.old.number self.old.next_number self.old.front transcript }
-        ensures answers { Settles self.old message.now transcript result self.new }
+        requires { IsOpenAt B.config.resolver_splits self.old.number self.old.next_number self.old.front
+            submitted.transcript }
+        ensures answers { Settles self.old message.now submitted.transcript result self.new }
         ensures begins { IsPrefix self.old.front self.new.front }
         ensures receipt { IfOk result (IsReceipt B.config.resolver_splits) }
         ensures goes_on { IfOk result (λ receipt. IsPrefix self.old.front receipt.front) }
-        ensures after { IfOk result (λ receipt. transcript.read_version < spot_version receipt.spot) }
+        ensures after { IfOk result (λ receipt. submitted.transcript.read_version < spot_version receipt.spot) }
         ensures marked { IfOk result (λ receipt. spot_version receipt.spot ≤ self.new.mark) }
         ensures turned { IfErr result (λ refused. (refused.why ≡ CommitUnknownResult)
-            ⊎ IsTurnedDown B.config.resolver_splits self.new.front transcript refused.why) }
+            ⊎ IsTurnedDown B.config.resolver_splits self.new.front submitted.transcript refused.why) }
     {
-        match self.hear(alloc, &transcript, message) {
+        let heard = self.hear(&submitted, message);
+        let transcript = submitted.into_transcript();
+        match heard {
             Ok((front, spot)) => Ok(Receipt::new(front, spot, transcript)),
             Err(why) => Err(Refused {
                 why,
