@@ -17,6 +17,7 @@ mod tests;
 mod threads;
 
 use crate::command::run_words;
+use std::alloc::Global;
 use std::io::{BufWriter, Write};
 use std::process::ExitCode;
 use std::sync::Wait;
@@ -55,7 +56,7 @@ fn exit_code(ended: &io::Result<u8>) -> ExitCode
     }
 }
 
-// Runs the process's own words over its standard streams. What was printed before an error is flushed.
+// Runs the process's own words over its standard streams.
 fn run<R: Threads + Wait + Clock + Copy + Send + Sync + 'static>(
     rt: &HostRuntime,
     threads: &R,
@@ -65,17 +66,22 @@ fn run<R: Threads + Wait + Clock + Copy + Send + Sync + 'static>(
     let alloc = rt.alloc();
     let args: Vec<String> = env::args(rt)?.skip(1).collect(alloc)?;
     let words: Vec<&str> = args.iter().map(|word| word.as_str()).collect(alloc)?;
+    run_over_streams(rt, threads, alloc, words.as_slice())
+}
+
+// Runs the words over the process's standard streams. What was printed before an error is flushed.
+fn run_over_streams<R: Threads + Wait + Clock + Copy + Send + Sync + 'static>(
+    rt: &HostRuntime,
+    threads: &R,
+    alloc: Global,
+    words: &[&str],
+) -> io::Result<u8>
+    ensures { IfOk result (λ status. status ≤ 2) }
+{
     let mut input = rt.stdin();
     let mut out = BufWriter::new(alloc, rt.stdout())?;
     let mut err = rt.stderr();
-    let ended = run_words(
-        threads,
-        alloc,
-        words.as_slice(),
-        &mut input,
-        &mut out,
-        &mut err,
-    );
+    let ended = run_words(threads, alloc, words, &mut input, &mut out, &mut err);
     let flushed = out.flush();
     let status = ended?;
     flushed?;
