@@ -1,14 +1,27 @@
 -- What a run of drawn steps prints, and the status that it ends with.
 use Rattle.std.specs.Prelude.{◌≡◌, ◌+◌, ℕ, Bool, true, false, List, ◌⊎◌, ⊤, Option, Some, None, codes}
+use Rattle.std.specs.Prelude.{Result, Err}
 use Rattle.std.specs.declared.io.Error.{Error}
 use Rattle.serde_json.specs.Data.{Members, boolean, number, unsigned, string, object, member, no_members}
 use Rattle.serde_json.specs.Written.{compact_text}
 use Rattle.fdb_keys.specs.declared.refusal.Refusal.{Refusal}
+use Rattle.fdb_keys.specs.declared.refusal.Refusal.TheVariants.{NoMemory}
+use Rattle.fdb_core.specs.declared.step.Answered.{Answered}
+use Rattle.fdb_core.specs.machine.Machine.{Machine}
 use Rattle.fdb_sim.specs.play.Scripts.{printed_line, refused_line}
 use Rattle.fdb_sim.specs.declared.random.ended.Ended.{Ended}
 use Rattle.fdb_sim.specs.declared.random.ended.Ended.TheVariants.{Io, Refused}
 use Rattle.fdb_sim.specs.declared.random.report.Report.{Report}
 use Rattle.fdb_sim.specs.declared.random.tally.Tally.{Tally}
+
+-- memory didn't run out in a step of the world
+abbrev pub Works : Option Machine → Type 0
+Works None = ⊥
+Works (Some machine) = ⊤
+
+-- it doesn't in this step either, unless that is what is answered
+abbrev pub GoesOn : Option Machine → Result Answered Refusal → Option Machine → Type 0
+GoesOn old result new = Works old → (result ≡ Err NoMemory → ⊥) → Works new
 
 -- whether the check found no difference, where it then says how many transactions it compared
 abbrev pub has_held : Option ℕ → Bool
@@ -31,9 +44,9 @@ report_of tally steps checked = record {
   steps = steps;
 }
 
--- it is the report of so many steps that were answered so
+-- it is the report of so many steps that were answered so, after which the check found no difference
 abbrev pub IsReportOf : ℕ → Tally → Report → Type 0
-IsReportOf steps tally report = (checked : Option ℕ) × (report ≡ report_of tally steps checked)
+IsReportOf steps tally report = (count : ℕ) × (report ≡ report_of tally steps (Some count))
 
 -- the members of the report as an object of JSON, in the order of their keys
 abbrev pub report_members : Report → Members

@@ -1,7 +1,7 @@
 //! Steps that are drawn from a seed, and taken by a world of two proxies of each kind, two resolvers, two logs and two
 //! shards.
-ghost use Rattle.std.specs.Prelude.{◌≡◌, ◌≤◌, ◌⊎◌, IfOk, IfErr};
-ghost use Rattle.fdb_sim.specs.Random.{EndsWith, IsEnded, IsReportOf, ReportPrints, RunPrints};
+ghost use Rattle.std.specs.Prelude.{◌≡◌, ◌≤◌, ◌⊎◌, ℕ, Some, IfOk, IfErr, OnOk};
+ghost use Rattle.fdb_sim.specs.Random.{EndsWith, IsEnded, IsReportOf, ReportPrints, RunPrints, Works};
 ghost use Rattle.fdb_sim.specs.Streams.{IsStreamError};
 ghost use Rattle.fdb_sim.specs.declared.random.ended.Ended.TheVariants.{Io};
 ghost use Rattle.fdb_sim.specs.play.Scripts.{Printed};
@@ -90,7 +90,9 @@ pub fn run_steps<W: Watch>(
     ran
 }
 
-fn new_world(alloc: Global) -> Result<World, Refusal> {
+fn new_world(alloc: Global) -> Result<World, Refusal>
+    ensures { IfOk result (λ world. Works world.machine) }
+{
     let config = config_of(alloc)?;
     World::new(alloc, config)
 }
@@ -122,6 +124,7 @@ fn run_in<W: Watch>(
     steps: u32,
     watch: &mut W,
 ) -> Result<(Tally, Report), Ended>
+    requires { Works world.old.machine }
     ensures report { IfOk result (λ ran. IsReportOf steps ran.0 ran.1) }
     ensures errors { IfErr result (EndsWith W.errors) }
 {
@@ -138,6 +141,8 @@ fn take_all<W: Watch>(
     steps: u32,
     watch: &mut W,
 ) -> Result<Tally, Ended>
+    requires { Works world.old.machine }
+    ensures works { OnOk result (Works world.new.machine) }
     ensures errors { IfErr result (EndsWith W.errors) }
 {
     let mut drawing = Drawing::new(seed);
@@ -155,7 +160,10 @@ fn take_one(
     alloc: Global,
     drawing: &mut Drawing,
     tally: &mut Tally,
-) -> Result<(), Refusal> {
+) -> Result<(), Refusal>
+    requires { Works world.old.machine }
+    ensures { OnOk result (Works world.new.machine) }
+{
     let act = drawing.draw(world);
     let answer = take(world, alloc, act);
     drawing.note(&answer);
@@ -169,8 +177,12 @@ fn take_one(
     }
 }
 
-// How many transactions were compared, if there is no difference. Fails only where memory runs out.
-fn check(world: &World) -> Result<Option<u64>, Refusal> {
+// How many transactions were compared. There is no difference, as long as memory didn't run out. Fails only where it does
+// now.
+fn check(world: &World) -> Result<Option<u64>, Refusal>
+    requires { Works world.now.machine }
+    ensures { IfOk result (λ checked. (count : ℕ) × (checked ≡ Some count)) }
+{
     match world.check() {
         Ok(count) => Ok(Some(count)),
         Err(CheckFault::NoMemory) => Err(Refusal::NoMemory),

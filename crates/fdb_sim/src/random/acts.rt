@@ -1,4 +1,6 @@
 // Steps as plain numbers. A step holds its keys, and is made in the call that takes it.
+ghost use Rattle.fdb_sim.specs.Random.{GoesOn};
+
 use crate::script::operation::Operation;
 use bytes::Bytes;
 use fdb_core::{Answered, Step, World};
@@ -207,7 +209,9 @@ fn write(
     alloc: Global,
     session: u32,
     change: Change,
-) -> Result<Answered, Refusal> {
+) -> Result<Answered, Refusal>
+    ensures { GoesOn world.old.machine result world.new.machine }
+{
     match mutation_of(alloc, change) {
         Ok(mutation) => world.step(Step::Write { session, mutation }),
         Err(why) => Err(why),
@@ -220,7 +224,9 @@ fn get(
     session: u32,
     key: u32,
     snapshot: bool,
-) -> Result<Answered, Refusal> {
+) -> Result<Answered, Refusal>
+    ensures { GoesOn world.old.machine result world.new.machine }
+{
     let key = key_of(alloc, key)?;
     world.step(Step::Get {
         session,
@@ -229,12 +235,9 @@ fn get(
     })
 }
 
-fn add_read(
-    world: &mut World,
-    alloc: Global,
-    session: u32,
-    span: Span,
-) -> Result<Answered, Refusal> {
+fn add_read(world: &mut World, alloc: Global, session: u32, span: Span) -> Result<Answered, Refusal>
+    ensures { GoesOn world.old.machine result world.new.machine }
+{
     let range = range_of(alloc, span)?;
     world.step(Step::AddRead { session, range })
 }
@@ -244,18 +247,24 @@ fn add_write(
     alloc: Global,
     session: u32,
     span: Span,
-) -> Result<Answered, Refusal> {
+) -> Result<Answered, Refusal>
+    ensures { GoesOn world.old.machine result world.new.machine }
+{
     let range = range_of(alloc, span)?;
     world.step(Step::AddWrite { session, range })
 }
 
-fn move_to(world: &mut World, alloc: Global, span: Span, to: u32) -> Result<Answered, Refusal> {
+fn move_to(world: &mut World, alloc: Global, span: Span, to: u32) -> Result<Answered, Refusal>
+    ensures { GoesOn world.old.machine result world.new.machine }
+{
     let range = range_of(alloc, span)?;
     world.step(Step::Move { range, to })
 }
 
 // A step that has keys.
-fn take_keyed(world: &mut World, alloc: Global, act: Act) -> Result<Answered, Refusal> {
+fn take_keyed(world: &mut World, alloc: Global, act: Act) -> Result<Answered, Refusal>
+    ensures { GoesOn world.old.machine result world.new.machine }
+{
     match act {
         Act::Get {
             session,
@@ -287,7 +296,9 @@ fn take_keyed(world: &mut World, alloc: Global, act: Act) -> Result<Answered, Re
 }
 
 /// Takes the step in the world. Refused also as its key or its range is.
-pub fn take(world: &mut World, alloc: Global, act: Act) -> Result<Answered, Refusal> {
+pub fn take(world: &mut World, alloc: Global, act: Act) -> Result<Answered, Refusal>
+    ensures { GoesOn world.old.machine result world.new.machine }
+{
     match act {
         Act::Ask { session, proxy } => world.step(Step::Ask { session, proxy }),
         Act::Grant { proxy } => world.step(Step::Grant { proxy }),
