@@ -39,7 +39,7 @@ abbrev pub RunsThreads : App → List Text → Option (List ℕ) → Option (Lis
 RunsThreads app words old new status =
     (fault_of app words ≡ [])
     × (load : Load) × IsAsked (subcommand_of app words) (Threads load)
-    × Printed old new (λ printed. PrintsEnd printed status)
+    × Printed old new (λ printed. PrintsEnd load printed status)
 
 -- the words are at fault, and end by the kind of one of their faults
 abbrev pub AreRefused : App → List Text → Option (List ℕ) → Option (List ℕ) → ℕ → Type 0

@@ -73,7 +73,7 @@ pub fn run_threads<R: Threads + Wait + Clock + Copy + Send + Sync + 'static, O: 
     err: &mut E,
 ) -> Result<u8, io::Error>
     ensures bound { IfOk result (λ status. status ≤ 2) }
-    ensures printed { IfOk result (λ status. (printed : List ℕ) × PrintsEnd printed status
+    ensures printed { IfOk result (λ status. (printed : List ℕ) × PrintsEnd load.now printed status
         × Appends (O.contents out.old) (O.contents out.new) printed) }
     ensures errors { IfErr result (IsStreamError O.errors E.errors) }
 {

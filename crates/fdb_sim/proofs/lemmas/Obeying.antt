@@ -25,7 +25,8 @@ module _ (words : List Text) (input old new err_old err_new : Option (List ℕ))
   draws schedule (inr (workloads, named, (faults, asked))) printed =
       inl (workloads, named, inr (inl (faults, schedule, asked, printed)))
 
-  pub runs : (load : Load) → Asks words (Ok (Threads load)) → Printed old new (λ printed. PrintsEnd printed status)
+  pub runs : (load : Load) → Asks words (Ok (Threads load))
+      → Printed old new (λ printed. PrintsEnd load printed status)
       → Obeys words input old new err_old err_new status
   runs load (inl none) printed = absurd none
   runs load (inr (workloads, named, (faults, asked))) printed =

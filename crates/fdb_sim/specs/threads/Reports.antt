@@ -1,8 +1,9 @@
 -- What a run prints, and the status that it ends with.
-use Rattle.std.specs.Prelude.{◌≡◌, ℕ, List, codes, Some, ◌⊎◌, if◌then◌else◌}
+use Rattle.std.specs.Prelude.{◌≡◌, ◌+◌, ◌*◌, ℕ, List, true, codes, Some, ◌⊎◌, if◌then◌else◌}
 use Rattle.serde_json.specs.Data.{Data, Members, number, unsigned, string, boolean, object, member, no_members}
 use Rattle.serde_json.specs.Written.{compact_text}
 use Rattle.fdb_sim.specs.declared.play.stop.Stop.{Stop}
+use Rattle.fdb_sim.specs.declared.threads.Load.{Load}
 use Rattle.fdb_sim.specs.declared.threads.report.Report.{Report}
 use Rattle.fdb_sim.specs.declared.threads.workload.Workload.{Workload}
 use Rattle.fdb_sim.specs.declared.threads.workload.Workload.TheVariants.{Ring, Transfers, Counters}
@@ -28,6 +29,15 @@ report_members report =
 abbrev pub report_data : Report → Data
 report_data report = object (report_members report)
 
+-- All of so many tries were told of, and each transaction with a receipt was compared with the record.
+abbrev pub AreAllTold : ℕ → Report → Type 0
+AreAllTold tries report =
+    (report.acknowledged + report.aborted + report.unknown ≡ tries) × (report.checked ≡ report.acknowledged)
+
+-- It is a report of so many tries of the workload: where all checks held, of all of them.
+abbrev pub IsReportOf : Workload → ℕ → Report → Type 0
+IsReportOf workload tries report = (report.workload ≡ workload) × (report.ok ≡ true → AreAllTold tries report)
+
 -- the report is printed, and the status says whether all checks held
 abbrev pub PrintsReport : Report → List ℕ → ℕ → Type 0
 PrintsReport report printed status =
@@ -37,5 +47,12 @@ PrintsReport report printed status =
 abbrev pub PrintsStop : List ℕ → ℕ → Type 0
 PrintsStop printed status = (stop : Stop) × (stop_text stop ≡ Some printed) × (status ≡ 2)
 
-abbrev pub PrintsEnd : List ℕ → ℕ → Type 0
-PrintsEnd printed status = ((report : Report) × PrintsReport report printed status) ⊎ PrintsStop printed status
+-- what the report prints, unless memory runs out
+abbrev pub ReportPrints : Report → List ℕ → ℕ → Type 0
+ReportPrints report printed status = PrintsReport report printed status ⊎ PrintsStop printed status
+
+-- what a run of the load prints
+abbrev pub PrintsEnd : Load → List ℕ → ℕ → Type 0
+PrintsEnd load printed status =
+    ((report : Report) × IsReportOf load.workload (load.clients * load.txns) report
+    × PrintsReport report printed status) ⊎ PrintsStop printed status

@@ -71,6 +71,7 @@ pub(crate) fn judge(
     ensures aborted { IfOk result (λ report. report.aborted ≡ played.now.aborted) }
     ensures unknown { IfOk result (λ report. report.unknown ≡ length played.now.doubtful.items) }
     ensures entries { IfOk result (λ report. report.entries ≡ length kept.now.entries.now) }
+    ensures workload { IfOk result (λ report. report.workload ≡ asked.now.workload) }
     ensures err { IfErr result (λ why. why ≡ NoMemory) }
 {
     let checked = count_serialized(alloc, kept, played.placed.as_slice())?;

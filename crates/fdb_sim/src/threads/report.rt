@@ -4,7 +4,7 @@ ghost use Rattle.std.specs.Io.KnownBytes.{Appends};
 ghost use Rattle.serde_json.specs.Data.{string, no_members, put as with_member};
 ghost use Rattle.serde_json.specs.View.{view, members_view};
 ghost use Rattle.serde_json.specs.Written.{compact_text};
-ghost use Rattle.fdb_sim.specs.threads.Reports.{report_data, report_members, PrintsEnd};
+ghost use Rattle.fdb_sim.specs.threads.Reports.{report_data, report_members, ReportPrints};
 
 use crate::play::stop::Stop;
 use crate::print::endings::print_stop;
@@ -96,7 +96,7 @@ pub(crate) fn print_report<O: Sink>(
     out: &mut O,
 ) -> Result<u8, io::Error>
     ensures bound { IfOk result (λ status. status ≤ 2) }
-    ensures printed { IfOk result (λ status. (printed : List ℕ) × PrintsEnd printed status
+    ensures printed { IfOk result (λ status. (printed : List ℕ) × ReportPrints report.now printed status
         × Appends (O.contents out.old) (O.contents out.new) printed) }
     ensures errors { IfErr result O.errors }
 {

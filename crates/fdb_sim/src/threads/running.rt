@@ -1,5 +1,6 @@
 // A database of its own for a load, from its start to its end.
-ghost use Rattle.std.specs.Prelude.{◌≡◌, IfErr};
+ghost use Rattle.std.specs.Prelude.{◌≡◌, ◌*◌, IfOk, IfErr};
+ghost use Rattle.fdb_sim.specs.threads.Reports.{IsReportOf};
 ghost use Rattle.fdb_sim.specs.Streams.{FailsWith};
 
 use crate::play::stop::Stop;
@@ -40,6 +41,7 @@ pub(crate) fn run_load<R: Threads + Wait + Clock + Copy + Send + Sync + 'static,
     pace: Pace,
     err: &mut E,
 ) -> Result<Report, Stop>
+    ensures report { IfOk result (IsReportOf load.now.workload (load.now.clients * load.now.txns)) }
     ensures errors { IfErr result (FailsWith E.errors) }
 {
     match config_of(alloc, load) {
@@ -69,6 +71,7 @@ fn run_on<R: Threads + Wait + Clock + Copy + Send + Sync + 'static, E: Sink>(
     pace: Pace,
     err: &mut E,
 ) -> Result<Report, Stop>
+    ensures report { IfOk result (IsReportOf load.now.workload (load.now.clients * load.now.txns)) }
     ensures errors { IfErr result (FailsWith E.errors) }
 {
     match Blank::new(alloc, BOOK) {
@@ -93,6 +96,7 @@ fn run_named<
 ) -> Result<Report, Stop>
     requires cells { blank ≡ B.cells }
     requires config { config.now ≡ B.config }
+    ensures report { IfOk result (IsReportOf load.now.workload (load.now.clients * load.now.txns)) }
     ensures errors { IfErr result (FailsWith E.errors) }
 {
     let gate = Arc::new(alloc, NoGate)?;
@@ -117,6 +121,7 @@ fn run_in<
     err: &mut E,
 ) -> Result<Report, Stop>
     requires config { config.now ≡ B.config }
+    ensures report { IfOk result (IsReportOf load.now.workload (load.now.clients * load.now.txns)) }
     ensures errors { IfErr result (FailsWith E.errors) }
 {
     let mut database = database;
@@ -137,6 +142,7 @@ fn judge_closed<B: ClusterName>(
     record: Result<Record<B>, Refusal>,
 ) -> Result<Report, Stop>
     requires config { config.now ≡ B.config }
+    ensures report { IfOk result (IsReportOf load.now.workload (load.now.clients * load.now.txns)) }
     ensures errors { IfErr result (FailsWith (λ _. ⊥)) }
 {
     match record {
@@ -248,8 +254,10 @@ fn play_all<
 }
 
 // How many transactions all clients try.
-fn txns_of(load: &Load) -> u64 {
-    u64::from(load.clients).saturating_mul(u64::from(load.txns))
+fn txns_of(load: &Load) -> u64
+    ensures { result ≡ load.now.clients * load.now.txns }
+{
+    u64::from(load.clients) * u64::from(load.txns)
 }
 
 // What the record shows of the run, where no client ended by a refusal.
@@ -262,6 +270,7 @@ fn judge_record<B: ClusterName>(
     record: &Record<B>,
 ) -> Result<Report, Stop>
     requires config { config.now ≡ B.config }
+    ensures report { IfOk result (IsReportOf load.now.workload (load.now.clients * load.now.txns)) }
     ensures errors { IfErr result (FailsWith (λ _. ⊥)) }
 {
     if let Some(why) = played.refused {
@@ -286,6 +295,7 @@ fn judge_kept<B: ClusterName>(
     record: &Record<B>,
 ) -> Result<Report, Refusal>
     requires config { config.now ≡ B.config }
+    ensures report { IfOk result (IsReportOf asked.now.workload asked.now.txns) }
 {
     config.check()?;
     let entries = record.front().entries()?;
