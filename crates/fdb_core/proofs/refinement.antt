@@ -17,6 +17,7 @@ pub mod ShardPages
 pub mod ShardReads
 pub mod ShardSteps
 pub mod StartLemmas
+pub mod StepLemmas
 pub mod SubmittingTies
 pub mod TicketTies
 pub mod Ties

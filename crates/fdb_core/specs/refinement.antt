@@ -8,4 +8,5 @@ pub mod Resolving
 pub mod Sessions
 pub mod ShardReads
 pub mod Starts
+pub mod Steps
 pub mod Views

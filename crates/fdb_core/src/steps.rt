@@ -7,10 +7,10 @@ mod resolver;
 mod sequencer;
 mod shard;
 
-ghost use Rattle.std.specs.Prelude.{◌≡◌};
 ghost use Rattle.fdb_core.specs.invariant.Invariant.{Invariant};
 ghost use Rattle.fdb_core.specs.refinement.Cluster.{machine_of, Refines};
-ghost use Rattle.fdb_core.specs.machine.Steps.{Unless, ran_out, next, answer_of, after};
+ghost use Rattle.fdb_core.specs.refinement.Steps.{Takes};
+ghost use Rattle.fdb_core.specs.machine.Steps.{next};
 
 use crate::cluster::Cluster;
 use crate::roles::client::read::Read;
@@ -22,10 +22,7 @@ impl Cluster {
     pub(crate) fn step(&mut self, step: &Step) -> Result<Answered, Refusal>
         requires refines { Refines self.old }
         requires named { Invariant (machine_of self.old) }
-        ensures answer { Unless (ran_out result) (result ≡ answer_of (next (machine_of self.old) step.now)) }
-        ensures after { Unless (ran_out result)
-            (machine_of self.new ≡ after (machine_of self.old) (next (machine_of self.old) step.now)) }
-        ensures refines { Unless (ran_out result) (Refines self.new) }
+        ensures { Takes self.old result self.new (next (machine_of self.old) step.now) }
     {
         match step {
             Step::Ask { session, proxy } => self.ask(*session, *proxy),

@@ -1,10 +1,10 @@
 -- What follows from how a call answered.
-use Rattle.std.proofs.Common.{◌≡◌, ◌∙◌, refl, ap, subst, sym, Bool, true, false, Option, Some, None, Result, Ok, Err}
+use Rattle.std.proofs.Common.{◌≡◌, refl, ap, subst, sym, Bool, true, false, Option, Some, None, Result, Ok, Err}
+use Rattle.std.specs.Prelude.{⊤}
 use Rattle.fdb_keys.specs.Answers.{Answers, AnswersExactly}
 use Rattle.fdb_keys.specs.declared.refusal.Refusal.{Refusal}
 use Rattle.fdb_keys.specs.declared.refusal.Refusal.TheVariants.{NoMemory}
-use Rattle.fdb_core.specs.declared.step.Answered.{Answered}
-use Rattle.fdb_core.specs.machine.Steps.{Unless, ran_out}
+use Rattle.fdb_core.specs.machine.Steps.{ByTest, ran_out}
 
 -- a call that gave something had no fault
 pub answers-fault : {T : Type 0} (fault : Option Refusal) (given : T) (P : T → Type 0) → Answers (Ok given) fault P
@@ -24,6 +24,16 @@ pub refused-fault : {T : Type 0} (fault : Option Refusal) (why : Refusal) (P : T
 refused-fault None why P answers = absurd answers
 refused-fault (Some other) why P answers = ap (λ (it : Refusal). Some it) (sym answers)
 
+-- so one without a fault refuses nothing
+pub never-refused : {T : Type 0} (fault : Option Refusal) (why : Refusal) (P : T → Type 0) → fault ≡ None
+    → AnswersExactly (Err why) fault P → ⊥
+never-refused {T} fault why P none answers =
+    subst (λ (f : Option Refusal). AnswersExactly {T = T} (Err why) f P) none answers
+
+-- it holds unless the test does
+abbrev pub Unless : Bool → Type 0 → Type 0
+Unless test P = ByTest test ⊤ P
+
 -- what holds anyhow holds unless a test does
 pub unless : (test : Bool) (P : Type 0) → P → Unless test P
 unless true P holds = tt
@@ -36,18 +46,20 @@ unless-fault None why Q P answers follows = rw answers tt
 unless-fault (Some fault) why Q P answers follows = unless (ran_out (Err why)) P
     (follows (ap (λ (f : Refusal). Some f) (sym answers)))
 
--- a call without a fault that refused lacked memory, and nothing is said then
-pub lacks-memory : {T : Type 0} (fault : Option Refusal) (why : Refusal) (Q : T → Type 0) (P : Type 0)
-    → fault ≡ None → Answers (Err why) fault Q → Unless (ran_out (Err why)) P
-lacks-memory fault why Q P none answers = unless-fault fault why Q P answers (λ some. absurd (apart (sym none ∙ some)))
-  where
-    apart : None ≡ Some why → ⊥
-    apart is = cc
+-- a call without a fault that refused lacked memory
+pub lacks-memory : {T : Type 0} (fault : Option Refusal) (why : Refusal) (Q : T → Type 0) → fault ≡ None
+    → Answers (Err why) fault Q → why ≡ NoMemory
+lacks-memory {T} fault why Q none answers =
+    subst (λ (f : Option Refusal). Answers {T = T} (Err why) f Q) none answers
+
+-- what follows from the one and from the other, by the same test
+pub by_test-map : (test : Bool) (P Q R S : Type 0) → (P → R) → (Q → S) → ByTest test P Q → ByTest test R S
+by_test-map true P Q R S one other holds = one holds
+by_test-map false P Q R S one other holds = other holds
 
 -- what follows from what holds unless a test does
 pub unless-map : (test : Bool) (P Q : Type 0) → (P → Q) → Unless test P → Unless test Q
-unless-map true P Q follows holds = tt
-unless-map false P Q follows holds = follows holds
+unless-map test P Q follows holds = by_test-map test ⊤ P ⊤ Q (λ _. tt) follows holds
 
 -- it holds where the test doesn't
 pub held : (test : Bool) (P : Type 0) → Unless test P → test ≡ false → P
@@ -81,10 +93,3 @@ answers-by {T} result fault same P Q is follows answers = by_fault result same
     by_fault (Ok given) (Some why) answered next = answered
     by_fault (Err why) None answered next = answered
     by_fault (Err why) (Some other) answered next = answered
-
--- nothing is said of a step in which memory ran out
-pub lacked-memory : (result : Result Answered Refusal) (why : Refusal) (P : Type 0) → result ≡ Err why → why ≡ NoMemory
-    → Unless (ran_out result) P
-lacked-memory result why P is lacks =
-    subst (λ (answer : Result Answered Refusal). Unless (ran_out answer) P)
-    (sym (is ∙ ap (λ (refusal : Refusal). Err refusal) lacks)) tt

@@ -21,6 +21,11 @@ set-other (y ∷ ys) zero (suc j) x other = refl
 set-other (y ∷ ys) (suc i) zero x other = refl
 set-other (y ∷ ys) (suc i) (suc j) x other = set-other ys i j x (λ same. other (ap suc same))
 
+-- what an index reads is there
+pub read-there : {A : Type 0} (xs : List A) (i : ℕ) (read : A) → i < length xs → read ≡ get_or xs i read
+    → slice_get xs i ≡ Some read
+read-there xs i read within is = slice_get_read xs (length xs) i read refl within is
+
 -- what an index reads is the item there
 pub one-item : {A : Type 0} (xs : List A) (i : ℕ) (read x : A) → i < length xs → read ≡ get_or xs i read
     → slice_get xs i ≡ Some x → read ≡ x

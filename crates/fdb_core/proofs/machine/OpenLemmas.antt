@@ -11,8 +11,8 @@ use Rattle.fdb_keys.specs.declared.refusal.Refusal.{Refusal}
 use Rattle.fdb_keys.specs.declared.refusal.Refusal.TheVariants.{NoTransaction}
 use Rattle.fdb_client.specs.declared.program.Transcript.{Transcript}
 use Rattle.fdb_core.specs.machine.Machine.{Transition, with_open}
-use Rattle.fdb_core.specs.machine.Steps.{Unless, ran_out}
-use Rattle.fdb_core.proofs.common.FaultLemmas.{unless}
+use Rattle.fdb_core.specs.machine.Steps.{ran_out}
+use Rattle.fdb_core.proofs.common.FaultLemmas.{Unless, unless}
 use Rattle.fdb_core.specs.machine.Sessions.{Session, SessionState, Sessions, session_of, open_of, open_at, at_state}
 use Rattle.fdb_core.specs.machine.Sessions.{with_state}
 use Rattle.fdb_core.specs.refinement.Sessions.{OfOpen}

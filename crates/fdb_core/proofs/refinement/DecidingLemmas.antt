@@ -8,7 +8,7 @@ use Rattle.std.proofs.lemmas.List.{length-set, length-map}
 use Rattle.std.proofs.lemmas.Option.{same_Some, slice_get_within}
 use Rattle.fdb_keys.specs.Answers.{Answers}
 use Rattle.fdb_keys.specs.declared.refusal.Refusal.{Refusal}
-use Rattle.fdb_keys.specs.declared.refusal.Refusal.TheVariants.{NotYet, WrongState}
+use Rattle.fdb_keys.specs.declared.refusal.Refusal.TheVariants.{NoMemory, NotYet, WrongState}
 use Rattle.fdb_txn.specs.declared.entry.Entry.{Entry}
 use Rattle.fdb_txn.specs.book.Book.{seen_before}
 use Rattle.fdb_txn.specs.book.History.{AreEntries}
@@ -28,8 +28,8 @@ use Rattle.fdb_core.specs.machine.Roles.{CommitProxy, Stage, Idle, Resolving, Lo
 use Rattle.fdb_core.specs.refinement.Cluster.{machine_of, messages_on, Refines}
 use Rattle.fdb_core.specs.refinement.CommitProxies.{CommitProxyRefines, Known, known_to, Decides, seen_as}
 use Rattle.fdb_core.specs.refinement.Logs.{logs_taken}
-use Rattle.fdb_core.specs.machine.Steps.{Unless, ran_out}
-use Rattle.fdb_core.proofs.common.FaultLemmas.{answers-fault, unless, unless-fault, lacks-memory}
+use Rattle.fdb_core.specs.machine.Steps.{ran_out}
+use Rattle.fdb_core.proofs.common.FaultLemmas.{Unless, answers-fault, unless, unless-fault}
 use Rattle.fdb_core.proofs.common.ListLemmas.{set-here, set-other, map-at, map-set}
 use Rattle.fdb_core.proofs.refinement.CommitProxyTies.{commit_proxies-put, busy-entry}
 
@@ -249,17 +249,18 @@ module _ (k : Cluster) (refines : Refines k) (proxy : ℕ) (role later : CommitP
       (its-tie k refines proxy role there) now (entry-there k refines proxy role there now) refines.book.entries
 
   -- refused
-  pub is-refused : (why : Refusal) → SaysWrong (Err why) → SaysDecided (Err why) → (P : Type 0)
-      → (decides (machine_of k) proxy ≡ Err why → P) → Unless (ran_out (Err why)) P
-  is-refused why wrong says P follows = ⊎_elim
+  pub is-refused : (why : Refusal) → SaysWrong (Err why) → SaysDecided (Err why)
+      → Unless (ran_out (Err why)) (decides (machine_of k) proxy ≡ Err why)
+  is-refused why wrong says = ⊎_elim
       (λ (now : waiting).
-      decides-refused k refines proxy role there now why later (at-world (Err why) says now) P
-      (λ n is refused. follows (refused ∙ ap (λ (w : Refusal). Err w) (sym is))))
+      decides-refused k refines proxy role there now why later (at-world (Err why) says now)
+      (decides (machine_of k) proxy ≡ Err why)
+      (λ n is refused. refused ∙ ap (λ (w : Refusal). Err w) (sym is)))
       (λ (never : is_resolving (seen_as role).stage ≡ false).
       let is : why ≡ WrongState = same-why why WrongState
       (wrong k.config k.book.items (known_to k.sequencer proxy) (its-tie k refines proxy role there) never) in
-      unless (ran_out (Err why)) P
-      (follows (decides-wrong k refines proxy role there never ∙ ap (λ (w : Refusal). Err w) (sym is))))
+      unless (ran_out (Err why)) (decides (machine_of k) proxy ≡ Err why)
+      (decides-wrong k refines proxy role there never ∙ ap (λ (w : Refusal). Err w) (sym is)))
       (cases_Bool (is_resolving (seen_as role).stage))
     where
       same-why : (a b : Refusal) → ◌≡◌ {A = Result (List Outcome) Refusal} (Err a) (Err b) → a ≡ b
@@ -303,11 +304,8 @@ module _ (k : Cluster) (refines : Refines k) (proxy : ℕ) (role later : CommitP
         (ap (λ (r : CommitProxyRole). is_logging (seen_as r).stage) same ∙ role_is.1)
         (ap (λ (r : CommitProxyRole). slice_get k.book.items r.entry) same ∙ role_is.2))
 
-    pub messages-lack : (why : Refusal) → SaysMessages (Err why) → (P : Type 0) → Unless (ran_out (Err why)) P
-    messages-lack why sends P = lacks-memory None why
-        (λ (messages : List LogMsg). messages ≡ messages_on k.config role.entry
-        (seen_before k.book.items role.entry) (entry k refines proxy role there now)) P refl
-        (messages-here (Err why) sends)
+    pub messages-lack : (why : Refusal) → SaysMessages (Err why) → why ≡ NoMemory
+    messages-lack why sends = messages-here (Err why) sends
 
     pub in-pool : (i < length k.messages.items) × (i < length k.decided.items)
     in-pool =

@@ -173,25 +173,29 @@ module _ (k : Cluster) (before : Refines k) (i l : ℕ) (entry : Entry) (role : 
     abbrev put : LogRole
     put = record { core = core; taken = role.taken }
 
-    pub put-same : slice_set k.logs.items l put ≡ k.logs.items
+    put-same : slice_set k.logs.items l put ≡ k.logs.items
     put-same = ap (λ (it : Log). slice_set k.logs.items l (record { core = it; taken = role.taken })) same
         ∙ set-same k.logs.items l role at
 
-    pub stays : Refines (record k { logs = with_item k.logs l put })
-    stays = record {
-      legal = before.legal;
-      room = before.room;
-      sequencer = before.sequencer;
-      book = before.book;
-      parts = before.parts;
-      resolvers = before.resolvers;
-      logs = subst (λ (logs : List LogRole). LogsRefine k.config k.book.items logs k.shards.items)
-          (sym put-same) before.logs;
-      shard_map = before.shard_map;
-      commit_proxies = before.commit_proxies;
-      grv_proxies = before.grv_proxies;
-      opened = before.opened;
-    }
+    pub log-same : (machine_of (record k { logs = with_item k.logs l put }) ≡ machine_of k)
+        × Refines (record k { logs = with_item k.logs l put })
+    log-same = (
+      ap (λ (logs : List LogRole). record (machine_of k) { logs = logs_taken logs }) put-same,
+      record {
+        legal = before.legal;
+        room = before.room;
+        sequencer = before.sequencer;
+        book = before.book;
+        parts = before.parts;
+        resolvers = before.resolvers;
+        logs = subst (λ (logs : List LogRole). LogsRefine k.config k.book.items logs k.shards.items)
+            (sym put-same) before.logs;
+        shard_map = before.shard_map;
+        commit_proxies = before.commit_proxies;
+        grv_proxies = before.grv_proxies;
+        opened = before.opened;
+      },
+    )
 
 -- The entry, the log and the message that a push looks up.
 pub record Pushing (k : Cluster) (i l : ℕ) (role : LogRole) (message : LogMsg) : Type 0 where

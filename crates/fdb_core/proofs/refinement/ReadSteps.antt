@@ -16,14 +16,15 @@ use Rattle.fdb_core.specs.declared.roles.shard.ShardRole.{ShardRole}
 use Rattle.fdb_core.specs.declared.step.Answered.{Answered}
 use Rattle.fdb_core.specs.machine.ClientSteps.{reads, answered_by, read_fault, fault_after, reply_after}
 use Rattle.fdb_core.specs.machine.Sessions.{Sessions, EachOpen, Open, open_at, with_state}
-use Rattle.fdb_core.specs.machine.Steps.{Unless, ran_out, answer_of, after}
 use Rattle.fdb_core.specs.refinement.Cluster.{machine_of, Refines}
 use Rattle.fdb_core.specs.refinement.CommitProxies.{ReadsWithin}
 use Rattle.fdb_core.specs.refinement.ShardReads.{ShardReads, AreReadable, key_fault, range_fault, run_map}
+use Rattle.fdb_core.specs.refinement.Steps.{Takes}
 use Rattle.fdb_core.proofs.common.FaultLemmas.{answers-fault, unless-fault}
 use Rattle.fdb_core.proofs.machine.Transitions.{reads-transition, reads-refused}
 use Rattle.fdb_core.proofs.refinement.RunLaws.{entries-rising, serial-front}
-use Rattle.fdb_core.proofs.refinement.Ties.{opened-with_op}
+use Rattle.fdb_core.proofs.refinement.StepLemmas.{accepted, refused}
+use Rattle.fdb_core.proofs.refinement.Ties.{opened-with_op, refines-sessions, sessions-same}
 
 -- the world's shards, read at a version
 abbrev pub reads_of : Cluster → ℕ → ShardReads
@@ -67,13 +68,6 @@ module _ (k : Cluster) (before : Refines k) (session : ℕ) (operation : Op) (tr
       (λ (given : Answered). (given ≡ answered_by reply)
       × (sessions ≡ with_state k.sessions session (Open (with_op transcript operation reply))))
 
-  -- the machine answers so, goes on to these sessions, and each open transaction reads within the committed version
-  pub record Follows (result : Result Answered Refusal) : Type 0 where
-    pub answer : result ≡ answer_of (reads (machine_of k) session operation)
-    pub goes_on : record (machine_of k) { sessions = sessions } ≡ after (machine_of k)
-        (reads (machine_of k) session operation)
-    pub opened : EachOpen (ReadsWithin k.sequencer.committed) sessions
-
   -- for the machine the refusal and the reply are the same
   abbrev pub reply : Reply
   reply = reply_after (machine_of k) transcript operation
@@ -87,30 +81,25 @@ module _ (k : Cluster) (before : Refines k) (session : ℕ) (operation : Op) (tr
       × (sessions ≡ with_state k.sessions session (Open (with_op transcript operation reply)))
 
   follows-at : (result : Result Answered Refusal) → Answers result fault GivesReply
-      → OnErr result (sessions ≡ k.sessions) → Unless (ran_out result) (Follows result)
+      → OnErr result (sessions ≡ k.sessions)
+      → Takes k result (record k { sessions = sessions }) (reads (machine_of k) session operation)
   follows-at (Ok given) answers kept =
       let parts = answers-fault fault given GivesReply answers in
-      let turn = reads-transition (machine_of k) session operation transcript is_open parts.0 in
-      record {
-        answer = ap (λ (a : Answered). Ok a) parts.1.0 ∙ sym (ap answer_of turn);
-        goes_on = ap (λ (others : Sessions). record (machine_of k) { sessions = others }) parts.1.1
-            ∙ sym (ap (after (machine_of k)) turn);
-        opened = subst (EachOpen (ReadsWithin k.sequencer.committed)) (sym parts.1.1)
-            (opened-with_op k.sequencer.committed k.sessions session transcript operation reply before.opened is_open);
-      }
+      accepted (reads-transition (machine_of k) session operation transcript is_open parts.0) parts.1.0
+      (ap (λ (others : Sessions). record (machine_of k) { sessions = others }) parts.1.1)
+      (refines-sessions k k.grv_proxies sessions k.acknowledged before before.grv_proxies
+      (subst (EachOpen (ReadsWithin k.sequencer.committed)) (sym parts.1.1)
+      (opened-with_op k.sequencer.committed k.sessions session transcript operation reply before.opened is_open)))
   follows-at (Err why) answers kept =
-      unless-fault fault why GivesReply _ answers (λ faulty.
-      let refused = (reads-refused (machine_of k) session operation transcript is_open why).1 faulty in
-      record {
-        answer = sym (ap answer_of refused);
-        goes_on = ap (λ (others : Sessions). record (machine_of k) { sessions = others }) kept
-            ∙ sym (ap (after (machine_of k)) refused);
-        opened = subst (EachOpen (ReadsWithin k.sequencer.committed)) (sym kept) before.opened;
-      })
+      refused k (Err why) (record k { sessions = sessions }) (reads (machine_of k) session operation) why refl
+      (unless-fault fault why GivesReply (reads (machine_of k) session operation ≡ Err why) answers
+      (reads-refused (machine_of k) session operation transcript is_open why).1)
+      (sessions-same k sessions before kept) tt
 
-  -- so it follows where the shards are read at the transaction's read version
+  -- so the step is the machine's where the shards are read at the transaction's read version
   pub read-follows : (shown : ShardReads) (result : Result Answered Refusal)
       → shown ≡ reads_of k transcript.read_version → AnswersAt shown result
-      → OnErr result (sessions ≡ k.sessions) → Unless (ran_out result) (Follows result)
+      → OnErr result (sessions ≡ k.sessions)
+      → Takes k result (record k { sessions = sessions }) (reads (machine_of k) session operation)
   read-follows shown result same answers kept =
       follows-at result (subst (λ (it : ShardReads). AnswersAt it result) same answers) kept

@@ -27,10 +27,12 @@ use Rattle.fdb_core.specs.refinement.CommitProxies.{CommitProxyRefines, known_to
 use Rattle.fdb_core.specs.refinement.Logs.{logs_taken}
 use Rattle.fdb_core.specs.refinement.Receiving.{IsReceiver, IsUnknown}
 use Rattle.fdb_core.specs.refinement.Resolving.{ResolverRefines, taken_by}
+use Rattle.fdb_core.specs.refinement.Steps.{Stepped}
 use Rattle.fdb_core.proofs.common.AllLemmas.{within-item}
 use Rattle.fdb_core.proofs.common.FaultLemmas.{given-fault, refused-fault}
 use Rattle.fdb_core.proofs.common.ListLemmas.{map-at, map-set}
 use Rattle.fdb_core.proofs.refinement.CommitProxyTies.{commit_proxies-put}
+use Rattle.fdb_core.proofs.refinement.StepLemmas.{refuses}
 
 -- nothing stands past the end of a list
 past-end : {A : Type 0} (xs : List A) (i : ℕ) → length xs ≤ i → slice_get xs i ≡ None
@@ -185,18 +187,13 @@ module _ (k : Cluster) (refines : Refines k) (entry : ℕ) (sender : Sender) (pr
   -- it was refused, and nothing changes
   pub comes-stale : (T : Type 0) (why : Refusal)
       → AnswersExactly {T = T} (Err why) (if waits then None else Some Stale) (λ _. Took) → later ≡ role
-      → (why ≡ Stale) × (receives (machine_of k) entry sender ≡ Err Stale)
-      × (machine_of (record k { commit_proxies = with_item k.commit_proxies proxy later }) ≡ machine_of k)
-      × Refines (record k { commit_proxies = with_item k.commit_proxies proxy later })
+      → Stepped k (Err why) (record k { commit_proxies = with_item k.commit_proxies proxy later })
+      (receives (machine_of k) entry sender)
   comes-stale T why answers same =
-      let refused = stale-why waits why
+      let stale = stale-why waits why
       (refused-fault {T = T} (if waits then None else Some Stale) why (λ _. Took) answers) in
-      let set = proxy-same k refines proxy role later there same in (
-        refused.1,
-        receives-stale (machine_of k) entry sender proxy found (seen_as role) seen-there refused.0,
-        set.0,
-        set.1,
-      )
+      refuses (receives-stale (machine_of k) entry sender proxy found (seen_as role) seen-there stale.0
+      ∙ ap (λ (refusal : Refusal). Err refusal) (sym stale.1)) (proxy-same k refines proxy role later there same)
 
   pub comes-awaited : (T : Type 0) (given : T)
       → AnswersExactly (Ok given) (if waits then None else Some Stale) (λ _. Took)
@@ -307,9 +304,8 @@ module _ (k : Cluster) (refines : Refines k) (entry resolver proxy : ℕ)
       → IsSaid k.config.resolver_splits k.book.items verdicts e
       → AnswersOf T (Err why) verdicts.index verdicts.resolver)
       → later ≡ role
-      → (why ≡ Stale) × (receives (machine_of k) entry (FromResolver resolver) ≡ Err Stale)
-      × (machine_of (record k { commit_proxies = with_item k.commit_proxies proxy later }) ≡ machine_of k)
-      × Refines (record k { commit_proxies = with_item k.commit_proxies proxy later })
+      → Stepped k (Err why) (record k { commit_proxies = with_item k.commit_proxies proxy later })
+      (receives (machine_of k) entry (FromResolver resolver))
   verdicts-stale T why answers same =
       comes-stale k refines entry (FromResolver resolver) proxy found role later there T why
       (answers-of T (Err why) answers) same

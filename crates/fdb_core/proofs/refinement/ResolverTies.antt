@@ -8,6 +8,7 @@ use Rattle.std.proofs.lemmas.Option.{same_Some, get_or_from_slice_get, slice_get
 use Rattle.fdb_keys.specs.Answers.{Answers}
 use Rattle.fdb_keys.specs.Points.{Point}
 use Rattle.fdb_keys.specs.declared.refusal.Refusal.{Refusal}
+use Rattle.fdb_keys.specs.declared.refusal.Refusal.TheVariants.{NoMemory}
 use Rattle.fdb_txn.specs.declared.entry.Entry.{Entry}
 use Rattle.fdb_txn.specs.book.Book.{seen_of, seen_before}
 use Rattle.fdb_txn.specs.book.History.{AreEntries}
@@ -22,12 +23,11 @@ use Rattle.fdb_core.specs.declared.roles.resolver.ResolverRole.{ResolverRole}
 use Rattle.fdb_core.specs.declared.cluster.Cluster.{Cluster}
 use Rattle.fdb_core.specs.declared.step.Answered.TheVariants as answered
 use Rattle.fdb_core.specs.machine.RoleSteps.{resolves}
-use Rattle.fdb_core.specs.machine.Steps.{Unless, ran_out}
 use Rattle.fdb_core.specs.refinement.Cluster.{machine_of, Refines}
 use Rattle.fdb_core.specs.headline.ProxyStages.{ArePartsOf}
 use Rattle.fdb_core.specs.refinement.Resolving.{IsResolverAt, ResolverRefines, ResolversRefine, TakesNext, taken_by}
 use Rattle.fdb_core.proofs.common.AllLemmas.{within-item}
-use Rattle.fdb_core.proofs.common.FaultLemmas.{answers-fault, hands-on, lacks-memory}
+use Rattle.fdb_core.proofs.common.FaultLemmas.{answers-fault, hands-on}
 use Rattle.fdb_core.proofs.common.ListLemmas.{each-set, front-at, last-at, map-at, map-set, one-item}
 use Rattle.fdb_core.proofs.machine.Transitions.{resolves-transition}
 use Rattle.fdb_core.proofs.refinement.BookLemmas.{entries-take, take-next}
@@ -277,13 +277,8 @@ module _ (k : Cluster) (refines : Refines k) (i r : ℕ) (role : ResolverRole) (
         (entries-here k refines i r found.entry role found.there found.at found.due)
         (part-of k refines i r found.entry role found.there found.at found.due of found.its part here)
 
-    pub found-lacks : (why : Refusal) (later : ResolverRole) → Takes (Err why) later → (P : Type 0)
-        → Unless (ran_out (Err why)) P
-    found-lacks why later takes P =
-        lacks-memory None why
-        (λ (answer : List (ℕ × Verdict)).
-        TakesNext k.config.resolver_splits (take i k.book.items) found.entry r i role answer later) P refl
-        (takes-here (Err why) later takes)
+    pub found-lacks : (why : Refusal) (later : ResolverRole) → Takes (Err why) later → why ≡ NoMemory
+    found-lacks why later takes = takes-here (Err why) later takes
 
     pub found-resolved : (answer : List (ℕ × Verdict)) (later : ResolverRole) → Takes (Ok answer) later
         → (resolves (machine_of k) i r ≡ Ok (record {

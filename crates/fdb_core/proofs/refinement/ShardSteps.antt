@@ -1,6 +1,6 @@
 -- A shard applies what its log has, forgets old versions, and has its log drop what it applied.
 use Rattle.std.proofs.Common.{◌≡◌, ◌∙◌, refl, sym, ap, subst, ℕ, suc, ◌+◌, ◌^◌, ◌%◌, ◌<◌, ◌≤◌, min, max, le_refl, Bool}
-use Rattle.std.proofs.Common.{true, false, length, map, take, Some, None, Ok, Err, arith}
+use Rattle.std.proofs.Common.{true, false, length, List, map, take, Some, None, Ok, Err, arith}
 use Rattle.std.specs.Prelude.{◌==◌, nat_lt, if◌then◌else◌}
 use Rattle.std.specs.List.{slice_get, slice_set}
 use Rattle.std.specs.Vec.{with_item}
@@ -22,7 +22,7 @@ use Rattle.fdb_core.specs.machine.Machine.{Machine}
 use Rattle.fdb_core.specs.machine.Roles.{ShardProgress}
 use Rattle.fdb_core.specs.machine.RoleSteps.{pulls, forgets, pops, version_of_shard}
 use Rattle.fdb_core.specs.refinement.Cluster.{machine_of, Refines}
-use Rattle.fdb_core.specs.refinement.Logs.{LogRefines, ShardRefines, TagRefines, logs_taken, progress_of}
+use Rattle.fdb_core.specs.refinement.Logs.{LogRefines, LogsRefine, ShardRefines, TagRefines, logs_taken, progress_of}
 use Rattle.fdb_core.proofs.common.ListLemmas.{each-set}
 use Rattle.fdb_core.proofs.refinement.LogTies.{set-same, log-popped, shard-pulled, count, count-is, tags-applied}
 use Rattle.fdb_core.proofs.refinement.LogTies.{tags-popped, shard-at, shard-refines}
@@ -100,6 +100,31 @@ module _ (k : Cluster) (before : Refines k) (s : ℕ) (role : ShardRole)
       → map progress_of (slice_set k.shards.items s new)
       ≡ slice_set (map progress_of k.shards.items) s (progress_of new)
   counted new = map-set progress_of k.shards.items s new
+
+  -- a shard that stays leaves the world as it is
+  pub shard-same : (core : Shard) → core ≡ role.core →
+      let later = record k { shards = with_item k.shards s (record role { core = core }) } in
+      (machine_of later ≡ machine_of k) × Refines later
+  shard-same core same = (
+    ap (λ (shards : List ShardRole). record (machine_of k) { shards = map progress_of shards }) as-before,
+    record {
+      legal = before.legal;
+      room = before.room;
+      sequencer = before.sequencer;
+      book = before.book;
+      parts = before.parts;
+      resolvers = before.resolvers;
+      logs = subst (LogsRefine k.config k.book.items k.logs.items) (sym as-before) before.logs;
+      shard_map = before.shard_map;
+      commit_proxies = before.commit_proxies;
+      grv_proxies = before.grv_proxies;
+      opened = before.opened;
+    },
+  )
+    where
+      as-before : slice_set k.shards.items s (record role { core = core }) ≡ k.shards.items
+      as-before = ap (λ (it : Shard). slice_set k.shards.items s (record role { core = it })) same
+          ∙ set-same k.shards.items s role at
 
   -- the shard refuses to forget a version that it hasn't reached
   pub forget_fault-is : (version : ℕ) → forget_fault role.core version

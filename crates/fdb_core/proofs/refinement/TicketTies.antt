@@ -1,11 +1,11 @@
 -- The sequencer's ticket is what the machine says of the next entry.
 use Rattle.std.proofs.Common.{◌≡◌, ◌∙◌, refl, subst, arith, ℕ, ◌<◌, ◌≤◌, Bool, true, false, ◌++◌, inl, inr, Option}
-use Rattle.std.proofs.Common.{Some, None, Ok, Err, if◌then◌else◌}
+use Rattle.std.proofs.Common.{Some, None, Ok, Err, length, if◌then◌else◌}
 use Rattle.std.specs.Prelude.{◌⊎◌, ◌||◌, nat_lt, nat_le, slice_get}
-use Rattle.std.proofs.lemmas.Bool.{lt-leb, ltb-false}
+use Rattle.std.proofs.lemmas.Bool.{le-leb, le-ltb, lt-leb, ltb-false}
 use Rattle.std.proofs.lemmas.Option.{slice_get_within}
 use Rattle.fdb_keys.specs.declared.refusal.Refusal.{Refusal}
-use Rattle.fdb_keys.specs.declared.refusal.Refusal.TheVariants.{Exhausted, NoMemory}
+use Rattle.fdb_keys.specs.declared.refusal.Refusal.TheVariants.{BookFull, Exhausted, NoMemory}
 use Rattle.fdb_keys.specs.Answers.{Answers}
 use Rattle.fdb_sequencer.specs.declared.ticket.Ticket.{Ticket}
 use Rattle.fdb_txn.specs.Limits.{ticket_limit, version_limit}
@@ -94,3 +94,17 @@ pub seals-exhausted : (k : Cluster) (proxy advance : ℕ) (role : CommitProxyRol
 unfolding seals
 seals-exhausted k proxy advance role there idle late =
     rw (map-at seen_as k.commit_proxies.items proxy role there, idle, late) refl
+
+-- nor where the book has no place left
+pub seals-full : (k : Cluster) (proxy advance : ℕ) (role : CommitProxyRole)
+    → slice_get k.commit_proxies.items proxy ≡ Some role → is_idle (seen_as role).stage ≡ true
+    → next_version (last_version k.book.items) advance ≤ version_limit → k.config.book ≤ length k.book.items
+    → seals (machine_of k) proxy advance ≡ Err BookFull
+unfolding seals
+seals-full k proxy advance role there idle few full =
+    rw (
+      map-at seen_as k.commit_proxies.items proxy role there,
+      idle,
+      le-ltb version_limit (next_version (last_version k.book.items) advance) few,
+      le-leb k.config.book (length k.book.items) full,
+    ) refl

@@ -1,5 +1,5 @@
 -- What the machine does at each step.
-use Rattle.std.specs.Prelude.{⊤, Bool, true, false, Result, Ok, Err}
+use Rattle.std.specs.Prelude.{Bool, true, false, Result, Ok, Err}
 use Rattle.fdb_keys.specs.declared.refusal.Refusal.{Refusal}
 use Rattle.fdb_keys.specs.declared.refusal.Refusal.TheVariants.{NoMemory}
 use Rattle.fdb_core.specs.declared.step.Step.{Step}
@@ -53,7 +53,7 @@ ran_out (Ok given) = false
 ran_out (Err NoMemory) = true
 ran_out (Err why) = false
 
--- it holds unless the test does
-abbrev pub Unless : Bool → Type 0 → Type 0
-Unless true P = ⊤
-Unless false P = P
+-- one of two, by a test
+abbrev pub ByTest : Bool → Type 0 → Type 0 → Type 0
+ByTest true P Q = P
+ByTest false P Q = Q

@@ -1,12 +1,12 @@
 // The steps of clients.
-ghost use Rattle.std.specs.Prelude.{◌≡◌, Ok, [], ◌∷◌, ◌++◌};
+ghost use Rattle.std.specs.Prelude.{Ok, [], ◌∷◌, ◌++◌};
 ghost use Rattle.fdb_txn.specs.declared.spot.Spot.TheVariants as spot;
 ghost use Rattle.fdb_core.specs.declared.step.Answered.TheVariants.{ReadOnly};
 ghost use Rattle.fdb_core.specs.invariant.Invariant.{Invariant};
 ghost use Rattle.fdb_core.specs.machine.ClientSteps.{reads, writes, adds_read, adds_write, submits};
-ghost use Rattle.fdb_core.specs.machine.Steps.{Unless, ran_out, answer_of, after};
 ghost use Rattle.fdb_core.specs.refinement.Cluster.{machine_of, Refines};
 ghost use Rattle.fdb_core.specs.refinement.Reads.{operation_of};
+ghost use Rattle.fdb_core.specs.refinement.Steps.{Takes};
 
 use crate::cluster::Cluster;
 use crate::roles::client::Placed;
@@ -27,11 +27,8 @@ impl Cluster {
         snapshot: bool,
     ) -> Result<Answered, Refusal>
         requires { Refines self.old }
-        ensures answer { Unless (ran_out result)
-            (result ≡ answer_of (reads (machine_of self.old) session (operation_of read.entry snapshot))) }
-        ensures after { Unless (ran_out result) (machine_of self.new
-            ≡ after (machine_of self.old) (reads (machine_of self.old) session (operation_of read.entry snapshot))) }
-        ensures refines { Unless (ran_out result) (Refines self.new) }
+        ensures { Takes self.old result self.new
+            (reads (machine_of self.old) session (operation_of read.entry snapshot)) }
     {
         let Some(txn) = self.sessions.open(session) else {
             return Err(Refusal::NoTransaction);
@@ -50,11 +47,7 @@ impl Cluster {
     #[tactic(auto, unfolding(crate::specs::machine::ClientSteps::writes))]
     pub(crate) fn write(&mut self, session: u32, mutation: &Mutation) -> Result<Answered, Refusal>
         requires { Refines self.old }
-        ensures answer { Unless (ran_out result)
-            (result ≡ answer_of (writes (machine_of self.old) session mutation.now)) }
-        ensures after { Unless (ran_out result)
-            (machine_of self.new ≡ after (machine_of self.old) (writes (machine_of self.old) session mutation.now)) }
-        ensures refines { Unless (ran_out result) (Refines self.new) }
+        ensures { Takes self.old result self.new (writes (machine_of self.old) session mutation.now) }
     {
         self.sessions.write(session, mutation)?;
         Ok(Answered::Done)
@@ -63,11 +56,7 @@ impl Cluster {
     #[tactic(auto, unfolding(crate::specs::machine::ClientSteps::adds_read))]
     pub(crate) fn add_read(&mut self, session: u32, range: &KeyRange) -> Result<Answered, Refusal>
         requires { Refines self.old }
-        ensures answer { Unless (ran_out result)
-            (result ≡ answer_of (adds_read (machine_of self.old) session range.now)) }
-        ensures after { Unless (ran_out result)
-            (machine_of self.new ≡ after (machine_of self.old) (adds_read (machine_of self.old) session range.now)) }
-        ensures refines { Unless (ran_out result) (Refines self.new) }
+        ensures { Takes self.old result self.new (adds_read (machine_of self.old) session range.now) }
     {
         self.sessions.add_read(session, range)?;
         Ok(Answered::Done)
@@ -76,11 +65,7 @@ impl Cluster {
     #[tactic(auto, unfolding(crate::specs::machine::ClientSteps::adds_write))]
     pub(crate) fn add_write(&mut self, session: u32, range: &KeyRange) -> Result<Answered, Refusal>
         requires { Refines self.old }
-        ensures answer { Unless (ran_out result)
-            (result ≡ answer_of (adds_write (machine_of self.old) session range.now)) }
-        ensures after { Unless (ran_out result)
-            (machine_of self.new ≡ after (machine_of self.old) (adds_write (machine_of self.old) session range.now)) }
-        ensures refines { Unless (ran_out result) (Refines self.new) }
+        ensures { Takes self.old result self.new (adds_write (machine_of self.old) session range.now) }
     {
         self.sessions.add_write(session, range)?;
         Ok(Answered::Done)
@@ -89,13 +74,13 @@ impl Cluster {
     // Acknowledges the transaction, which wrote nothing, at its read version.
     fn acknowledge(&mut self, transcript: Transcript) -> Result<Answered, Refusal>
         requires { Refines self.old }
-        ensures answer { Unless (ran_out result) (result ≡ Ok (ReadOnly transcript.read_version)) }
-        ensures after { Unless (ran_out result)
-            (machine_of self.new ≡ record (machine_of self.old) {
-              acknowledged = (machine_of self.old).acknowledged ++ record
-                  { spot = spot.ReadOnly transcript.read_version; transcript = transcript } ∷ [];
-            }) }
-        ensures refines { Unless (ran_out result) (Refines self.new) }
+        ensures { Takes self.old result self.new (Ok (record {
+          answer = ReadOnly transcript.read_version;
+          next = record (machine_of self.old) {
+            acknowledged = (machine_of self.old).acknowledged ++ record
+                { spot = spot.ReadOnly transcript.read_version; transcript = transcript } ∷ [];
+          };
+        })) }
     {
         let version = transcript.read_version;
         let spot = Spot::ReadOnly { version };
@@ -107,11 +92,7 @@ impl Cluster {
     pub(crate) fn submit(&mut self, session: u32, proxy: u32) -> Result<Answered, Refusal>
         requires refines { Refines self.old }
         requires named { Invariant (machine_of self.old) }
-        ensures answer { Unless (ran_out result)
-            (result ≡ answer_of (submits (machine_of self.old) session proxy)) }
-        ensures after { Unless (ran_out result)
-            (machine_of self.new ≡ after (machine_of self.old) (submits (machine_of self.old) session proxy)) }
-        ensures refines { Unless (ran_out result) (Refines self.new) }
+        ensures { Takes self.old result self.new (submits (machine_of self.old) session proxy) }
     {
         let at = proxy as usize;
         if at >= self.commit_proxies.len() {

@@ -2,9 +2,9 @@
 ghost use Rattle.std.specs.Prelude.{◌≡◌, ◌++◌, [], ◌∷◌, false, None, OnOk, MatchResult};
 ghost use Rattle.fdb_core.specs.machine.CommitProxySteps.{taken_by_sender, seals, receives, decides, reports, answers};
 ghost use Rattle.fdb_core.specs.machine.Roles.{FromResolver, FromLog};
-ghost use Rattle.fdb_core.specs.machine.Steps.{Unless, ran_out, answer_of, after};
 ghost use Rattle.fdb_core.specs.refinement.Cluster.{machine_of, Refines};
 ghost use Rattle.fdb_core.specs.refinement.Receiving.{IsReceiver, IsUnknown};
+ghost use Rattle.fdb_core.specs.refinement.Steps.{Takes};
 ghost use Rattle.fdb_core.specs.refinement.Views.{sender_of};
 
 use crate::cluster::Cluster;
@@ -23,10 +23,7 @@ impl Cluster {
     #[tactic(auto, unfolding(crate::specs::machine::CommitProxySteps::seals))]
     pub(crate) fn seal(&mut self, proxy: u32, advance: u64) -> Result<Answered, Refusal>
         requires { Refines self.old }
-        ensures answer { Unless (ran_out result) (result ≡ answer_of (seals (machine_of self.old) proxy advance)) }
-        ensures after { Unless (ran_out result)
-            (machine_of self.new ≡ after (machine_of self.old) (seals (machine_of self.old) proxy advance)) }
-        ensures refines { Unless (ran_out result) (Refines self.new) }
+        ensures { Takes self.old result self.new (seals (machine_of self.old) proxy advance) }
     {
         let at = proxy as usize;
         if at >= self.commit_proxies.len() {
@@ -108,11 +105,7 @@ impl Cluster {
 
     pub(crate) fn verdict(&mut self, entry: u32, resolver: u32) -> Result<Answered, Refusal>
         requires { Refines self.old }
-        ensures answer { Unless (ran_out result)
-            (result ≡ answer_of (receives (machine_of self.old) entry (FromResolver resolver))) }
-        ensures after { Unless (ran_out result) (machine_of self.new
-            ≡ after (machine_of self.old) (receives (machine_of self.old) entry (FromResolver resolver))) }
-        ensures refines { Unless (ran_out result) (Refines self.new) }
+        ensures { Takes self.old result self.new (receives (machine_of self.old) entry (FromResolver resolver)) }
     {
         let at = self.receiver(entry, Sender::Resolver(resolver))?;
         let verdicts = self.resolvers[resolver as usize].sent_on(self.alloc, entry as usize)?;
@@ -123,11 +116,7 @@ impl Cluster {
 
     pub(crate) fn logged(&mut self, entry: u32, log: u32) -> Result<Answered, Refusal>
         requires { Refines self.old }
-        ensures answer { Unless (ran_out result)
-            (result ≡ answer_of (receives (machine_of self.old) entry (FromLog log))) }
-        ensures after { Unless (ran_out result) (machine_of self.new
-            ≡ after (machine_of self.old) (receives (machine_of self.old) entry (FromLog log))) }
-        ensures refines { Unless (ran_out result) (Refines self.new) }
+        ensures { Takes self.old result self.new (receives (machine_of self.old) entry (FromLog log)) }
     {
         let at = self.receiver(entry, Sender::Log(log))?;
         let commit_proxy = &mut self.commit_proxies[at];
@@ -138,10 +127,7 @@ impl Cluster {
     #[tactic(auto, unfolding(crate::specs::machine::CommitProxySteps::decides))]
     pub(crate) fn decide(&mut self, proxy: u32) -> Result<Answered, Refusal>
         requires { Refines self.old }
-        ensures answer { Unless (ran_out result) (result ≡ answer_of (decides (machine_of self.old) proxy)) }
-        ensures after { Unless (ran_out result)
-            (machine_of self.new ≡ after (machine_of self.old) (decides (machine_of self.old) proxy)) }
-        ensures refines { Unless (ran_out result) (Refines self.new) }
+        ensures { Takes self.old result self.new (decides (machine_of self.old) proxy) }
     {
         let at = proxy as usize;
         if at >= self.commit_proxies.len() {
@@ -158,10 +144,7 @@ impl Cluster {
     #[tactic(auto, unfolding(crate::specs::machine::CommitProxySteps::reports))]
     pub(crate) fn report(&mut self, proxy: u32) -> Result<Answered, Refusal>
         requires { Refines self.old }
-        ensures answer { Unless (ran_out result) (result ≡ answer_of (reports (machine_of self.old) proxy)) }
-        ensures after { Unless (ran_out result)
-            (machine_of self.new ≡ after (machine_of self.old) (reports (machine_of self.old) proxy)) }
-        ensures refines { Unless (ran_out result) (Refines self.new) }
+        ensures { Takes self.old result self.new (reports (machine_of self.old) proxy) }
     {
         let at = proxy as usize;
         if at >= self.commit_proxies.len() {
@@ -178,10 +161,7 @@ impl Cluster {
     #[tactic(auto, unfolding(crate::specs::machine::CommitProxySteps::answers))]
     pub(crate) fn answer(&mut self, proxy: u32) -> Result<Answered, Refusal>
         requires { Refines self.old }
-        ensures answer { Unless (ran_out result) (result ≡ answer_of (answers (machine_of self.old) proxy)) }
-        ensures after { Unless (ran_out result)
-            (machine_of self.new ≡ after (machine_of self.old) (answers (machine_of self.old) proxy)) }
-        ensures refines { Unless (ran_out result) (Refines self.new) }
+        ensures { Takes self.old result self.new (answers (machine_of self.old) proxy) }
     {
         let at = proxy as usize;
         if at >= self.commit_proxies.len() {

@@ -1,8 +1,7 @@
 // Sessions ask a read-version proxy, which serves them.
-ghost use Rattle.std.specs.Prelude.{◌≡◌};
 ghost use Rattle.fdb_core.specs.machine.GrvProxySteps.{asks, grants};
-ghost use Rattle.fdb_core.specs.machine.Steps.{Unless, ran_out, answer_of, after};
 ghost use Rattle.fdb_core.specs.refinement.Cluster.{machine_of, Refines};
+ghost use Rattle.fdb_core.specs.refinement.Steps.{Takes};
 
 use crate::cluster::Cluster;
 use crate::roles::grv_proxy::{are_used_up, serve_all};
@@ -13,10 +12,7 @@ impl Cluster {
     #[tactic(auto, unfolding(crate::specs::machine::GrvProxySteps::asks))]
     pub(crate) fn ask(&mut self, session: u32, proxy: u32) -> Result<Answered, Refusal>
         requires { Refines self.old }
-        ensures answer { Unless (ran_out result) (result ≡ answer_of (asks (machine_of self.old) session proxy)) }
-        ensures after { Unless (ran_out result)
-            (machine_of self.new ≡ after (machine_of self.old) (asks (machine_of self.old) session proxy)) }
-        ensures refines { Unless (ran_out result) (Refines self.new) }
+        ensures { Takes self.old result self.new (asks (machine_of self.old) session proxy) }
     {
         let at = proxy as usize;
         if at >= self.grv_proxies.len() {
@@ -35,10 +31,7 @@ impl Cluster {
     #[tactic(auto, unfolding(crate::specs::machine::GrvProxySteps::grants))]
     pub(crate) fn grant(&mut self, proxy: u32) -> Result<Answered, Refusal>
         requires { Refines self.old }
-        ensures answer { Unless (ran_out result) (result ≡ answer_of (grants (machine_of self.old) proxy)) }
-        ensures after { Unless (ran_out result)
-            (machine_of self.new ≡ after (machine_of self.old) (grants (machine_of self.old) proxy)) }
-        ensures refines { Unless (ran_out result) (Refines self.new) }
+        ensures { Takes self.old result self.new (grants (machine_of self.old) proxy) }
     {
         let at = proxy as usize;
         if at >= self.grv_proxies.len() {

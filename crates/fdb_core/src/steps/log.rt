@@ -1,8 +1,7 @@
 // A log takes its message of an entry.
-ghost use Rattle.std.specs.Prelude.{◌≡◌};
 ghost use Rattle.fdb_core.specs.refinement.Cluster.{machine_of, Refines};
+ghost use Rattle.fdb_core.specs.refinement.Steps.{Takes};
 ghost use Rattle.fdb_core.specs.machine.RoleSteps.{pushes};
-ghost use Rattle.fdb_core.specs.machine.Steps.{Unless, ran_out, answer_of, after};
 
 use crate::cluster::Cluster;
 use crate::step::Answered;
@@ -12,10 +11,7 @@ impl Cluster {
     #[tactic(auto, unfolding(crate::specs::machine::RoleSteps::pushes))]
     pub(crate) fn push(&mut self, entry: u32, log: u32) -> Result<Answered, Refusal>
         requires { Refines self.old }
-        ensures answer { Unless (ran_out result) (result ≡ answer_of (pushes (machine_of self.old) entry log)) }
-        ensures after { Unless (ran_out result)
-            (machine_of self.new ≡ after (machine_of self.old) (pushes (machine_of self.old) entry log)) }
-        ensures refines { Unless (ran_out result) (Refines self.new) }
+        ensures { Takes self.old result self.new (pushes (machine_of self.old) entry log) }
     {
         let (i, of) = (entry as usize, log as usize);
         if i >= self.messages.len() || of >= self.logs.len() {

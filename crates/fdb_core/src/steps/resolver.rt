@@ -1,8 +1,7 @@
 // A resolver takes its part of an entry.
-ghost use Rattle.std.specs.Prelude.{◌≡◌};
 ghost use Rattle.fdb_core.specs.refinement.Cluster.{machine_of, Refines};
+ghost use Rattle.fdb_core.specs.refinement.Steps.{Takes};
 ghost use Rattle.fdb_core.specs.machine.RoleSteps.{resolves};
-ghost use Rattle.fdb_core.specs.machine.Steps.{Unless, ran_out, answer_of, after};
 
 use crate::cluster::Cluster;
 use crate::step::Answered;
@@ -12,10 +11,7 @@ impl Cluster {
     #[tactic(auto, unfolding(crate::specs::machine::RoleSteps::resolves))]
     pub(crate) fn resolve(&mut self, entry: u32, resolver: u32) -> Result<Answered, Refusal>
         requires { Refines self.old }
-        ensures answer { Unless (ran_out result) (result ≡ answer_of (resolves (machine_of self.old) entry resolver)) }
-        ensures after { Unless (ran_out result)
-            (machine_of self.new ≡ after (machine_of self.old) (resolves (machine_of self.old) entry resolver)) }
-        ensures refines { Unless (ran_out result) (Refines self.new) }
+        ensures { Takes self.old result self.new (resolves (machine_of self.old) entry resolver) }
     {
         let (i, of) = (entry as usize, resolver as usize);
         if i >= self.book.len() || of >= self.resolvers.len() {

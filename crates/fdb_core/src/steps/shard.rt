@@ -1,8 +1,7 @@
 // A shard applies what its log has, forgets old versions, and has its log drop what it applied.
-ghost use Rattle.std.specs.Prelude.{◌≡◌};
 ghost use Rattle.fdb_core.specs.refinement.Cluster.{machine_of, Refines};
+ghost use Rattle.fdb_core.specs.refinement.Steps.{Takes};
 ghost use Rattle.fdb_core.specs.machine.RoleSteps.{pulls, forgets, pops};
-ghost use Rattle.fdb_core.specs.machine.Steps.{Unless, ran_out, answer_of, after};
 
 use crate::cluster::Cluster;
 use crate::step::Answered;
@@ -12,10 +11,7 @@ impl Cluster {
     #[tactic(auto, unfolding(crate::specs::machine::RoleSteps::pulls))]
     pub(crate) fn pull(&mut self, shard: u32, limit: u32) -> Result<Answered, Refusal>
         requires { Refines self.old }
-        ensures answer { Unless (ran_out result) (result ≡ answer_of (pulls (machine_of self.old) shard limit)) }
-        ensures after { Unless (ran_out result)
-            (machine_of self.new ≡ after (machine_of self.old) (pulls (machine_of self.old) shard limit)) }
-        ensures refines { Unless (ran_out result) (Refines self.new) }
+        ensures { Takes self.old result self.new (pulls (machine_of self.old) shard limit) }
     {
         let of = shard as usize;
         if of >= self.shards.len() {
@@ -32,10 +28,7 @@ impl Cluster {
     #[tactic(auto, unfolding(crate::specs::machine::RoleSteps::forgets))]
     pub(crate) fn forget(&mut self, shard: u32, version: u64) -> Result<Answered, Refusal>
         requires { Refines self.old }
-        ensures answer { Unless (ran_out result) (result ≡ answer_of (forgets (machine_of self.old) shard version)) }
-        ensures after { Unless (ran_out result)
-            (machine_of self.new ≡ after (machine_of self.old) (forgets (machine_of self.old) shard version)) }
-        ensures refines { Unless (ran_out result) (Refines self.new) }
+        ensures { Takes self.old result self.new (forgets (machine_of self.old) shard version) }
     {
         let of = shard as usize;
         if of >= self.shards.len() {
@@ -49,10 +42,7 @@ impl Cluster {
     #[tactic(auto, unfolding(crate::specs::machine::RoleSteps::pops))]
     pub(crate) fn pop(&mut self, shard: u32) -> Result<Answered, Refusal>
         requires { Refines self.old }
-        ensures answer { Unless (ran_out result) (result ≡ answer_of (pops (machine_of self.old) shard)) }
-        ensures after { Unless (ran_out result)
-            (machine_of self.new ≡ after (machine_of self.old) (pops (machine_of self.old) shard)) }
-        ensures refines { Unless (ran_out result) (Refines self.new) }
+        ensures { Takes self.old result self.new (pops (machine_of self.old) shard) }
     {
         let of = shard as usize;
         if of >= self.shards.len() {

@@ -1,6 +1,5 @@
-use Rattle.std.proofs.Common.{◌≡◌, ◌∙◌, refl, sym, ap, ap₂, subst, ◌<◌, length, ℕ, ◌++◌, false, List, map, Some, None}
-use Rattle.std.proofs.Common.{Result, Ok, Err, slice_get, slice_set, rules}
-use Rattle.std.proofs.lemmas.Option.{slice_get_read}
+use Rattle.std.proofs.Common.{◌≡◌, ◌∙◌, refl, sym, ap, ap₂, subst, length, ℕ, ◌++◌, false, List, map, Some, None}
+use Rattle.std.proofs.Common.{Result, Ok, slice_get, slice_set, rules}
 use Rattle.fdb_keys.specs.Answers.{AnswersExactly}
 use Rattle.fdb_keys.specs.declared.refusal.Refusal.{Refusal}
 use Rattle.fdb_txn.specs.declared.txn_id.TxnId.{TxnId}
@@ -12,21 +11,19 @@ use Rattle.fdb_core.specs.machine.CommitProxySteps.{is_idle, placed_from}
 use Rattle.fdb_core.specs.machine.Sessions.{Sessions, tell_all}
 use Rattle.fdb_core.specs.refinement.Cluster.{machine_of}
 use Rattle.fdb_core.specs.refinement.CommitProxies.{ReadsWithin, seen_as}
-use Rattle.fdb_core.proofs.common.ListLemmas.{one-item}
+use Rattle.fdb_core.proofs.common.ListLemmas.{one-item, read-there}
 use Rattle.fdb_core.proofs.machine.SessionLemmas.{open-told}
 use Rattle.fdb_core.proofs.refinement.AnsweringTies.{told_of, outcome_of, in-book, early, IsAnswered}
 use Rattle.fdb_core.proofs.refinement.AnsweringTies.{finished as done-as}
+use Rattle.fdb_core.proofs.refinement.StepLemmas.{accepted, refuses}
 use Rattle.fdb_core.proofs.cluster.Cluster.answer.Goals as goal
 use Rattle.fdb_core.proofs.cluster.Cluster.answer.Goals.{Else-is_idle, After-finish}
 
 -- the proxy, which is busy
 there : (c : Else-is_idle)
     → slice_get c.args.self.now.commit_proxies.items c.args.proxy ≡ Some c.index-commit_proxy.result.now
-there c =
-    let k = c.args.self.now in
-    let inside : c.args.proxy < length k.commit_proxies.items = search rules in
-    slice_get_read k.commit_proxies.items (length k.commit_proxies.items) c.args.proxy
-    c.index-commit_proxy.result.now refl inside c.index-commit_proxy.ensures
+there c = read-there c.args.self.now.commit_proxies.items c.args.proxy c.index-commit_proxy.result.now (search rules)
+    c.index-commit_proxy.ensures
 
 busy : (c : Else-is_idle) → is_idle (seen_as c.index-commit_proxy.result.now).stage ≡ false
 busy c = sym c.if-is_idle.ensures
@@ -39,17 +36,11 @@ index-requires c =
     search rules
 
 -- where the batch isn't reported, the machine says so
-pub returns-then-not-is_reported-clause-answer : goal.returns-then-not-is_reported-clause-answer
-returns-then-not-is_reported-clause-answer c =
-    let found = (goal.at.returns-then-not-is_reported-clause-answer c).Else-is_idle in
-    rw (early c.args.self.now c.requires c.args.proxy c.index-commit_proxy.result.now (there found) (busy found)
-    c.index.result.now c.index.ensures c.if-not-is_reported.true) refl
-
-pub returns-then-not-is_reported-clause-after : goal.returns-then-not-is_reported-clause-after
-returns-then-not-is_reported-clause-after c =
-    let found = (goal.at.returns-then-not-is_reported-clause-after c).Else-is_idle in
-    rw (early c.args.self.now c.requires c.args.proxy c.index-commit_proxy.result.now (there found) (busy found)
-    c.index.result.now c.index.ensures c.if-not-is_reported.true) refl
+pub returns-then-not-is_reported : goal.returns-then-not-is_reported
+returns-then-not-is_reported c =
+    let found = (goal.at.returns-then-not-is_reported c).Else-is_idle in
+    refuses (early c.args.self.now c.requires c.args.proxy c.index-commit_proxy.result.now (there found) (busy found)
+    c.index.result.now c.index.ensures c.if-not-is_reported.true) (refl, c.requires)
 
 -- what the call gives is the machine's answer
 finished : (c : After-finish)
@@ -58,34 +49,21 @@ finished : (c : After-finish)
 finished c =
     let k = c.args.self.now in
     let role = c.index-commit_proxy.result.now in
-    let inside : c.args.proxy < length k.commit_proxies.items = search rules in
     let at : slice_get k.commit_proxies.items c.args.proxy ≡ Some role =
-    slice_get_read k.commit_proxies.items (length k.commit_proxies.items) c.args.proxy role refl inside
-    c.index-commit_proxy.ensures in
+    read-there k.commit_proxies.items c.args.proxy role (search rules) c.index-commit_proxy.ensures in
     done-as k c.requires c.args.proxy role at (sym c.if-is_idle.ensures) c.if-not-is_reported.false
     c.finish.new.self c.finish.result c.index_mut-commit_proxy.result.now
-    (one-item k.commit_proxies.items c.args.proxy c.index_mut-commit_proxy.result.now role inside
+    (one-item k.commit_proxies.items c.args.proxy c.index_mut-commit_proxy.result.now role (search rules)
     c.index_mut-commit_proxy.ensures.value at)
     c.finish.ensures
 
 -- so it never refuses
-never-refused : (c : After-finish) (why : Refusal) → c.finish.result ≡ Err why → ⊥
-never-refused c why is = subst (λ (result : Result (List Transcript × List (TxnId × Outcome)) Refusal).
+pub returns-in_err-transcripts : goal.returns-in_err-transcripts
+returns-in_err-transcripts c =
+    absurd (subst (λ (result : Result (List Transcript × List (TxnId × Outcome)) Refusal).
     AnswersExactly result None (λ given. IsAnswered c.args.self.now c.args.proxy c.index-commit_proxy.result.now
-    given.0 given.1 c.finish.new.self)) is (finished c)
-
-pub returns-in_err-transcripts-clause-answer : goal.returns-in_err-transcripts-clause-answer
-returns-in_err-transcripts-clause-answer c =
-    absurd (never-refused (goal.at.returns-in_err-transcripts-clause-answer c).After-finish _ c.in_err-transcripts.was)
-
-pub returns-in_err-transcripts-clause-after : goal.returns-in_err-transcripts-clause-after
-returns-in_err-transcripts-clause-after c =
-    absurd (never-refused (goal.at.returns-in_err-transcripts-clause-after c).After-finish _ c.in_err-transcripts.was)
-
-pub returns-in_err-transcripts-clause-refines : goal.returns-in_err-transcripts-clause-refines
-returns-in_err-transcripts-clause-refines c =
-    absurd (never-refused (goal.at.returns-in_err-transcripts-clause-refines c).After-finish _
-    c.in_err-transcripts.was)
+    given.0 given.1 c.finish.new.self)) c.in_err-transcripts.was
+    (finished (goal.at.returns-in_err-transcripts c).After-finish))
 
 -- and what it gave is that
 done : (c : After-finish) (transcripts : List Transcript) (given : List (TxnId × Outcome))
@@ -101,19 +79,12 @@ place_all-requires c =
     c.in_ok-transcripts.answers c.in_ok-transcripts.was in
     ap length c.as_slice-transcripts.ensures ∙ it.each ∙ sym (ap length c.as_slice-answers.ensures)
 
-pub returns-clause-answer : goal.returns-clause-answer
-returns-clause-answer c =
-    let it = done (goal.at.returns-clause-answer c).After-finish c.in_ok-transcripts.transcripts
-    c.in_ok-transcripts.answers c.in_ok-transcripts.was in
-    rw it.goes_on
-    (ap (λ (told : List (ℕ × Outcome)). Ok (answered.Answers told))
-    (c.in_ok-told.ensures ∙ ap (map told_of) c.as_slice-answers.ensures))
-
-pub returns-clause-after : goal.returns-clause-after
-returns-clause-after c =
+pub returns : goal.returns
+returns c =
     let k = c.args.self.now in
-    let it = done (goal.at.returns-clause-after c).After-finish c.in_ok-transcripts.transcripts
-    c.in_ok-transcripts.answers c.in_ok-transcripts.was in
+    let before = c.requires in
+    let it = done (goal.at.returns c).After-finish c.in_ok-transcripts.transcripts c.in_ok-transcripts.answers
+    c.in_ok-transcripts.was in
     let placed : c.place_all.new.placed.items ≡ k.acknowledged.items
     ++ placed_from c.index-commit_proxy.result.now.entry c.in_ok-transcripts.transcripts
     (map outcome_of c.in_ok-transcripts.answers) =
@@ -124,18 +95,15 @@ returns-clause-after c =
     let told : c.tell_all.new.sessions ≡ tell_all c.in_ok-transcripts.transcripts k.sessions =
     c.in_ok-tell_all.ensures
     ∙ ap (λ (transcripts : List Transcript). tell_all transcripts k.sessions) c.as_slice-transcripts.ensures in
-    rw it.goes_on
+    accepted it.goes_on
+    (ap (λ (replies : List (ℕ × Outcome)). answered.Answers replies)
+    (c.in_ok-told.ensures ∙ ap (map told_of) c.as_slice-answers.ensures))
     (ap₂ (λ (acknowledged : List Placed) (sessions : Sessions). record (machine_of k) {
       acknowledged = acknowledged;
       sessions = sessions;
       commit_proxies = map seen_as (slice_set k.commit_proxies.items c.args.proxy c.finish.new.self);
     }) placed told)
-
-pub returns-clause-refines : goal.returns-clause-refines
-returns-clause-refines c =
-    let k = c.args.self.now in
-    let before = c.requires in
-    record {
+    (record {
       legal = before.legal;
       room = before.room;
       sequencer = before.sequencer;
@@ -144,9 +112,8 @@ returns-clause-refines c =
       resolvers = before.resolvers;
       logs = before.logs;
       shard_map = before.shard_map;
-      commit_proxies = (done (goal.at.returns-clause-refines c).After-finish c.in_ok-transcripts.transcripts
-          c.in_ok-transcripts.answers c.in_ok-transcripts.was).tied;
+      commit_proxies = it.tied;
       grv_proxies = before.grv_proxies;
       opened = rw c.in_ok-tell_all.ensures
           (open-told (ReadsWithin k.sequencer.committed) c.as_slice-transcripts.result.now k.sessions before.opened);
-    }
+    })

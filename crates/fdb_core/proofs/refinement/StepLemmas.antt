@@ -1,0 +1,77 @@
+-- What a step comes to, whichever it is.
+use Rattle.std.proofs.Common.{◌≡◌, ◌∙◌, refl, sym, ap, subst, Result, Ok, Err}
+use Rattle.std.specs.Prelude.{⊤}
+use Rattle.fdb_keys.specs.declared.refusal.Refusal.{Refusal}
+use Rattle.fdb_keys.specs.declared.refusal.Refusal.TheVariants.{NoMemory}
+use Rattle.fdb_core.specs.declared.cluster.Cluster.{Cluster}
+use Rattle.fdb_core.specs.declared.step.Answered.{Answered}
+use Rattle.fdb_core.specs.machine.Machine.{Transition}
+use Rattle.fdb_core.specs.machine.Steps.{answer_of, after, ran_out}
+use Rattle.fdb_core.specs.refinement.Cluster.{machine_of, Refines}
+use Rattle.fdb_core.specs.refinement.Steps.{RanOut, Stepped, Takes}
+use Rattle.fdb_core.proofs.common.FaultLemmas.{Unless, by_test-map, unless-map}
+
+-- A step that the machine accepts answers what the machine answers, and goes on to what the machine goes on to.
+pub accepted : {old new : Cluster} {given : Answered} {transition : Result Transition Refusal} {to : Transition}
+    → transition ≡ Ok to → given ≡ to.answer → machine_of new ≡ to.next → Refines new
+    → Takes old (Ok given) new transition
+accepted {old} is answer machine refines = record {
+  answer = ap (λ (it : Answered). Ok it) answer ∙ sym (ap answer_of is);
+  machine = machine ∙ sym (ap (after (machine_of old)) is);
+  refines = refines;
+}
+
+-- where that is said of the cluster itself
+pub goes_on : {old new : Cluster} {given : Answered} {transition : Result Transition Refusal}
+    → (transition ≡ Ok (record { answer = given; next = machine_of new })) × Refines new
+    → Takes old (Ok given) new transition
+goes_on is = accepted is.0 refl refl is.1
+
+-- A step that the machine refuses, too, changes nothing.
+pub refuses : {old new : Cluster} {why : Refusal} {transition : Result Transition Refusal}
+    → transition ≡ Err why → (machine_of new ≡ machine_of old) × Refines new → Stepped old (Err why) new transition
+refuses {old} is kept = record {
+  answer = sym (ap answer_of is);
+  machine = kept.0 ∙ sym (ap (after (machine_of old)) is);
+  refines = kept.1;
+}
+
+-- A step hands on why a call was refused:
+module _ (old : Cluster) (result : Result Answered Refusal) (new : Cluster) (transition : Result Transition Refusal)
+    (why : Refusal) (is : result ≡ Err why) where
+  -- it lacked memory,
+  pub lacked : why ≡ NoMemory → RanOut old new → Takes old result new transition
+  lacked lacks out = subst (λ (answer : Result Answered Refusal). Takes old answer new transition)
+      (sym (is ∙ ap (λ (refusal : Refusal). Err refusal) lacks)) out
+
+  -- or else the machine refuses it, too
+  pub refused-unless : Unless (ran_out (Err why)) (Stepped old (Err why) new transition) → RanOut old new
+      → Takes old result new transition
+  refused-unless stepped out = subst (λ (answer : Result Answered Refusal). Takes old answer new transition) (sym is)
+      (by_test-map (ran_out (Err why)) ⊤ (Stepped old (Err why) new transition) (RanOut old new)
+      (Stepped old (Err why) new transition) (λ _. out) (λ step. step) stepped)
+
+  -- where nothing changed anyhow
+  pub refused : Unless (ran_out (Err why)) (transition ≡ Err why)
+      → (machine_of new ≡ machine_of old) × Refines new → RanOut old new → Takes old result new transition
+  refused same kept = refused-unless
+      (unless-map (ran_out (Err why)) (transition ≡ Err why) (Stepped old (Err why) new transition)
+      (λ step. refuses step kept) same)
+
+-- A step that ends in another one, which begins where it is, is the machine's where both come to the same.
+pub ended : (before old : Cluster) (result : Result Answered Refusal) (new : Cluster)
+    (transition : Result Transition Refusal) (to : Transition) → transition ≡ Ok to
+    → (RanOut before new → RanOut old new) → Takes before result new (Ok to) → Takes old result new transition
+ended before old result new transition to is out taken =
+    subst (λ (other : Result Transition Refusal). Takes old result new other) (sym is)
+    (by_test-map (ran_out result) (RanOut before new) (Stepped before result new (Ok to)) (RanOut old new)
+    (Stepped old result new (Ok to)) out
+    (λ step. record { answer = step.answer; machine = step.machine; refines = step.refines }) taken)
+
+-- Unless memory ran out, the step did what its transition says.
+pub unless-ran_out : (old : Cluster) (result : Result Answered Refusal) (new : Cluster)
+    (transition : Result Transition Refusal) → Takes old result new transition
+    → Unless (ran_out result) (Stepped old result new transition)
+unless-ran_out old result new transition taken =
+    by_test-map (ran_out result) (RanOut old new) (Stepped old result new transition) ⊤
+    (Stepped old result new transition) (λ _. tt) (λ is. is) taken

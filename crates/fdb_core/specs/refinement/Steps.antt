@@ -1,0 +1,23 @@
+-- A step of the cluster, by the machine's transition.
+use Rattle.std.specs.Prelude.{◌≡◌, ⊤, Result}
+use Rattle.fdb_keys.specs.declared.refusal.Refusal.{Refusal}
+use Rattle.fdb_core.specs.declared.cluster.Cluster.{Cluster}
+use Rattle.fdb_core.specs.declared.step.Answered.{Answered}
+use Rattle.fdb_core.specs.machine.Machine.{Transition}
+use Rattle.fdb_core.specs.machine.Steps.{answer_of, after, ran_out, ByTest}
+use Rattle.fdb_core.specs.refinement.Cluster.{machine_of, Refines}
+
+-- the step did what the transition says
+pub record Stepped (old : Cluster) (result : Result Answered Refusal) (new : Cluster)
+    (transition : Result Transition Refusal) : Type 0 where
+  pub answer : result ≡ answer_of transition
+  pub machine : machine_of new ≡ after (machine_of old) transition
+  pub refines : Refines new
+
+-- what a step in which memory ran out leaves: nothing is said of it
+abbrev pub RanOut : Cluster → Cluster → Type 0
+RanOut old new = ⊤
+
+-- a step: memory ran out in it, or it did what the transition says
+abbrev pub Takes : Cluster → Result Answered Refusal → Cluster → Result Transition Refusal → Type 0
+Takes old result new transition = ByTest (ran_out result) (RanOut old new) (Stepped old result new transition)
