@@ -1,7 +1,7 @@
 -- The pairs of a range, read shard after shard.
-use Rattle.std.proofs.Common.{◌≡◌, ◌∙◌, refl, sym, ap, ap₂, ◌<◌, ◌≤◌, ℕ, zero, suc, ◌+◌, ◌-◌, ◌⊎◌, inl, inr}
-use Rattle.std.proofs.Common.{Bool, true, false, ◌&&◌, not, List, [], ◌∷◌, ◌++◌, length, take, Option, Some, None}
-use Rattle.std.proofs.Common.{⊎_elim, slice_get, arith}
+use Rattle.std.proofs.Common.{◌≡◌, ◌∙◌, refl, sym, ap, ap₂, ◌<◌, ◌≤◌, ℕ, zero, suc, ◌+◌, ◌-◌}
+use Rattle.std.proofs.Common.{Bool, true, false, ◌&&◌, not, List, [], ◌∷◌, ◌++◌, length, take, Some, None}
+use Rattle.std.proofs.Common.{⊎_elim, arith}
 use Rattle.std.specs.Prelude.{nat_eq, nat_lt, nat_le, ◌==◌, if◌then◌else◌}
 use Rattle.std.specs.Cmp.{both_ways as same_test}
 use Rattle.std.specs.List.{filter, AllByRecursion}
@@ -19,7 +19,6 @@ use Rattle.fdb_mutations.proofs.OrderedLemmas.{parted, filter_all, filter_both, 
 use Rattle.fdb_mutations.proofs.PairsLemmas.{comes_before, ordered-pairs_in, all_in-pairs_in}
 use Rattle.fdb_txn.specs.rules.Owners.{first_owner}
 use Rattle.fdb_txn.specs.rules.Splits.{piece}
-use Rattle.fdb_txn.proofs.rules.AskedLemmas.{owner-exists}
 use Rattle.fdb_txn.proofs.rules.SplitsLemmas.{pieces_part_the_keys}
 use Rattle.fdb_interval.proofs.BreaksLemmas.{all_imply}
 use Rattle.fdb_owners.proofs.SplitLemmas.{either_same}

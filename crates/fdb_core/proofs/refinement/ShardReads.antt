@@ -1,14 +1,12 @@
 -- What the shards answer, at a version that they serve, is what stands on the serial map.
-use Rattle.std.proofs.Common.{◌≡◌, ◌∙◌, refl, sym, ap, ap₂, ◌<◌, ◌≤◌, ℕ, zero, suc, ◌+◌, Bool, true, false, ◌&&◌, ◌||◌}
-use Rattle.std.proofs.Common.{List, [], ◌∷◌, length, take, map, Option, Some, None, ⊎_elim, slice_get, arith}
-use Rattle.std.specs.Prelude.{nat_eq, nat_lt, ◌==◌, if◌then◌else◌}
-use Rattle.std.specs.List.{filter, list_any}
-use Rattle.std.specs.FinMap.{get, empty, get-empty}
+use Rattle.std.proofs.Common.{◌≡◌, ◌∙◌, refl, sym, ap, ◌<◌, ◌≤◌, ℕ, zero, suc, Bool, true, false, ◌&&◌, ◌||◌}
+use Rattle.std.proofs.Common.{List, [], ◌∷◌, length, map, Option, Some, None, ⊎_elim, slice_get, arith}
+use Rattle.std.specs.Prelude.{nat_lt, ◌==◌, if◌then◌else◌}
+use Rattle.std.specs.List.{list_any}
+use Rattle.std.specs.FinMap.{get}
 use Rattle.std.specs.Option.{option_map}
 use Rattle.std.proofs.lemmas.Bool.{cases_Bool, both_ways, and_parts, and_from, or_left, or_right, cond-true, cond-false}
 use Rattle.std.proofs.lemmas.Bool.{not-true, ltb-true, ltb-false, eqb-true, eq-eqb, false_from_ne_true}
-use Rattle.std.proofs.Math.Seq.{take-length}
-use Rattle.std.proofs.lemmas.List.{length-take, take_min}
 use Rattle.std.proofs.lemmas.Option.{slice_get-map, slice_get_within}
 use Rattle.fdb_keys.specs.Points.{Point, point_lt}
 use Rattle.fdb_keys.specs.Clipping.{clipped_range, in_clipped}
@@ -20,7 +18,6 @@ use Rattle.fdb_keys.proofs.ClippingLemmas.{in_clipped-points}
 use Rattle.fdb_keys.proofs.PointOrder.{lt_le_chain}
 use Rattle.fdb_keys.proofs.RangesLemmas.{in_range_parts, common_from_meet, meet_from_common}
 use Rattle.fdb_keys.proofs.WithinLemmas.{within-points}
-use Rattle.fdb_mutations.specs.Maps.{Map}
 use Rattle.fdb_mutations.specs.Pairs.{pairs_in}
 use Rattle.fdb_mutations.proofs.OrderedLemmas.{filter_none}
 use Rattle.fdb_mutations.proofs.PairsLemmas.{pairs_in-part, all_in-pairs_in}
@@ -29,8 +26,6 @@ use Rattle.fdb_txn.specs.rules.Owners.{first_owner}
 use Rattle.fdb_txn.specs.rules.Splits.{end_of_keys, piece}
 use Rattle.fdb_txn.proofs.rules.AskedLemmas.{owner-exists}
 use Rattle.fdb_txn.proofs.rules.SplitsLemmas.{pieces_part_the_keys}
-use Rattle.fdb_client.specs.Pages.{IsPage}
-use Rattle.fdb_client.specs.declared.snapshot.Page.{Page}
 use Rattle.fdb_storage.specs.Shards.{serving_fault, value_at, HasValuesOf}
 use Rattle.fdb_storage.specs.Shards as storage
 use Rattle.fdb_core.specs.declared.roles.shard.ShardRole.{ShardRole}
