@@ -55,6 +55,8 @@ impl ResolverRole {
             (record { index = index; version = entry.version; prev = entry.prev }) entry.batch i part.now
             → Answers result None (λ answer. TakesNext splits before entry i index self.old answer self.new) }
     {
+        // What is sent has room before the core changes.
+        self.sent.reserve(1)?;
         let verdicts = self.core.take(part)?;
         let answer = Items::from_vec(Vec::from_slice(alloc, verdicts.answers.as_slice())?);
         self.sent.push(verdicts)?;

@@ -36,6 +36,13 @@ impl Cluster {
         if self.config.book as usize <= self.book.len() {
             return Err(Refusal::BookFull);
         }
+        make_room(
+            &mut self.book,
+            &mut self.entry_proxies,
+            &mut self.decided,
+            &mut self.parts,
+            &mut self.messages,
+        )?;
         let commit_proxy = &mut self.commit_proxies[at];
         let (batch, parts) = commit_proxy.seal(self.alloc, &ticket)?;
         let places = batch.as_slice().len() as u32;
@@ -183,6 +190,27 @@ impl Cluster {
         tell_all(&mut self.sessions, transcripts)?;
         Ok(Answered::Answers(told))
     }
+}
+
+// There is room for one more entry and for what stands beside it, before a role changes.
+fn make_room(
+    book: &mut Vec<Entry>,
+    entry_proxies: &mut Vec<u32>,
+    decided: &mut Vec<bool>,
+    pooled: &mut Vec<Items<Part>>,
+    messages: &mut Vec<Option<Items<LogMsg>>>,
+) -> Result<(), AllocError>
+    ensures book { book.new.items ≡ book.old.items }
+    ensures entry_proxies { entry_proxies.new.items ≡ entry_proxies.old.items }
+    ensures decided { decided.new.items ≡ decided.old.items }
+    ensures parts { pooled.new.items ≡ pooled.old.items }
+    ensures messages { messages.new.items ≡ messages.old.items }
+{
+    book.reserve(1)?;
+    entry_proxies.reserve(1)?;
+    decided.reserve(1)?;
+    pooled.reserve(1)?;
+    messages.reserve(1)
 }
 
 // One more entry is of the proxy and has the parts. It isn't decided, so there are no messages of it yet.

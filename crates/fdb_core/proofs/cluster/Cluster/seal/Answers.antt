@@ -1,4 +1,4 @@
-use Rattle.std.proofs.Common.{◌≡◌, ◌∙◌, refl, sym, ap, ⊎_elim, subst, ◌<◌, ◌≤◌, true, length, map, List, []}
+use Rattle.std.proofs.Common.{◌≡◌, ◌∙◌, refl, sym, ap, ⊎_elim, subst, ℕ, Bool, false, Option, ◌<◌, ◌≤◌, true, length, map, List, []}
 use Rattle.std.proofs.Common.{◌∷◌, ◌++◌, take, Some, None, Err, slice_get, slice_set, arith, rules}
 use Rattle.std.proofs.lemmas.List.{length-append}
 use Rattle.fdb_keys.specs.declared.refusal.Refusal.{Refusal}
@@ -9,6 +9,8 @@ use Rattle.fdb_txn.specs.book.Transactions.{Transaction}
 use Rattle.fdb_sequencer.specs.declared.ticket.Ticket.{Ticket}
 use Rattle.fdb_sequencer.specs.Sequencer.{Sequencer, accept_fault, next_version, plan_fault, planned}
 use Rattle.fdb_sequencer.proofs.TicketLemmas.{planned_are_accepted}
+use Rattle.fdb_log.specs.declared.message.LogMsg.{LogMsg}
+use Rattle.fdb_resolver.specs.declared.part.Part.{Part}
 use Rattle.fdb_core.specs.declared.roles.commit_proxy.CommitProxyRole.{CommitProxyRole}
 use Rattle.fdb_core.specs.declared.step.Answered.TheVariants as answered
 use Rattle.fdb_core.specs.machine.CommitProxySteps.{seals, is_idle}
@@ -133,7 +135,19 @@ returns c =
     (next-ticket k old c.args.proxy c.args.advance role at ticket for_it) old.book.entries in
     let entry : Entry = entry_of ticket batch in
     let fits : length k.book.items < k.config.book = room before in
-    let book : c.push.new.self.items ≡ k.book.items ++ entry ∷ [] = c.in_ok-push.ensures.items in
+    -- what is pushed comes behind what there was before room was made
+    let room_made = c.make_room.ensures in
+    let added = c.in_ok-add_undecided.ensures in
+    let book : c.push.new.self.items ≡ k.book.items ++ entry ∷ [] =
+    c.in_ok-push.ensures.items ∙ ap (λ (entries : List Entry). entries ++ entry ∷ []) room_made.book in
+    let proxies : c.add_undecided.new.entry_proxies.items ≡ k.entry_proxies.items ++ c.args.proxy ∷ [] =
+    added.entry_proxies ∙ ap (λ (all : List ℕ). all ++ c.args.proxy ∷ []) room_made.entry_proxies in
+    let flags : c.add_undecided.new.decided.items ≡ k.decided.items ++ false ∷ [] =
+    added.decided ∙ ap (λ (all : List Bool). all ++ false ∷ []) room_made.decided in
+    let pool : c.add_undecided.new.messages.items ≡ k.messages.items ++ None ∷ [] =
+    added.messages ∙ ap (λ (all : List (Option (List LogMsg))). all ++ None ∷ []) room_made.messages in
+    let parted : c.add_undecided.new.pooled.items ≡ k.parts.items ++ parts ∷ [] =
+    added.parts ∙ ap (λ (all : List (List Part)). all ++ parts ∷ []) room_made.parts in
     let places : length c.as_slice.result.now ≡ length (take place_limit role.waiting) =
     ap (λ (batch : List Transaction). length batch) c.as_slice.ensures.places
     ∙ length-sealed role.waiting batch is.batch_is in
@@ -143,8 +157,8 @@ returns c =
     (λ i. record (machine_of k) {
       book = (book ∙ ap (λ (e : Entry). k.book.items ++ e ∷ [])
           (entry-is k old c.args.proxy c.args.advance role at ticket for_it batch parts later is)) i;
-      entry_proxies = c.in_ok-add_undecided.ensures.entry_proxies i;
-      decided = c.in_ok-add_undecided.ensures.decided i;
+      entry_proxies = proxies i;
+      decided = flags i;
       pending = ap (λ (s : Sequencer). s.pending) c.issue.ensures i;
       commit_proxies = (map-set seen_as k.commit_proxies.items c.args.proxy later
           ∙ ap (slice_set (map seen_as k.commit_proxies.items) c.args.proxy)
@@ -156,15 +170,10 @@ returns c =
       room = rw book (omega (arith, length-append k.book.items (entry ∷ []), fits));
       sequencer = rw (c.issue.ensures, book)
           (sequencer-tied k old c.args.proxy c.args.advance role at ticket for_it batch parts later is);
-      book = rw (
-        book,
-        c.in_ok-add_undecided.ensures.entry_proxies,
-        c.in_ok-add_undecided.ensures.decided,
-        c.in_ok-add_undecided.ensures.messages,
-      )
+      book = rw (book, proxies, flags, pool)
           (book-push k.book.items entry k.config k.entry_proxies.items k.decided.items k.messages.items c.args.proxy
           old.book (follows k old c.args.proxy c.args.advance role at ticket for_it batch parts later is));
-      parts = rw (book, c.in_ok-add_undecided.ensures.parts)
+      parts = rw (book, parted)
           (parts-push k.book.items entry k.config.resolver_splits k.parts.items parts old.parts
           (parts-are k old c.args.proxy c.args.advance role at ticket for_it batch parts later is));
       resolvers = rw book (resolvers-push k.book.items entry k.config.resolver_splits k.resolvers.items old.resolvers);
