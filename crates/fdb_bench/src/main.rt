@@ -12,7 +12,7 @@ mod serial;
 mod sets;
 mod storage;
 
-use crate::numbers::{Fault, number_of};
+use crate::numbers::{Fault, number_of, operations_of};
 use std::env;
 use std::process::ExitCode;
 use std::time::Duration;
@@ -139,7 +139,7 @@ fn run_log(rt: &HostRuntime, entries: &str) -> Result<(), Fault> {
 fn run_client(rt: &HostRuntime, transactions: &str, operations: &str) -> Result<(), Fault> {
     let setting = client::Setting {
         transactions: number_of(transactions)?,
-        operations: number_of(operations)?,
+        operations: operations_of(operations)?,
     };
     let took = client::measure(rt, rt.alloc(), &setting)?;
     let numbers = [
@@ -162,7 +162,7 @@ fn run_sealed(rt: &HostRuntime, mutations: &str) -> Result<(), Fault> {
 }
 
 fn run_answered(rt: &HostRuntime, operations: &str) -> Result<(), Fault> {
-    let operations = number_of(operations)?;
+    let operations = operations_of(operations)?;
     let took = answered::measure(rt, rt.alloc(), operations)?;
     report(rt, "answered", &[("operations", operations)], took)
 }

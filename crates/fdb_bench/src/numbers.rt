@@ -32,11 +32,21 @@ pub(crate) enum Fault {
     NotAnswered,
 }
 
-/// The number that the word gives.
+/// The number that the word gives, if it is at most 10,000,000.
 pub(crate) fn number_of(word: &str) -> Result<u32, Fault> {
+    number_up_to(word, 10_000_000)
+}
+
+/// How many operations one transaction has by the word, if it is at most 1,000,000: these are in memory all at once, and
+/// a transaction that has more is too large anyhow.
+pub(crate) fn operations_of(word: &str) -> Result<u32, Fault> {
+    number_up_to(word, 1_000_000)
+}
+
+fn number_up_to(word: &str, greatest: u32) -> Result<u32, Fault> {
     match word.parse::<u32>() {
-        Ok(number) => Ok(number),
-        Err(_error) => Err(Fault::BadNumber),
+        Ok(number) if number <= greatest => Ok(number),
+        _ => Err(Fault::BadNumber),
     }
 }
 
