@@ -1,12 +1,9 @@
 pub mod Cluster
-pub mod CommitProxies
-pub mod Logs
-pub mod RangeFaults
-pub mod Reads
-pub mod Receiving
-pub mod Resolving
-pub mod Sessions
-pub mod ShardReads
 pub mod Starts
 pub mod Steps
 pub mod Views
+pub mod client
+pub mod commit_proxy
+pub mod log
+pub mod resolver
+pub mod shard

@@ -3,8 +3,8 @@ ghost use Rattle.std.specs.Prelude.{◌≡◌, suc, [], length, replicate, None,
 ghost use Rattle.fdb_keys.specs.Answers.{Answers};
 ghost use Rattle.fdb_core.specs.machine.Worlds.{start};
 ghost use Rattle.fdb_core.specs.refinement.Cluster.{machine_of, Refines};
-ghost use Rattle.fdb_core.specs.refinement.CommitProxies.{IsNewCommitProxy};
-ghost use Rattle.fdb_core.specs.refinement.Logs.{Each};
+ghost use Rattle.fdb_core.specs.refinement.commit_proxy.Ties.{IsNewCommitProxy};
+ghost use Rattle.fdb_core.specs.refinement.log.Ties.{Each};
 ghost use Rattle.fdb_core.specs.refinement.Starts.{AreNewLogs, AreNewShards, IsNewResolver};
 ghost use Rattle.fdb_proxy.specs.Configs.{config_fault};
 ghost use Rattle.fdb_sequencer.specs.Sequencer.{fresh};

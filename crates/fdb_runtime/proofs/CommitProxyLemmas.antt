@@ -44,7 +44,7 @@ use Rattle.fdb_core.proofs.headline.ProxyLaws.{proxies_hear_verdicts, proxies_de
 use Rattle.fdb_core.proofs.headline.ProxyLaws.{messages_are_of_the_entry, proxies_answer_by_the_rule}
 use Rattle.fdb_core.proofs.headline.ProxyLaws.{answers_are_by_the_rule}
 use Rattle.fdb_core.proofs.refinement.BookLemmas.{take-next, seen-before-last}
-use Rattle.fdb_core.proofs.refinement.LogTies.{made-at}
+use Rattle.fdb_core.proofs.refinement.log.Ties.{made-at}
 use Rattle.fdb_runtime.specs.CommitProxiesAtFronts.{CommitProxyAtFront, IsThere, AreLastParts, hear_fault}
 use Rattle.fdb_runtime.specs.CommitProxiesAtFronts.{AreLastMessages, AreOutcomes}
 use Rattle.fdb_runtime.specs.Messages.{IsLastPart, IsLastMessage, VerdictsAtFront, AreLastVerdicts}

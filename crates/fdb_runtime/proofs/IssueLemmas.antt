@@ -25,12 +25,12 @@ use Rattle.fdb_sequencer.proofs.TicketLemmas.{planned_are_accepted}
 use Rattle.fdb_proxy.specs.declared.config.Config.{Config}
 use Rattle.fdb_core.specs.headline.RoleLaws.{AreLastOf, IsSequencerAt}
 use Rattle.fdb_core.specs.machine.SequencerSteps.{dated_moves}
-use Rattle.fdb_core.specs.refinement.CommitProxies.{entry_of}
+use Rattle.fdb_core.specs.refinement.commit_proxy.Ties.{entry_of}
 use Rattle.fdb_core.proofs.common.FaultLemmas.{answers-fault, given-fault}
 use Rattle.fdb_core.proofs.headline.RoleLaws.{sequencer_goes_on}
 use Rattle.fdb_core.proofs.headline.RoleStartLaws.{sequencer_starts, sequencer_reports, sequencer_moves}
 use Rattle.fdb_core.proofs.refinement.BookLemmas.{last-push}
-use Rattle.fdb_core.proofs.refinement.MoveLemmas.{dated_moves-push}
+use Rattle.fdb_core.proofs.refinement.sequencer.Moves.{dated_moves-push}
 use Rattle.fdb_runtime.specs.Issuing.{IsAppendRefused}
 
 abbrev pub ReadBelow : ℕ → List Transaction → Type 0

@@ -27,9 +27,9 @@ use Rattle.fdb_storage.specs.Shards.{read_fault}
 use Rattle.fdb_proxy.specs.declared.config.Config.{Config}
 use Rattle.fdb_client.specs.Pages.{IsPage}
 use Rattle.fdb_client.specs.declared.snapshot.Page.{Page}
-use Rattle.fdb_core.specs.refinement.ShardReads.{left_of, AreFew}
+use Rattle.fdb_core.specs.refinement.shard.Reads.{left_of, AreFew}
 use Rattle.fdb_core.proofs.common.FaultLemmas.{gives}
-use Rattle.fdb_core.proofs.refinement.ShardPages.{first-again, first-left, first-full, first-none, page-first}
+use Rattle.fdb_core.proofs.refinement.shard.Pages.{first-again, first-left, first-full, first-none, page-first}
 use Rattle.fdb_runtime.specs.LentShards.{LentShards, lent_shards, range_fault}
 use Rattle.fdb_runtime.specs.LentShards.{is_held, AreInARow, HoldAll, pairs_at, pairs_held, next_fault, row_fault, row_begin}
 use Rattle.fdb_runtime.specs.LentShards.{lending_fault}

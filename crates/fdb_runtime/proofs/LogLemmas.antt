@@ -19,7 +19,7 @@ use Rattle.fdb_proxy.specs.declared.config.Config.{Config}
 use Rattle.fdb_core.specs.headline.RoleLaws.{IsLogAt}
 use Rattle.fdb_core.proofs.headline.RoleLaws.{log_goes_on}
 use Rattle.fdb_core.proofs.headline.RoleStartLaws.{log_pops}
-use Rattle.fdb_core.proofs.refinement.ResolvingLemmas.{follows}
+use Rattle.fdb_core.proofs.refinement.resolver.AtBook.{follows}
 use Rattle.fdb_runtime.specs.Messages.{LogMsgAtFront, IsLastMessage}
 use Rattle.fdb_runtime.specs.RolesAtFronts.{LogAtFront}
 use Rattle.fdb_runtime.specs.Turns.{front_fault, HasOneMore, AnswersInTurn}

@@ -12,7 +12,7 @@ use Rattle.fdb_txn.specs.declared.entry.Entry.{Entry}
 use Rattle.fdb_storage.specs.Shards as shards
 use Rattle.fdb_client.specs.Programs.{program, decided}
 use Rattle.fdb_client.specs.declared.program.Transcript.{Transcript}
-use Rattle.fdb_core.specs.refinement.Sessions.{OfOpen}
+use Rattle.fdb_core.specs.refinement.client.Sessions.{OfOpen}
 use Rattle.fdb_runtime.specs.LentShards.{LentShards, lending_fault, range_fault}
 use Rattle.fdb_runtime.specs.Reading.{RefusedBy}
 use Rattle.fdb_runtime.specs.ShardViews.{ShardView, key_fault}

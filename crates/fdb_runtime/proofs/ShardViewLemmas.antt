@@ -23,7 +23,7 @@ use Rattle.fdb_client.specs.declared.snapshot.Page.{Page}
 use Rattle.fdb_core.proofs.common.FaultLemmas.{answers-fault, gives}
 use Rattle.fdb_core.proofs.headline.FrontLaws.{fronts_have_one_run}
 use Rattle.fdb_core.proofs.refinement.RunLaws.{entries-linked}
-use Rattle.fdb_core.proofs.refinement.ShardPages.{page-first}
+use Rattle.fdb_core.proofs.refinement.shard.Pages.{page-first}
 use Rattle.fdb_runtime.specs.ShardsAtFronts.{ShardAtFront, IsThere}
 use Rattle.fdb_runtime.specs.ShardViews.{ShardView, HasTheRunOf, range_fault, run_map, served}
 

@@ -27,7 +27,7 @@ use Rattle.fdb_proxy.specs.CommitProxies.{CommitProxy, IsTicketFor, is_sealed, l
 use Rattle.fdb_proxy.specs.CommitProxies.{HasLearntTicket, HasFailed}
 use Rattle.fdb_core.specs.headline.ProxyStages.{IsCommitProxyAt}
 use Rattle.fdb_core.specs.machine.SequencerSteps.{dated_moves}
-use Rattle.fdb_core.specs.refinement.CommitProxies.{entry_of}
+use Rattle.fdb_core.specs.refinement.commit_proxy.Ties.{entry_of}
 use Rattle.fdb_core.proofs.headline.ProxyLaws.{proxies_learn_their_tickets}
 use Rattle.fdb_core.proofs.refinement.BookLemmas.{take-take}
 use Rattle.fdb_runtime.specs.CommitProxiesAtFronts.{IsThere}

@@ -8,7 +8,7 @@ ghost use Rattle.fdb_client.specs.Programs.{commit_request_of};
 ghost use Rattle.fdb_client.specs.TxnState.{with_op};
 ghost use Rattle.fdb_client.specs.declared.program.Op.TheVariants as operation;
 ghost use Rattle.fdb_client.specs.declared.program.Reply.TheVariants as answer;
-ghost use Rattle.fdb_core.specs.refinement.Sessions.{OfOpen};
+ghost use Rattle.fdb_core.specs.refinement.client.Sessions.{OfOpen};
 ghost use Rattle.fdb_runtime.specs.Commits.{CommitAnswers};
 ghost use Rattle.fdb_runtime.specs.Reading.{HasRead};
 ghost use Rattle.fdb_runtime.specs.Sessions.{learning, with_current};

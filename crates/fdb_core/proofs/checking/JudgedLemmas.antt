@@ -9,7 +9,7 @@ use Rattle.fdb_proxy.specs.declared.outcome.Outcome.{Outcome}
 use Rattle.fdb_proxy.specs.Verdicts.{outcomes_on}
 use Rattle.fdb_core.specs.check.Judged.{AreJudged}
 use Rattle.fdb_core.specs.check.Judging.{Judge, IsJudgeAt}
-use Rattle.fdb_core.specs.refinement.Logs.{Each}
+use Rattle.fdb_core.specs.refinement.log.Ties.{Each}
 use Rattle.fdb_core.proofs.common.AllLemmas.{within-item}
 use Rattle.fdb_core.proofs.common.ListLemmas.{each-push}
 use Rattle.fdb_core.proofs.refinement.BookLemmas.{take-next}

@@ -24,10 +24,10 @@ use Rattle.fdb_proxy.specs.VerdictLaws.{AreByTheRule}
 use Rattle.fdb_proxy.proofs.OutcomeLemmas.{entries_are_decided_by_the_rule}
 use Rattle.fdb_proxy.proofs.TicketLemmas.{may-learn}
 use Rattle.fdb_core.specs.check.Judging.{Judge, HaveMoves, IsJudgeAt, MayTake, HaveSaid}
-use Rattle.fdb_core.specs.refinement.Resolving.{IsResolverAt}
-use Rattle.fdb_core.specs.refinement.Logs.{Each}
+use Rattle.fdb_core.specs.refinement.resolver.Resolving.{IsResolverAt}
+use Rattle.fdb_core.specs.refinement.log.Ties.{Each}
 use Rattle.fdb_core.proofs.common.AllLemmas.{within-item}
-use Rattle.fdb_core.proofs.refinement.ResolvingLemmas.{may-take, takes, position, history}
+use Rattle.fdb_core.proofs.refinement.resolver.AtBook.{may-take, takes, position, history}
 use Rattle.fdb_core.proofs.refinement.BookLemmas.{last-push}
 
 -- The next entry of a book after these.

@@ -4,7 +4,7 @@ use Rattle.std.proofs.Common.{map, get_or, Some, arith}
 use Rattle.std.specs.List.{AllZip, slice_get, slice_set}
 use Rattle.std.proofs.lemmas.List.{length-append, length-set}
 use Rattle.std.proofs.lemmas.Option.{same_Some, slice_get_read}
-use Rattle.fdb_core.specs.refinement.Logs.{Each}
+use Rattle.fdb_core.specs.refinement.log.Ties.{Each}
 
 -- a list's item that was set, and any other one
 pub set-here : {A : Type 0} (xs : List A) (i : ℕ) (x : A) → i < length xs → slice_get (slice_set xs i x) i ≡ Some x

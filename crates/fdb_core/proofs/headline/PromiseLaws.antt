@@ -27,7 +27,7 @@ use Rattle.fdb_core.specs.headline.Promises.{RefusalsChangeNothing, GrantsCommit
 use Rattle.fdb_core.specs.headline.Promises.{RangeReadsFromTheRun, RangeReadsRefused, Lags, Forgot, Serves, AtSomePoint}
 use Rattle.fdb_core.specs.headline.Promises.{AtEachPoint}
 use Rattle.fdb_core.specs.machine.Steps.{after}
-use Rattle.fdb_core.specs.refinement.RangeFaults.{of-range, too-old-range, served-range}
+use Rattle.fdb_core.specs.refinement.shard.RangeFaults.{of-range, too-old-range, served-range}
 use Rattle.fdb_core.proofs.machine.Transitions.{reads-transition, reads-refused}
 use Rattle.fdb_core.proofs.machine.AcceptedTransitions.{of-accepted, past-found, past-test, past-fault, past-open}
 

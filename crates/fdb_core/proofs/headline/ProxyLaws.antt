@@ -39,13 +39,13 @@ use Rattle.fdb_core.specs.headline.ProxyLaws.{ProxiesDecideByTheRule, MessagesAr
 use Rattle.fdb_core.specs.headline.ProxyLaws.{ProxiesAnswerByTheRule, AnswersAreByTheRule}
 use Rattle.fdb_core.specs.headline.ProxyStages.{IsStageAt, IsCommitProxyAt}
 use Rattle.fdb_core.specs.machine.SequencerSteps.{dated_moves}
-use Rattle.fdb_core.specs.refinement.CommitProxies.{entry_of}
+use Rattle.fdb_core.specs.refinement.commit_proxy.Ties.{entry_of}
 use Rattle.fdb_core.proofs.checking.BodyLemmas.{length-answers, length-outcomes_on}
 use Rattle.fdb_core.proofs.readings.AnswerReplies.{place-by-rule}
-use Rattle.fdb_core.proofs.refinement.BatchStages.{IsLearnt, is-learnt, ticket-fits, ticket-learns, resolving-heard}
-use Rattle.fdb_core.proofs.refinement.BatchStages.{outcomes-decided, answers-decided, logging-heard, messages-decided}
-use Rattle.fdb_core.proofs.refinement.MoveLemmas.{dated_moves-append, entries-behind, ticket-after}
-use Rattle.fdb_core.proofs.refinement.ResolvingLemmas.{entries-after}
+use Rattle.fdb_core.proofs.refinement.commit_proxy.BatchStages.{IsLearnt, is-learnt, ticket-fits, ticket-learns, resolving-heard}
+use Rattle.fdb_core.proofs.refinement.commit_proxy.BatchStages.{outcomes-decided, answers-decided, logging-heard, messages-decided}
+use Rattle.fdb_core.proofs.refinement.sequencer.Moves.{dated_moves-append, entries-behind, ticket-after}
+use Rattle.fdb_core.proofs.refinement.resolver.AtBook.{entries-after}
 
 pub new_proxies_have_no_entry : NewProxiesHaveNoEntry
 new_proxies_have_no_entry config index proxy new = record {

@@ -25,8 +25,8 @@ use Rattle.fdb_storage.specs.Replays.{covered_from, messages_of}
 use Rattle.fdb_storage.proofs.LogMessagesLemmas.{messages_above_a_version}
 use Rattle.fdb_core.specs.headline.Replays.{IsUnpopped, GoOnFrom, ReplaysTellTheRun}
 use Rattle.fdb_core.specs.refinement.Cluster.{IsRising}
-use Rattle.fdb_core.proofs.refinement.FrontLemmas.{messages-take, through-messages}
-use Rattle.fdb_core.proofs.refinement.LogTies.{take-both}
+use Rattle.fdb_core.proofs.refinement.log.Fronts.{messages-take, through-messages}
+use Rattle.fdb_core.proofs.refinement.log.Ties.{take-both}
 use Rattle.fdb_core.proofs.refinement.BookLemmas.{entries-take}
 use Rattle.fdb_core.proofs.refinement.RunLaws.{entries-rising, serial-front, versions-ordered}
 

@@ -13,8 +13,8 @@ use Rattle.fdb_core.specs.headline.Examples.{plain, two_in_one_entry}
 use Rattle.fdb_core.specs.headline.RoleExamples.{OtherSequencersAreElsewhere, OtherLogsAreElsewhere}
 use Rattle.fdb_core.specs.headline.RoleExamples.{OtherShardsAreElsewhere, to_one, popped_to}
 use Rattle.fdb_core.proofs.headline.ExamplesLemmas.{an_empty_shard_does_not_serve}
-use Rattle.fdb_core.proofs.refinement.FrontLemmas.{new-shard}
-use Rattle.fdb_core.proofs.refinement.LogTies.{kept-tag}
+use Rattle.fdb_core.proofs.refinement.log.Fronts.{new-shard}
+use Rattle.fdb_core.proofs.refinement.log.Ties.{kept-tag}
 use Rattle.fdb_core.proofs.refinement.StartLemmas.{none-unlearnt}
 
 pub other_sequencers_are_elsewhere : OtherSequencersAreElsewhere

@@ -38,15 +38,15 @@ use Rattle.fdb_core.specs.headline.RoleLaws.{EntriesGoOnByTickets}
 use Rattle.fdb_core.specs.headline.RoleLaws.{IsLogAt, LogGoesOn, IsShardAt, ShardGoesOn, ShardGoesOnByMessages}
 use Rattle.fdb_core.specs.headline.RoleLaws.{LogGivesMessages, ShardGoesOnByItsLog}
 use Rattle.fdb_core.specs.machine.SequencerSteps.{dated_moves}
-use Rattle.fdb_core.specs.refinement.CommitProxies.{entry_of}
-use Rattle.fdb_core.specs.refinement.Logs.{LogRefines}
+use Rattle.fdb_core.specs.refinement.commit_proxy.Ties.{entry_of}
+use Rattle.fdb_core.specs.refinement.log.Ties.{LogRefines}
 use Rattle.fdb_core.proofs.common.ListLemmas.{last-at}
 use Rattle.fdb_core.proofs.refinement.BookLemmas.{last-push, entries-take}
-use Rattle.fdb_core.proofs.refinement.FrontLemmas.{count-messages, gives-messages, gives-through, shard-may-apply}
-use Rattle.fdb_core.proofs.refinement.FrontLemmas.{shard-applied}
-use Rattle.fdb_core.proofs.refinement.LogTies.{log-next}
-use Rattle.fdb_core.proofs.refinement.MoveLemmas.{dated_moves-push, handed-count, handed-own, handed-other}
-use Rattle.fdb_core.proofs.refinement.ResolvingLemmas.{follows, may-take, takes}
+use Rattle.fdb_core.proofs.refinement.log.Fronts.{count-messages, gives-messages, gives-through, shard-may-apply}
+use Rattle.fdb_core.proofs.refinement.log.Fronts.{shard-applied}
+use Rattle.fdb_core.proofs.refinement.log.Ties.{log-next}
+use Rattle.fdb_core.proofs.refinement.sequencer.Moves.{dated_moves-push, handed-count, handed-own, handed-other}
+use Rattle.fdb_core.proofs.refinement.resolver.AtBook.{follows, may-take, takes}
 
 pub resolver_goes_on : ResolverGoesOn
 resolver_goes_on splits book entry i old part entries at of = (

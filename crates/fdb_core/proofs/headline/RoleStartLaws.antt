@@ -7,8 +7,8 @@ use Rattle.fdb_log.specs.Logs.{Log, keeps, tag_fault}
 use Rattle.fdb_sequencer.proofs.TicketLemmas.{pending_exist}
 use Rattle.fdb_core.specs.headline.RoleStarts.{ResolverStarts, SequencerStarts, LogStarts, ShardStarts, LogPops}
 use Rattle.fdb_core.specs.headline.RoleStarts.{SequencerReports, SequencerMoves, ShardForgets}
-use Rattle.fdb_core.proofs.refinement.FrontLemmas.{new-log, new-shard, log-pops, shard-forgot}
-use Rattle.fdb_core.proofs.refinement.ResolvingLemmas.{new-resolver}
+use Rattle.fdb_core.proofs.refinement.log.Fronts.{new-log, new-shard, log-pops, shard-forgot}
+use Rattle.fdb_core.proofs.refinement.resolver.AtBook.{new-resolver}
 use Rattle.fdb_core.proofs.refinement.StartLemmas.{none-unlearnt}
 
 pub resolver_starts : ResolverStarts

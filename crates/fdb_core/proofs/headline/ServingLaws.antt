@@ -13,7 +13,7 @@ use Rattle.fdb_log.specs.Messages.{log_of}
 use Rattle.fdb_storage.specs.Shards.{Shard, value_at}
 use Rattle.fdb_core.specs.declared.roles.log.LogRole.{LogRole}
 use Rattle.fdb_core.specs.declared.roles.shard.ShardRole.{ShardRole}
-use Rattle.fdb_core.specs.refinement.Logs.{progress_of}
+use Rattle.fdb_core.specs.refinement.log.Ties.{progress_of}
 use Rattle.fdb_core.specs.machine.Roles.{ShardProgress}
 use Rattle.fdb_core.specs.refinement.Cluster.{machine_of, system_of, Refines}
 use Rattle.fdb_core.specs.machine.Machine.{Machine}
@@ -21,8 +21,8 @@ use Rattle.fdb_core.specs.machine.SequencerSteps.{dated_moves}
 use Rattle.fdb_core.specs.headline.Serving.{EachKeeps, SequencerKeeps, ResolverKeeps, PartsKeep, MessagesKeep, LogKeeps}
 use Rattle.fdb_core.specs.headline.Serving.{ShardReaches, ShardServes, RolesKeep}
 use Rattle.fdb_core.proofs.common.AllLemmas.{within-item}
-use Rattle.fdb_core.proofs.refinement.MoveLemmas.{dated_moves-append}
-use Rattle.fdb_core.proofs.refinement.LogTies.{kept-tag}
+use Rattle.fdb_core.proofs.refinement.sequencer.Moves.{dated_moves-append}
+use Rattle.fdb_core.proofs.refinement.log.Ties.{kept-tag}
 use Rattle.fdb_core.proofs.refinement.RunLaws.{entries-rising, serial-front}
 use Rattle.fdb_core.specs.declared.roles.resolver.ResolverRole.{ResolverRole}
 

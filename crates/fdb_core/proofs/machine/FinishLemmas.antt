@@ -14,7 +14,7 @@ use Rattle.fdb_core.specs.machine.Machine.{Machine, Transition, refused_by}
 use Rattle.fdb_core.specs.machine.Roles.{CommitProxy}
 use Rattle.fdb_core.specs.machine.Sessions.{open_at}
 use Rattle.fdb_core.specs.machine.Steps.{ran_out}
-use Rattle.fdb_core.specs.refinement.Sessions.{OfOpen, Finishes}
+use Rattle.fdb_core.specs.refinement.client.Sessions.{OfOpen, Finishes}
 use Rattle.fdb_core.proofs.common.FaultLemmas.{Unless, unless}
 use Rattle.fdb_core.proofs.machine.OpenLemmas.{open-refused}
 

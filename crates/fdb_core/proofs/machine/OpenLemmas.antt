@@ -15,7 +15,7 @@ use Rattle.fdb_core.specs.machine.Steps.{ran_out}
 use Rattle.fdb_core.proofs.common.FaultLemmas.{Unless, unless}
 use Rattle.fdb_core.specs.machine.Sessions.{Session, SessionState, Sessions, session_of, open_of, open_at, at_state}
 use Rattle.fdb_core.specs.machine.Sessions.{with_state}
-use Rattle.fdb_core.specs.refinement.Sessions.{OfOpen}
+use Rattle.fdb_core.specs.refinement.client.Sessions.{OfOpen}
 use Rattle.fdb_txn.proofs.NumberMaps.{at_number, one_put}
 use Rattle.fdb_core.proofs.machine.SessionMaps.{session-at}
 

@@ -25,8 +25,8 @@ use Rattle.fdb_core.specs.declared.roles.shard.ShardRole.{ShardRole}
 use Rattle.fdb_core.specs.machine.Machine.{is_set}
 use Rattle.fdb_core.specs.refinement.Cluster.{BookRefines, messages_on}
 use Rattle.fdb_core.specs.headline.ProxyStages.{ArePartsOf}
-use Rattle.fdb_core.specs.refinement.Logs.{LogRefines, ShardRefines, LogsRefine}
-use Rattle.fdb_core.specs.refinement.Resolving.{IsResolverAt, ResolverRefines, ResolversRefine, PartsRefine}
+use Rattle.fdb_core.specs.refinement.log.Ties.{LogRefines, ShardRefines, LogsRefine}
+use Rattle.fdb_core.specs.refinement.resolver.Resolving.{IsResolverAt, ResolverRefines, ResolversRefine, PartsRefine}
 use Rattle.fdb_core.proofs.common.ListLemmas.{front-at, last-at}
 use Rattle.fdb_core.proofs.refinement.BookLemmas.{seen-front}
 

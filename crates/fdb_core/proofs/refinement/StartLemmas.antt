@@ -29,14 +29,14 @@ use Rattle.fdb_core.specs.refinement.Cluster.{HasSeenNone, sessions_of}
 use Rattle.fdb_sequencer.specs.Moves.{Dated}
 use Rattle.fdb_sequencer.specs.Sequencer.{fresh}
 use Rattle.fdb_proxy.specs.CommitProxies.{CommitProxy as Core, IsNewProxy}
-use Rattle.fdb_core.specs.refinement.CommitProxies.{CommitProxyRefines, IsNewCommitProxy, StageRefines, known_to}
-use Rattle.fdb_core.specs.refinement.CommitProxies.{seen_as}
-use Rattle.fdb_core.specs.refinement.Logs.{Each, LogRefines, ShardRefines, TagRefines, LogsRefine, logs_taken}
-use Rattle.fdb_core.specs.refinement.Logs.{progress_of}
-use Rattle.fdb_core.specs.refinement.Resolving.{ResolversRefine, taken_by}
+use Rattle.fdb_core.specs.refinement.commit_proxy.Ties.{CommitProxyRefines, IsNewCommitProxy, StageRefines, known_to}
+use Rattle.fdb_core.specs.refinement.commit_proxy.Ties.{seen_as}
+use Rattle.fdb_core.specs.refinement.log.Ties.{Each, LogRefines, ShardRefines, TagRefines, LogsRefine, logs_taken}
+use Rattle.fdb_core.specs.refinement.log.Ties.{progress_of}
+use Rattle.fdb_core.specs.refinement.resolver.Resolving.{ResolversRefine, taken_by}
 use Rattle.fdb_core.specs.refinement.Starts.{AreNewLogs, AreNewShards, IsNewResolver}
 use Rattle.fdb_core.proofs.common.ListLemmas.{each-push}
-use Rattle.fdb_core.proofs.refinement.FrontLemmas.{new-log, new-shard}
+use Rattle.fdb_core.proofs.refinement.log.Fronts.{new-log, new-shard}
 use Rattle.fdb_core.proofs.headline.ProxyLaws.{new_proxies_have_no_entry}
 
 -- what is made of items of which the same is made is so many of it

@@ -13,8 +13,8 @@ use Rattle.fdb_resolver.specs.declared.part.Part.{Part}
 use Rattle.fdb_resolver.specs.declared.verdict.Verdicts.{Verdicts}
 use Rattle.fdb_resolver.specs.Resolvers.{Resolver, part_fault, IsAnswer, HasTaken}
 use Rattle.fdb_proxy.specs.Deciding.{Said}
-use Rattle.fdb_core.specs.refinement.Logs.{Each}
-use Rattle.fdb_core.specs.refinement.Resolving.{IsResolverAt}
+use Rattle.fdb_core.specs.refinement.log.Ties.{Each}
+use Rattle.fdb_core.specs.refinement.resolver.Resolving.{IsResolverAt}
 
 -- who owned which keys, the version of the last entry, and the resolvers by number
 pub record Judge : Type 0 where

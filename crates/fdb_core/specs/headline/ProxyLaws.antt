@@ -25,7 +25,7 @@ use Rattle.fdb_proxy.specs.Verdicts.{moves_through, outcomes_on}
 use Rattle.fdb_core.specs.headline.Answers.{IsByRule}
 use Rattle.fdb_core.specs.headline.ProxyStages.{IsCommitProxyAt, IsSaid}
 use Rattle.fdb_core.specs.machine.SequencerSteps.{dated_moves}
-use Rattle.fdb_core.specs.refinement.CommitProxies.{entry_of}
+use Rattle.fdb_core.specs.refinement.commit_proxy.Ties.{entry_of}
 
 -- entry i is the last one
 pub record IsLastEntry (front : List Entry) (i : ℕ) (entry : Entry) : Type 0 where

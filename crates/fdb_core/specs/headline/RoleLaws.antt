@@ -33,8 +33,8 @@ use Rattle.fdb_proxy.specs.declared.config.Config.{Config}
 use Rattle.fdb_proxy.specs.Parting.{IsPartOf}
 use Rattle.fdb_proxy.specs.Verdicts.{moves_through, verdicts_on}
 use Rattle.fdb_core.specs.machine.SequencerSteps.{dated_moves}
-use Rattle.fdb_core.specs.refinement.CommitProxies.{entry_of}
-use Rattle.fdb_core.specs.refinement.Resolving.{IsResolverAt}
+use Rattle.fdb_core.specs.refinement.commit_proxy.Ties.{entry_of}
+use Rattle.fdb_core.specs.refinement.resolver.Resolving.{IsResolverAt}
 
 -- A resolver isn't refused its part of the next entry, says the rule's verdicts, and has then taken the entry.
 abbrev pub ResolverGoesOn : Type 0

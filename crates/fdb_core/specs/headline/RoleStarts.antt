@@ -10,7 +10,7 @@ use Rattle.fdb_log.specs.Logs.{Log, IsNewLog, tag_fault, HasPopped}
 use Rattle.fdb_storage.specs.Shards.{Shard, IsNewShard, forget_fault, HasForgotten}
 use Rattle.fdb_proxy.specs.declared.config.Config.{Config}
 use Rattle.fdb_core.specs.headline.RoleLaws.{IsSequencerAt, IsLogAt, IsShardAt}
-use Rattle.fdb_core.specs.refinement.Resolving.{IsResolverAt}
+use Rattle.fdb_core.specs.refinement.resolver.Resolving.{IsResolverAt}
 
 -- new roles took no entries
 abbrev pub ResolverStarts : Type 0

@@ -21,9 +21,9 @@ use Rattle.fdb_storage.specs.LogMessages.{log_messages}
 use Rattle.fdb_core.specs.machine.Machine.{Machine, is_set}
 use Rattle.fdb_core.specs.machine.SequencerSteps.{moves_in}
 use Rattle.fdb_core.specs.machine.Sessions.{EachOpen}
-use Rattle.fdb_core.specs.refinement.CommitProxies.{ReadsWithin, CommitProxyRefines, Known, known_to, seen_as}
-use Rattle.fdb_core.specs.refinement.Resolving.{ResolversRefine, PartsRefine, taken_by}
-use Rattle.fdb_core.specs.refinement.Logs.{logs_taken, progress_of, LogsRefine}
+use Rattle.fdb_core.specs.refinement.commit_proxy.Ties.{ReadsWithin, CommitProxyRefines, Known, known_to, seen_as}
+use Rattle.fdb_core.specs.refinement.resolver.Resolving.{ResolversRefine, PartsRefine, taken_by}
+use Rattle.fdb_core.specs.refinement.log.Ties.{logs_taken, progress_of, LogsRefine}
 use Rattle.fdb_core.specs.headline.Serving.{System}
 
 -- who asks at a read-version proxy

@@ -12,9 +12,9 @@ ghost use Rattle.fdb_owners.specs.OwnersLaws.{AgreesWith};
 ghost use Rattle.fdb_resolver.specs.Parts.{IsPart};
 ghost use Rattle.fdb_resolver.specs.Resolvers.{IsNew};
 ghost use Rattle.fdb_proxy.specs.Verdicts.{moves_through, outcomes_on};
-ghost use Rattle.fdb_core.specs.refinement.Logs.{Each};
+ghost use Rattle.fdb_core.specs.refinement.log.Ties.{Each};
 ghost use Rattle.fdb_core.specs.check.Judging.{HaveMoves, MayFollow, MayTake, HaveSaid};
-ghost use Rattle.fdb_core.specs.refinement.Resolving.{IsResolverAt};
+ghost use Rattle.fdb_core.specs.refinement.resolver.Resolving.{IsResolverAt};
 
 use fdb_keys::{Items, Key, Refusal};
 use fdb_owners::Owners;

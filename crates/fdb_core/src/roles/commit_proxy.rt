@@ -5,8 +5,8 @@ ghost use Rattle.std.specs.Prelude.{◌≡◌, length, take, drop, OnOk, IfOk};
 ghost use Rattle.fdb_txn.specs.Limits.{place_limit};
 ghost use Rattle.fdb_keys.specs.Answers.{Answers};
 ghost use Rattle.fdb_proxy.specs.Configs.{config_fault};
-ghost use Rattle.fdb_core.specs.refinement.CommitProxies.{IsNewCommitProxy};
-ghost use Rattle.fdb_core.specs.refinement.Logs.{Each};
+ghost use Rattle.fdb_core.specs.refinement.commit_proxy.Ties.{IsNewCommitProxy};
+ghost use Rattle.fdb_core.specs.refinement.log.Ties.{Each};
 
 use fdb_client::Transcript;
 use fdb_keys::{Items, Refusal};
@@ -60,9 +60,9 @@ impl CommitProxyRole {
     ghost use Rattle.fdb_core.specs.machine.CommitProxySteps.{with_received};
     ghost use Rattle.fdb_core.specs.machine.Machine.{first_missing};
     ghost use Rattle.fdb_core.specs.machine.Roles.{FromResolver, FromLog};
-    ghost use Rattle.fdb_core.specs.refinement.CommitProxies.{Known, seen_as, CommitProxyRefines, IsNewCommitProxy};
+    ghost use Rattle.fdb_core.specs.refinement.commit_proxy.Ties.{Known, seen_as, CommitProxyRefines, IsNewCommitProxy};
     ghost use Rattle.fdb_core.specs.headline.ProxyStages.{IsSaid};
-    ghost use Rattle.fdb_core.specs.refinement.CommitProxies.{IsNextTicket, Seals, Decides, IsDone};
+    ghost use Rattle.fdb_core.specs.refinement.commit_proxy.Ties.{IsNextTicket, Seals, Decides, IsDone};
 
     /// The commit proxy with the number, without a batch, at which nobody waits. Refused only as `NoMemory`.
     pub(crate) fn new(alloc: Global, index: u32, config: &Config) -> Result<Self, Refusal>

@@ -1,6 +1,6 @@
 // A resolver of the world.
 ghost use Rattle.std.specs.Prelude.{◌≡◌, ◌<◌, length, slice_get, IfOk};
-ghost use Rattle.fdb_core.specs.refinement.Logs.{Each};
+ghost use Rattle.fdb_core.specs.refinement.log.Ties.{Each};
 ghost use Rattle.fdb_core.specs.refinement.Starts.{IsNewResolver};
 
 use fdb_keys::{Items, Refusal};
@@ -26,7 +26,7 @@ impl ResolverRole {
     ghost use Rattle.fdb_proxy.specs.Parting.{IsPartOf};
     ghost use Rattle.fdb_proxy.specs.Verdicts.{moves_through};
     ghost use Rattle.fdb_resolver.specs.Parts.{IsPart};
-    ghost use Rattle.fdb_core.specs.refinement.Resolving.{ResolverRefines, IsResolverAt, TakesNext};
+    ghost use Rattle.fdb_core.specs.refinement.resolver.Resolving.{ResolverRefines, IsResolverAt, TakesNext};
 
     /// The resolver with the number, which took nothing.
     pub(crate) fn new(alloc: Global, index: u32) -> Self

@@ -6,7 +6,7 @@ ghost use Rattle.fdb_keys.specs.Ranges.{ranges_meet};
 ghost use Rattle.fdb_keys.specs.Texts.{is_bound};
 ghost use Rattle.fdb_core.specs.declared.roles.shard.ShardRole.{ShardRole as Role};
 ghost use Rattle.fdb_mutations.specs.Pairs.{pairs_in, first_of};
-ghost use Rattle.fdb_core.specs.refinement.ShardReads.{range_fault, run_map, left_of, AreFew, pairs_held};
+ghost use Rattle.fdb_core.specs.refinement.shard.Reads.{range_fault, run_map, left_of, AreFew, pairs_held};
 
 use crate::roles::shard::ShardRole;
 use bytes::Bytes;
@@ -32,7 +32,7 @@ pub(crate) struct ShardReads<'a> {
 
 impl<'a> Model for ShardReads<'a> {
     ghost use Rattle.std.specs.Prelude.{◌≡◌};
-    ghost use Rattle.fdb_core.specs.refinement.ShardReads.{ShardReads as Reads, AreReadable};
+    ghost use Rattle.fdb_core.specs.refinement.shard.Reads.{ShardReads as Reads, AreReadable};
 
     ghost Value = { Reads };
 
@@ -136,8 +136,8 @@ impl<'a> ShardReads<'a> {
 }
 
 impl<'a> Snapshot for ShardReads<'a> {
-    ghost use Rattle.fdb_core.specs.refinement.ShardReads.{key_fault, range_fault as range_fault_of, run_map};
-    ghost use Rattle.fdb_core.specs.refinement.RangeFaults.{part_served};
+    ghost use Rattle.fdb_core.specs.refinement.shard.Reads.{key_fault, range_fault as range_fault_of, run_map};
+    ghost use Rattle.fdb_core.specs.refinement.shard.RangeFaults.{part_served};
 
     ghost at = { λ reads. reads.version };
 

@@ -5,7 +5,7 @@ ghost use Rattle.fdb_core.specs.declared.step.Answered.TheVariants.{ReadOnly};
 ghost use Rattle.fdb_core.specs.invariant.Invariant.{Invariant};
 ghost use Rattle.fdb_core.specs.machine.ClientSteps.{reads, writes, adds_read, adds_write, submits};
 ghost use Rattle.fdb_core.specs.refinement.Cluster.{machine_of, Refines};
-ghost use Rattle.fdb_core.specs.refinement.Reads.{operation_of};
+ghost use Rattle.fdb_core.specs.refinement.client.Reading.{operation_of};
 ghost use Rattle.fdb_core.specs.refinement.Steps.{Takes};
 
 use crate::cluster::Cluster;

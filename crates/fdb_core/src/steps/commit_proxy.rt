@@ -3,7 +3,7 @@ ghost use Rattle.std.specs.Prelude.{◌≡◌, ◌++◌, [], ◌∷◌, false, N
 ghost use Rattle.fdb_core.specs.machine.CommitProxySteps.{taken_by_sender, seals, receives, decides, reports, answers};
 ghost use Rattle.fdb_core.specs.machine.Roles.{FromResolver, FromLog};
 ghost use Rattle.fdb_core.specs.refinement.Cluster.{machine_of, Refines};
-ghost use Rattle.fdb_core.specs.refinement.Receiving.{IsReceiver, IsUnknown};
+ghost use Rattle.fdb_core.specs.refinement.commit_proxy.Receiving.{IsReceiver, IsUnknown};
 ghost use Rattle.fdb_core.specs.refinement.Steps.{Takes};
 ghost use Rattle.fdb_core.specs.refinement.Views.{sender_of};
 

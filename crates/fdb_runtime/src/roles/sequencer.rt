@@ -8,7 +8,7 @@ ghost use Rattle.fdb_sequencer.specs.Sequencer.{new_fault, fresh, plan_fault, pl
 ghost use Rattle.fdb_sequencer.specs.Sequencer.{report_fault, reporting, move_fault, moving};
 ghost use Rattle.fdb_core.specs.headline.RoleLaws.{AreLastOf};
 ghost use Rattle.fdb_core.specs.machine.SequencerSteps.{dated_moves};
-ghost use Rattle.fdb_core.specs.refinement.CommitProxies.{entry_of};
+ghost use Rattle.fdb_core.specs.refinement.commit_proxy.Ties.{entry_of};
 ghost use Rattle.fdb_runtime.specs.Issuing.{AnswersIssue};
 
 use crate::name::ClusterName;

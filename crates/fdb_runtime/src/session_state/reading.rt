@@ -8,7 +8,7 @@ ghost use Rattle.fdb_storage.specs.Shards.{key_fault};
 ghost use Rattle.fdb_client.specs.Programs.{program, decided};
 ghost use Rattle.fdb_client.specs.declared.program.Op.TheVariants as operation;
 ghost use Rattle.fdb_client.specs.declared.program.Reply.TheVariants as answer;
-ghost use Rattle.fdb_core.specs.refinement.Sessions.{OfOpen};
+ghost use Rattle.fdb_core.specs.refinement.client.Sessions.{OfOpen};
 ghost use Rattle.fdb_runtime.specs.LentShards.{lent_shards, lending_fault};
 ghost use Rattle.fdb_runtime.specs.Reading.{HasRead, own_writes_decide, RefusedBy};
 

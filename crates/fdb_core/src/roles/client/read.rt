@@ -4,7 +4,7 @@ ghost use Rattle.fdb_keys.specs.Answers.{Answers};
 ghost use Rattle.fdb_client.specs.TxnState.{with_op};
 ghost use Rattle.fdb_client.specs.Programs.{program, copy, reply_on};
 ghost use Rattle.fdb_core.specs.machine.ClientSteps.{answered_by, read_fault};
-ghost use Rattle.fdb_core.specs.refinement.Reads.{operation_of};
+ghost use Rattle.fdb_core.specs.refinement.client.Reading.{operation_of};
 
 use crate::step::Answered;
 use fdb_client::{Snapshot, Txn};

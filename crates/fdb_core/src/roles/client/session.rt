@@ -44,8 +44,8 @@ impl Session {
     ghost use Rattle.fdb_client.specs.declared.program.Transcript.{Transcript};
     ghost use Rattle.fdb_core.specs.machine.ClientSteps.{answered_by, read_fault};
     ghost use Rattle.fdb_core.specs.machine.Sessions.{Idle, Open, open_of, is_busy, at_state};
-    ghost use Rattle.fdb_core.specs.refinement.Reads.{operation_of};
-    ghost use Rattle.fdb_core.specs.refinement.Sessions.{OfOpen, Finishes};
+    ghost use Rattle.fdb_core.specs.refinement.client.Reading.{operation_of};
+    ghost use Rattle.fdb_core.specs.refinement.client.Sessions.{OfOpen, Finishes};
     ghost use Rattle.fdb_core.specs.refinement.Views.{state_of};
 
     /// A session whose last transaction has the number, and which is at the state.

@@ -38,8 +38,8 @@ impl Sessions {
     ghost use Rattle.fdb_client.specs.declared.program.Op.TheVariants as operation;
     ghost use Rattle.fdb_client.specs.declared.program.Reply.TheVariants as answer;
     ghost use Rattle.fdb_core.specs.machine.ClientSteps.{answered_by, read_fault};
-    ghost use Rattle.fdb_core.specs.refinement.Reads.{operation_of};
-    ghost use Rattle.fdb_core.specs.refinement.Sessions.{OfOpen, Finishes};
+    ghost use Rattle.fdb_core.specs.refinement.client.Reading.{operation_of};
+    ghost use Rattle.fdb_core.specs.refinement.client.Sessions.{OfOpen, Finishes};
     ghost use Rattle.fdb_core.specs.machine.GrvProxySteps.{has_no_number};
     ghost use Rattle.fdb_core.specs.machine.Sessions.{Idle, Asking, Open, Waiting, session_of, open_at, with_state};
     ghost use Rattle.fdb_core.specs.machine.Sessions.{is_busy, next_number, serve, tell};

@@ -5,7 +5,7 @@ ghost use Rattle.fdb_keys.specs.Answers.{Answers};
 ghost use Rattle.fdb_mutations.specs.Pairs.{first_of};
 ghost use Rattle.fdb_storage.specs.Shards.{read_fault};
 ghost use Rattle.fdb_txn.specs.book.Book.{last_version};
-ghost use Rattle.fdb_core.specs.refinement.ShardReads.{left_of, AreFew};
+ghost use Rattle.fdb_core.specs.refinement.shard.Reads.{left_of, AreFew};
 ghost use Rattle.fdb_runtime.specs.LentShards.{lent_shards, is_held, pairs_at, pairs_held, AreInARow};
 ghost use Rattle.fdb_runtime.specs.ShardViews.{run_of};
 

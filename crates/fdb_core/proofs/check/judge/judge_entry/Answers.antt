@@ -5,7 +5,7 @@ use Rattle.fdb_proxy.specs.Deciding.{Said, outcomes_by}
 use Rattle.fdb_proxy.specs.Verdicts.{moves_through}
 use Rattle.fdb_proxy.proofs.DecidingLemmas.{count-outcomes}
 use Rattle.fdb_core.proofs.checking.JudgingLemmas.{may-take-all, decided, all-at-next}
-use Rattle.fdb_core.proofs.refinement.ResolvingLemmas.{same-parts, are-parts}
+use Rattle.fdb_core.proofs.refinement.resolver.AtBook.{same-parts, are-parts}
 use Rattle.fdb_core.proofs.check.judge.judge_entry.Goals as goal
 
 pub take_parts-requires-clause-count : goal.take_parts-requires-clause-count

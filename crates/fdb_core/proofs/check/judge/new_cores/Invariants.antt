@@ -1,6 +1,6 @@
 use Rattle.std.proofs.Common.{◌≡◌, length}
 use Rattle.fdb_resolver.specs.Resolvers.{IsNew}
-use Rattle.fdb_core.specs.refinement.Logs.{Each}
+use Rattle.fdb_core.specs.refinement.log.Ties.{Each}
 use Rattle.fdb_core.proofs.check.judge.new_cores.Given as goal
 
 abbrev pub invariant-loop-index : goal.invariant-loop-index

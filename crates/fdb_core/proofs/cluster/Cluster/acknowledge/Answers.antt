@@ -2,7 +2,7 @@ use Rattle.std.proofs.Common.{refl, ap, List}
 use Rattle.fdb_core.specs.declared.roles.client.Placed.{Placed}
 use Rattle.fdb_core.specs.refinement.Cluster.{machine_of}
 use Rattle.fdb_core.proofs.refinement.StepLemmas.{accepted}
-use Rattle.fdb_core.proofs.refinement.Ties.{refines-sessions}
+use Rattle.fdb_core.proofs.refinement.client.Sessions.{refines-sessions}
 use Rattle.fdb_core.proofs.cluster.Cluster.acknowledge.Goals as goal
 
 pub returns : goal.returns

@@ -2,7 +2,7 @@ use Rattle.fdb_client.specs.declared.program.Op.TheVariants as op
 use Rattle.fdb_core.specs.machine.Sessions.{open_at}
 use Rattle.fdb_core.specs.refinement.Cluster.{machine_of}
 use Rattle.fdb_core.proofs.machine.OpenLemmas.{open-given}
-use Rattle.fdb_core.proofs.refinement.Ties.{adds_read-transition, notes-taken}
+use Rattle.fdb_core.proofs.refinement.client.Sessions.{adds_read-transition, notes-taken}
 use Rattle.fdb_core.proofs.cluster.Cluster.add_read.Goals as goal
 
 pub returns : goal.returns

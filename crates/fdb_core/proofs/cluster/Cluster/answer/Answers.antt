@@ -10,11 +10,11 @@ use Rattle.fdb_core.specs.declared.step.Answered.TheVariants as answered
 use Rattle.fdb_core.specs.machine.CommitProxySteps.{is_idle, placed_from}
 use Rattle.fdb_core.specs.machine.Sessions.{Sessions, tell_all}
 use Rattle.fdb_core.specs.refinement.Cluster.{machine_of}
-use Rattle.fdb_core.specs.refinement.CommitProxies.{ReadsWithin, seen_as}
+use Rattle.fdb_core.specs.refinement.commit_proxy.Ties.{ReadsWithin, seen_as}
 use Rattle.fdb_core.proofs.common.ListLemmas.{one-item, read-there}
 use Rattle.fdb_core.proofs.machine.SessionLemmas.{open-told}
-use Rattle.fdb_core.proofs.refinement.AnsweringTies.{told_of, outcome_of, in-book, early, IsAnswered}
-use Rattle.fdb_core.proofs.refinement.AnsweringTies.{finished as done-as}
+use Rattle.fdb_core.proofs.refinement.commit_proxy.Answering.{told_of, outcome_of, in-book, early, IsAnswered}
+use Rattle.fdb_core.proofs.refinement.commit_proxy.Answering.{finished as done-as}
 use Rattle.fdb_core.proofs.refinement.StepLemmas.{accepted, refuses}
 use Rattle.fdb_core.proofs.cluster.Cluster.answer.Goals as goal
 use Rattle.fdb_core.proofs.cluster.Cluster.answer.Goals.{Else-is_idle, After-finish}

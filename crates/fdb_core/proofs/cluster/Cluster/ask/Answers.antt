@@ -4,13 +4,13 @@ use Rattle.std.specs.List.{AllByRecursion}
 use Rattle.fdb_proxy.specs.Askers.{Asker}
 use Rattle.fdb_core.specs.machine.Sessions.{Sessions, Asking}
 use Rattle.fdb_core.specs.refinement.Cluster.{machine_of, HasSeenNone, sessions_of}
-use Rattle.fdb_core.specs.refinement.CommitProxies.{ReadsWithin}
+use Rattle.fdb_core.specs.refinement.commit_proxy.Ties.{ReadsWithin}
 use Rattle.fdb_core.proofs.common.AllLemmas.{all-push}
 use Rattle.fdb_core.proofs.common.ListLemmas.{map-at, map-set, read-there}
 use Rattle.fdb_core.proofs.machine.SessionLemmas.{open-put}
-use Rattle.fdb_core.proofs.refinement.GrvProxyTies.{grv_proxies-set, sessions-push, asks-transition}
+use Rattle.fdb_core.proofs.refinement.grv_proxy.Granting.{grv_proxies-set, sessions-push, asks-transition}
 use Rattle.fdb_core.proofs.refinement.StepLemmas.{accepted}
-use Rattle.fdb_core.proofs.refinement.Ties.{refines-sessions}
+use Rattle.fdb_core.proofs.refinement.client.Sessions.{refines-sessions}
 use Rattle.fdb_core.proofs.cluster.Cluster.ask.Goals as goal
 
 pub returns : goal.returns

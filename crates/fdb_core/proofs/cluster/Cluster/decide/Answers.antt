@@ -1,8 +1,8 @@
 use Rattle.std.proofs.Common.{◌≡◌, ap, ◌<◌, length, Some, slice_get, rules}
 use Rattle.fdb_core.specs.declared.roles.commit_proxy.CommitProxyRole.{CommitProxyRole}
 use Rattle.fdb_core.proofs.common.ListLemmas.{one-item, read-back, read-there}
-use Rattle.fdb_core.proofs.refinement.DecidingLemmas.{is-refused, messages-lack, in-pool, is-decided}
-use Rattle.fdb_core.proofs.refinement.ReceivingLemmas.{proxy-same}
+use Rattle.fdb_core.proofs.refinement.commit_proxy.Deciding.{is-refused, messages-lack, in-pool, is-decided}
+use Rattle.fdb_core.proofs.refinement.commit_proxy.Receiving.{proxy-same}
 use Rattle.fdb_core.proofs.refinement.StepLemmas.{goes_on, lacked, refused}
 use Rattle.fdb_core.proofs.cluster.Cluster.decide.Goals as goal
 use Rattle.fdb_core.proofs.cluster.Cluster.decide.Goals.{After-index-2}

@@ -3,10 +3,10 @@ use Rattle.fdb_storage.specs.Shards.{forget_fault, HasForgotten}
 use Rattle.fdb_core.specs.declared.step.Answered.TheVariants as answered
 use Rattle.fdb_core.specs.machine.Roles.{ShardProgress}
 use Rattle.fdb_core.specs.refinement.Cluster.{machine_of}
-use Rattle.fdb_core.specs.refinement.Logs.{progress_of}
+use Rattle.fdb_core.specs.refinement.log.Ties.{progress_of}
 use Rattle.fdb_core.proofs.common.FaultLemmas.{given-fault, refused-fault, unless}
 use Rattle.fdb_core.proofs.common.ListLemmas.{read-there}
-use Rattle.fdb_core.proofs.refinement.ShardSteps.{shard-put, shard-same, counted, forget-refused, forget-accepted, forgot}
+use Rattle.fdb_core.proofs.refinement.shard.Steps.{shard-put, shard-same, counted, forget-refused, forget-accepted, forgot}
 use Rattle.fdb_core.proofs.refinement.StepLemmas.{accepted, refused}
 use Rattle.fdb_core.proofs.cluster.Cluster.forget.Goals as goal
 use Rattle.fdb_core.proofs.cluster.Cluster.forget.Goals.{After-index_mut-role}

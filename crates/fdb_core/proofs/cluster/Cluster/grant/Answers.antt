@@ -6,13 +6,13 @@ use Rattle.fdb_core.specs.declared.step.Answered.TheVariants as answered
 use Rattle.fdb_core.specs.machine.GrvProxySteps.{has_no_number}
 use Rattle.fdb_core.specs.machine.Sessions.{Sessions, serve}
 use Rattle.fdb_core.specs.refinement.Cluster.{machine_of, HasSeenNone, sessions_of}
-use Rattle.fdb_core.specs.refinement.CommitProxies.{ReadsWithin}
+use Rattle.fdb_core.specs.refinement.commit_proxy.Ties.{ReadsWithin}
 use Rattle.fdb_core.proofs.common.ListLemmas.{map-at, map-set, one-item, read-there}
 use Rattle.fdb_core.proofs.machine.SessionLemmas.{open-served}
-use Rattle.fdb_core.proofs.refinement.GrvProxyTies.{grv_proxies-set, used_up-is, granted-is, served-is}
-use Rattle.fdb_core.proofs.refinement.GrvProxyTies.{grants-exhausted, grants-transition}
+use Rattle.fdb_core.proofs.refinement.grv_proxy.Granting.{grv_proxies-set, used_up-is, granted-is, served-is}
+use Rattle.fdb_core.proofs.refinement.grv_proxy.Granting.{grants-exhausted, grants-transition}
 use Rattle.fdb_core.proofs.refinement.StepLemmas.{accepted, refuses}
-use Rattle.fdb_core.proofs.refinement.Ties.{refines-sessions}
+use Rattle.fdb_core.proofs.refinement.client.Sessions.{refines-sessions}
 use Rattle.fdb_core.proofs.cluster.Cluster.grant.Goals as goal
 use Rattle.fdb_core.proofs.cluster.Cluster.grant.Goals.{After-are_used_up}
 

@@ -1,9 +1,9 @@
 use Rattle.std.proofs.Common.{rules}
 use Rattle.std.specs.Prelude.{⊤}
 use Rattle.fdb_core.specs.machine.Roles.{FromLog}
-use Rattle.fdb_core.specs.refinement.CommitProxies.{known_to}
+use Rattle.fdb_core.specs.refinement.commit_proxy.Ties.{known_to}
 use Rattle.fdb_core.proofs.common.FaultLemmas.{unless}
-use Rattle.fdb_core.proofs.refinement.ReceivingLemmas.{comes-stale, comes-awaited, log-exists, receiver-there}
+use Rattle.fdb_core.proofs.refinement.commit_proxy.Receiving.{comes-stale, comes-awaited, log-exists, receiver-there}
 use Rattle.fdb_core.proofs.refinement.StepLemmas.{goes_on, refused-unless}
 use Rattle.fdb_core.proofs.cluster.Cluster.logged.Goals as goal
 

@@ -3,7 +3,7 @@ use Rattle.fdb_txn.specs.declared.entry.Move.{Move}
 use Rattle.fdb_sequencer.specs.Sequencer.{move_fault, moving}
 use Rattle.fdb_core.specs.machine.SequencerSteps.{moves}
 use Rattle.fdb_core.proofs.common.FaultLemmas.{answers-fault}
-use Rattle.fdb_core.proofs.refinement.MovingTies.{refines-moved}
+use Rattle.fdb_core.proofs.refinement.sequencer.Moving.{refines-moved}
 use Rattle.fdb_core.proofs.cluster.Cluster.move_to.Goals as goal
 
 pub returns : goal.returns

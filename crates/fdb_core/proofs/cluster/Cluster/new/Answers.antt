@@ -1,8 +1,8 @@
 use Rattle.std.proofs.Common.{◌∙◌, refl, ap, suc, length, map, arith, rules, []}
 use Rattle.fdb_sequencer.specs.Sequencer.{Sequencer}
 use Rattle.fdb_core.specs.refinement.Cluster.{BookRefines, sessions_of}
-use Rattle.fdb_core.specs.refinement.CommitProxies.{ReadsWithin}
-use Rattle.fdb_core.specs.refinement.Resolving.{PartsRefine}
+use Rattle.fdb_core.specs.refinement.commit_proxy.Ties.{ReadsWithin}
+use Rattle.fdb_core.specs.refinement.resolver.Resolving.{PartsRefine}
 use Rattle.fdb_core.proofs.machine.SessionLemmas.{open-new}
 use Rattle.fdb_core.proofs.refinement.StartLemmas.{sequencer-start, logs-start, taken-start, progress-start}
 use Rattle.fdb_core.proofs.refinement.StartLemmas.{commit_proxies-start, seen-start, resolvers-start, taken_by-start}

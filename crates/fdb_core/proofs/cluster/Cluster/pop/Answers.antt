@@ -4,7 +4,7 @@ use Rattle.fdb_core.specs.machine.Roles.{ShardProgress}
 use Rattle.fdb_core.specs.refinement.Cluster.{machine_of}
 use Rattle.fdb_core.proofs.common.FaultLemmas.{given-fault, never-refused}
 use Rattle.fdb_core.proofs.common.ListLemmas.{read-there}
-use Rattle.fdb_core.proofs.refinement.ShardSteps.{counted, pop-faultless, pop-goes_on, pop-tied, pop-taken}
+use Rattle.fdb_core.proofs.refinement.shard.Steps.{counted, pop-faultless, pop-goes_on, pop-tied, pop-taken}
 use Rattle.fdb_core.proofs.refinement.StepLemmas.{accepted}
 use Rattle.fdb_core.proofs.cluster.Cluster.pop.Goals as goal
 use Rattle.fdb_core.proofs.cluster.Cluster.pop.Goals.{After-version-version}

@@ -7,8 +7,8 @@ use Rattle.fdb_core.specs.machine.Roles.{ShardProgress}
 use Rattle.fdb_core.specs.refinement.Cluster.{machine_of}
 use Rattle.fdb_core.proofs.common.FaultLemmas.{answers-fault, lacks-memory}
 use Rattle.fdb_core.proofs.common.ListLemmas.{read-there}
-use Rattle.fdb_core.proofs.refinement.ShardSteps.{peek-faultless, apply-faultless, pull-room, pull-goes_on}
-use Rattle.fdb_core.proofs.refinement.ShardSteps.{pull-counted, pull-tied}
+use Rattle.fdb_core.proofs.refinement.shard.Steps.{peek-faultless, apply-faultless, pull-room, pull-goes_on}
+use Rattle.fdb_core.proofs.refinement.shard.Steps.{pull-counted, pull-tied}
 use Rattle.fdb_core.proofs.refinement.StepLemmas.{accepted, lacked}
 use Rattle.fdb_core.proofs.cluster.Cluster.pull.Goals as goal
 use Rattle.fdb_core.proofs.cluster.Cluster.pull.Goals.{After-version, In_ok-peek}

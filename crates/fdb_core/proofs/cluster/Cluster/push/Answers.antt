@@ -6,8 +6,8 @@ use Rattle.fdb_core.specs.refinement.Cluster.{machine_of}
 use Rattle.fdb_core.proofs.common.AllLemmas.{within-item}
 use Rattle.fdb_core.proofs.common.FaultLemmas.{unless-fault, answers-fault}
 use Rattle.fdb_core.proofs.common.ListLemmas.{read-there}
-use Rattle.fdb_core.proofs.refinement.PushSteps.{Pushing, pushing, enough, undecided, refused as push-refused}
-use Rattle.fdb_core.proofs.refinement.PushSteps.{accepted as goes_on, counted, log-same, room, tied, message-rises}
+use Rattle.fdb_core.proofs.refinement.log.Pushing.{Pushing, pushing, enough, undecided, refused as push-refused}
+use Rattle.fdb_core.proofs.refinement.log.Pushing.{accepted as goes_on, counted, log-same, room, tied, message-rises}
 use Rattle.fdb_core.proofs.refinement.StepLemmas.{accepted, refuses, refused-unless}
 use Rattle.fdb_core.proofs.cluster.Cluster.push.Goals as goal
 use Rattle.fdb_core.proofs.cluster.Cluster.push.Goals.{After-as_slice}

@@ -1,9 +1,9 @@
 use Rattle.std.proofs.Common.{◌≡◌, sym, subst, Some}
 use Rattle.fdb_core.specs.machine.Sessions.{open_at}
-use Rattle.fdb_core.specs.refinement.Reads.{operation_of}
-use Rattle.fdb_core.specs.refinement.ShardReads.{AreReadable}
+use Rattle.fdb_core.specs.refinement.client.Reading.{operation_of}
+use Rattle.fdb_core.specs.refinement.shard.Reads.{AreReadable}
 use Rattle.fdb_core.proofs.machine.OpenLemmas.{at-open}
-use Rattle.fdb_core.proofs.refinement.ReadSteps.{are_readable, read-follows, same_reads}
+use Rattle.fdb_core.proofs.refinement.client.Reading.{are_readable, read-follows, same_reads}
 use Rattle.fdb_core.proofs.cluster.Cluster.read.Goals as goal
 
 -- the shards that are read are readable

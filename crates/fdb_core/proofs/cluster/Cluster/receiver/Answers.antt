@@ -3,9 +3,9 @@ use Rattle.std.proofs.lemmas.Option.{slice_get_read}
 use Rattle.std.proofs.lemmas.List.{length-map}
 use Rattle.fdb_core.specs.machine.CommitProxySteps.{taken_by_sender}
 use Rattle.fdb_core.specs.refinement.Cluster.{machine_of}
-use Rattle.fdb_core.specs.refinement.CommitProxies.{seen_as}
+use Rattle.fdb_core.specs.refinement.commit_proxy.Ties.{seen_as}
 use Rattle.fdb_core.specs.refinement.Views.{sender_of}
-use Rattle.fdb_core.proofs.refinement.ReceivingLemmas.{nobody, not-taken, no-entry, no-proxy}
+use Rattle.fdb_core.proofs.refinement.commit_proxy.Receiving.{nobody, not-taken, no-entry, no-proxy}
 use Rattle.fdb_core.proofs.cluster.Cluster.receiver.Goals as goal
 use Rattle.fdb_core.proofs.cluster.Cluster.receiver.Goals.{then-taken-entry-via-then-taken-entry}
 use Rattle.fdb_core.proofs.cluster.Cluster.receiver.Goals.{then-taken-entry-via-else-taken-entry+then-entry-len}

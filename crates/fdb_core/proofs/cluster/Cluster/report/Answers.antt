@@ -5,12 +5,12 @@ use Rattle.fdb_sequencer.specs.Sequencer.{Sequencer}
 use Rattle.fdb_core.specs.declared.roles.commit_proxy.CommitProxyRole.{CommitProxyRole}
 use Rattle.fdb_core.specs.declared.step.Answered.TheVariants as answered
 use Rattle.fdb_core.specs.refinement.Cluster.{machine_of}
-use Rattle.fdb_core.specs.refinement.CommitProxies.{known_to, ReadsWithin, seen_as}
+use Rattle.fdb_core.specs.refinement.commit_proxy.Ties.{known_to, ReadsWithin, seen_as}
 use Rattle.fdb_core.proofs.common.FaultLemmas.{unless}
 use Rattle.fdb_core.proofs.common.ListLemmas.{one-item, read-there}
 use Rattle.fdb_core.proofs.machine.SessionLemmas.{open-weaken}
 use Rattle.fdb_core.proofs.refinement.BookLemmas.{below-last}
-use Rattle.fdb_core.proofs.refinement.ReportingTies.{IsReporting, its, refuses, passes}
+use Rattle.fdb_core.proofs.refinement.commit_proxy.Reporting.{IsReporting, its, refuses, passes}
 use Rattle.fdb_core.proofs.refinement.RunLaws.{entries-rising}
 use Rattle.fdb_core.proofs.refinement.StepLemmas.{accepted, refused}
 use Rattle.fdb_core.proofs.cluster.Cluster.report.Goals as goal

@@ -1,6 +1,6 @@
 use Rattle.std.proofs.Common.{◌≡◌, ◌<◌, length, arith, rules}
-use Rattle.fdb_core.proofs.refinement.ResolverTies.{ToResolve, to-resolve, found-within, found-part, found-lacks}
-use Rattle.fdb_core.proofs.refinement.ResolverTies.{found-resolved}
+use Rattle.fdb_core.proofs.refinement.resolver.Resolving.{ToResolve, to-resolve, found-within, found-part, found-lacks}
+use Rattle.fdb_core.proofs.refinement.resolver.Resolving.{found-resolved}
 use Rattle.fdb_core.proofs.refinement.StepLemmas.{goes_on, lacked}
 use Rattle.fdb_core.proofs.cluster.Cluster.resolve.Goals as goal
 use Rattle.fdb_core.proofs.cluster.Cluster.resolve.Goals.{After-as_slice}

@@ -15,16 +15,16 @@ use Rattle.fdb_core.specs.declared.roles.commit_proxy.CommitProxyRole.{CommitPro
 use Rattle.fdb_core.specs.declared.step.Answered.TheVariants as answered
 use Rattle.fdb_core.specs.machine.CommitProxySteps.{seals, is_idle}
 use Rattle.fdb_core.specs.refinement.Cluster.{machine_of}
-use Rattle.fdb_core.specs.refinement.CommitProxies.{Seals, known_to, seen_as, entry_of}
+use Rattle.fdb_core.specs.refinement.commit_proxy.Ties.{Seals, known_to, seen_as, entry_of}
 use Rattle.fdb_core.proofs.common.FaultLemmas.{answers-fault, unless}
 use Rattle.fdb_core.proofs.common.ListLemmas.{map-at, map-set, one-item, read-there}
 use Rattle.fdb_core.proofs.machine.Sealing.{seals-transition, length-sealed}
 use Rattle.fdb_core.proofs.refinement.BookPushes.{book-push, resolvers-push, parts-push, logs-push}
-use Rattle.fdb_core.proofs.refinement.CoreSeals.{ticket-for}
-use Rattle.fdb_core.proofs.refinement.SealingLemmas.{ticket_for, next-ticket, reads-below, entry-is, proxy-is, follows}
-use Rattle.fdb_core.proofs.refinement.SealingLemmas.{parts-are, tied, sequencer-tied}
+use Rattle.fdb_core.proofs.refinement.commit_proxy.CoreSealing.{ticket-for}
+use Rattle.fdb_core.proofs.refinement.commit_proxy.Sealing.{ticket_for, next-ticket, reads-below, entry-is, proxy-is, follows}
+use Rattle.fdb_core.proofs.refinement.commit_proxy.Sealing.{parts-are, tied, sequencer-tied}
 use Rattle.fdb_core.proofs.refinement.StepLemmas.{accepted, lacked, refused, refuses}
-use Rattle.fdb_core.proofs.refinement.TicketTies.{plan-refused, plan-given, seals-exhausted, seals-full}
+use Rattle.fdb_core.proofs.refinement.sequencer.Ticketing.{plan-refused, plan-given, seals-exhausted, seals-full}
 use Rattle.fdb_core.proofs.cluster.Cluster.seal.Goals as goal
 use Rattle.fdb_core.proofs.cluster.Cluster.seal.Goals.{After-index_mut-commit_proxy, After-plan}
 

@@ -6,16 +6,16 @@ use Rattle.fdb_core.specs.declared.step.Answered.TheVariants as answered
 use Rattle.fdb_core.specs.machine.ClientSteps.{submits, submit_fault}
 use Rattle.fdb_core.specs.machine.Sessions.{Sessions, Idle, Waiting, open_at, with_state}
 use Rattle.fdb_core.specs.refinement.Cluster.{machine_of}
-use Rattle.fdb_core.specs.refinement.CommitProxies.{known_to, ReadsWithin, seen_as}
+use Rattle.fdb_core.specs.refinement.commit_proxy.Ties.{known_to, ReadsWithin, seen_as}
 use Rattle.fdb_core.proofs.common.AllLemmas.{within-item}
 use Rattle.fdb_core.proofs.common.ListLemmas.{map-at, read-there}
 use Rattle.fdb_core.proofs.machine.FinishLemmas.{unfinished}
 use Rattle.fdb_core.proofs.machine.SessionLemmas.{open-put}
 use Rattle.fdb_core.proofs.machine.SessionMaps.{state-again}
 use Rattle.fdb_core.proofs.refinement.StepLemmas.{accepted, ended, lacked, refused}
-use Rattle.fdb_core.proofs.refinement.SubmittingTies.{finished-read_only, finished-some, submits-read_only, unrepeated}
-use Rattle.fdb_core.proofs.refinement.SubmittingTies.{reads-within, waits, tied}
-use Rattle.fdb_core.proofs.refinement.Ties.{refines-sessions, sessions-same}
+use Rattle.fdb_core.proofs.refinement.client.Submitting.{finished-read_only, finished-some, submits-read_only, unrepeated}
+use Rattle.fdb_core.proofs.refinement.client.Submitting.{reads-within, waits, tied}
+use Rattle.fdb_core.proofs.refinement.client.Sessions.{refines-sessions, sessions-same}
 use Rattle.fdb_core.proofs.cluster.Cluster.submit.Goals as goal
 use Rattle.fdb_core.proofs.cluster.Cluster.submit.Goals.{After-submit}
 

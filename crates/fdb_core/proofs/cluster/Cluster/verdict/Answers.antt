@@ -1,10 +1,10 @@
 use Rattle.std.proofs.Common.{rules}
 use Rattle.std.specs.Prelude.{⊤}
 use Rattle.fdb_core.specs.machine.Roles.{FromResolver}
-use Rattle.fdb_core.specs.refinement.CommitProxies.{known_to}
+use Rattle.fdb_core.specs.refinement.commit_proxy.Ties.{known_to}
 use Rattle.fdb_core.proofs.common.FaultLemmas.{unless}
-use Rattle.fdb_core.proofs.refinement.ReceivingLemmas.{verdicts-stale, verdicts-awaited, was-sent, receiver-there}
-use Rattle.fdb_core.proofs.refinement.ReceivingLemmas.{resolver-there}
+use Rattle.fdb_core.proofs.refinement.commit_proxy.Receiving.{verdicts-stale, verdicts-awaited, was-sent, receiver-there}
+use Rattle.fdb_core.proofs.refinement.commit_proxy.Receiving.{resolver-there}
 use Rattle.fdb_core.proofs.refinement.StepLemmas.{goes_on, refused-unless}
 use Rattle.fdb_core.proofs.cluster.Cluster.verdict.Goals as goal
 

@@ -7,7 +7,7 @@ use Rattle.fdb_core.specs.refinement.Cluster.{machine_of}
 use Rattle.fdb_core.proofs.common.FaultLemmas.{answers-fault, unless-fault}
 use Rattle.fdb_core.proofs.machine.OpenLemmas.{open-given, open-refused}
 use Rattle.fdb_core.proofs.refinement.StepLemmas.{refused}
-use Rattle.fdb_core.proofs.refinement.Ties.{notes-taken, sessions-same, writes-transition}
+use Rattle.fdb_core.proofs.refinement.client.Sessions.{notes-taken, sessions-same, writes-transition}
 use Rattle.fdb_core.proofs.cluster.Cluster.write.Goals as goal
 
 pub returns-in_err-write : goal.returns-in_err-write

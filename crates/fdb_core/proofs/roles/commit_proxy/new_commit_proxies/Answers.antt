@@ -1,6 +1,6 @@
 use Rattle.std.proofs.Common.{ℕ}
 use Rattle.fdb_core.specs.declared.roles.commit_proxy.CommitProxyRole.{CommitProxyRole}
-use Rattle.fdb_core.specs.refinement.CommitProxies.{IsNewCommitProxy}
+use Rattle.fdb_core.specs.refinement.commit_proxy.Ties.{IsNewCommitProxy}
 use Rattle.fdb_core.proofs.common.ListLemmas.{made-push}
 use Rattle.fdb_core.proofs.roles.commit_proxy.new_commit_proxies.Goals as goal
 

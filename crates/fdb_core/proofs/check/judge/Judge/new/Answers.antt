@@ -5,7 +5,7 @@ use Rattle.fdb_txn.specs.rules.Splits.{splits_fault}
 use Rattle.fdb_owners.specs.Ownership.{IsNew}
 use Rattle.fdb_owners.proofs.BookLemmas.{new_goes_on}
 use Rattle.fdb_core.proofs.common.FaultLemmas.{answers-fault, given-fault}
-use Rattle.fdb_core.proofs.refinement.ResolvingLemmas.{new-resolver}
+use Rattle.fdb_core.proofs.refinement.resolver.AtBook.{new-resolver}
 use Rattle.fdb_core.proofs.check.judge.Judge.new.Goals as goal
 
 pub returns : goal.returns

@@ -4,7 +4,7 @@ use Rattle.std.proofs.lemmas.Result.{err_from_is_err_and}
 use Rattle.fdb_keys.specs.Points.{Point}
 use Rattle.fdb_core.specs.check.Judging.{IsJudgeAt, MayFollow}
 use Rattle.fdb_core.proofs.checking.JudgingLemmas.{taken-judge, lacking-judge}
-use Rattle.fdb_core.proofs.refinement.ResolvingLemmas.{may-follow}
+use Rattle.fdb_core.proofs.refinement.resolver.AtBook.{may-follow}
 use Rattle.fdb_core.proofs.check.judge.Judge.take.Goals as goal
 
 pub returns-then-not-may_follow-clause-outcomes : goal.returns-then-not-may_follow-clause-outcomes

@@ -1,4 +1,4 @@
-use Rattle.fdb_core.proofs.refinement.CoreVerdicts.{messages-answers}
+use Rattle.fdb_core.proofs.refinement.commit_proxy.CoreDeciding.{messages-answers}
 use Rattle.fdb_core.proofs.roles.commit_proxy.CommitProxyRole.messages.Goals as goal
 
 pub returns : goal.returns

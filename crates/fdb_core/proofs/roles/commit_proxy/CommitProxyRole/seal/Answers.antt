@@ -1,5 +1,5 @@
 use Rattle.std.proofs.lemmas.Result.{err_from_is_err_and}
-use Rattle.fdb_core.proofs.refinement.CoreSeals.{sealed-ticket, learn-lacks, seals-by}
+use Rattle.fdb_core.proofs.refinement.commit_proxy.CoreSealing.{sealed-ticket, learn-lacks, seals-by}
 use Rattle.fdb_core.proofs.roles.commit_proxy.CommitProxyRole.seal.Goals as goal
 
 pub learn-requires : goal.learn-requires

@@ -1,6 +1,6 @@
 use Rattle.std.proofs.Common.{◌≡◌, ◌∙◌, ap, ◌+◌, ◌++◌, [], ◌∷◌, List, refl, Err, rules}
 use Rattle.fdb_resolver.specs.declared.verdict.Verdicts.{Verdicts}
-use Rattle.fdb_core.proofs.refinement.ResolverTies.{lacks-memory-alone, takes-next}
+use Rattle.fdb_core.proofs.refinement.resolver.Resolving.{lacks-memory-alone, takes-next}
 use Rattle.fdb_core.proofs.roles.resolver.ResolverRole.take.Goals as goal
 
 pub returns-in_err-verdicts : goal.returns-in_err-verdicts

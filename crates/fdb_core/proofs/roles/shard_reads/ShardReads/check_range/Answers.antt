@@ -3,8 +3,8 @@ use Rattle.std.specs.List.{list_any}
 use Rattle.fdb_keys.specs.Ranges.{Range}
 use Rattle.fdb_keys.specs.Texts.{is_bound}
 use Rattle.fdb_keys.specs.declared.refusal.Refusal.TheVariants.{FutureVersion, TransactionTooOld}
-use Rattle.fdb_core.specs.refinement.ShardReads.{ShardReads, AreReadable, range_fault}
-use Rattle.fdb_core.proofs.refinement.ShardReads.{is_ahead_of, is_behind_floor, range_fault-is}
+use Rattle.fdb_core.specs.refinement.shard.Reads.{ShardReads, AreReadable, range_fault}
+use Rattle.fdb_core.proofs.refinement.shard.Reads.{is_ahead_of, is_behind_floor, range_fault-is}
 use Rattle.fdb_core.proofs.roles.shard_reads.ShardReads.check_range.Goals as goal
 
 -- why the range is refused, by the two tests of the shards as they are seen

@@ -5,9 +5,9 @@ use Rattle.std.proofs.lemmas.Option.{slice_get_read}
 use Rattle.fdb_keys.specs.declared.refusal.Refusal.TheVariants.{NoMemory}
 use Rattle.fdb_mutations.specs.Pairs.{first_of}
 use Rattle.fdb_core.specs.declared.roles.shard.ShardRole.{ShardRole}
-use Rattle.fdb_core.specs.refinement.ShardReads.{ShardReads, AreReadable, AreFew}
-use Rattle.fdb_core.proofs.refinement.ShardPages.{read_next, pairs_read, pairs-none, pairs-all, first-none, first-few}
-use Rattle.fdb_core.proofs.refinement.ShardPages.{first-read}
+use Rattle.fdb_core.specs.refinement.shard.Reads.{ShardReads, AreReadable, AreFew}
+use Rattle.fdb_core.proofs.refinement.shard.Pages.{read_next, pairs_read, pairs-none, pairs-all, first-none, first-few}
+use Rattle.fdb_core.proofs.refinement.shard.Pages.{first-read}
 use Rattle.fdb_core.proofs.roles.shard_reads.ShardReads.first_pairs.Goals as goal
 use Rattle.fdb_core.proofs.roles.shard_reads.ShardReads.first_pairs.Goals.{After-index-self-number, then-reverse, else-reverse}
 

@@ -1,6 +1,6 @@
 use Rattle.std.proofs.Common.{◌≡◌}
 use Rattle.fdb_mutations.specs.Pairs.{first_of}
-use Rattle.fdb_core.proofs.refinement.ShardPages.{pairs_read}
+use Rattle.fdb_core.proofs.refinement.shard.Pages.{pairs_read}
 use Rattle.fdb_core.proofs.roles.shard_reads.ShardReads.first_pairs.Given as goal
 
 abbrev pub invariant-loop-step : goal.invariant-loop-step

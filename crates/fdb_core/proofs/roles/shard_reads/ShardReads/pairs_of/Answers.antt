@@ -4,9 +4,9 @@ use Rattle.fdb_keys.specs.declared.refusal.Refusal.TheVariants.{NoMemory}
 use Rattle.fdb_mutations.specs.Pairs.{first_of}
 use Rattle.fdb_storage.specs.Shards.{IsPage, HasValuesOf}
 use Rattle.fdb_storage.specs.Shards as storage
-use Rattle.fdb_core.specs.refinement.ShardReads.{ShardReads, AreReadable, run_map}
-use Rattle.fdb_core.proofs.refinement.ShardReads.{page-served, has-values, pairs-of-part, none-held}
-use Rattle.fdb_core.proofs.refinement.ShardPages.{first-none}
+use Rattle.fdb_core.specs.refinement.shard.Reads.{ShardReads, AreReadable, run_map}
+use Rattle.fdb_core.proofs.refinement.shard.Reads.{page-served, has-values, pairs-of-part, none-held}
+use Rattle.fdb_core.proofs.refinement.shard.Pages.{first-none}
 use Rattle.fdb_core.proofs.roles.shard_reads.ShardReads.pairs_of.Goals as goal
 
 pub returns-in_err-page-in-Some : goal.returns-in_err-page-in-Some

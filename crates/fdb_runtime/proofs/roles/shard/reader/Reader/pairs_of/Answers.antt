@@ -3,7 +3,7 @@ use Rattle.fdb_keys.specs.Clipping.{clipped_range}
 use Rattle.fdb_mutations.specs.Pairs.{first_of, pairs_in}
 use Rattle.fdb_storage.specs.Shards.{read_fault}
 use Rattle.fdb_core.proofs.common.FaultLemmas.{answers-by}
-use Rattle.fdb_core.proofs.refinement.ShardPages.{first-none}
+use Rattle.fdb_core.proofs.refinement.shard.Pages.{first-none}
 use Rattle.fdb_runtime.specs.ShardViews.{ShardView, range_fault, run_map, run_of}
 use Rattle.fdb_runtime.proofs.LentShardLemmas.{part-within, part-pairs, no-pairs}
 use Rattle.fdb_runtime.proofs.roles.shard.reader.Reader.pairs_of.Goals as goal

@@ -1,0 +1,12 @@
+pub mod Answering
+pub mod BatchStages
+pub mod CoreDeciding
+pub mod CoreSealing
+pub mod CoreStages
+pub mod Deciding
+pub mod Fronts
+pub mod Pushes
+pub mod Receiving
+pub mod Reporting
+pub mod Sealing
+pub mod Ties

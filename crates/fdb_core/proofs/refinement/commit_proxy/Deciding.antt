@@ -1,0 +1,342 @@
+-- A commit proxy of a world decides its batch.
+use Rattle.std.proofs.Common.{◌≡◌, ◌∙◌, refl, sym, ap, subst, ⊎_elim, ℕ, suc, ◌<◌, Bool, true, false, List, [], length}
+use Rattle.std.proofs.Common.{map, replicate, Option, Some, None, unwrap_or, Result, Ok, Err, slice_get, slice_set}
+use Rattle.std.proofs.Common.{if◌then◌else◌, arith}
+use Rattle.std.specs.Vec.{with_item}
+use Rattle.std.proofs.lemmas.Bool.{cases_eq, cases_Bool}
+use Rattle.std.proofs.lemmas.List.{length-set, length-map}
+use Rattle.std.proofs.lemmas.Option.{same_Some, slice_get_within}
+use Rattle.fdb_keys.specs.Answers.{Answers}
+use Rattle.fdb_keys.specs.declared.refusal.Refusal.{Refusal}
+use Rattle.fdb_keys.specs.declared.refusal.Refusal.TheVariants.{NoMemory, NotYet, WrongState}
+use Rattle.fdb_txn.specs.declared.entry.Entry.{Entry}
+use Rattle.fdb_txn.specs.book.Book.{seen_before}
+use Rattle.fdb_txn.specs.book.History.{AreEntries}
+use Rattle.fdb_log.specs.declared.message.LogMsg.{LogMsg}
+use Rattle.fdb_storage.specs.LogMessages.{log_messages}
+use Rattle.fdb_proxy.specs.declared.config.Config.{Config}
+use Rattle.fdb_proxy.specs.declared.outcome.Outcome.{Outcome}
+use Rattle.fdb_proxy.specs.CommitProxies.{waiting_for}
+use Rattle.fdb_proxy.specs.Verdicts.{is_needed, outcomes_on}
+use Rattle.fdb_core.specs.declared.cluster.Cluster.{Cluster}
+use Rattle.fdb_core.specs.declared.roles.commit_proxy.CommitProxyRole.{CommitProxyRole}
+use Rattle.fdb_core.specs.declared.roles.log.LogRole.{LogRole}
+use Rattle.fdb_core.specs.declared.step.Answered.TheVariants as answered
+use Rattle.fdb_core.specs.machine.CommitProxySteps.{decides, is_idle, is_resolving, is_logging}
+use Rattle.fdb_core.specs.machine.Machine.{is_set, first_missing}
+use Rattle.fdb_core.specs.machine.Roles.{CommitProxy, Stage, Idle, Resolving, Logging, Reported}
+use Rattle.fdb_core.specs.refinement.Cluster.{machine_of, messages_on, Refines}
+use Rattle.fdb_core.specs.refinement.commit_proxy.Ties.{CommitProxyRefines, Known, known_to, Decides, seen_as}
+use Rattle.fdb_core.specs.refinement.log.Ties.{logs_taken}
+use Rattle.fdb_core.specs.machine.Steps.{ran_out}
+use Rattle.fdb_core.proofs.common.FaultLemmas.{Unless, answers-fault, unless, unless-fault}
+use Rattle.fdb_core.proofs.common.ListLemmas.{set-here, set-other, map-at, map-set}
+use Rattle.fdb_core.proofs.refinement.commit_proxy.Ties.{commit_proxies-put, busy-entry}
+
+-- the messages of an entry more, which is decided
+made-set : (config : Config) (book : List Entry) (decided : List Bool) (messages : List (Option (List LogMsg))) (i : ℕ)
+    (entry : Entry) (new : List LogMsg)
+    → slice_get book i ≡ Some entry → new ≡ messages_on config i (seen_before book i) entry
+    → i < length messages → i < length decided
+    → ((j : ℕ) (other : Entry) → slice_get book j ≡ Some other → slice_get messages j
+    ≡ Some (if is_set decided j then Some (messages_on config j (seen_before book j) other) else None))
+    → (j : ℕ) (other : Entry) → slice_get book j ≡ Some other → slice_get (slice_set messages i (Some new)) j
+    ≡ Some (if is_set (slice_set decided i true) j then Some (messages_on config j (seen_before book j) other) else
+    None)
+made-set config book decided messages i entry new there is within flagged before j other at = ⊎_elim
+    (λ same.
+    let it : entry ≡ other = same_Some entry other (sym there ∙ ap (slice_get book) (sym same) ∙ at) in
+    let set_now : is_set (slice_set decided i true) j ≡ true = ap (is_set (slice_set decided i true)) same
+    ∙ ap (λ (flag : Option Bool). unwrap_or flag false) (set-here decided i true flagged) in
+    ap (slice_get (slice_set messages i (Some new))) same ∙ set-here messages i (Some new) within
+    ∙ ap (λ (all : List LogMsg). Some (Some all)) (is ∙ ap (λ (n : ℕ). messages_on config n (seen_before book n) entry)
+    (sym same) ∙ ap (messages_on config j (seen_before book j)) it)
+    ∙ ap (λ (flag : Bool). Some (if flag then Some (messages_on config j (seen_before book j) other) else None))
+    (sym set_now))
+    (λ differs. set-other messages i j (Some new) differs
+    ∙ before j other at
+    ∙ ap (λ (flag : Option Bool). Some (if unwrap_or flag false
+    then Some (messages_on config j (seen_before book j) other) else None)) (sym (set-other decided i j true differs)))
+    (cases_eq j i)
+
+-- who resolves isn't idle
+busy : (stage : Stage) → is_resolving stage ≡ true → is_idle stage ≡ false
+busy Idle resolving = cc
+busy Resolving resolving = refl
+busy Logging resolving = refl
+busy Reported resolving = refl
+
+-- waits for the one that is missing, or for none
+waits-fault : (missing : Option ℕ) (why : Refusal) → waiting_for missing ≡ Some why
+    → (n : ℕ) × (missing ≡ Some n) × (why ≡ NotYet n)
+waits-fault None why is = cc
+waits-fault (Some n) why is = (n, refl, cc)
+
+none-waits : (missing : Option ℕ) → waiting_for missing ≡ None → missing ≡ None
+none-waits None is = refl
+none-waits (Some n) is = cc
+
+-- The proxy that is told to decide.
+module _ (k : Cluster) (refines : Refines k) (proxy : ℕ) (role : CommitProxyRole)
+    (there : slice_get k.commit_proxies.items proxy ≡ Some role) where
+  pub its-tie : CommitProxyRefines k.config k.book.items (known_to k.sequencer proxy) role
+  its-tie = refines.commit_proxies.each proxy role there
+
+  seen-there : slice_get (map seen_as k.commit_proxies.items) proxy ≡ Some (seen_as role)
+  seen-there = map-at seen_as k.commit_proxies.items proxy role there
+
+  -- it waits for no verdicts
+  pub decides-wrong : is_resolving (seen_as role).stage ≡ false → decides (machine_of k) proxy ≡ Err WrongState
+  unfolding decides
+  decides-wrong wrong = rw (seen-there, wrong) refl
+
+  module _ (waits_now : is_resolving (seen_as role).stage ≡ true) where
+    pub found : (entry : Entry) × (slice_get k.book.items role.entry ≡ Some entry)
+    found =
+        let its = busy-entry k.config k.book.items (known_to k.sequencer proxy) role its-tie
+        (busy (seen_as role).stage waits_now) in (its.0, its.1)
+
+    abbrev pub entry : Entry
+    entry = found.0
+
+    abbrev pub entry-there : slice_get k.book.items role.entry ≡ Some entry
+    entry-there = found.1
+
+    abbrev pub missing : Option ℕ
+    missing = first_missing (λ resolver. is_needed k.config.resolver_splits resolver
+        (seen_before k.book.items role.entry) entry) 0 (seen_as role).verdicts_received
+
+    -- it waits for one that is asked
+    pub decides-waits : (n : ℕ) → missing ≡ Some n → decides (machine_of k) proxy ≡ Err (NotYet n)
+    unfolding decides
+    decides-waits n waits = rw (seen-there, waits_now, entry-there, waits) refl
+
+    -- it decides
+    decides-transition : missing ≡ None → decides (machine_of k) proxy ≡ Ok (record {
+      answer = answered.Decided (outcomes_on k.config.resolver_splits (seen_before k.book.items role.entry) entry);
+      next = record (machine_of k) {
+        decided = slice_set k.decided.items role.entry true;
+        commit_proxies = slice_set (map seen_as k.commit_proxies.items) proxy (record (seen_as role) {
+          stage = Logging;
+          verdicts_received = [];
+          acknowledgements_received = replicate (length (logs_taken k.logs.items)) false;
+        });
+      };
+    })
+    unfolding decides
+    decides-transition none = rw (seen-there, waits_now, entry-there, none) refl
+
+    -- why it is refused
+    pub decides-refused : (why : Refusal) (later : CommitProxyRole)
+        → Answers {T = List Outcome} (Err why) (waiting_for missing)
+        (λ outcomes. Decides k.config k.book.items (known_to k.sequencer proxy) entry role outcomes later)
+        → (P : Type 0) → ((n : ℕ) → why ≡ NotYet n → decides (machine_of k) proxy ≡ Err (NotYet n) → P)
+        → Unless (ran_out (Err why)) P
+    decides-refused why later answers P follows =
+        unless-fault (waiting_for missing) why
+        (λ (outcomes : List Outcome). Decides k.config k.book.items (known_to k.sequencer proxy) entry role outcomes
+        later) P answers
+        (λ faulty. let waits = waits-fault missing why faulty in
+        follows waits.0 waits.2 (decides-waits waits.0 waits.1))
+
+    -- what stands once it decided, and its messages are in the pool
+    pub decided : (outcomes : List Outcome) (messages : List LogMsg) (later : CommitProxyRole)
+        → Answers (Ok outcomes) (waiting_for missing)
+        (λ given. Decides k.config k.book.items (known_to k.sequencer proxy) entry role given later)
+        → messages ≡ messages_on k.config role.entry (seen_before k.book.items role.entry) entry →
+        let next = record k {
+          decided = with_item k.decided role.entry true;
+          commit_proxies = with_item k.commit_proxies proxy later;
+          messages = with_item k.messages role.entry (Some messages);
+        } in
+        (decides (machine_of k) proxy ≡ Ok (record { answer = answered.Decided outcomes; next = machine_of next }))
+        × Refines next
+    decided outcomes messages later answers sent =
+        let given = answers-fault (waiting_for missing) outcomes
+        (λ (of : List Outcome). Decides k.config k.book.items (known_to k.sequencer proxy) entry role of later)
+        answers in
+        let is = given.1 in
+        let book = refines.book in
+        let inside = slice_get_within k.book.items role.entry entry entry-there in
+        let within : role.entry < length k.messages.items = omega (arith, book.each_pooled, inside) in
+        let flagged : role.entry < length k.decided.items = omega (arith, book.each_flagged, inside) in
+        let logs : k.config.logs ≡ length (logs_taken k.logs.items) =
+        sym (length-map k.logs.items (λ (of : LogRole). of.taken) ∙ refines.logs.log_count) in (
+          decides-transition (none-waits missing given.0)
+              ∙ (λ i. Ok (record {
+                answer = answered.Decided (sym is.outcomes_are i);
+                next = record (machine_of k) {
+                  decided = slice_set k.decided.items role.entry true;
+                  commit_proxies = (ap (λ (n : ℕ). slice_set (map seen_as k.commit_proxies.items) proxy
+                      (record (seen_as role) {
+                        stage = Logging;
+                        verdicts_received = [];
+                        acknowledgements_received = replicate n false;
+                      })) (sym logs)
+                      ∙ ap (slice_set (map seen_as k.commit_proxies.items) proxy) (sym is.machine)
+                      ∙ sym (map-set seen_as k.commit_proxies.items proxy later)) i;
+                };
+              })),
+          record {
+            legal = refines.legal;
+            room = refines.room;
+            sequencer = refines.sequencer;
+            book = record {
+              entries = book.entries;
+              each_has_proxy = book.each_has_proxy;
+              each_flagged = length-set k.decided.items role.entry true ∙ book.each_flagged;
+              each_pooled = length-set k.messages.items role.entry (Some messages) ∙ book.each_pooled;
+              made = made-set k.config k.book.items k.decided.items k.messages.items role.entry entry messages
+                  entry-there sent within flagged book.made;
+            };
+            parts = refines.parts;
+            resolvers = refines.resolvers;
+            logs = refines.logs;
+            shard_map = refines.shard_map;
+            commit_proxies = commit_proxies-put k.config k.book.items (known_to k.sequencer) k.commit_proxies.items
+                proxy later refines.commit_proxies is.refines;
+            grv_proxies = refines.grv_proxies;
+            opened = refines.opened;
+          },
+        )
+
+    -- the proxy that decided is decided
+    pub decided-role : (outcomes : List Outcome) (later : CommitProxyRole)
+        → Answers (Ok outcomes) (waiting_for missing)
+        (λ given. Decides k.config k.book.items (known_to k.sequencer proxy) entry role given later)
+        → CommitProxyRefines k.config k.book.items (known_to k.sequencer proxy) later
+        × (is_logging (seen_as later).stage ≡ true) × (slice_get k.book.items later.entry ≡ Some entry)
+        × (later.entry ≡ role.entry)
+    decided-role outcomes later answers =
+        let is = (answers-fault (waiting_for missing) outcomes
+        (λ (of : List Outcome). Decides k.config k.book.items (known_to k.sequencer proxy) entry role of later)
+        answers).1 in
+        let same : later.entry ≡ role.entry = ap (λ (p : CommitProxy). p.entry) is.machine in (
+          is.refines,
+          ap (λ (p : CommitProxy). is_logging p.stage) is.machine,
+          ap (slice_get k.book.items) same ∙ entry-there,
+          same,
+        )
+
+-- By what the calls of the proxy say.
+module _ (k : Cluster) (refines : Refines k) (proxy : ℕ) (role later : CommitProxyRole)
+    (there : slice_get k.commit_proxies.items proxy ≡ Some role) where
+  abbrev waiting : Type 0
+  waiting = is_resolving (seen_as role).stage ≡ true
+
+  -- what deciding answers
+  abbrev pub SaysWrong : Result (List Outcome) Refusal → Type 0
+  SaysWrong result =
+      (config : Config) (book : List Entry) (known : Known) → CommitProxyRefines config book known role
+      → is_resolving (seen_as role).stage ≡ false → result ≡ Err WrongState
+
+  abbrev pub SaysDecided : Result (List Outcome) Refusal → Type 0
+  SaysDecided result =
+      (config : Config) (book : List Entry) (known : Known) (entry : Entry)
+      → CommitProxyRefines config book known role → is_resolving (seen_as role).stage ≡ true
+      → slice_get book role.entry ≡ Some entry → AreEntries (suc (length config.resolver_splits)) 0 book
+      → Answers result (waiting_for (first_missing
+      (λ resolver. is_needed config.resolver_splits resolver (seen_before book role.entry) entry) 0
+      (seen_as role).verdicts_received))
+      (λ outcomes. Decides config book known entry role outcomes later)
+
+  at-world : (result : Result (List Outcome) Refusal) → SaysDecided result → (now : waiting)
+      → Answers result (waiting_for (missing k refines proxy role there now))
+      (λ outcomes. Decides k.config k.book.items (known_to k.sequencer proxy) (entry k refines proxy role there now)
+      role outcomes later)
+  at-world result says now =
+      says k.config k.book.items (known_to k.sequencer proxy) (entry k refines proxy role there now)
+      (its-tie k refines proxy role there) now (entry-there k refines proxy role there now) refines.book.entries
+
+  -- refused
+  pub is-refused : (why : Refusal) → SaysWrong (Err why) → SaysDecided (Err why)
+      → Unless (ran_out (Err why)) (decides (machine_of k) proxy ≡ Err why)
+  is-refused why wrong says = ⊎_elim
+      (λ (now : waiting).
+      decides-refused k refines proxy role there now why later (at-world (Err why) says now)
+      (decides (machine_of k) proxy ≡ Err why)
+      (λ n is refused. refused ∙ ap (λ (w : Refusal). Err w) (sym is)))
+      (λ (never : is_resolving (seen_as role).stage ≡ false).
+      let is : why ≡ WrongState = same-why why WrongState
+      (wrong k.config k.book.items (known_to k.sequencer proxy) (its-tie k refines proxy role there) never) in
+      unless (ran_out (Err why)) (decides (machine_of k) proxy ≡ Err why)
+      (decides-wrong k refines proxy role there never ∙ ap (λ (w : Refusal). Err w) (sym is)))
+      (cases_Bool (is_resolving (seen_as role).stage))
+    where
+      same-why : (a b : Refusal) → ◌≡◌ {A = Result (List Outcome) Refusal} (Err a) (Err b) → a ≡ b
+      same-why a b is = cc
+
+  -- who decided waited for verdicts
+  waited : (outcomes : List Outcome) → SaysWrong (Ok outcomes) → waiting
+  waited outcomes wrong = ⊎_elim
+      (λ (now : waiting). now)
+      (λ (never : is_resolving (seen_as role).stage ≡ false).
+      absurd (given-refused (wrong k.config k.book.items (known_to k.sequencer proxy)
+      (its-tie k refines proxy role there) never))) (cases_Bool (is_resolving (seen_as role).stage))
+    where
+      given-refused : ◌≡◌ {A = Result (List Outcome) Refusal} (Ok outcomes) (Err WrongState) → ⊥
+      given-refused is = cc
+
+  -- what the messages of the proxy that decided are
+  module _ (outcomes : List Outcome) (wrong : SaysWrong (Ok outcomes)) (says : SaysDecided (Ok outcomes))
+      (after : CommitProxyRole) (same : after ≡ later) (i : ℕ) (number : i ≡ role.entry) where
+    now : waiting
+    now = waited outcomes wrong
+
+    abbrev pub SaysMessages : Result (List LogMsg) Refusal → Type 0
+    SaysMessages result =
+        (config : Config) (book : List Entry) (known : Known) (entry : Entry)
+        → CommitProxyRefines config book known after → is_logging (seen_as after).stage ≡ true
+        → slice_get book after.entry ≡ Some entry
+        → Answers result None (λ messages. messages ≡ log_messages config.resolver_splits config.shard_splits
+        config.logs after.entry (seen_before book after.entry) entry)
+
+    messages-here : (result : Result (List LogMsg) Refusal) → SaysMessages result
+        → Answers result None (λ messages. messages ≡ messages_on k.config role.entry
+        (seen_before k.book.items role.entry) (entry k refines proxy role there now))
+    messages-here result sends =
+        let role_is = decided-role k refines proxy role there now outcomes later (at-world (Ok outcomes) says now) in
+        let number_is : after.entry ≡ role.entry = ap (λ (r : CommitProxyRole). r.entry) same ∙ role_is.3 in
+        subst (λ (n : ℕ). Answers result None (λ messages. messages ≡ messages_on k.config n
+        (seen_before k.book.items n) (entry k refines proxy role there now))) number_is
+        (sends k.config k.book.items (known_to k.sequencer proxy) (entry k refines proxy role there now)
+        (subst (CommitProxyRefines k.config k.book.items (known_to k.sequencer proxy)) (sym same) role_is.0)
+        (ap (λ (r : CommitProxyRole). is_logging (seen_as r).stage) same ∙ role_is.1)
+        (ap (λ (r : CommitProxyRole). slice_get k.book.items r.entry) same ∙ role_is.2))
+
+    pub messages-lack : (why : Refusal) → SaysMessages (Err why) → why ≡ NoMemory
+    messages-lack why sends = messages-here (Err why) sends
+
+    pub in-pool : (i < length k.messages.items) × (i < length k.decided.items)
+    in-pool =
+        let inside = slice_get_within k.book.items role.entry (entry k refines proxy role there now)
+        (entry-there k refines proxy role there now) in
+        let pooled = refines.book.each_pooled in
+        let flagged = refines.book.each_flagged in
+        (omega (arith, inside, pooled, number), omega (arith, inside, flagged, number))
+
+    pub is-decided : (messages : List LogMsg) → SaysMessages (Ok messages) →
+        let next = record k {
+          decided = with_item k.decided i true;
+          commit_proxies = with_item k.commit_proxies proxy later;
+          messages = with_item k.messages i (Some messages);
+        } in
+        (decides (machine_of k) proxy ≡ Ok (record { answer = answered.Decided outcomes; next = machine_of next }))
+        × Refines next
+    is-decided messages sends =
+        subst (λ (n : ℕ).
+        (decides (machine_of k) proxy ≡ Ok (record {
+          answer = answered.Decided outcomes;
+          next = machine_of (record k {
+            decided = with_item k.decided n true;
+            commit_proxies = with_item k.commit_proxies proxy later;
+            messages = with_item k.messages n (Some messages);
+          });
+        }))
+        × Refines (record k {
+          decided = with_item k.decided n true;
+          commit_proxies = with_item k.commit_proxies proxy later;
+          messages = with_item k.messages n (Some messages);
+        })) (sym number)
+        (decided k refines proxy role there now outcomes messages later (at-world (Ok outcomes) says now)
+        (messages-here (Ok messages) sends))

@@ -1,0 +1,2 @@
+pub mod AtBook
+pub mod Resolving

@@ -1,0 +1,338 @@
+-- The pairs of a range, read shard after shard.
+use Rattle.std.proofs.Common.{◌≡◌, ◌∙◌, refl, sym, ap, ap₂, ◌<◌, ◌≤◌, ℕ, zero, suc, ◌+◌, ◌-◌}
+use Rattle.std.proofs.Common.{Bool, true, false, ◌&&◌, not, List, [], ◌∷◌, ◌++◌, length, take, Some, None}
+use Rattle.std.proofs.Common.{⊎_elim, arith}
+use Rattle.std.specs.Prelude.{nat_eq, nat_lt, nat_le, ◌==◌, if◌then◌else◌}
+use Rattle.std.specs.Cmp.{both_ways as same_test}
+use Rattle.std.specs.List.{filter, AllByRecursion}
+use Rattle.std.proofs.lemmas.Bool.{cases_Bool, both_ways, and_parts, and_from, cond-true, cond-false, not_from_false, not-true}
+use Rattle.std.proofs.lemmas.Bool.{ltb-true, ltb-false, lt-ltb, le-ltb, leb-true, leb-false, le-leb, lt-leb, eqb-true, eqb-false, eq-eqb}
+use Rattle.std.proofs.Math.Seq.{take-length, take-append-add}
+use Rattle.std.proofs.lemmas.List.{take-append-le, take_min, length-take}
+use Rattle.fdb_keys.specs.Points.{Point, point_lt}
+use Rattle.fdb_keys.specs.Ranges.{Range, in_range}
+use Rattle.fdb_keys.specs.Texts.{is_bound}
+use Rattle.fdb_keys.proofs.PointOrder.{lt_chain}
+use Rattle.fdb_mutations.specs.Maps.{Map}
+use Rattle.fdb_mutations.specs.Pairs.{first_of, pairs_in}
+use Rattle.fdb_mutations.proofs.OrderedLemmas.{parted, filter_all, filter_both, filter_none, ordered-filter}
+use Rattle.fdb_mutations.proofs.PairsLemmas.{comes_before, ordered-pairs_in, all_in-pairs_in}
+use Rattle.fdb_txn.specs.rules.Owners.{first_owner}
+use Rattle.fdb_txn.specs.rules.Splits.{piece}
+use Rattle.fdb_txn.proofs.rules.SplitsLemmas.{pieces_part_the_keys}
+use Rattle.fdb_interval.proofs.BreaksLemmas.{all_imply}
+use Rattle.fdb_owners.proofs.SplitLemmas.{either_same}
+use Rattle.fdb_client.specs.Pages.{IsPage}
+use Rattle.fdb_client.specs.declared.snapshot.Page.{Page}
+use Rattle.fdb_core.specs.refinement.shard.Reads.{ShardReads, AreReadable, run_map, pairs_held, left_of, AreFew}
+use Rattle.fdb_core.proofs.refinement.shard.Reads.{below-end, owner-within}
+
+-- ---- the first of some items
+pub first-none : {A : Type 0} (limit : ℕ) → first_of {T = A} limit [] ≡ []
+first-none zero = refl
+first-none (suc limit) = either_same (nat_eq (suc limit) 0) []
+
+-- what is cut after more is put behind is as if nothing had been cut before
+pub first-again : {A : Type 0} (wanted : ℕ) (xs ys : List A)
+    → first_of wanted (first_of wanted xs ++ ys) ≡ first_of wanted (xs ++ ys)
+first-again {A} wanted xs ys = ⊎_elim
+    (λ all. ap (λ (items : List A). first_of wanted (items ++ ys)) (cond-true (nat_eq wanted 0) _ _ all))
+    (λ some. cond-false (nat_eq wanted 0) _ _ some
+    ∙ ap (λ (items : List A). take wanted (items ++ ys)) (cond-false (nat_eq wanted 0) xs (take wanted xs) some)
+    ∙ taken wanted xs
+    ∙ sym (cond-false (nat_eq wanted 0) (xs ++ ys) (take wanted (xs ++ ys)) some))
+    (cases_Bool (nat_eq wanted 0))
+  where
+    taken : (n : ℕ) (zs : List A) → take n (take n zs ++ ys) ≡ take n (zs ++ ys)
+    taken zero zs = refl
+    taken (suc n) [] = refl
+    taken (suc n) (z ∷ zs) = ap (λ (items : List A). z ∷ items) (taken n zs)
+
+module _ {A : Type 0} (wanted : ℕ) (xs ys : List A) where
+  -- where some are wanted still, as many of the others follow
+  pub first-left : (limit : ℕ) → left_of wanted (length xs) ≡ Some limit
+      → xs ++ first_of limit ys ≡ first_of wanted (xs ++ ys)
+  first-left limit left = ⊎_elim
+      (λ all.
+      let none : Some 0 ≡ Some limit = sym (cond-true (nat_eq wanted 0) _ _ all) ∙ left in
+      let is : 0 ≡ limit = cc in
+      ap (λ (n : ℕ). xs ++ first_of n ys) (sym is)
+      ∙ sym (cond-true (nat_eq wanted 0) (xs ++ ys) (take wanted (xs ++ ys)) all))
+      (λ some. by_room some (sym (cond-false (nat_eq wanted 0) _ _ some) ∙ left))
+      (cases_Bool (nat_eq wanted 0))
+    where
+      by_room : nat_eq wanted 0 ≡ false
+          → (if nat_lt (length xs) wanted then Some (wanted - length xs) else None) ≡ Some limit
+          → xs ++ first_of limit ys ≡ first_of wanted (xs ++ ys)
+      by_room some is = ⊎_elim
+          (λ room.
+          let cut : Some (wanted - length xs) ≡ Some limit = sym (cond-true (nat_lt (length xs) wanted) _ _ room) ∙ is in
+          let rest : wanted - length xs ≡ limit = cc in
+          let less = ltb-true (length xs) wanted room in
+          let sum : wanted ≡ length xs + limit = omega (arith, less, rest) in
+          let above : nat_eq limit 0 ≡ false = sym (ap (λ (n : ℕ). nat_eq n 0) rest) ∙ some_left less in
+          ap (λ (items : List A). xs ++ items) (cond-false (nat_eq limit 0) ys (take limit ys) above)
+          ∙ sym (take-append-add xs ys limit)
+          ∙ ap (λ (n : ℕ). take n (xs ++ ys)) (sym sum)
+          ∙ sym (cond-false (nat_eq wanted 0) (xs ++ ys) (take wanted (xs ++ ys)) some))
+          (λ full.
+          let nothing : None ≡ Some limit = sym (cond-false (nat_lt (length xs) wanted) _ _ full) ∙ is in
+          cc)
+          (cases_Bool (nat_lt (length xs) wanted))
+        where
+          some_left : length xs < wanted → nat_eq (wanted - length xs) 0 ≡ false
+          some_left less = ⊎_elim
+              (λ zero_is. let none = eqb-true (wanted - length xs) 0 zero_is in absurd (omega (arith, less, none)))
+              (λ no. no)
+              (cases_Bool (nat_eq (wanted - length xs) 0))
+
+  -- where none is wanted any more, nothing is added
+  pub first-full : (nat_eq wanted 0 ≡ false → length xs ≤ wanted) → left_of wanted (length xs) ≡ None
+      → xs ≡ first_of wanted (xs ++ ys)
+  first-full few left = ⊎_elim
+      (λ all.
+      let some : Some 0 ≡ None = sym (cond-true (nat_eq wanted 0) _ _ all) ∙ left in
+      cc)
+      (λ some. by_room some (sym (cond-false (nat_eq wanted 0) _ _ some) ∙ left))
+      (cases_Bool (nat_eq wanted 0))
+    where
+      by_room : nat_eq wanted 0 ≡ false
+          → (if nat_lt (length xs) wanted then Some (wanted - length xs) else None) ≡ None
+          → xs ≡ first_of wanted (xs ++ ys)
+      by_room some is = ⊎_elim
+          (λ room.
+          let there : Some (wanted - length xs) ≡ None = sym (cond-true (nat_lt (length xs) wanted) _ _ room) ∙ is in
+          cc)
+          (λ full.
+          let past = ltb-false (length xs) wanted full in
+          let count : wanted ≡ length xs = omega (arith, past, few some) in
+          sym (cond-false (nat_eq wanted 0) (xs ++ ys) (take wanted (xs ++ ys)) some
+          ∙ ap (λ (n : ℕ). take n (xs ++ ys)) count
+          ∙ take-append-le (length xs) xs ys (omega arith)
+          ∙ take-length xs))
+          (cases_Bool (nat_lt (length xs) wanted))
+
+-- the first items, as many as the limit says
+first-are : {A : Type 0} (limit : ℕ) (given all : List A) → given ≡ first_of limit all
+    → (given ≡ take (length given) all) × (nat_eq limit 0 ≡ false → length given ≤ limit)
+    × (nat_lt (length given) (length all) ≡ true → 0 < length given)
+first-are {A} limit given all is = ⊎_elim whole cut (cases_Bool (nat_eq limit 0))
+  where
+    AreFirst : Type 0
+    AreFirst =
+        (given ≡ take (length given) all) × (nat_eq limit 0 ≡ false → length given ≤ limit)
+        × (nat_lt (length given) (length all) ≡ true → 0 < length given)
+
+    whole : nat_eq limit 0 ≡ true → AreFirst
+    whole none =
+        let same : given ≡ all = is ∙ cond-true (nat_eq limit 0) all (take limit all) none in
+        let long = ap (λ (xs : List A). length xs) same in (
+          same ∙ sym (ap (λ (n : ℕ). take n all) long ∙ take-length all),
+          λ some. absurd (both_ways _ some none),
+          λ more. absurd (omega (arith, long, ltb-true (length given) (length all) more)),
+        )
+
+    cut : nat_eq limit 0 ≡ false → AreFirst
+    cut some =
+        let same : given ≡ take limit all = is ∙ cond-false (nat_eq limit 0) all (take limit all) some in
+        let long = ap (λ (xs : List A). length xs) same ∙ length-take limit all in (
+          same ∙ sym (ap (λ (n : ℕ). take n all) long ∙ take_min limit all),
+          λ _. omega (arith, long),
+          λ more. omega (arith, long, ltb-true (length given) (length all) more, eqb-false limit 0 some),
+        )
+
+-- a page of the first pairs is one of the map
+pub page-first : (map : Map) (range : Range) (limit : ℕ) (is_reverse : Bool) (page : Page)
+    → page.pairs ≡ first_of limit (pairs_in map range is_reverse)
+    → page.more ≡ nat_lt (length page.pairs) (length (pairs_in map range is_reverse))
+    → IsPage map range limit is_reverse page
+page-first map range limit is_reverse page pairs more =
+    let first = first-are limit page.pairs (pairs_in map range is_reverse) pairs in
+    record {
+      first = first.0;
+      within = first.1;
+      more = more;
+      goes_on = λ further. first.2 (sym more ∙ further);
+    }
+
+-- no more than are wanted are among the first
+pub first-few : (wanted : ℕ) (pairs : List (Point × List ℕ)) → AreFew wanted (first_of wanted pairs)
+first-few wanted pairs some =
+    let cut = ap (λ (items : List (Point × List ℕ)). length items)
+    (cond-false (nat_eq wanted 0) pairs (take wanted pairs) some) in
+    let long = length-take wanted pairs in
+    omega (arith, cut, long)
+
+-- ---- which shards were read
+-- a later key has no earlier owner
+owner-rises : (splits : List Point) (x y : Point) → point_lt x y ≡ true → first_owner splits x ≤ first_owner splits y
+owner-rises [] x y before = omega arith
+owner-rises (split ∷ splits) x y before = ⊎_elim
+    (λ sooner.
+    let none : first_owner (split ∷ splits) x ≡ 0 = cond-true (point_lt x split) _ _ sooner in
+    omega (arith, none))
+    (λ later.
+    let past = cond-false (point_lt x split) 0 (suc (first_owner splits x)) later in
+    let past_too = cond-false (point_lt y split) 0 (suc (first_owner splits y)) (reached later) in
+    omega (arith, past, past_too, owner-rises splits x y before))
+    (cases_Bool (point_lt x split))
+  where
+    reached : point_lt x split ≡ false → point_lt y split ≡ false
+    reached later = ⊎_elim
+        (λ sooner. absurd (both_ways _ later (lt_chain x y split before sooner)))
+        (λ no. no)
+        (cases_Bool (point_lt y split))
+
+all-of : {A : Type 0} (P : A → Type 0) → ((x : A) → P x) → (xs : List A) → AllByRecursion P xs
+all-of P each [] = tt
+all-of P each (x ∷ xs) = (each x, all-of P each xs)
+
+-- tests that agree at each item keep the same items
+filter_alike : {A : Type 0} (p q : A → Bool) (xs : List A) → AllByRecursion (λ x. p x ≡ q x) xs
+    → filter p xs ≡ filter q xs
+filter_alike p q [] alike = refl
+filter_alike {A} p q (x ∷ xs) alike =
+    ap₂ (λ (passes : Bool) (rest : List A). if passes then x ∷ rest else rest) alike.0 (filter_alike p q xs alike.1)
+
+module _ (reads : ShardReads) where
+  abbrev pub holder : Point → ℕ
+  holder x = first_owner reads.config.shard_splits x
+
+  -- the number of the shard that is read after the first n, in key order or from the end
+  abbrev pub read_next : Bool → ℕ → ℕ
+  read_next is_reverse n = if is_reverse then length reads.shards - 1 - n else n
+
+  -- one of the first n that are read holds the point
+  abbrev pub is_read : Bool → ℕ → Point → Bool
+  is_read false n x = nat_lt (holder x) n
+  is_read true n x = nat_le (length reads.shards) (holder x + n)
+
+  -- of the pairs of a range those that the first n have
+  abbrev pub pairs_read : Range → Bool → ℕ → List (Point × List ℕ)
+  pairs_read range is_reverse n =
+      filter (λ pair. is_read is_reverse n pair.0) (pairs_in (run_map reads) range is_reverse)
+
+  -- the next one has what one more of them has beside the others
+  is_next : (is_reverse : Bool) (n : ℕ) → n < length reads.shards → (x : Point)
+      → (holder x == read_next is_reverse n) ≡ (is_read is_reverse (n + 1) x && not (is_read is_reverse n x))
+  is_next false n within x = same_test _ _
+      (λ is.
+      let same = eqb-true (holder x) n is in
+      and_from _ _ (lt-ltb (holder x) (n + 1) (omega (arith, same)))
+      (not_from_false _ (le-ltb (holder x) n (omega (arith, same)))))
+      (λ both.
+      let parts : (nat_lt (holder x) (n + 1) ≡ true) × (not (nat_lt (holder x) n) ≡ true) = and_parts _ _ both in
+      eq-eqb (holder x) n
+      (omega (arith, ltb-true (holder x) (n + 1) parts.0, ltb-false (holder x) n (not-true _ parts.1))))
+  is_next true n within x = same_test _ _
+      (λ is.
+      let same = eqb-true (holder x) (length reads.shards - 1 - n) is in
+      and_from _ _ (le-leb (length reads.shards) (holder x + (n + 1)) (omega (arith, same, within)))
+      (not_from_false _ (lt-leb (length reads.shards) (holder x + n) (omega (arith, same, within)))))
+      (λ both.
+      let parts : (nat_le (length reads.shards) (holder x + (n + 1)) ≡ true)
+      × (not (nat_le (length reads.shards) (holder x + n)) ≡ true) = and_parts _ _ both in
+      eq-eqb (holder x) (length reads.shards - 1 - n)
+      (omega (
+        arith,
+        leb-true (length reads.shards) (holder x + (n + 1)) parts.0,
+        leb-false (length reads.shards) (holder x + n) (not-true _ parts.1),
+      )))
+
+  still_read : (is_reverse : Bool) (n : ℕ) (x : Point)
+      → is_read is_reverse n x ≡ (is_read is_reverse (n + 1) x && is_read is_reverse n x)
+  still_read false n x = same_test _ _
+      (λ read. and_from _ _ (lt-ltb (holder x) (n + 1) (omega (arith, ltb-true (holder x) n read))) read)
+      (λ both. (and_parts _ _ both).1)
+  still_read true n x = same_test _ _
+      (λ read. and_from _ _ (le-leb (length reads.shards) (holder x + (n + 1))
+      (omega (arith, leb-true (length reads.shards) (holder x + n) read))) read)
+      (λ both. (and_parts _ _ both).1)
+
+  -- behind a key that isn't read yet none is
+  unread-behind : (is_reverse : Bool) (n : ℕ) (x y : Point) → comes_before is_reverse x y ≡ true
+      → is_read is_reverse n x ≡ false → is_read is_reverse n y ≡ false
+  unread-behind false n x y before unread =
+      le-ltb (holder y) n (omega (
+        arith,
+        ltb-false (holder x) n unread,
+        owner-rises reads.config.shard_splits x y before,
+      ))
+  unread-behind true n x y before unread =
+      lt-leb (length reads.shards) (holder y + n)
+      (omega (
+        arith,
+        leb-false (length reads.shards) (holder x + n) unread,
+        owner-rises reads.config.shard_splits y x before,
+      ))
+
+  -- with one more shard its pairs follow
+  pairs-next : (range : Range) (is_reverse : Bool) (n : ℕ) → n < length reads.shards
+      → pairs_read range is_reverse (n + 1)
+      ≡ pairs_read range is_reverse n
+      ++ filter (λ pair. holder pair.0 == read_next is_reverse n) (pairs_in (run_map reads) range is_reverse)
+  pairs-next range is_reverse n within =
+      let all = pairs_in (run_map reads) range is_reverse in
+      parted (λ a b. comes_before is_reverse a.0 b.0) (λ pair. is_read is_reverse n pair.0)
+      (λ a b before unread. unread-behind is_reverse n a.0 b.0 before unread)
+      (pairs_read range is_reverse (n + 1))
+      (ordered-filter (λ a b. comes_before is_reverse a.0 b.0) (λ pair. is_read is_reverse (n + 1) pair.0) all
+      (ordered-pairs_in (run_map reads) range is_reverse))
+      ∙ sym (ap₂ (λ (front back : List (Point × List ℕ)). front ++ back)
+      (filter_both (λ pair. is_read is_reverse (n + 1) pair.0) (λ pair. is_read is_reverse n pair.0)
+      (λ pair. is_read is_reverse n pair.0) (λ pair. still_read is_reverse n pair.0) all)
+      (filter_both (λ pair. is_read is_reverse (n + 1) pair.0) (λ pair. not (is_read is_reverse n pair.0))
+      (λ pair. holder pair.0 == read_next is_reverse n) (λ pair. is_next is_reverse n within pair.0) all))
+
+  -- before the first shard nothing is read
+  pub pairs-none : (range : Range) (is_reverse : Bool) → AreReadable reads → pairs_read range is_reverse 0 ≡ []
+  pairs-none range is_reverse readable =
+      filter_none (λ pair. is_read is_reverse 0 pair.0) (pairs_in (run_map reads) range is_reverse)
+      (all-of (λ pair. is_read is_reverse 0 pair.0 ≡ false) (λ pair. unread is_reverse pair.0) _)
+    where
+      unread : (way : Bool) (x : Point) → is_read way 0 x ≡ false
+      unread false x = le-ltb (holder x) 0 (omega arith)
+      unread true x =
+          lt-leb (length reads.shards) (holder x + 0) (omega (arith, owner-within reads readable x))
+
+  -- and after the last one all is
+  pub pairs-all : (range : Range) (is_reverse : Bool) → AreReadable reads
+      → pairs_read range is_reverse (length reads.shards) ≡ pairs_in (run_map reads) range is_reverse
+  pairs-all range is_reverse readable =
+      filter_all (λ pair. is_read is_reverse (length reads.shards) pair.0) (pairs_in (run_map reads) range is_reverse)
+      (all-of (λ pair. is_read is_reverse (length reads.shards) pair.0 ≡ true) (λ pair. read is_reverse pair.0) _)
+    where
+      read : (way : Bool) (x : Point) → is_read way (length reads.shards) x ≡ true
+      read false x = lt-ltb (holder x) (length reads.shards) (owner-within reads readable x)
+      read true x = le-leb (length reads.shards) (holder x + length reads.shards) (omega arith)
+
+  -- the pairs that a shard holds are those of the keys that it owns
+  held-are : (range : Range) (is_reverse : Bool) (i : ℕ) → AreReadable reads → is_bound range.end ≡ true
+      → i < length reads.shards
+      → pairs_held reads i range is_reverse
+      ≡ filter (λ pair. holder pair.0 == i) (pairs_in (run_map reads) range is_reverse)
+  held-are range is_reverse i readable legal within =
+      filter_alike (λ pair. in_range (piece reads.config.shard_splits i) pair.0) (λ pair. holder pair.0 == i)
+      (pairs_in (run_map reads) range is_reverse)
+      (all_imply (λ pair. in_range range pair.0 ≡ true)
+      (λ pair. in_range (piece reads.config.shard_splits i) pair.0 ≡ (holder pair.0 == i))
+      (λ pair inside. pieces_part_the_keys reads.config.shard_splits i pair.0 readable.splits
+      (omega (arith, within, readable.as_many)) (below-end range pair.0 legal inside))
+      (pairs_in (run_map reads) range is_reverse) (all_in-pairs_in (run_map reads) range is_reverse))
+
+  -- so with the pairs that the next one holds those of one more are read
+  pub first-read : (range : Range) (is_reverse : Bool) (wanted n number : ℕ) → AreReadable reads
+      → is_bound range.end ≡ true → n < length reads.shards → number ≡ read_next is_reverse n
+      → (pairs : List (Point × List ℕ)) → pairs ≡ first_of wanted (pairs_read range is_reverse n)
+      → first_of wanted (pairs ++ pairs_held reads number range is_reverse)
+      ≡ first_of wanted (pairs_read range is_reverse (n + 1))
+  first-read range is_reverse wanted n number readable legal within is pairs so_far =
+      ap₂ (λ (front back : List (Point × List ℕ)). first_of wanted (front ++ back)) so_far
+      (ap (λ (i : ℕ). pairs_held reads i range is_reverse) is
+      ∙ held-are range is_reverse (read_next is_reverse n) readable legal (next-within is_reverse))
+      ∙ first-again wanted (pairs_read range is_reverse n) _
+      ∙ ap (first_of wanted) (sym (pairs-next range is_reverse n within))
+    where
+      next-within : (way : Bool) → read_next way n < length reads.shards
+      next-within false = within
+      next-within true = omega (arith, within)

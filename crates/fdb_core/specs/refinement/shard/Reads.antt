@@ -1,0 +1,69 @@
+-- The shards, read at a version.
+use Rattle.std.specs.Prelude.{◌≡◌, ◌≤◌, ℕ, suc, ◌-◌, Bool, true, false, nat_eq, nat_lt, List, filter, map, take, length}
+use Rattle.std.specs.Prelude.{Option, Some, None, slice_get, if◌then◌else◌}
+use Rattle.std.specs.FinMap.{get}
+use Rattle.fdb_keys.specs.declared.refusal.Refusal.{Refusal}
+use Rattle.fdb_keys.specs.Points.{Point}
+use Rattle.fdb_keys.specs.Ranges.{Range, in_range}
+use Rattle.fdb_mutations.specs.Maps.{Map}
+use Rattle.fdb_mutations.specs.Pairs.{pairs_in}
+use Rattle.fdb_txn.specs.declared.entry.Entry.{Entry}
+use Rattle.fdb_txn.specs.book.Book.{seen_of, last_version}
+use Rattle.fdb_txn.specs.rules.Owners.{first_owner}
+use Rattle.fdb_txn.specs.rules.SerialMap.{serial_map_at}
+use Rattle.fdb_txn.specs.rules.Splits.{are_splits, piece}
+use Rattle.fdb_storage.specs.Shards.{value_at}
+use Rattle.fdb_proxy.specs.declared.config.Config.{Config}
+use Rattle.fdb_core.specs.declared.roles.shard.ShardRole.{ShardRole}
+use Rattle.fdb_core.specs.machine.ClientSteps.{fault_among, shard_begins}
+use Rattle.fdb_core.specs.machine.RoleSteps.{shard_fault}
+use Rattle.fdb_core.specs.refinement.log.Ties.{progress_of, Each}
+
+pub record ShardReads : Type 0 where
+  pub version : ℕ
+  pub config : Config
+  pub book : List Entry
+  pub shards : List ShardRole
+
+-- the serial map at the version
+abbrev pub run_map : ShardReads → Map
+run_map reads = serial_map_at reads.config.resolver_splits reads.version (seen_of reads.book).places
+
+-- why a point is not read, as the machine says it
+abbrev pub key_fault : ShardReads → Point → Option Refusal
+key_fault reads x =
+    shard_fault reads.book reads.version
+    (slice_get (map progress_of reads.shards) (first_owner reads.config.shard_splits x))
+
+-- and why a range is not read
+abbrev pub range_fault : ShardReads → Range → Option Refusal
+range_fault reads range = fault_among (key_fault reads) (shard_begins reads.config.shard_splits range)
+
+-- of the pairs of a range on the serial map those whose keys shard i holds
+abbrev pub pairs_held : ShardReads → ℕ → Range → Bool → List (Point × List ℕ)
+pairs_held reads i range is_reverse =
+    filter (λ pair. in_range (piece reads.config.shard_splits i) pair.0) (pairs_in (run_map reads) range is_reverse)
+
+-- no more than are wanted, where 0 stands for all
+abbrev pub AreFew : ℕ → List (Point × List ℕ) → Type 0
+AreFew wanted pairs = nat_eq wanted 0 ≡ false → length pairs ≤ wanted
+
+-- how many are still wanted beside so many, where 0 stands for all
+abbrev pub left_of : ℕ → ℕ → Option ℕ
+left_of wanted count =
+    if nat_eq wanted 0 then Some 0 else (if nat_lt count wanted then Some (wanted - count) else None)
+
+-- A shard holds its piece of the keys, and answers from the run where it serves the version.
+pub record IsReadable (reads : ShardReads) (i : ℕ) (role : ShardRole) : Type 0 where
+  pub range : role.core.range ≡ piece reads.config.shard_splits i
+  pub works : role.core.is_failed ≡ false
+  pub version : role.core.version ≡ last_version (take role.applied reads.book)
+  pub serves : (x : Point) → role.core.floor ≤ reads.version → reads.version ≤ role.core.version
+      → in_range (piece reads.config.shard_splits i) x ≡ true → value_at role.core reads.version x
+      ≡ get (run_map reads) x
+
+-- there is a shard for each piece of the keys, and each is readable
+pub record AreReadable (reads : ShardReads) : Type 0 where
+  pub splits : are_splits reads.config.shard_splits ≡ true
+  pub as_many : length reads.shards ≡ suc (length reads.config.shard_splits)
+  pub each : Each (IsReadable reads) reads.shards
