@@ -12,7 +12,7 @@ use Rattle.fdb_client.specs.declared.program.Reply.TheVariants as reply
 use Rattle.fdb_client.specs.declared.program.Transcript.{Transcript}
 use Rattle.fdb_proxy.specs.Askers.{Asker}
 use Rattle.fdb_core.specs.machine.ClientSteps.{notes, writes, adds_read, adds_write}
-use Rattle.fdb_core.specs.machine.Machine.{Machine, Transition}
+use Rattle.fdb_core.specs.machine.Machine.{Transition}
 use Rattle.fdb_core.specs.machine.Sessions.{Sessions, EachOpen, Open, open_at, with_state}
 use Rattle.fdb_core.specs.refinement.Cluster.{machine_of, GrvProxiesRefine, Refines}
 use Rattle.fdb_core.specs.refinement.commit_proxy.Ties.{ReadsWithin}
@@ -58,33 +58,36 @@ sessions-same k sessions before same =
     subst (λ (others : Sessions). (machine_of (record k { sessions = others }) ≡ machine_of k)
     × Refines (record k { sessions = others })) (sym same) (refl, before)
 
--- what the machine's steps come to that note an operation at an open transaction
-module _ (m : Machine) (session : ℕ) (transcript : Transcript)
-    (opened : open_at m.sessions session ≡ Some transcript) where
-  pub adds_read-transition : (range : Range) → adds_read m session range
-      ≡ notes m session transcript (op.AddRead range)
+-- A step notes an operation at the session's open transaction, and so does the machine's.
+module _ (k : Cluster) (before : Refines k) (session : ℕ) (sessions : Sessions) where
+  -- there is one, and it has one more operation
+  abbrev Noted : Op → Type 0
+  Noted operation = (transcript : Transcript) × (open_at k.sessions session ≡ Some transcript)
+      × (sessions ≡ with_state k.sessions session (Open (with_op transcript operation reply.Done)))
+
+  noted : (operation : Op) (transition : Result Transition Refusal) (there : Noted operation)
+      → transition ≡ notes (machine_of k) session there.0 operation
+      → Takes k (Ok answered.Done) (record k { sessions = sessions }) transition
+  noted operation transition there is =
+      accepted is refl (ap (λ (others : Sessions). record (machine_of k) { sessions = others }) there.2)
+      (refines-sessions k k.grv_proxies sessions k.acknowledged before before.grv_proxies
+      (subst (EachOpen (ReadsWithin k.sequencer.committed)) (sym there.2)
+      (opened-with_op k.sequencer.committed k.sessions session there.0 operation reply.Done before.opened there.1)))
+
+  pub read-added : (range : Range) → Noted (op.AddRead range)
+      → Takes k (Ok answered.Done) (record k { sessions = sessions }) (adds_read (machine_of k) session range)
   unfolding adds_read
-  adds_read-transition range = rw opened refl
+  read-added range there =
+      noted (op.AddRead range) (adds_read (machine_of k) session range) there (rw there.1 refl)
 
-  pub adds_write-transition : (range : Range) → adds_write m session range
-      ≡ notes m session transcript (op.AddWrite range)
+  pub write-added : (range : Range) → Noted (op.AddWrite range)
+      → Takes k (Ok answered.Done) (record k { sessions = sessions }) (adds_write (machine_of k) session range)
   unfolding adds_write
-  adds_write-transition range = rw opened refl
+  write-added range there =
+      noted (op.AddWrite range) (adds_write (machine_of k) session range) there (rw there.1 refl)
 
-  pub writes-transition : (mutation : Mutation) → mutation_fault mutation ≡ None
-      → writes m session mutation ≡ notes m session transcript (op.Write mutation)
+  pub written : (mutation : Mutation) → mutation_fault mutation ≡ None → Noted (op.Write mutation)
+      → Takes k (Ok answered.Done) (record k { sessions = sessions }) (writes (machine_of k) session mutation)
   unfolding writes
-  writes-transition mutation faultless = rw (opened, faultless) refl
-
--- the session's open transaction notes an operation, and so does the machine's
-pub notes-taken : (k : Cluster) (session : ℕ) (transcript : Transcript) (operation : Op) (sessions : Sessions)
-    (transition : Result Transition Refusal)
-    → Refines k → open_at k.sessions session ≡ Some transcript
-    → sessions ≡ with_state k.sessions session (Open (with_op transcript operation reply.Done))
-    → transition ≡ notes (machine_of k) session transcript operation
-    → Takes k (Ok answered.Done) (record k { sessions = sessions }) transition
-notes-taken k session transcript operation sessions transition before opened changed is =
-    accepted is refl (ap (λ (others : Sessions). record (machine_of k) { sessions = others }) changed)
-    (refines-sessions k k.grv_proxies sessions k.acknowledged before before.grv_proxies
-    (subst (EachOpen (ReadsWithin k.sequencer.committed)) (sym changed)
-    (opened-with_op k.sequencer.committed k.sessions session transcript operation reply.Done before.opened opened)))
+  written mutation faultless there =
+      noted (op.Write mutation) (writes (machine_of k) session mutation) there (rw (there.1, faultless) refl)

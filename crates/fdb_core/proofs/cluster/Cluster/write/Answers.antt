@@ -1,13 +1,12 @@
 use Rattle.std.proofs.Common.{refl, rules}
 use Rattle.fdb_mutations.specs.Mutations.{mutation_fault}
-use Rattle.fdb_client.specs.declared.program.Op.TheVariants as op
 use Rattle.fdb_core.specs.machine.ClientSteps.{writes}
 use Rattle.fdb_core.specs.machine.Sessions.{open_at}
 use Rattle.fdb_core.specs.refinement.Cluster.{machine_of}
 use Rattle.fdb_core.proofs.common.FaultLemmas.{answers-fault, unless-fault}
 use Rattle.fdb_core.proofs.machine.OpenLemmas.{open-given, open-refused}
 use Rattle.fdb_core.proofs.refinement.StepLemmas.{refused}
-use Rattle.fdb_core.proofs.refinement.client.Sessions.{notes-taken, sessions-same, writes-transition}
+use Rattle.fdb_core.proofs.refinement.client.Sessions.{sessions-same, written}
 use Rattle.fdb_core.proofs.cluster.Cluster.write.Goals as goal
 
 pub returns-in_err-write : goal.returns-in_err-write
@@ -25,5 +24,4 @@ returns c =
     let k = c.args.self.now in
     let there = open-given (open_at k.sessions c.args.session) c.in_ok-write.field-0 _ c.in_ok-write.ensures.answers in
     let given = answers-fault (mutation_fault c.args.mutation.now) c.in_ok-write.field-0 _ there.2 in
-    notes-taken k c.args.session there.0 (op.Write c.args.mutation.now) c.write.new.self _ c.requires there.1 given.1
-    (writes-transition (machine_of k) c.args.session there.0 there.1 c.args.mutation.now given.0)
+    written k c.requires c.args.session c.write.new.self c.args.mutation.now given.0 (there.0, there.1, given.1)
