@@ -9,8 +9,7 @@ mod shard;
 
 ghost use Rattle.fdb_core.specs.invariant.Invariant.{Invariant};
 ghost use Rattle.fdb_core.specs.refinement.Cluster.{machine_of, Refines};
-ghost use Rattle.fdb_core.specs.refinement.Steps.{Takes};
-ghost use Rattle.fdb_core.specs.machine.Steps.{next};
+ghost use Rattle.fdb_core.specs.refinement.Steps.{TakesStep};
 
 use crate::cluster::Cluster;
 use crate::roles::client::read::Read;
@@ -22,7 +21,7 @@ impl Cluster {
     pub(crate) fn step(&mut self, step: &Step) -> Result<Answered, Refusal>
         requires refines { Refines self.old }
         requires named { Invariant (machine_of self.old) }
-        ensures { Takes self.old result self.new (next (machine_of self.old) step.now) }
+        ensures { TakesStep self.old step.now result self.new }
     {
         match step {
             Step::Ask { session, proxy } => self.ask(*session, *proxy),

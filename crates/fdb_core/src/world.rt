@@ -1,5 +1,6 @@
 ghost use Rattle.std.specs.Prelude.{◌≡◌};
 ghost use Rattle.fdb_core.specs.machine.Steps.{ran_out as has_run_out};
+ghost use Rattle.fdb_core.specs.machine.Worlds.{fails_world as has_failed_world, leaves_world as is_left};
 
 use crate::check::serial::check_all;
 use crate::cluster::Cluster;
@@ -118,7 +119,7 @@ impl World {
             return Err(Refusal::Failed);
         }
         let answer = self.cluster.step(step);
-        self.failed = ran_out(&answer);
+        self.failed = fails_world(step, &answer);
         answer
     }
 
@@ -204,6 +205,31 @@ impl World {
     {
         check_all(&self.cluster, !self.failed)
     }
+}
+
+// Memory ran out in the step, which may have left what it was to change only partly changed.
+fn fails_world(step: &Step, answer: &Result<Answered, Refusal>) -> bool
+    ensures { result ≡ has_failed_world step.now answer.now }
+{
+    ran_out(answer) && !leaves_world(step)
+}
+
+// Whether a step of this kind leaves the world as it was where memory runs out in it.
+fn leaves_world(step: &Step) -> bool
+    ensures { result ≡ is_left step.now }
+{
+    !matches!(
+        step,
+        Step::Submit { .. }
+            | Step::Seal { .. }
+            | Step::Resolve { .. }
+            | Step::Verdict { .. }
+            | Step::Decide { .. }
+            | Step::Push { .. }
+            | Step::Logged { .. }
+            | Step::Answer { .. }
+            | Step::Pull { .. }
+    )
 }
 
 // Memory ran out in the step.

@@ -46,6 +46,10 @@ unless-fault None why Q P answers follows = rw answers tt
 unless-fault (Some fault) why Q P answers follows = unless (ran_out (Err why)) P
     (follows (ap (λ (f : Refusal). Some f) (sym answers)))
 
+-- where memory ran out in a call, whatever is asked of the step that is refused so unless memory ran out
+pub unless-lacked : (why : Refusal) (P : Type 0) → why ≡ NoMemory → Unless (ran_out (Err why)) P
+unless-lacked why P lacks = rw lacks tt
+
 -- a call without a fault that refused lacked memory
 pub lacks-memory : {T : Type 0} (fault : Option Refusal) (why : Refusal) (Q : T → Type 0) → fault ≡ None
     → Answers (Err why) fault Q → why ≡ NoMemory

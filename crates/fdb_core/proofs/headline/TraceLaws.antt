@@ -1,5 +1,6 @@
 -- Traces: what every step keeps holds after any of them, and they tell the machine.
 use Rattle.std.proofs.Common.{◌≡◌, ◌∙◌, sym, ap, refl, ℕ, zero, suc, List, [], ◌∷◌, take, drop, Some, Result, Ok, Err}
+use Rattle.std.proofs.Common.{⊎_elim}
 use Rattle.fdb_keys.specs.declared.refusal.Refusal.{Refusal}
 use Rattle.fdb_core.specs.declared.step.Answered.{Answered}
 use Rattle.fdb_core.specs.declared.step.Step.{Step}
@@ -51,11 +52,13 @@ run-after_steps : (m new : Machine) (steps : List Step) (given : List (Result An
 run-after_steps m new [] [] ran = cc
 run-after_steps m new [] (answer ∷ given) ran = absurd ran
 run-after_steps m new (taken ∷ steps) [] ran = absurd ran
-run-after_steps m new (taken ∷ steps) (answer ∷ given) ran =
-    let went = run-next m new taken answer steps given ran in
-    run-after_steps (after m (next m taken)) new steps given went.1
+run-after_steps m new (taken ∷ steps) (answer ∷ given) ran = ⊎_elim
+    (λ went. run-after_steps (after m (next m taken)) new steps given went.1
     ∙ ap (λ (mid : Machine). after_steps mid steps given)
-    (sym (ap (after_step m taken) went.0 ∙ after_step-answered m taken (next m taken) refl))
+    (sym (ap (after_step m taken) went.0 ∙ after_step-answered m taken (next m taken) refl)))
+    (λ left. run-after_steps m new steps given left.1
+    ∙ ap (λ (a : Result Answered Refusal). after_steps (after_step m taken a) steps given) (sym left.0))
+    (run-next m new taken answer steps given ran)
 
 pub traces_tell : TracesDetermineTheMachine
 traces_tell config steps given m stands = run-after_steps (start config) m steps given stands

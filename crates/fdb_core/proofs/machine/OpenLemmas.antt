@@ -71,6 +71,11 @@ pub refused-follows : {T : Type 0} (result : Result T Refusal) (P Q : Type 0) �
 refused-follows (Ok given) P Q follows holds = holds
 refused-follows (Err why) P Q follows holds = follows holds
 
+-- what holds anyhow holds after a refused call
+pub anyhow : {T E : Type 0} (result : Result T E) (P : Type 0) → P → OnErr result P
+anyhow (Ok given) P holds = tt
+anyhow (Err why) P holds = holds
+
 -- and after one that gave something
 pub given-follows : {T : Type 0} (result : Result T Refusal) (P Q : Type 0) → (P → Q) → OnOk result P → OnOk result Q
 given-follows (Ok given) P Q follows holds = follows holds

@@ -1,14 +1,18 @@
 -- The sessions as a map: what is looked up after one was put.
 use Rattle.std.proofs.Common.{◌≡◌, ◌≢◌, ◌∙◌, sym, ap, refl, subst, ⊎_elim, ℕ, Bool, true, false, cond, List, Option}
-use Rattle.std.proofs.Common.{Some}
+use Rattle.std.proofs.Common.{Some, [], ◌∷◌}
+use Rattle.std.specs.Option.{is_some}
 use Rattle.std.specs.Prelude.{◌==◌, unwrap_or}
 use Rattle.std.specs.Ordering.{nat_cmp, eq_by_cmp}
+use Rattle.std.specs.BTreeMap.{is_at}
 use Rattle.std.specs.Cmp.{eq_by_cmp_equiv, Equal-is}
 use Rattle.std.specs.FinMap.{get, insert, empty, from_entries, get-empty, get-insert, nat_cmp-IsAntisymmetric}
 use Rattle.std.proofs.lemmas.Cmp.{nat_cmp_total}
 use Rattle.std.proofs.lemmas.Bool.{eq-eqb, ne_eqb, false_from_ne_true}
 use Rattle.std.proofs.lemmas.Bool.Decides.{eqb_tells}
 use Rattle.fdb_txn.proofs.NumberMaps.{at_number, get-pairs, same_maps}
+use Rattle.fdb_proxy.specs.Askers.{Asker}
+use Rattle.fdb_core.specs.refinement.client.Sessions.{AreKnown}
 use Rattle.fdb_core.specs.machine.Sessions.{Session, SessionState, Sessions, new_session, session_of, with_state}
 
 -- only equal numbers tie
@@ -64,6 +68,49 @@ put-again sessions number first last = same_maps _ _ (λ other.
         → cond test (Some last) (cond test (Some first) there) ≡ cond test (Some last) there
     twice true there = refl
     twice false there = refl
+
+-- one that is put, and then put back as it was, leaves all as they were
+pub put_back-same : (pairs between after : List (ℕ × Session)) (number : ℕ) (session : Session)
+    → ((other : ℕ)
+    → at_number between other ≡ cond (is_at (nat_cmp number) other) (Some session) (at_number pairs other))
+    → ((other : ℕ) → at_number after other
+    ≡ cond (is_at (nat_cmp number) other) (at_number pairs number) (at_number between other))
+    → from_entries {R = nat_cmp} after ≡ from_entries pairs
+put_back-same pairs between after number session put back = same_maps _ _ (λ other.
+    get-pairs after other ∙ back other
+    ∙ ap (cond (is_at (nat_cmp number) other) (at_number pairs number)) (put other)
+    ∙ again other ∙ sym (get-pairs pairs other))
+  where
+    again : (other : ℕ)
+        → cond (is_at (nat_cmp number) other) (at_number pairs number)
+        (cond (is_at (nat_cmp number) other) (Some session) (at_number pairs other))
+        ≡ at_number pairs other
+    again other = ⊎_elim
+        (λ (is : (number == other ≡ true) × (number ≡ other)).
+        subst (λ (test : Bool). cond test (at_number pairs number) (cond test (Some session) (at_number pairs other))
+        ≡ at_number pairs other) (sym (tie number other ∙ is.0)) (ap (at_number pairs) is.1))
+        (λ (is : (number == other ≡ false) × (number ≢ other)).
+        subst (λ (test : Bool). cond test (at_number pairs number) (cond test (Some session) (at_number pairs other))
+        ≡ at_number pairs other) (sym (tie number other ∙ is.0)) refl)
+        (eqb_tells number other)
+
+-- a session that did something has done it still where another one is put
+pub known-put : (sessions : Sessions) (number : ℕ) (session : Session) (other : ℕ)
+    → is_some (get sessions other) ≡ true → is_some (get (insert sessions number session) other) ≡ true
+known-put sessions number session other known =
+    ap (λ (there : Option Session). is_some there) (get-insert nat_cmp_total sessions number session other)
+    ∙ by_test (eq_by_cmp nat_cmp other number)
+  where
+    by_test : (test : Bool) → is_some (cond test (Some session) (get sessions other)) ≡ true
+    by_test true = refl
+    by_test false = known
+
+-- and so so have all
+pub all_known-put : (sessions : Sessions) (number : ℕ) (session : Session) (askers : List Asker)
+    → AreKnown sessions askers → AreKnown (insert sessions number session) askers
+all_known-put sessions number session [] known = tt
+all_known-put sessions number session (asker ∷ askers) known =
+    (known-put sessions number session asker.0 known.0, all_known-put sessions number session askers known.1)
 
 -- and so with its last state alone
 pub state-again : (sessions : Sessions) (number : ℕ) (first last : SessionState)

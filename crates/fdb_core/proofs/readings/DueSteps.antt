@@ -29,7 +29,7 @@ use Rattle.fdb_core.specs.machine.Machine.{Machine, Transition, is_set, first_mi
 use Rattle.fdb_core.specs.machine.RoleSteps.{resolves, pushes}
 use Rattle.fdb_core.specs.machine.Roles.{CommitProxy, Stage, Idle, Resolving, Logging, Reported, FromResolver, FromLog}
 use Rattle.fdb_core.specs.machine.Steps.{next, answer_of}
-use Rattle.fdb_core.specs.machine.Worlds.{start, IsRun, IsStep}
+use Rattle.fdb_core.specs.machine.Worlds.{start, IsRun, IsStep, leaves_world}
 use Rattle.fdb_core.proofs.common.AllLemmas.{within-item}
 use Rattle.fdb_core.proofs.headline.RunsLemmas.{run-last}
 use Rattle.fdb_core.proofs.headline.TraceLaws.{traces_tell}
@@ -366,6 +366,29 @@ module _ (m : Machine) (r : Readings) (has : HasRoles m) (sound : Invariant m) (
   due-accepts (step.Pop shard) due = absurd due
   due-accepts (step.Move range to) due = absurd due
 
+-- steps that are due are of the kinds after which no machine is left where memory runs out
+due-fails : (config : Config) (r : Readings) (taken : Step) → IsDue config r taken → leaves_world taken ≡ false
+due-fails config r (step.Ask session proxy) due = absurd due
+due-fails config r (step.Grant proxy) due = absurd due
+due-fails config r (step.Get session key snapshot) due = absurd due
+due-fails config r (step.GetRange session range limit is_reverse snapshot) due = absurd due
+due-fails config r (step.Write session mutation) due = absurd due
+due-fails config r (step.AddRead session range) due = absurd due
+due-fails config r (step.AddWrite session range) due = absurd due
+due-fails config r (step.Submit session proxy) due = absurd due
+due-fails config r (step.Seal proxy advance) due = refl
+due-fails config r (step.Resolve entry resolver) due = refl
+due-fails config r (step.Verdict entry resolver) due = refl
+due-fails config r (step.Decide proxy) due = refl
+due-fails config r (step.Push entry log) due = refl
+due-fails config r (step.Logged entry log) due = refl
+due-fails config r (step.Report proxy) due = absurd due
+due-fails config r (step.Answer proxy) due = refl
+due-fails config r (step.Pull shard limit) due = refl
+due-fails config r (step.Forget shard version) due = absurd due
+due-fails config r (step.Pop shard) due = absurd due
+due-fails config r (step.Move range to) due = absurd due
+
 -- what holds of the machine and of what is told before the last step of a trace, whose world is there after it
 module _ (config : Config) (steps : List Step) (given : List (Result Answered Refusal)) (taken : Step)
     (result : Result Answered Refusal) (after : Machine)
@@ -380,16 +403,17 @@ module _ (config : Config) (steps : List Step) (given : List (Result Answered Re
   stepped =
       let last = run-last (Some (start config)) (Some after) steps given taken result stands in (last.0, last.1, last.2)
 
-  -- it answers what the machine answers
-  answers-so : result ≡ answer_of (next before taken)
-  answers-so = by stepped.0 stepped.1 stepped.2
+  -- it answers what the machine answers, where its world would be none if memory had run out in it
+  answers-so : leaves_world taken ≡ false → result ≡ answer_of (next before taken)
+  answers-so kind = by stepped.0 stepped.1 stepped.2
     where
       by : (mid : Option Machine) → IsRun (Some (start config)) steps given mid → IsStep mid taken result (Some after)
           → result ≡ answer_of (next before taken)
       by None ran step = let wrong : Some after ≡ None = step.1 in cc
       by (Some m) ran step = ⊎_elim
           (λ went. went.0 ∙ ap (λ (n : Machine). answer_of (next n taken)) (traces_tell config steps given m ran))
-          (λ failed. let wrong : Some after ≡ None = failed.1 in cc) step
+          (λ lacked. let wrong : Some after ≡ None = lacked.1
+          ∙ ap (λ (leaves : Bool). if leaves then Some m else None) kind in cc) step
 
   config-is : before.config ≡ config
   config-is = config-kept config steps given
@@ -408,7 +432,7 @@ module _ (config : Config) (steps : List Step) (given : List (Result Answered Re
       let accepts = due-accepts before told_before has-roles (sound-trace config steps given) tells-before tells-roles
       taken
       (subst (λ (c : Config). IsDue c told_before taken) (sym config-is) due) in
-      (accepts.0.answer, answers-so ∙ ap answer_of accepts.1)
+      (accepts.0.answer, answers-so (due-fails config told_before taken due) ∙ ap answer_of accepts.1)
 
 pub what_is_due_is_accepted : WhatIsDueIsAccepted
 what_is_due_is_accepted config steps given taken result m stands due =
@@ -420,7 +444,7 @@ decisions_wait config steps given proxy resolver result m stands least =
     let machine = machine_of_trace config steps given in
     let r = readings_of steps given in
     let missing = subst (λ (c : Config). IsLeastMissing c r proxy resolver) (sym own) least in
-    answers-so config steps given (step.Decide proxy) result m stands
+    answers-so config steps given (step.Decide proxy) result m stands refl
     ∙ ap answer_of (decision-waits machine r (has-roles config steps given (step.Decide proxy) result m stands)
     (sound-trace config steps given)
     (tells-before config steps given (step.Decide proxy) result m stands)

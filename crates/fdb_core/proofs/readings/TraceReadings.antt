@@ -30,6 +30,7 @@ use Rattle.fdb_core.specs.machine.Machine.{Machine, Transition}
 use Rattle.fdb_core.specs.machine.Roles.{CommitProxy, ShardProgress}
 use Rattle.fdb_core.specs.machine.Steps.{next, answer_of, after}
 use Rattle.fdb_core.specs.machine.Worlds.{start, idle_proxy, IsRun}
+use Rattle.fdb_core.proofs.headline.RunsLemmas.{left-cases}
 use Rattle.fdb_core.proofs.common.AllLemmas.{all-at, all-both, all-replicate}
 use Rattle.fdb_core.proofs.headline.TraceLaws.{after_step-answered, traces_tell}
 use Rattle.fdb_core.proofs.invariant.OnceLaws.{machine-once}
@@ -87,12 +88,17 @@ module _ (T : Readings → Machine → Type 0)
       (after_steps (after_step m taken a) steps given)) (sym went.0)
       (subst (λ (mid : Machine). T (read_steps (read_step r taken (answer_of (next m taken))) steps given)
       (after_steps mid steps given)) (sym (after_step-answered m taken (next m taken) refl)) rest))
+      (λ lacked.
+      subst (λ (a : Result Answered Refusal). T (read_steps (read_step r taken a) steps given)
+      (after_steps (after_step m taken a) steps given)) (sym lacked.0)
+      (⊎_elim
+      (λ kept. run-tells m r steps given world sound tells
+      (subst (λ (mid : Option Machine). IsRun mid steps given world) kept ran.2))
       (λ failed. let rest = nothing-more m r steps given world
       (subst (λ (mid : Option Machine). IsRun mid steps given world) failed.1 ran.2) in
-      subst (λ (a : Result Answered Refusal). T (read_steps (read_step r taken a) steps given)
-      (after_steps (after_step m taken a) steps given)) (sym failed.0)
-      (subst (λ (told : Readings). T told (after_steps m steps given)) (sym rest.0)
-      (subst (T r) (sym rest.1) tells)))
+      subst (λ (told : Readings). T told (after_steps m steps given)) (sym rest.0)
+      (subst (T r) (sym rest.1) tells))
+      (left-cases m taken ran.0 lacked.1)))
       ran.1
 
 -- the machine is told with how far its roles are

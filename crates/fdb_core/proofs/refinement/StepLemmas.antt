@@ -1,14 +1,14 @@
 -- What a step comes to, whichever it is.
-use Rattle.std.proofs.Common.{◌≡◌, ◌∙◌, refl, sym, ap, subst, Result, Ok, Err}
+use Rattle.std.proofs.Common.{◌≡◌, ◌∙◌, refl, sym, ap, subst, Bool, true, false, Result, Ok, Err}
 use Rattle.std.specs.Prelude.{⊤}
 use Rattle.fdb_keys.specs.declared.refusal.Refusal.{Refusal}
 use Rattle.fdb_keys.specs.declared.refusal.Refusal.TheVariants.{NoMemory}
 use Rattle.fdb_core.specs.declared.cluster.Cluster.{Cluster}
 use Rattle.fdb_core.specs.declared.step.Answered.{Answered}
-use Rattle.fdb_core.specs.machine.Machine.{Transition}
-use Rattle.fdb_core.specs.machine.Steps.{answer_of, after, ran_out}
+use Rattle.fdb_core.specs.machine.Machine.{Machine, Transition}
+use Rattle.fdb_core.specs.machine.Steps.{answer_of, after, ran_out, ByTest}
 use Rattle.fdb_core.specs.refinement.Cluster.{machine_of, Refines}
-use Rattle.fdb_core.specs.refinement.Steps.{RanOut, Stepped, Takes}
+use Rattle.fdb_core.specs.refinement.Steps.{LeftAsBefore, RanOut, Stepped, Takes, TakesOrLeaves}
 use Rattle.fdb_core.proofs.common.FaultLemmas.{Unless, by_test-map, unless-map}
 
 -- A step that the machine accepts answers what the machine answers, and goes on to what the machine goes on to.
@@ -58,6 +58,13 @@ module _ (old : Cluster) (result : Result Answered Refusal) (new : Cluster) (tra
       (unless-map (ran_out (Err why)) (transition ≡ Err why) (Stepped old (Err why) new transition)
       (λ step. refuses step kept) same)
 
+  -- or where nothing changed anyhow, also where memory ran out
+  pub left : Unless (ran_out (Err why)) (transition ≡ Err why) → LeftAsBefore old new
+      → TakesOrLeaves old result new transition
+  left same kept = subst (λ (answer : Result Answered Refusal). TakesOrLeaves old answer new transition) (sym is)
+      (by_test-map (ran_out (Err why)) ⊤ (transition ≡ Err why) (LeftAsBefore old new)
+      (Stepped old (Err why) new transition) (λ _. kept) (λ same. refuses same kept) same)
+
 -- A step that ends in another one, which begins where it is, is the machine's where both come to the same.
 pub ended : (before old : Cluster) (result : Result Answered Refusal) (new : Cluster)
     (transition : Result Transition Refusal) (to : Transition) → transition ≡ Ok to
@@ -67,6 +74,18 @@ ended before old result new transition to is out taken =
     (by_test-map (ran_out result) (RanOut before new) (Stepped before result new (Ok to)) (RanOut old new)
     (Stepped old result new (Ok to)) out
     (λ step. record { answer = step.answer; machine = step.machine; refines = step.refines }) taken)
+
+-- A step that leaves all as it was where memory ran out in it is tied to the machine in the end, which is the one that
+-- it was or the one that it goes on to. What holds of both holds of it.
+pub left_or_stepped : (P : Machine → Type 0) (old : Cluster) (result : Result Answered Refusal) (new : Cluster)
+    (transition : Result Transition Refusal) → TakesOrLeaves old result new transition → P (machine_of old)
+    → P (after (machine_of old) transition) → Refines new × P (machine_of new)
+left_or_stepped P old result new transition taken before later = by (ran_out result) taken
+  where
+    by : (test : Bool) → ByTest test (LeftAsBefore old new) (Stepped old result new transition)
+        → Refines new × P (machine_of new)
+    by true kept = (kept.1, subst P (sym kept.0) before)
+    by false step = (step.refines, subst P (sym step.machine) later)
 
 -- Unless memory ran out, the step did what its transition says.
 pub unless-ran_out : (old : Cluster) (result : Result Answered Refusal) (new : Cluster)

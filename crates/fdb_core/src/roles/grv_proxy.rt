@@ -1,9 +1,10 @@
 // Sessions begin transactions.
-ghost use Rattle.std.specs.Prelude.{◌≡◌, [], fold, map, replicate, IfOk, OnOk};
+ghost use Rattle.std.specs.Prelude.{◌≡◌, [], fold, map, replicate, IfOk, IsOk, OnOk};
 ghost use Rattle.std.specs.List.{list_any};
 ghost use Rattle.fdb_proxy.specs.Askers.{Asker};
 ghost use Rattle.fdb_core.specs.machine.GrvProxySteps.{has_no_number};
 ghost use Rattle.fdb_core.specs.machine.Sessions.{Sessions, serve};
+ghost use Rattle.fdb_core.specs.refinement.client.Sessions.{AreKnown};
 
 use crate::roles::client::sessions::Sessions;
 use fdb_proxy::GrvCore;
@@ -29,14 +30,16 @@ pub(crate) fn are_used_up(sessions: &Sessions, askers: &[(u32, u64)]) -> bool
         .any(|(session, _)| sessions.is_used_up(*session))
 }
 
-/// Each of those who were granted a read version begins a transaction at it.
+/// Each of those who were granted a read version begins a transaction at it. Memory may run out only where one of them
+/// did nothing yet.
 pub(crate) fn serve_all(
     alloc: Global,
     sessions: &mut Sessions,
     granted: &[(u32, u64)],
 ) -> Result<(), AllocError>
-    ensures { OnOk result (sessions.new
+    ensures ok { OnOk result (sessions.new
         ≡ fold (λ (served : Sessions) (asker : Asker). serve asker.1 served asker.0) sessions.old granted.now) }
+    ensures known { AreKnown sessions.old granted.now → IsOk result }
 {
     for (session, version) in granted {
         sessions.begin(alloc, *version, *session)?;

@@ -6,7 +6,7 @@ ghost use Rattle.fdb_core.specs.invariant.Invariant.{Invariant};
 ghost use Rattle.fdb_core.specs.machine.ClientSteps.{reads, writes, adds_read, adds_write, submits};
 ghost use Rattle.fdb_core.specs.refinement.Cluster.{machine_of, Refines};
 ghost use Rattle.fdb_core.specs.refinement.client.Reading.{operation_of};
-ghost use Rattle.fdb_core.specs.refinement.Steps.{Takes};
+ghost use Rattle.fdb_core.specs.refinement.Steps.{Takes, TakesOrLeaves};
 
 use crate::cluster::Cluster;
 use crate::roles::client::Placed;
@@ -27,7 +27,7 @@ impl Cluster {
         snapshot: bool,
     ) -> Result<Answered, Refusal>
         requires { Refines self.old }
-        ensures { Takes self.old result self.new
+        ensures { TakesOrLeaves self.old result self.new
             (reads (machine_of self.old) session (operation_of read.entry snapshot)) }
     {
         let Some(txn) = self.sessions.open(session) else {
@@ -47,7 +47,7 @@ impl Cluster {
     #[tactic(auto, unfolding(crate::specs::machine::ClientSteps::writes))]
     pub(crate) fn write(&mut self, session: u32, mutation: &Mutation) -> Result<Answered, Refusal>
         requires { Refines self.old }
-        ensures { Takes self.old result self.new (writes (machine_of self.old) session mutation.now) }
+        ensures { TakesOrLeaves self.old result self.new (writes (machine_of self.old) session mutation.now) }
     {
         self.sessions.write(session, mutation)?;
         Ok(Answered::Done)
@@ -56,7 +56,7 @@ impl Cluster {
     #[tactic(auto, unfolding(crate::specs::machine::ClientSteps::adds_read))]
     pub(crate) fn add_read(&mut self, session: u32, range: &KeyRange) -> Result<Answered, Refusal>
         requires { Refines self.old }
-        ensures { Takes self.old result self.new (adds_read (machine_of self.old) session range.now) }
+        ensures { TakesOrLeaves self.old result self.new (adds_read (machine_of self.old) session range.now) }
     {
         self.sessions.add_read(session, range)?;
         Ok(Answered::Done)
@@ -65,7 +65,7 @@ impl Cluster {
     #[tactic(auto, unfolding(crate::specs::machine::ClientSteps::adds_write))]
     pub(crate) fn add_write(&mut self, session: u32, range: &KeyRange) -> Result<Answered, Refusal>
         requires { Refines self.old }
-        ensures { Takes self.old result self.new (adds_write (machine_of self.old) session range.now) }
+        ensures { TakesOrLeaves self.old result self.new (adds_write (machine_of self.old) session range.now) }
     {
         self.sessions.add_write(session, range)?;
         Ok(Answered::Done)

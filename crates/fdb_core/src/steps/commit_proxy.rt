@@ -4,7 +4,7 @@ ghost use Rattle.fdb_core.specs.machine.CommitProxySteps.{taken_by_sender, seals
 ghost use Rattle.fdb_core.specs.machine.Roles.{FromResolver, FromLog};
 ghost use Rattle.fdb_core.specs.refinement.Cluster.{machine_of, Refines};
 ghost use Rattle.fdb_core.specs.refinement.commit_proxy.Receiving.{IsReceiver, IsUnknown};
-ghost use Rattle.fdb_core.specs.refinement.Steps.{Takes};
+ghost use Rattle.fdb_core.specs.refinement.Steps.{Takes, TakesOrLeaves};
 ghost use Rattle.fdb_core.specs.refinement.Views.{sender_of};
 
 use crate::cluster::Cluster;
@@ -151,7 +151,7 @@ impl Cluster {
     #[tactic(auto, unfolding(crate::specs::machine::CommitProxySteps::reports))]
     pub(crate) fn report(&mut self, proxy: u32) -> Result<Answered, Refusal>
         requires { Refines self.old }
-        ensures { Takes self.old result self.new (reports (machine_of self.old) proxy) }
+        ensures { TakesOrLeaves self.old result self.new (reports (machine_of self.old) proxy) }
     {
         let at = proxy as usize;
         if at >= self.commit_proxies.len() {

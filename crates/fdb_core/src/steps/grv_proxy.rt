@@ -1,7 +1,8 @@
 // Sessions ask a read-version proxy, which serves them.
+ghost use Rattle.fdb_core.specs.invariant.Invariant.{Invariant};
 ghost use Rattle.fdb_core.specs.machine.GrvProxySteps.{asks, grants};
 ghost use Rattle.fdb_core.specs.refinement.Cluster.{machine_of, Refines};
-ghost use Rattle.fdb_core.specs.refinement.Steps.{Takes};
+ghost use Rattle.fdb_core.specs.refinement.Steps.{TakesOrLeaves};
 
 use crate::cluster::Cluster;
 use crate::roles::grv_proxy::{are_used_up, serve_all};
@@ -12,7 +13,7 @@ impl Cluster {
     #[tactic(auto, unfolding(crate::specs::machine::GrvProxySteps::asks))]
     pub(crate) fn ask(&mut self, session: u32, proxy: u32) -> Result<Answered, Refusal>
         requires { Refines self.old }
-        ensures { Takes self.old result self.new (asks (machine_of self.old) session proxy) }
+        ensures { TakesOrLeaves self.old result self.new (asks (machine_of self.old) session proxy) }
     {
         let at = proxy as usize;
         if at >= self.grv_proxies.len() {
@@ -21,17 +22,16 @@ impl Cluster {
         if self.sessions.is_busy(session) {
             return Err(Refusal::WrongState);
         }
-        self.sessions.ask(session)?;
         let there = &mut self.grv_proxies[at];
-        // Sessions of a world begin at the committed version, whatever they have seen.
-        there.ask(session, 0)?;
+        self.sessions.ask(session, there)?;
         Ok(Answered::Done)
     }
 
     #[tactic(auto, unfolding(crate::specs::machine::GrvProxySteps::grants))]
     pub(crate) fn grant(&mut self, proxy: u32) -> Result<Answered, Refusal>
-        requires { Refines self.old }
-        ensures { Takes self.old result self.new (grants (machine_of self.old) proxy) }
+        requires refines { Refines self.old }
+        requires named { Invariant (machine_of self.old) }
+        ensures { TakesOrLeaves self.old result self.new (grants (machine_of self.old) proxy) }
     {
         let at = proxy as usize;
         if at >= self.grv_proxies.len() {

@@ -1,6 +1,6 @@
 // A shard applies what its log has, forgets old versions, and has its log drop what it applied.
 ghost use Rattle.fdb_core.specs.refinement.Cluster.{machine_of, Refines};
-ghost use Rattle.fdb_core.specs.refinement.Steps.{Takes};
+ghost use Rattle.fdb_core.specs.refinement.Steps.{Takes, TakesOrLeaves};
 ghost use Rattle.fdb_core.specs.machine.RoleSteps.{pulls, forgets, pops};
 
 use crate::cluster::Cluster;
@@ -28,7 +28,7 @@ impl Cluster {
     #[tactic(auto, unfolding(crate::specs::machine::RoleSteps::forgets))]
     pub(crate) fn forget(&mut self, shard: u32, version: u64) -> Result<Answered, Refusal>
         requires { Refines self.old }
-        ensures { Takes self.old result self.new (forgets (machine_of self.old) shard version) }
+        ensures { TakesOrLeaves self.old result self.new (forgets (machine_of self.old) shard version) }
     {
         let of = shard as usize;
         if of >= self.shards.len() {
@@ -42,7 +42,7 @@ impl Cluster {
     #[tactic(auto, unfolding(crate::specs::machine::RoleSteps::pops))]
     pub(crate) fn pop(&mut self, shard: u32) -> Result<Answered, Refusal>
         requires { Refines self.old }
-        ensures { Takes self.old result self.new (pops (machine_of self.old) shard) }
+        ensures { TakesOrLeaves self.old result self.new (pops (machine_of self.old) shard) }
     {
         let of = shard as usize;
         if of >= self.shards.len() {

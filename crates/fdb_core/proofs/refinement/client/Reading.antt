@@ -19,11 +19,11 @@ use Rattle.fdb_core.specs.machine.Sessions.{Sessions, EachOpen, Open, open_at, w
 use Rattle.fdb_core.specs.refinement.Cluster.{machine_of, Refines}
 use Rattle.fdb_core.specs.refinement.commit_proxy.Ties.{ReadsWithin}
 use Rattle.fdb_core.specs.refinement.shard.Reads.{ShardReads, AreReadable, key_fault, range_fault, run_map}
-use Rattle.fdb_core.specs.refinement.Steps.{Takes}
+use Rattle.fdb_core.specs.refinement.Steps.{TakesOrLeaves}
 use Rattle.fdb_core.proofs.common.FaultLemmas.{answers-fault, unless-fault}
 use Rattle.fdb_core.proofs.machine.Transitions.{reads-transition, reads-refused}
 use Rattle.fdb_core.proofs.refinement.RunLaws.{entries-rising, serial-front}
-use Rattle.fdb_core.proofs.refinement.StepLemmas.{accepted, refused}
+use Rattle.fdb_core.proofs.refinement.StepLemmas.{accepted, left}
 use Rattle.fdb_core.proofs.refinement.client.Sessions.{opened-with_op, refines-sessions, sessions-same}
 
 -- the world's shards, read at a version
@@ -82,7 +82,7 @@ module _ (k : Cluster) (before : Refines k) (session : ℕ) (operation : Op) (tr
 
   follows-at : (result : Result Answered Refusal) → Answers result fault GivesReply
       → OnErr result (sessions ≡ k.sessions)
-      → Takes k result (record k { sessions = sessions }) (reads (machine_of k) session operation)
+      → TakesOrLeaves k result (record k { sessions = sessions }) (reads (machine_of k) session operation)
   follows-at (Ok given) answers kept =
       let parts = answers-fault fault given GivesReply answers in
       accepted (reads-transition (machine_of k) session operation transcript is_open parts.0) parts.1.0
@@ -91,15 +91,15 @@ module _ (k : Cluster) (before : Refines k) (session : ℕ) (operation : Op) (tr
       (subst (EachOpen (ReadsWithin k.sequencer.committed)) (sym parts.1.1)
       (opened-with_op k.sequencer.committed k.sessions session transcript operation reply before.opened is_open)))
   follows-at (Err why) answers kept =
-      refused k (Err why) (record k { sessions = sessions }) (reads (machine_of k) session operation) why refl
+      left k (Err why) (record k { sessions = sessions }) (reads (machine_of k) session operation) why refl
       (unless-fault fault why GivesReply (reads (machine_of k) session operation ≡ Err why) answers
       (reads-refused (machine_of k) session operation transcript is_open why).1)
-      (sessions-same k sessions before kept) tt
+      (sessions-same k sessions before kept)
 
   -- so the step is the machine's where the shards are read at the transaction's read version
   pub read-follows : (shown : ShardReads) (result : Result Answered Refusal)
       → shown ≡ reads_of k transcript.read_version → AnswersAt shown result
       → OnErr result (sessions ≡ k.sessions)
-      → Takes k result (record k { sessions = sessions }) (reads (machine_of k) session operation)
+      → TakesOrLeaves k result (record k { sessions = sessions }) (reads (machine_of k) session operation)
   read-follows shown result same answers kept =
       follows-at result (subst (λ (it : ShardReads). AnswersAt it result) same answers) kept

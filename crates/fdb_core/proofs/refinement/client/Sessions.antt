@@ -1,5 +1,6 @@
 -- The ties between the machine and the roles' own lists, kept through the steps of sessions.
-use Rattle.std.proofs.Common.{◌≡◌, refl, sym, ap, subst, ℕ, List, None, Some, Result, Ok, Vec, Global}
+use Rattle.std.proofs.Common.{◌≡◌, ◌∙◌, refl, sym, ap, ap₂, subst, ℕ, List, map, None, Some, Result, Ok, Vec, Global}
+use Rattle.std.proofs.Common.{slice_get, slice_set}
 use Rattle.fdb_keys.specs.declared.refusal.Refusal.{Refusal}
 use Rattle.fdb_keys.specs.Ranges.{Range}
 use Rattle.fdb_mutations.specs.declared.mutation.Mutation.{Mutation}
@@ -14,10 +15,11 @@ use Rattle.fdb_proxy.specs.Askers.{Asker}
 use Rattle.fdb_core.specs.machine.ClientSteps.{notes, writes, adds_read, adds_write}
 use Rattle.fdb_core.specs.machine.Machine.{Transition}
 use Rattle.fdb_core.specs.machine.Sessions.{Sessions, EachOpen, Open, open_at, with_state}
-use Rattle.fdb_core.specs.refinement.Cluster.{machine_of, GrvProxiesRefine, Refines}
+use Rattle.fdb_core.specs.refinement.Cluster.{machine_of, sessions_of, GrvProxiesRefine, Refines}
 use Rattle.fdb_core.specs.refinement.commit_proxy.Ties.{ReadsWithin}
-use Rattle.fdb_core.specs.refinement.Steps.{Takes}
+use Rattle.fdb_core.specs.refinement.Steps.{LeftAsBefore, Takes}
 use Rattle.fdb_core.proofs.machine.SessionLemmas.{open-has, open-put}
+use Rattle.fdb_core.proofs.refinement.log.Ties.{set-same}
 use Rattle.fdb_core.proofs.refinement.StepLemmas.{accepted}
 use Rattle.fdb_core.specs.declared.cluster.Cluster.{Cluster}
 use Rattle.fdb_core.specs.declared.roles.client.Placed.{Placed}
@@ -57,6 +59,22 @@ pub sessions-same : (k : Cluster) (sessions : Sessions) → Refines k → sessio
 sessions-same k sessions before same =
     subst (λ (others : Sessions). (machine_of (record k { sessions = others }) ≡ machine_of k)
     × Refines (record k { sessions = others })) (sym same) (refl, before)
+
+-- and so do those who ask at a proxy as before
+pub asks-nobody : (k : Cluster) → Refines k → (proxy : ℕ) (there : List Asker)
+    → slice_get k.grv_proxies.items proxy ≡ Some there
+    → (grv_proxies : Vec (List Asker) Global) (sessions : Sessions) (askers : List Asker)
+    → grv_proxies.items ≡ slice_set k.grv_proxies.items proxy askers → sessions ≡ k.sessions → askers ≡ there
+    → LeftAsBefore k (record k { grv_proxies = grv_proxies; sessions = sessions })
+asks-nobody k before proxy there at grv_proxies sessions askers is same nobody =
+    let asked : grv_proxies.items ≡ k.grv_proxies.items =
+    is ∙ ap (slice_set k.grv_proxies.items proxy) nobody ∙ set-same k.grv_proxies.items proxy there at in (
+      ap₂ (λ (others : Sessions) (all : List (List Asker)).
+          record (machine_of k) { sessions = others; grv_proxies = map sessions_of all }) same asked,
+      refines-sessions k grv_proxies sessions k.acknowledged before
+          (subst (GrvProxiesRefine k.config) (sym asked) before.grv_proxies)
+          (subst (EachOpen (ReadsWithin k.sequencer.committed)) (sym same) before.opened),
+    )
 
 -- A step notes an operation at the session's open transaction, and so does the machine's.
 module _ (k : Cluster) (before : Refines k) (session : ℕ) (sessions : Sessions) where

@@ -1,7 +1,7 @@
 -- The read-version proxies, and what the machine does where sessions ask there and are granted.
 use Rattle.std.proofs.Common.{◌≡◌, ◌∙◌, refl, ap, ap₂, ℕ, max, Bool, true, false, List, [], ◌∷◌, ◌++◌, map, fold, Some}
-use Rattle.std.proofs.Common.{Ok, Err, slice_get, slice_set, arith}
-use Rattle.std.specs.Prelude.{◌||◌}
+use Rattle.std.proofs.Common.{Ok, Err, slice_get, slice_set, arith, ⊎_elim, ◌≢◌}
+use Rattle.std.specs.Prelude.{◌||◌, ◌==◌, ◌<◌, ◌≤◌, unwrap_or, Option, None}
 use Rattle.std.specs.List.{AllByRecursion, list_any}
 use Rattle.std.proofs.lemmas.List.{length-set}
 use Rattle.fdb_keys.specs.declared.refusal.Refusal.TheVariants.{Exhausted}
@@ -10,9 +10,20 @@ use Rattle.fdb_proxy.specs.Askers.{Asker, granted}
 use Rattle.fdb_core.specs.declared.step.Answered.TheVariants as answered
 use Rattle.fdb_core.specs.machine.GrvProxySteps.{asks, grants, has_no_number}
 use Rattle.fdb_core.specs.machine.Machine.{Machine}
-use Rattle.fdb_core.specs.machine.Sessions.{Sessions, Asking, session_of, with_state, is_busy, serve}
+use Rattle.fdb_core.specs.machine.Sessions.{Session, Sessions, Asking, new_session, session_of, with_state, is_busy}
+use Rattle.fdb_core.specs.machine.Sessions.{serve}
 use Rattle.fdb_core.specs.refinement.Cluster.{GrvProxiesRefine, HasSeenNone, sessions_of}
+use Rattle.std.specs.FinMap.{get}
+use Rattle.std.specs.Option.{is_some}
+use Rattle.std.proofs.lemmas.Bool.{eq-eqb}
+use Rattle.std.proofs.lemmas.Bool.Decides.{eqb_tells}
+use Rattle.fdb_core.specs.headline.Sessions.{times_asking_at}
+use Rattle.fdb_core.specs.invariant.Invariant.{Invariant}
+use Rattle.fdb_core.specs.invariant.Places.{asks_as}
+use Rattle.fdb_core.specs.refinement.client.Sessions.{AreKnown}
 use Rattle.fdb_core.proofs.common.ListLemmas.{each-set}
+use Rattle.fdb_core.proofs.common.SumLemmas.{counted, sum-at}
+use Rattle.fdb_core.proofs.invariant.SoundLemmas.{sessions-stand}
 
 -- others ask at a proxy, who have seen none either
 pub grv_proxies-set : (config : Config) (asked : List (List Asker)) (i : ℕ) (there : List Asker)
@@ -89,3 +100,50 @@ module _ (m : Machine) (proxy : ℕ) (there : List ℕ) (at : slice_get m.grv_pr
   })
   unfolding grants
   grants-transition left = rw (at, left) refl
+
+-- who asks has done so before: those who ask at a proxy of a sound machine are known to it
+module _ (m : Machine) (sound : Invariant m) (proxy : ℕ) (all : List ℕ)
+    (at : slice_get m.grv_proxies proxy ≡ Some all) where
+  one-known : (session : ℕ) → 0 < times_asking_at session all → is_some (get m.sessions session) ≡ true
+  one-known session asks = by (get m.sessions session) (omega (
+    arith,
+    asks,
+    ((sessions-stand m sound).0 session).asks,
+    sum-at (times_asking_at session) m.grv_proxies proxy all at,
+  ))
+    where
+      by : (there : Option Session) → 0 < asks_as (unwrap_or there new_session).state → is_some there ≡ true
+      by None some = absurd (omega (arith, some))
+      by (Some known) some = refl
+
+  some-known : (askers : List Asker)
+      → ((session : ℕ) → times_asking_at session (sessions_of askers) ≤ times_asking_at session all)
+      → AreKnown m.sessions askers
+  some-known [] among = tt
+  some-known (asker ∷ askers) among = (
+    one-known asker.0 (let here = among asker.0 in
+        let own = (counted (λ (other : ℕ). other == asker.0) asker.0 (sessions_of askers)).0
+        (eq-eqb asker.0 asker.0 refl) in omega (arith, here, own)),
+    some-known askers (λ session. let here = among session in
+        let more = sum_by-here session asker askers in omega (arith, here, more)),
+  )
+    where
+      sum_by-here : (session : ℕ) (asker : Asker) (askers : List Asker)
+          → times_asking_at session (sessions_of askers) ≤ times_asking_at session (sessions_of (asker ∷ askers))
+      sum_by-here session asker askers =
+          let parts = counted (λ (other : ℕ). other == session) asker.0 (sessions_of askers) in
+          ⊎_elim
+          (λ (is : (asker.0 == session ≡ true) × (asker.0 ≡ session)). omega (arith, parts.0 is.0))
+          (λ (is : (asker.0 == session ≡ false) × (asker.0 ≢ session)). omega (arith, parts.1 is.0))
+          (eqb_tells asker.0 session)
+
+  pub askers-known : (askers : List Asker) → sessions_of askers ≡ all → AreKnown m.sessions askers
+  askers-known askers is =
+      some-known askers (λ session. omega (arith, ap (λ (there : List ℕ). times_asking_at session there) is))
+
+-- and so they are with what they are granted
+pub granted-known : (sessions : Sessions) (committed : ℕ) (askers : List Asker) → AreKnown sessions askers
+    → AreKnown sessions (map (granted committed) askers)
+granted-known sessions committed [] known = tt
+granted-known sessions committed (asker ∷ askers) known =
+    (known.0, granted-known sessions committed askers known.1)

@@ -1,9 +1,15 @@
+ghost use Rattle.std.specs.Prelude.{◌≡◌, ℕ, cond};
+ghost use Rattle.std.specs.BTreeMap.{get as get_in, is_at};
+ghost use Rattle.std.specs.Option.{IsSome};
+ghost use Rattle.std.specs.Ordering.{nat_cmp};
+
 use crate::roles::client::read::Read;
 use crate::roles::client::session::{Session, SessionState};
 use crate::step::Answered;
 use fdb_client::{Finished, Snapshot, Transcript, Txn};
 use fdb_keys::{KeyRange, Refusal};
 use fdb_mutations::Mutation;
+use fdb_proxy::GrvCore;
 use fdb_txn::TxnId;
 use std::alloc::{AllocError, Global};
 use std::collections::BTreeMap;
@@ -28,7 +34,7 @@ impl Model for Sessions {
 }
 
 impl Sessions {
-    ghost use Rattle.std.specs.Prelude.{◌≡◌, None, Some, IfSome, OnOk, OnErr, if◌then◌else◌};
+    ghost use Rattle.std.specs.Prelude.{◌≡◌, [], ◌∷◌, ◌++◌, None, Some, IfSome, OnOk, OnErr, if◌then◌else◌};
     ghost use Rattle.std.specs.FinMap.{empty, get};
     ghost use Rattle.std.specs.Option.{option_copied};
     ghost use Rattle.fdb_keys.specs.Answers.{Answers};
@@ -111,9 +117,10 @@ impl Sessions {
         }
     }
 
-    // The session is at another state.
+    // The session is at another state. Memory may run out only where it did nothing yet.
     fn set_state(&mut self, session: u32, state: SessionState) -> Result<(), AllocError>
-        ensures { OnOk result (self.new ≡ with_state self.old session (state_of state)) }
+        ensures ok { OnOk result (self.new ≡ with_state self.old session (state_of state)) }
+        ensures first { OnErr result (get self.old session ≡ None) }
     {
         let last_number = self.last_number(session);
         self.by_number
@@ -121,28 +128,45 @@ impl Sessions {
         Ok(())
     }
 
-    /// The session asks for a read version. A transaction that it has open is dropped.
-    pub(crate) fn ask(&mut self, session: u32) -> Result<(), AllocError>
-        ensures { OnOk result (self.new ≡ with_state self.old session Asking) }
+    /// The session asks at the read-version proxy. A transaction that it has open is dropped. Refused only as
+    /// `NoMemory`, and then nothing changes.
+    pub(crate) fn ask(&mut self, session: u32, proxy: &mut GrvCore) -> Result<(), Refusal>
+        ensures answers { Answers result None (λ _. (self.new ≡ with_state self.old session Asking)
+            × (proxy.new ≡ proxy.old ++ (session, 0) ∷ [])) }
+        ensures err { OnErr result ((self.new ≡ self.old) × (proxy.new ≡ proxy.old)) }
     {
-        self.set_state(session, SessionState::Asking)
+        let asking = Session::new(self.last_number(session), SessionState::Asking);
+        let was = self.by_number.insert(session, asking)?;
+        // Sessions of a world begin at the committed version, whatever they have seen.
+        match proxy.ask(session, 0) {
+            Ok(()) => {
+                drop(was);
+                Ok(())
+            }
+            Err(why) => {
+                put_back(&mut self.by_number, session, was);
+                Err(why)
+            }
+        }
     }
 
-    /// The session waits for what becomes of its transaction.
+    /// The session waits for what becomes of its transaction. Memory may run out only where it did nothing yet.
     pub(crate) fn wait(&mut self, session: u32) -> Result<(), AllocError>
-        ensures { OnOk result (self.new ≡ with_state self.old session Waiting) }
+        ensures ok { OnOk result (self.new ≡ with_state self.old session Waiting) }
+        ensures first { OnErr result (get self.old session ≡ None) }
     {
         self.set_state(session, SessionState::Waiting)
     }
 
-    /// The session begins a transaction at the read version.
+    /// The session begins a transaction at the read version. Memory may run out only where it did nothing yet.
     pub(crate) fn begin(
         &mut self,
         alloc: Global,
         read_version: u64,
         session: u32,
     ) -> Result<(), AllocError>
-        ensures { OnOk result (self.new ≡ serve read_version self.old session) }
+        ensures ok { OnOk result (self.new ≡ serve read_version self.old session) }
+        ensures first { OnErr result (get self.old session ≡ None) }
     {
         let number = self.next_number(session);
         let txn = Txn::begin(alloc, TxnId { session, number }, read_version);
@@ -234,5 +258,21 @@ impl Sessions {
         ensures { OnOk result (self.new ≡ tell self.old transcript.now) }
     {
         self.set_state(transcript.id.session, SessionState::Idle)
+    }
+}
+
+// The session, which has an entry, is again what it was, or has no entry again. It takes no memory.
+fn put_back(by_number: &mut BTreeMap<u32, Session>, session: u32, was: Option<Session>)
+    requires { IsSome (get_in nat_cmp by_number.old session) }
+    ensures { (other : ℕ) → get_in nat_cmp by_number.new other
+        ≡ cond (is_at (nat_cmp session) other) was (get_in nat_cmp by_number.old other) }
+{
+    match was {
+        Some(known) => {
+            let _put = by_number.insert(session, known);
+        }
+        None => {
+            let _gone = by_number.remove(&session);
+        }
     }
 }

@@ -7,7 +7,7 @@ use Rattle.fdb_core.specs.refinement.log.Ties.{progress_of}
 use Rattle.fdb_core.proofs.common.FaultLemmas.{given-fault, refused-fault, unless}
 use Rattle.fdb_core.proofs.common.ListLemmas.{read-there}
 use Rattle.fdb_core.proofs.refinement.shard.Steps.{shard-put, shard-same, counted, forget-refused, forget-accepted, forgot}
-use Rattle.fdb_core.proofs.refinement.StepLemmas.{accepted, refused}
+use Rattle.fdb_core.proofs.refinement.StepLemmas.{accepted, left}
 use Rattle.fdb_core.proofs.cluster.Cluster.forget.Goals as goal
 use Rattle.fdb_core.proofs.cluster.Cluster.forget.Goals.{After-index_mut-role}
 
@@ -23,10 +23,10 @@ returns-in_err-forget c =
     let role = c.index_mut-role.result.now in
     let there = at (goal.at.returns-in_err-forget c).After-index_mut-role in
     let why = c.in_err-forget.field-0.0 in
-    refused k c.from_residual.result _ _ why (search rules)
+    left k c.from_residual.result _ _ why (search rules)
     (unless _ _ (forget-refused k c.requires c.args.shard role there c.args.version why
     (refused-fault (forget_fault role.core c.args.version) why _ c.in_err-forget.ensures.answers)))
-    (shard-same k c.requires c.args.shard role there c.forget.new.self c.in_err-forget.ensures.refused) tt
+    (shard-same k c.requires c.args.shard role there c.forget.new.self c.in_err-forget.ensures.refused)
 
 pub returns : goal.returns
 returns c =

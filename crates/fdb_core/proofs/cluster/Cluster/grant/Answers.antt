@@ -1,4 +1,4 @@
-use Rattle.std.proofs.Common.{◌≡◌, ◌∙◌, refl, sym, ap, ap₂, ℕ, List, map, fold, true, false, Some, slice_get, slice_set}
+use Rattle.std.proofs.Common.{◌≡◌, ◌∙◌, refl, sym, ap, ap₂, subst, ℕ, List, map, fold, true, false, Some, slice_get, slice_set}
 use Rattle.std.proofs.Common.{arith, rules}
 use Rattle.std.specs.List.{AllByRecursion, list_any}
 use Rattle.fdb_proxy.specs.Askers.{Asker, granted}
@@ -7,10 +7,11 @@ use Rattle.fdb_core.specs.machine.GrvProxySteps.{has_no_number}
 use Rattle.fdb_core.specs.machine.Sessions.{Sessions, serve}
 use Rattle.fdb_core.specs.refinement.Cluster.{machine_of, HasSeenNone, sessions_of}
 use Rattle.fdb_core.specs.refinement.commit_proxy.Ties.{ReadsWithin}
+use Rattle.fdb_core.specs.refinement.client.Sessions.{AreKnown}
 use Rattle.fdb_core.proofs.common.ListLemmas.{map-at, map-set, one-item, read-there}
 use Rattle.fdb_core.proofs.machine.SessionLemmas.{open-served}
 use Rattle.fdb_core.proofs.refinement.grv_proxy.Granting.{grv_proxies-set, used_up-is, granted-is, served-is}
-use Rattle.fdb_core.proofs.refinement.grv_proxy.Granting.{grants-exhausted, grants-transition}
+use Rattle.fdb_core.proofs.refinement.grv_proxy.Granting.{askers-known, granted-known, grants-exhausted, grants-transition}
 use Rattle.fdb_core.proofs.refinement.StepLemmas.{accepted, refuses}
 use Rattle.fdb_core.proofs.refinement.client.Sessions.{refines-sessions}
 use Rattle.fdb_core.proofs.cluster.Cluster.grant.Goals as goal
@@ -32,12 +33,32 @@ returns-then-are_used_up c =
     (there (goal.at.returns-then-are_used_up c).After-are_used_up))
     (sym (used_up-is k.sessions old)
     ∙ ap (list_any (λ (asker : Asker). has_no_number k.sessions asker.0)) (sym c.askers.ensures) ∙ used_up))
-    (refl, c.requires)
+    (refl, c.requires.refines)
+
+never : false ≡ true → ⊥
+never wrong = cc
+
+-- each of them has an entry, so no memory is needed to serve them
+pub returns-in_err-serve_all : goal.returns-in_err-serve_all
+returns-in_err-serve_all c =
+    let k = c.args.self.now in
+    let committed = k.sequencer.committed in
+    let old = c.index.result.now in
+    let at = there (goal.at.returns-in_err-serve_all c).After-are_used_up in
+    let same : c.index_mut.result.now ≡ old = one-item k.grv_proxies.items c.args.proxy c.index_mut.result.now old
+    (search rules) c.index_mut.ensures.value at in
+    let given : c.as_slice.result.now ≡ map (granted c.committed.result) old =
+    c.as_slice.ensures ∙ c.grant-granted.ensures.granted ∙ ap (map (granted c.committed.result)) same in
+    let known : AreKnown k.sessions c.as_slice.result.now =
+    subst (AreKnown k.sessions) (sym given) (granted-known k.sessions c.committed.result old
+    (askers-known (machine_of k) c.requires.named c.args.proxy (sessions_of old)
+    (map-at sessions_of k.grv_proxies.items c.args.proxy old at) old refl)) in
+    absurd (never (c.in_err-serve_all.ensures.known known))
 
 pub returns : goal.returns
 returns c =
     let k = c.args.self.now in
-    let before = c.requires in
+    let before = c.requires.refines in
     let committed = k.sequencer.committed in
     let old = c.index.result.now in
     let at = there (goal.at.returns c).After-are_used_up in
@@ -53,7 +74,7 @@ returns c =
     ∙ ap₂ (λ (version : ℕ) (askers : List Asker). map (granted version) askers) c.committed.ensures.value same in
     -- and served at it
     let served : c.serve_all.new.sessions ≡ fold (serve committed) k.sessions (sessions_of old) =
-    c.in_ok-serve_all.ensures
+    c.in_ok-serve_all.ensures.ok
     ∙ ap (fold (λ (served : Sessions) (asker : Asker). serve asker.1 served asker.0) k.sessions)
     (c.as_slice.ensures ∙ given) ∙ served-is committed old k.sessions none_seen in
     accepted (grants-transition (machine_of k) c.args.proxy (sessions_of old)

@@ -12,7 +12,7 @@ use Rattle.fdb_core.proofs.machine.SessionLemmas.{open-weaken}
 use Rattle.fdb_core.proofs.refinement.BookLemmas.{below-last}
 use Rattle.fdb_core.proofs.refinement.commit_proxy.Reporting.{IsReporting, its, refuses, passes}
 use Rattle.fdb_core.proofs.refinement.RunLaws.{entries-rising}
-use Rattle.fdb_core.proofs.refinement.StepLemmas.{accepted, refused}
+use Rattle.fdb_core.proofs.refinement.StepLemmas.{accepted, left}
 use Rattle.fdb_core.proofs.cluster.Cluster.report.Goals as goal
 use Rattle.fdb_core.proofs.cluster.Cluster.report.Goals.{After-index-2, After-index-3}
 
@@ -25,11 +25,11 @@ returns-in_err-check_logged c =
     let at : slice_get k.commit_proxies.items c.args.proxy ≡ Some role =
     read-there k.commit_proxies.items c.args.proxy role (search rules) c.index.ensures in
     let ok = its k c.requires c.args.proxy role at in
-    refused k c.from_residual.result _ _ why (search rules)
+    left k c.from_residual.result _ _ why (search rules)
     (unless _ _ (refuses k c.requires c.args.proxy role at c.check_logged.result _
     (c.check_logged.ensures.wrong k.config k.book.items (known_to k.sequencer c.args.proxy) ok)
     (c.check_logged.ensures.answers k.config k.book.items (known_to k.sequencer c.args.proxy) ok) why
-    c.in_err-check_logged.was)) (refl, c.requires) tt
+    c.in_err-check_logged.was)) (refl, c.requires)
 
 -- the proxy is read again
 again : (c : After-index-2) → c.index.result.now ≡ c.index-2.result.now

@@ -103,7 +103,7 @@ returns-in_ok-submit-in-ToCommit c =
     (reads-within k before c.requires.named c.args.session c.args.proxy role at transcript is.0)
     (unrepeated k before c.requires.named c.args.session c.args.proxy role at transcript is.0) in
     let now_waits : c.wait.new.self ≡ with_state k.sessions c.args.session Waiting =
-    c.in_ok-wait-in-ToCommit.ensures
+    c.in_ok-wait-in-ToCommit.ensures.ok
     ∙ ap (λ (sessions : Sessions). with_state sessions c.args.session Waiting) c.in_ok-transcript.ensures.ok
     ∙ state-again k.sessions c.args.session Idle Waiting in
     accepted (waits k before c.requires.named c.args.session c.args.proxy role at transcript is.0 c.submit.new.self

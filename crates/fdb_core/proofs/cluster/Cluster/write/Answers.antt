@@ -5,7 +5,7 @@ use Rattle.fdb_core.specs.machine.Sessions.{open_at}
 use Rattle.fdb_core.specs.refinement.Cluster.{machine_of}
 use Rattle.fdb_core.proofs.common.FaultLemmas.{answers-fault, unless-fault}
 use Rattle.fdb_core.proofs.machine.OpenLemmas.{open-given, open-refused}
-use Rattle.fdb_core.proofs.refinement.StepLemmas.{refused}
+use Rattle.fdb_core.proofs.refinement.StepLemmas.{left}
 use Rattle.fdb_core.proofs.refinement.client.Sessions.{sessions-same, written}
 use Rattle.fdb_core.proofs.cluster.Cluster.write.Goals as goal
 
@@ -14,10 +14,10 @@ unfolding writes
 returns-in_err-write c =
     let k = c.args.self.now in
     let why = c.in_err-write.field-0.0 in
-    refused k c.from_residual.result _ (writes (machine_of k) c.args.session c.args.mutation.now) why (search rules)
+    left k c.from_residual.result _ (writes (machine_of k) c.args.session c.args.mutation.now) why (search rules)
     (open-refused (Unit {0}) (open_at k.sessions c.args.session) why _ _ c.in_err-write.ensures.answers
     (λ transcript is. unless-fault (mutation_fault c.args.mutation.now) why _ _ is (λ faulty. rw faulty refl)))
-    (sessions-same k c.write.new.self c.requires c.in_err-write.ensures.err) tt
+    (sessions-same k c.write.new.self c.requires c.in_err-write.ensures.err)
 
 pub returns : goal.returns
 returns c =
