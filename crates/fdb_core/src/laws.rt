@@ -107,7 +107,7 @@ pub fn who_begins_after_an_acknowledgement_is_ordered_after_it()
     ensures { RealTime }
 {}
 
-/// Over every trace that didn't run out of memory the steps that deliver and take messages are accepted where they are
+/// Over every trace whose world hasn't failed the steps that deliver and take messages are accepted where they are
 /// due, and no others, as what accepted steps are answered says: a resolver takes the next entry of the book, and a log
 /// the next decided one; what one of them says of an entry that it took reaches the proxy that waits for it, once; and
 /// a proxy decides where the verdicts came of each resolver that is asked. Else it is told to wait for the least

@@ -30,7 +30,7 @@ pub enum CheckFault {
 #[derive(Drop)]
 pub struct World {
     cluster: Cluster,
-    // Memory ran out in a step, and what it was to change is only partly changed.
+    // Memory ran out in a step that may have changed only a part of what it was to change.
     failed: bool,
 }
 
@@ -92,7 +92,9 @@ impl World {
     }
 
     /// Takes one step, and answers what the machine answers. A refused step changes nothing. Where memory
-    /// runs out in the step, the answer is `NoMemory`, and every later step is refused as `Failed`.
+    /// runs out in the step, the answer is `NoMemory`: after a step of a client or of a read-version proxy, a report, a
+    /// move, or one in which a shard forgets or has its log drop messages, the world is as before; after any other one
+    /// the world has failed, and every later step is refused as `Failed`.
     ///
     /// Where the world stands for a trace, it then stands for that trace with this step and its answer. Each
     /// transaction that the trace acknowledged is serialized at its spot: it is committed there, and each of its
@@ -123,7 +125,8 @@ impl World {
         answer
     }
 
-    /// Whether memory ran out in a step. From then on every step is refused as `Failed`, and the world lends nothing.
+    /// Whether the world has failed, since memory ran out in a step that doesn't leave it as before then. From then on
+    /// every step is refused as `Failed`, and the world lends nothing.
     pub fn has_failed(&self) -> bool
         ensures { result ≡ has_failed self.now.machine }
     {
@@ -131,7 +134,7 @@ impl World {
     }
 
     /// The batch that the commit proxy of this number has in flight, with the number of resolvers and of logs.
-    /// It takes no memory. Refused as `Failed` once memory ran out in a step, else as `Unknown` where no proxy
+    /// It takes no memory. Refused as `Failed` once the world has failed, else as `Unknown` where no proxy
     /// has the number, and else as `WrongState` where it has no batch in flight.
     pub fn in_flight(&self, proxy: u32) -> Result<InFlight, Refusal>
         ensures { result ≡ in_flight self.now.machine proxy }
@@ -142,8 +145,8 @@ impl World {
         Err(Refusal::Failed)
     }
 
-    /// The session's open transaction. There is none where the session has no open transaction, and once memory ran out
-    /// in a step.
+    /// The session's open transaction. There is none where the session has no open transaction, and once the world has
+    /// failed.
     pub fn txn(&self, session: u32) -> Option<&Txn>
         ensures { option_copied result ≡ open_in self.now.machine session }
     {
@@ -153,7 +156,7 @@ impl World {
         self.cluster.sessions.open(session)
     }
 
-    /// The configuration of the world. There is none once memory ran out in a step.
+    /// The configuration of the world. There is none once the world has failed.
     pub fn config(&self) -> Option<&Config>
         ensures lent { option_copied result ≡ config_in self.now.machine }
         ensures legal { IfSome result (λ config. config_fault config.now ≡ None) }
@@ -164,7 +167,7 @@ impl World {
         Some(&self.cluster.config)
     }
 
-    /// The entries of the book, the first one first; none once memory ran out in a step. With the world's configuration
+    /// The entries of the book, the first one first; none once the world has failed. With the world's configuration
     /// they meet the conditions of `serial_check`.
     pub fn book(&self) -> &[Entry]
         ensures lent { result.now ≡ book_in self.now.machine }
@@ -178,8 +181,7 @@ impl World {
         self.cluster.book.as_slice()
     }
 
-    /// The acknowledged transactions, in the order in which their clients were told; none once memory ran out in a
-    /// step.
+    /// The acknowledged transactions, in the order in which their clients were told; none once the world has failed.
     pub fn acknowledged(&self) -> &[Placed]
         ensures { result.now ≡ acknowledged_in self.now.machine }
     {
@@ -191,7 +193,7 @@ impl World {
 
     /// Compares the ordinary replies of every acknowledged transaction, and the shard at its version, with
     /// the run of one transaction at a time. Answers the number of acknowledged transactions, or a fault
-    /// that names what differs. As long as memory didn't run out in a step nothing differs, and the check
+    /// that names what differs. As long as the world hasn't failed nothing differs, and the check
     /// fails only where it lacks memory itself. After that, transactions alone are compared, with the entries that
     /// there are; where these are a book's, the fault is the first transaction in the order of spots that is answered
     /// otherwise.
@@ -207,21 +209,20 @@ impl World {
     }
 }
 
-// Memory ran out in the step, which may have left what it was to change only partly changed.
+// Memory ran out in the step, and steps of its kind don't leave the world as before then.
 fn fails_world(step: &Step, answer: &Result<Answered, Refusal>) -> bool
     ensures { result ≡ has_failed_world step.now answer.now }
 {
     ran_out(answer) && !leaves_world(step)
 }
 
-// Whether a step of this kind leaves the world as it was where memory runs out in it.
+// Whether steps of this kind leave the world as before where memory runs out in them.
 fn leaves_world(step: &Step) -> bool
     ensures { result ≡ is_left step.now }
 {
     !matches!(
         step,
-        Step::Submit { .. }
-            | Step::Seal { .. }
+        Step::Seal { .. }
             | Step::Resolve { .. }
             | Step::Verdict { .. }
             | Step::Decide { .. }

@@ -1,6 +1,6 @@
 -- The sessions as a map: what is looked up after one was put.
 use Rattle.std.proofs.Common.{◌≡◌, ◌≢◌, ◌∙◌, sym, ap, refl, subst, ⊎_elim, ℕ, Bool, true, false, cond, List, Option}
-use Rattle.std.proofs.Common.{Some, [], ◌∷◌}
+use Rattle.std.proofs.Common.{None, Some, [], ◌∷◌}
 use Rattle.std.specs.Option.{is_some}
 use Rattle.std.specs.Prelude.{◌==◌, unwrap_or}
 use Rattle.std.specs.Ordering.{nat_cmp, eq_by_cmp}
@@ -49,6 +49,17 @@ module _ (sessions : Sessions) (number : ℕ) (session : Session) where
   pub session-elsewhere : (other : ℕ) → other ≢ number
       → session_of (insert sessions number session) other ≡ session_of sessions other
   session-elsewhere other differs = session-put sessions number session other ∙ rw (ne_eqb other number differs) refl
+
+-- who was put has an entry
+pub put-there : (sessions : Sessions) (number : ℕ) (session : Session)
+    → get (insert sessions number session) number ≡ None → ⊥
+put-there sessions number session none = never session
+    (sym (get-insert nat_cmp_total sessions number session number
+    ∙ ap (λ (test : Bool). cond test (Some session) (get sessions number)) (tie number number ∙ eq-eqb number number refl))
+    ∙ none)
+  where
+    never : (found : Session) → Some found ≡ None → ⊥
+    never found wrong = cc
 
 -- before any session did something
 pub session-new : (number : ℕ) → session_of empty number ≡ new_session

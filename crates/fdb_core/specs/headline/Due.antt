@@ -49,7 +49,7 @@ module _ (config : Config) (r : Readings) where
     pub missing : r.progress.verdicts_came entry resolver ≡ false
     pub others : CameBelow entry resolver
 
--- Over every trace that didn't run out of memory a step that is due is accepted.
+-- Over every trace whose world hasn't failed a step that is due is accepted.
 abbrev pub WhatIsDueIsAccepted : Type 0
 WhatIsDueIsAccepted =
     (config : Config) (steps : List Step) (answers : List (Result Answered Refusal)) (taken : Step)

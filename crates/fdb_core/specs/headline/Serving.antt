@@ -32,7 +32,7 @@ use Rattle.fdb_core.specs.machine.RoleSteps.{version_of_shard}
 use Rattle.fdb_core.specs.machine.SequencerSteps.{dated_moves}
 use Rattle.fdb_core.specs.machine.Machine.{Machine, is_set}
 
--- What a check of a world goes by, also once memory ran out in a step: the configuration, the entries that there are,
+-- What a check of a world goes by, also once it has failed: the configuration, the entries that there are,
 -- and those that were acknowledged.
 pub record History : Type 0 where
   pub config : Config
@@ -41,7 +41,7 @@ pub record History : Type 0 where
 
 -- What a world shows: the machine, what each of its roles keeps, and what a check goes by.
 pub record System : Type 0 where
-  -- none once memory ran out in a step
+  -- none once the world has failed
   pub machine : Option Machine
   pub sequencer : Sequencer
   pub resolvers : List Resolver
@@ -139,7 +139,7 @@ AllServe config book shards =
     (length shards ≡ suc (length config.shard_splits))
     × ((i : ℕ) (shard : Shard) → slice_get shards i ≡ Some shard → ShardServes config book i shard)
 
--- What each role keeps is what the book says of it; of a world in which memory ran out nothing is said.
+-- What each role keeps is what the book says of it; of a world that has failed nothing is said.
 abbrev pub RolesKeep : System → Type 0
 RolesKeep system = IfSome system.machine (λ (m : Machine).
     SequencerKeeps m system.sequencer

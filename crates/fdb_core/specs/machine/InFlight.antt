@@ -18,7 +18,7 @@ in_flight_on m (Some commit_proxy) =
 abbrev pub in_flight_at : Machine → ℕ → Result InFlight Refusal
 in_flight_at m proxy = in_flight_on m (slice_get m.commit_proxies proxy)
 
--- what a world answers, which has no machine once memory ran out in a step
+-- what a world answers, which has no machine once it has failed
 abbrev pub in_flight : Option Machine → ℕ → Result InFlight Refusal
 in_flight None proxy = Err Failed
 in_flight (Some m) proxy = in_flight_at m proxy

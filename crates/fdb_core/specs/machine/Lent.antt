@@ -1,12 +1,12 @@
 -- What a world lends, so that its transactions can be compared anew: its configuration, its entries and those that it
--- acknowledged. It lends nothing once memory ran out in a step.
+-- acknowledged. It lends nothing once it has failed.
 use Rattle.std.specs.Prelude.{Bool, true, false, List, [], Option, None, Some}
 use Rattle.fdb_txn.specs.declared.entry.Entry.{Entry}
 use Rattle.fdb_proxy.specs.declared.config.Config.{Config}
 use Rattle.fdb_core.specs.declared.roles.client.Placed.{Placed}
 use Rattle.fdb_core.specs.machine.Machine.{Machine}
 
--- memory ran out in a step, and the world has no machine any more
+-- the world has failed, and has no machine any more
 abbrev pub has_failed : Option Machine → Bool
 has_failed None = true
 has_failed (Some m) = false

@@ -46,7 +46,7 @@ leaves_world (step.GetRange session range limit is_reverse snapshot) = true
 leaves_world (step.Write session mutation) = true
 leaves_world (step.AddRead session range) = true
 leaves_world (step.AddWrite session range) = true
-leaves_world (step.Submit session proxy) = false
+leaves_world (step.Submit session proxy) = true
 leaves_world (step.Seal proxy advance) = false
 leaves_world (step.Resolve entry resolver) = false
 leaves_world (step.Verdict entry resolver) = false
@@ -60,7 +60,7 @@ leaves_world (step.Forget shard version) = true
 leaves_world (step.Pop shard) = true
 leaves_world (step.Move range to) = true
 
--- memory ran out in the step, and it may have left the world changed in part
+-- memory ran out in the step, and the world has failed, since it may be changed in part
 abbrev pub fails_world : Step → Result Answered Refusal → Bool
 fails_world step result = ran_out result && not (leaves_world step)
 
@@ -68,9 +68,9 @@ fails_world step result = ran_out result && not (leaves_world step)
 abbrev pub left_by : Machine → Step → Option Machine
 left_by m step = if leaves_world step then Some m else None
 
--- A world is the machine, or none once memory ran out in a step that may leave it changed in part. A step answers what
--- the machine answers and leaves what the machine goes on to, unless memory runs out. From a world without a machine on
--- every step is refused.
+-- A world is the machine, or none once it has failed. A step answers what the machine answers and leaves what the
+-- machine goes on to, unless memory runs out. Then the world is the machine that it was, or has failed, by the kind of
+-- the step. Once it has failed every step is refused.
 abbrev pub IsStep : Option Machine → Step → Result Answered Refusal → Option Machine → Type 0
 IsStep None step result new = (result ≡ Err Failed) × (new ≡ None)
 IsStep (Some m) step result new =

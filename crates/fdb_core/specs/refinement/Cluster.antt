@@ -49,7 +49,7 @@ machine_of k =
       acknowledged = k.acknowledged.items;
     }
 
--- what the world shows: the machine unless memory ran out, and what its sequencer, its resolvers, its logs and its
+-- what the world shows: the machine unless the world has failed, and what its sequencer, its resolvers, its logs and its
 -- shards keep, with the parts that were made for the resolvers and the messages that were made for the logs, and what
 -- a check goes by
 abbrev pub system_of : Bool → Cluster → System

@@ -1,5 +1,6 @@
 // A commit proxy of the world.
 pub(crate) mod replying;
+mod submitting;
 
 ghost use Rattle.std.specs.Prelude.{◌≡◌, length, take, drop, OnOk, IfOk};
 ghost use Rattle.fdb_txn.specs.Limits.{place_limit};
@@ -8,13 +9,15 @@ ghost use Rattle.fdb_proxy.specs.Configs.{config_fault};
 ghost use Rattle.fdb_core.specs.refinement.commit_proxy.Ties.{IsNewCommitProxy};
 ghost use Rattle.fdb_core.specs.refinement.log.Ties.{Each};
 
+use crate::roles::client::sessions::Sessions;
+use crate::roles::commit_proxy::submitting::take_in;
 use fdb_client::Transcript;
 use fdb_keys::{Items, Refusal};
 use fdb_log::{LogAck, LogMsg};
 use fdb_proxy::{CommitCore, Config, Outcome};
 use fdb_resolver::{Part, Verdicts};
 use fdb_sequencer::Ticket;
-use fdb_txn::{Batch, PLACE_LIMIT, Sealed, TxnId};
+use fdb_txn::{Batch, PLACE_LIMIT, TxnId};
 use std::alloc::{AllocError, Global};
 use std::mem;
 
@@ -41,7 +44,7 @@ pub(crate) struct CommitProxyRole {
 
 impl CommitProxyRole {
     ghost use Rattle.std.specs.Prelude.{◌≡◌, ◌≤◌, ◌<◌, ◌++◌, ⊤, true, false, [], ◌∷◌, List, ℕ, suc, length, None, Some};
-    ghost use Rattle.std.specs.Prelude.{Err, map, drop, take, slice_get, OnOk, OnErr, if◌then◌else◌};
+    ghost use Rattle.std.specs.Prelude.{Err, map, drop, take, slice_get, OnOk, OnErr, IfSome, if◌then◌else◌};
     ghost use Rattle.std.specs.List.{AllByRecursion};
     ghost use Rattle.fdb_keys.specs.Answers.{Answers, AnswersExactly};
     ghost use Rattle.fdb_keys.specs.declared.refusal.Refusal.TheVariants.{Stale, WrongState};
@@ -49,7 +52,6 @@ impl CommitProxyRole {
     ghost use Rattle.fdb_txn.specs.book.Book.{seen_before, last_version};
     ghost use Rattle.fdb_txn.specs.book.History.{AreEntries};
     ghost use Rattle.fdb_txn.specs.declared.entry.Entry.{Entry};
-    ghost use Rattle.fdb_client.specs.Programs.{commit_request_of};
     ghost use Rattle.fdb_storage.specs.LogMessages.{log_messages};
     ghost use Rattle.fdb_proxy.specs.declared.config.Config.{Config};
     ghost use Rattle.fdb_proxy.specs.CommitProxies.{IsTicketFor, sealing, waiting_for};
@@ -62,6 +64,8 @@ impl CommitProxyRole {
     ghost use Rattle.fdb_core.specs.machine.Roles.{FromResolver, FromLog};
     ghost use Rattle.fdb_core.specs.refinement.commit_proxy.Ties.{Known, seen_as, CommitProxyRefines, IsNewCommitProxy};
     ghost use Rattle.fdb_core.specs.headline.ProxyStages.{IsSaid};
+    ghost use Rattle.fdb_core.specs.machine.Sessions.{open_at};
+    ghost use Rattle.fdb_core.specs.refinement.client.Submitting.{Submits};
     ghost use Rattle.fdb_core.specs.refinement.commit_proxy.Ties.{IsNextTicket, Seals, Decides, IsDone};
 
     /// The commit proxy with the number, without a batch, at which nobody waits. Refused only as `NoMemory`.
@@ -87,23 +91,28 @@ impl CommitProxyRole {
         self.core.is_idle()
     }
 
-    /// One more waits for a batch, with what it was answered. Refused only as `NoMemory`.
-    pub(crate) fn submit(&mut self, sealed: Sealed, transcript: Transcript) -> Result<(), Refusal>
-        ensures { (config : Config) (book : List Entry) (known : Known)
-            → CommitProxyRefines config book known self.old
-            → sealed ≡ commit_request_of transcript → transcript.read_version ≤ known.committed
-            → place_of transcript.id
-            (map commit_request_of self.old.in_flight ++ map commit_request_of self.old.waiting) ≡ None
-            → Answers result None (λ _. (seen_as self.new ≡ record (seen_as self.old)
-            { waiting = self.old.waiting ++ transcript ∷ [] }) × CommitProxyRefines config book known self.new) }
+    /// The session's open transaction is finished. One that wrote nothing is handed out, and the session has none any
+    /// more. Any other one waits here for a batch, and its session for what becomes of it. Refused as `NoTransaction`
+    /// where there is none, as `Txn::finish` refuses it, and as `NoMemory`: then nothing changes but the room that was
+    /// made.
+    pub(crate) fn submit(
+        &mut self,
+        alloc: Global,
+        sessions: &mut Sessions,
+        session: u32,
+    ) -> Result<Option<Transcript>, Refusal>
+        requires works { self.old.core.proxy.is_failed ≡ false }
+        requires new { IfSome (open_at sessions.old session) (λ transcript.
+            place_of transcript.id (self.old.core.proxy.batch ++ self.old.core.proxy.waiting) ≡ None) }
+        ensures submits { Submits session sessions.old self.old.core.proxy self.old.waiting result sessions.new
+            self.new.core.proxy self.new.waiting }
+        ensures others { self.new ≡ record self.old { core = self.new.core; waiting = self.new.waiting } }
     {
-        match self.core.submit(sealed) {
-            Ok(()) => {
-                self.waiting.push(transcript)?;
-                Ok(())
-            }
-            Err(refused) => Err(refused.why),
-        }
+        self.core.reserve()?;
+        let mut waiting = mem::replace(&mut self.waiting, Items::new(alloc)).into_vec();
+        let submitted = take_in(&mut self.core, &mut waiting, sessions, session);
+        self.waiting = Items::from_vec(waiting);
+        submitted
     }
 
     // What the first of those who wait were answered, at most as many as a batch may have, is what those in flight

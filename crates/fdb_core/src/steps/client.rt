@@ -1,19 +1,15 @@
 // The steps of clients.
-ghost use Rattle.std.specs.Prelude.{Ok, [], ◌∷◌, ◌++◌};
-ghost use Rattle.fdb_txn.specs.declared.spot.Spot.TheVariants as spot;
-ghost use Rattle.fdb_core.specs.declared.step.Answered.TheVariants.{ReadOnly};
 ghost use Rattle.fdb_core.specs.invariant.Invariant.{Invariant};
 ghost use Rattle.fdb_core.specs.machine.ClientSteps.{reads, writes, adds_read, adds_write, submits};
 ghost use Rattle.fdb_core.specs.refinement.Cluster.{machine_of, Refines};
 ghost use Rattle.fdb_core.specs.refinement.client.Reading.{operation_of};
-ghost use Rattle.fdb_core.specs.refinement.Steps.{Takes, TakesOrLeaves};
+ghost use Rattle.fdb_core.specs.refinement.Steps.{TakesOrLeaves};
 
 use crate::cluster::Cluster;
 use crate::roles::client::Placed;
 use crate::roles::client::read::Read;
 use crate::roles::shard_reads::ShardReads;
 use crate::step::Answered;
-use fdb_client::{Finished, Transcript};
 use fdb_keys::{KeyRange, Refusal};
 use fdb_mutations::Mutation;
 use fdb_txn::Spot;
@@ -71,40 +67,26 @@ impl Cluster {
         Ok(Answered::Done)
     }
 
-    // Acknowledges the transaction, which wrote nothing, at its read version.
-    fn acknowledge(&mut self, transcript: Transcript) -> Result<Answered, Refusal>
-        requires { Refines self.old }
-        ensures { Takes self.old result self.new (Ok (record {
-          answer = ReadOnly transcript.read_version;
-          next = record (machine_of self.old) {
-            acknowledged = (machine_of self.old).acknowledged ++ record
-                { spot = spot.ReadOnly transcript.read_version; transcript = transcript } ∷ [];
-          };
-        })) }
-    {
-        let version = transcript.read_version;
-        let spot = Spot::ReadOnly { version };
-        self.acknowledged.push(Placed { spot, transcript })?;
-        Ok(Answered::ReadOnly(version))
-    }
-
     #[tactic(auto, unfolding(crate::specs::machine::ClientSteps::submits))]
     pub(crate) fn submit(&mut self, session: u32, proxy: u32) -> Result<Answered, Refusal>
         requires refines { Refines self.old }
         requires named { Invariant (machine_of self.old) }
-        ensures { Takes self.old result self.new (submits (machine_of self.old) session proxy) }
+        ensures { TakesOrLeaves self.old result self.new (submits (machine_of self.old) session proxy) }
     {
         let at = proxy as usize;
         if at >= self.commit_proxies.len() {
             return Err(Refusal::Unknown);
         }
-        match self.sessions.finish(session)? {
-            Finished::ReadOnly(transcript) => self.acknowledge(transcript),
-            Finished::ToCommit(sealed, transcript) => {
-                self.sessions.wait(session)?;
-                let commit_proxy = &mut self.commit_proxies[at];
-                commit_proxy.submit(sealed, transcript)?;
-                Ok(Answered::Done)
+        self.acknowledged.reserve(1)?;
+        let commit_proxy = &mut self.commit_proxies[at];
+        match commit_proxy.submit(self.alloc, &mut self.sessions, session)? {
+            None => Ok(Answered::Done),
+            // It wrote nothing, and is acknowledged at its read version.
+            Some(transcript) => {
+                let version = transcript.read_version;
+                let spot = Spot::ReadOnly { version };
+                self.acknowledged.push_reserved(Placed { spot, transcript });
+                Ok(Answered::ReadOnly(version))
             }
         }
     }

@@ -67,7 +67,7 @@ abbrev pub ShardDiffers : List ℕ → ℕ → Type 0
 ShardDiffers printed status = (shard : ℕ)
     × (printed ≡ printed_line (codes "failed shard " ++ decimal shard)) × (status ≡ 1)
 
--- the check found a difference, which it does at most where memory ran out in a step
+-- the check found a difference, which it does at most where the world has failed
 abbrev pub Differs : Option Machine → List ℕ → ℕ → Type 0
 Differs None printed status = TxnDiffers printed status ⊎ ShardDiffers printed status
 Differs (Some machine) printed status = ⊥

@@ -11,7 +11,7 @@ abbrev pub opened : Option Transcript → Result Transcript Refusal
 opened None = Err NoTransaction
 opened (Some transcript) = Ok transcript
 
--- the session's open transaction, which no world lends once memory ran out in a step
+-- the session's open transaction, which no world lends once it has failed
 abbrev pub lent : Option Machine → ℕ → Result Transcript Refusal
 lent None session = Err Failed
 lent (Some m) session = opened (open_at m.sessions session)

@@ -25,7 +25,7 @@ pub fn push_shown(text: &mut String, world: &World, session: u32) -> Result<(), 
     }
 }
 
-// The session's open transaction. Refused as `Failed` once memory ran out in a step, as every step is then, and
+// The session's open transaction. Refused as `Failed` once the world has failed, as every step is then, and
 // else as `NoTransaction` where the session has none open.
 fn open_transaction(world: &World, session: u32) -> Result<&Txn, Refusal>
     ensures { MatchResult result (λ txn. lent world.now.machine session ≡ Ok txn.now)

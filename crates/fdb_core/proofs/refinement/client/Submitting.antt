@@ -1,6 +1,20 @@
 -- A session submits its open transaction: one that wrote nothing is acknowledged, any other waits at a proxy.
-use Rattle.std.proofs.Common.{◌≡◌, ◌∙◌, refl, sym, ap, ℕ, ◌≤◌, Bool, true, false, [], ◌∷◌, ◌++◌, map, Some, None, Ok}
-use Rattle.std.proofs.Common.{slice_get, slice_set, if◌then◌else◌}
+use Rattle.std.proofs.Common.{◌≡◌, ◌∙◌, refl, sym, ap, ap₂, subst, ℕ, ◌≤◌, Bool, true, false, List, [], ◌∷◌, ◌++◌, map}
+use Rattle.std.proofs.Common.{Option, Some, None, Ok, Vec, Global, slice_get, slice_set, if◌then◌else◌}
+use Rattle.std.specs.Prelude.{IfSome}
+use Rattle.std.specs.List.{AllByRecursion}
+use Rattle.std.specs.Vec.{with_item}
+use Rattle.std.proofs.lemmas.List.{map-append}
+use Rattle.fdb_txn.specs.declared.entry.Entry.{Entry}
+use Rattle.fdb_proxy.specs.declared.config.Config.{Config}
+use Rattle.fdb_proxy.specs.CommitProxies.{CommitProxy as Core, submitting}
+use Rattle.fdb_core.specs.declared.roles.client.Placed.{Placed}
+use Rattle.fdb_core.specs.headline.ProxyStages.{IsCommitProxyAt}
+use Rattle.fdb_core.specs.refinement.commit_proxy.Ties.{Known, StageRefines, stage_of, received_at, acknowledged_at}
+use Rattle.fdb_core.specs.refinement.Steps.{LeftAsBefore}
+use Rattle.fdb_core.proofs.common.AllLemmas.{all-push}
+use Rattle.fdb_core.proofs.headline.ProxyLaws.{stays}
+use Rattle.fdb_core.proofs.refinement.log.Ties.{set-same}
 use Rattle.fdb_txn.specs.book.Transactions.{Transaction}
 use Rattle.fdb_txn.specs.declared.spot.Spot.TheVariants as spot
 use Rattle.fdb_client.specs.declared.finished.Finished.{Finished}
@@ -16,7 +30,7 @@ use Rattle.fdb_core.specs.invariant.Invariant.{Invariant}
 use Rattle.fdb_core.specs.machine.ClientSteps.{submits, submit_fault}
 use Rattle.fdb_core.specs.machine.Machine.{Machine}
 use Rattle.fdb_core.specs.machine.Roles.{CommitProxy}
-use Rattle.fdb_core.specs.machine.Sessions.{Idle, Sessions, Waiting, open_at, with_state}
+use Rattle.fdb_core.specs.machine.Sessions.{EachOpen, Idle, Sessions, Waiting, open_at, with_state}
 use Rattle.fdb_core.specs.refinement.Cluster.{machine_of, CommitProxiesRefine, Refines}
 use Rattle.fdb_core.specs.refinement.commit_proxy.Ties.{CommitProxyRefines, known_to, ReadsWithin, seen_as}
 use Rattle.fdb_core.specs.refinement.client.Sessions.{OfOpen, Finishes}
@@ -123,3 +137,142 @@ module _ (k : Cluster) (before : Refines k) (sound : Invariant (machine_of k)) (
         (slice_set k.commit_proxies.items proxy new)
     tied = commit_proxies-put k.config k.book.items (known_to k.sequencer) k.commit_proxies.items proxy new
         before.commit_proxies taken.1
+
+-- What a commit proxy is once room was made for one more there, or once one more waits.
+module _ (config : Config) (book : List Entry) (known : Known) (role : CommitProxyRole)
+    (ok : CommitProxyRefines config book known role) (later : CommitProxyRole)
+    (others : later ≡ record role { core = later.core; waiting = later.waiting }) where
+  module _ (proxy : Core) (list : List Transcript)
+      (core : later.core.proxy ≡ record role.core.proxy { waiting = proxy.waiting }) (waits : later.waiting ≡ list)
+    where
+      -- its batch is the one that it had
+      pub seen-waiting : seen_as later ≡ record (seen_as role) { waiting = list }
+      seen-waiting = ap seen_as others ∙ (λ i. record (seen_as role) {
+        waiting = waits i;
+        stage = stage_of role.is_reported (core i).stage;
+        verdicts_received = received_at (core i).stage;
+        acknowledgements_received = acknowledged_at (core i).stage;
+      })
+
+      pub tied-waiting : proxy.waiting ≡ map commit_request_of list → AllByRecursion (ReadsWithin known.committed) list
+          → CommitProxyRefines config book known later
+      tied-waiting same reads = subst (CommitProxyRefines config book known) (sym others) (record {
+        front = ok.front;
+        behind = ok.behind;
+        whole = ok.whole;
+        core = subst (IsCommitProxyAt config ok.front) (sym core)
+            (stays config ok.front role.core.proxy ok.core proxy.waiting role.core.proxy.batch role.core.proxy.stage
+            ok.core.stage);
+        unlearnt = ok.unlearnt;
+        waiting = ap (λ (p : Core). p.waiting) core ∙ same ∙ ap (map commit_request_of) (sym waits);
+        in_flight = ap (λ (p : Core). p.batch) core ∙ ok.in_flight;
+        reads = subst (AllByRecursion (ReadsWithin known.committed)) (sym waits) reads;
+        stage = subst (λ (p : Core). StageRefines role.is_reported role.entry p.stage) (sym core) ok.stage;
+      })
+
+  -- nobody more waits
+  pub nobody-more : later.core.proxy ≡ role.core.proxy → later.waiting ≡ role.waiting
+      → (seen_as later ≡ seen_as role) × CommitProxyRefines config book known later
+  nobody-more core waits = (
+    seen-waiting role.core.proxy role.waiting core waits,
+    tied-waiting role.core.proxy role.waiting core waits ok.waiting ok.reads,
+  )
+
+  -- one more waits
+  pub one-more : (transcript : Transcript) → transcript.read_version ≤ known.committed
+      → later.core.proxy ≡ submitting role.core.proxy (commit_request_of transcript)
+      → later.waiting ≡ role.waiting ++ transcript ∷ []
+      → (seen_as later ≡ record (seen_as role) { waiting = role.waiting ++ transcript ∷ [] })
+      × CommitProxyRefines config book known later
+  one-more transcript within core waits =
+      let list = role.waiting ++ transcript ∷ [] in
+      let proxy = submitting role.core.proxy (commit_request_of transcript) in (
+        seen-waiting proxy list core waits,
+        tied-waiting proxy list core waits
+            (ap (λ (all : List Transaction). all ++ commit_request_of transcript ∷ []) ok.waiting
+            ∙ sym (map-append commit_request_of role.waiting (transcript ∷ [])))
+            (all-push (ReadsWithin known.committed) role.waiting transcript ok.reads within),
+      )
+
+-- the world with the commit proxy as it is then
+module _ (k : Cluster) (before : Refines k) (proxy : ℕ) (role : CommitProxyRole)
+    (there : slice_get k.commit_proxies.items proxy ≡ Some role) (later : CommitProxyRole) (sessions : Sessions)
+    (acknowledged : Vec Placed Global) where
+  pub refines-submitted : CommitProxyRefines k.config k.book.items (known_to k.sequencer proxy) later
+      → EachOpen (ReadsWithin k.sequencer.committed) sessions
+      → Refines (record k {
+        commit_proxies = with_item k.commit_proxies proxy later;
+        sessions = sessions;
+        acknowledged = acknowledged;
+      })
+  refines-submitted its opened = record {
+    legal = before.legal;
+    room = before.room;
+    sequencer = before.sequencer;
+    book = before.book;
+    parts = before.parts;
+    resolvers = before.resolvers;
+    logs = before.logs;
+    shard_map = before.shard_map;
+    commit_proxies = commit_proxies-put k.config k.book.items (known_to k.sequencer) k.commit_proxies.items proxy later
+        before.commit_proxies its;
+    grv_proxies = before.grv_proxies;
+    opened = opened;
+  }
+
+  module _ (others : later ≡ record role { core = later.core; waiting = later.waiting })
+      (core : later.core.proxy ≡ role.core.proxy) (waits : later.waiting ≡ role.waiting) where
+    its-later : (seen_as later ≡ seen_as role)
+        × CommitProxyRefines k.config k.book.items (known_to k.sequencer proxy) later
+    its-later = nobody-more k.config k.book.items (known_to k.sequencer proxy) role
+        (before.commit_proxies.each proxy role there) later others core waits
+
+    -- the machine's commit proxies are as they were
+    pub proxies-same : map seen_as (slice_set k.commit_proxies.items proxy later) ≡ map seen_as k.commit_proxies.items
+    proxies-same =
+        map-set seen_as k.commit_proxies.items proxy later
+        ∙ ap (slice_set (map seen_as k.commit_proxies.items) proxy) its-later.0
+        ∙ set-same (map seen_as k.commit_proxies.items) proxy (seen_as role)
+        (map-at seen_as k.commit_proxies.items proxy role there)
+
+    pub refines-room : EachOpen (ReadsWithin k.sequencer.committed) sessions
+        → Refines (record k {
+          commit_proxies = with_item k.commit_proxies proxy later;
+          sessions = sessions;
+          acknowledged = acknowledged;
+        })
+    refines-room opened = refines-submitted its-later.1 opened
+
+    -- where nobody comes, the world is as before
+    pub nobody-comes : sessions ≡ k.sessions → acknowledged.items ≡ k.acknowledged.items
+        → LeftAsBefore k (record k {
+          commit_proxies = with_item k.commit_proxies proxy later;
+          sessions = sessions;
+          acknowledged = acknowledged;
+        })
+    nobody-comes same told = (
+      λ i. record (machine_of k) {
+        commit_proxies = proxies-same i;
+        sessions = same i;
+        acknowledged = told i;
+      },
+      refines-room (subst (EachOpen (ReadsWithin k.sequencer.committed)) (sym same) before.opened),
+    )
+
+-- none of the session's id is at the core, if it has an open transaction
+pub none-repeated : (k : Cluster) → Refines k → Invariant (machine_of k) → (session proxy : ℕ) (role : CommitProxyRole)
+    → slice_get k.commit_proxies.items proxy ≡ Some role
+    → IfSome (open_at k.sessions session) (λ (transcript : Transcript).
+    place_of transcript.id (role.core.proxy.batch ++ role.core.proxy.waiting) ≡ None)
+none-repeated k before sound session proxy role there = by (open_at k.sessions session) refl
+  where
+    ok : CommitProxyRefines k.config k.book.items (known_to k.sequencer proxy) role
+    ok = before.commit_proxies.each proxy role there
+
+    by : (opened : Option Transcript) → open_at k.sessions session ≡ opened
+        → IfSome opened (λ (transcript : Transcript).
+        place_of transcript.id (role.core.proxy.batch ++ role.core.proxy.waiting) ≡ None)
+    by None is = tt
+    by (Some transcript) is =
+        ap₂ (λ (batch waiting : List Transaction). place_of transcript.id (batch ++ waiting)) ok.in_flight ok.waiting
+        ∙ unrepeated k before sound session proxy role there transcript is

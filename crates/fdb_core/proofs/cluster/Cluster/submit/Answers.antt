@@ -1,129 +1,101 @@
-use Rattle.std.proofs.Common.{◌≡◌, ◌∙◌, refl, sym, ap, map, [], ◌∷◌, ◌++◌, false, None, Some, Ok}
-use Rattle.std.proofs.Common.{slice_get, slice_set, rules}
+use Rattle.std.proofs.Common.{◌≡◌, ◌∙◌, refl, ap, subst, ⊎_elim, [], ◌∷◌, ◌++◌, List, Option, Some, Ok, slice_get}
+use Rattle.std.proofs.Common.{map, slice_set, rules}
 use Rattle.fdb_txn.specs.declared.spot.Spot.TheVariants as spot
-use Rattle.fdb_client.specs.Programs.{commit_request_of, is_read_only}
-use Rattle.fdb_core.specs.declared.step.Answered.TheVariants as answered
-use Rattle.fdb_core.specs.machine.ClientSteps.{submits, submit_fault}
-use Rattle.fdb_core.specs.machine.Sessions.{Sessions, Idle, Waiting, open_at, with_state}
+use Rattle.fdb_client.specs.declared.program.Transcript.{Transcript}
+use Rattle.fdb_core.specs.declared.roles.client.Placed.{Placed}
+use Rattle.fdb_core.specs.machine.ClientSteps.{submits}
+use Rattle.fdb_core.specs.machine.Sessions.{Idle, Waiting}
 use Rattle.fdb_core.specs.refinement.Cluster.{machine_of}
 use Rattle.fdb_core.specs.refinement.commit_proxy.Ties.{known_to, ReadsWithin, seen_as}
-use Rattle.fdb_core.proofs.common.AllLemmas.{within-item}
+use Rattle.fdb_core.specs.refinement.client.Submitting.{Submits}
+use Rattle.fdb_core.proofs.common.FaultLemmas.{unless-lacked}
 use Rattle.fdb_core.proofs.common.ListLemmas.{map-at, read-there}
 use Rattle.fdb_core.proofs.machine.FinishLemmas.{unfinished}
 use Rattle.fdb_core.proofs.machine.SessionLemmas.{open-put}
-use Rattle.fdb_core.proofs.machine.SessionMaps.{state-again}
-use Rattle.fdb_core.proofs.refinement.StepLemmas.{accepted, ended, lacked, refused}
-use Rattle.fdb_core.proofs.refinement.client.Submitting.{finished-read_only, finished-some, submits-read_only, unrepeated}
-use Rattle.fdb_core.proofs.refinement.client.Submitting.{reads-within, waits, tied}
-use Rattle.fdb_core.proofs.refinement.client.Sessions.{refines-sessions, sessions-same}
+use Rattle.fdb_core.proofs.refinement.StepLemmas.{accepted, left}
+use Rattle.fdb_core.proofs.refinement.client.Submitting.{nobody-comes, none-repeated, one-more, proxies-same, refines-room}
+use Rattle.fdb_core.proofs.refinement.client.Submitting.{reads-within, refines-submitted, submits-read_only, waits}
 use Rattle.fdb_core.proofs.cluster.Cluster.submit.Goals as goal
-use Rattle.fdb_core.proofs.cluster.Cluster.submit.Goals.{After-submit}
+use Rattle.fdb_core.proofs.cluster.Cluster.submit.Goals.{After-index_mut-commit_proxy}
 
--- who isn't finished isn't submitted, unless memory ran out
-pub returns-in_err-transcript : goal.returns-in_err-transcript
-returns-in_err-transcript c =
-    let k = c.args.self.now in
-    let there = within-item k.commit_proxies.items c.args.proxy (search rules) in
-    let why = c.in_err-transcript.field-0.0 in
-    refused k c.from_residual.result _ (submits (machine_of k) c.args.session c.args.proxy) why (search rules)
-    (unfinished (machine_of k) c.args.session c.args.proxy (seen_as there.0) why
-    (map-at seen_as k.commit_proxies.items c.args.proxy there.0 there.1) c.in_err-transcript.ensures.answers)
-    (sessions-same k c.finish.new.self c.requires.refines c.in_err-transcript.ensures.err) tt
+-- the commit proxy
+there : (c : After-index_mut-commit_proxy)
+    → slice_get c.args.self.now.commit_proxies.items c.args.proxy ≡ Some c.index_mut-commit_proxy.result.now
+there c = read-there c.args.self.now.commit_proxies.items c.args.proxy c.index_mut-commit_proxy.result.now (search rules)
+    c.index_mut-commit_proxy.ensures.value
 
--- a session without an open transaction is as good
-pub acknowledge-requires : goal.acknowledge-requires
-acknowledge-requires c =
+pub submit-requires-clause-works : goal.submit-requires-clause-works
+submit-requires-clause-works c =
+    (c.requires.refines.commit_proxies.each c.args.proxy c.index_mut-commit_proxy.result.now
+    (there (goal.at.submit-requires-clause-works c).After-index_mut-commit_proxy)).core.works
+
+pub submit-requires-clause-new : goal.submit-requires-clause-new
+submit-requires-clause-new c =
+    none-repeated c.args.self.now c.requires.refines c.requires.named c.args.session c.args.proxy
+    c.index_mut-commit_proxy.result.now (there (goal.at.submit-requires-clause-new c).After-index_mut-commit_proxy)
+
+-- who isn't finished isn't submitted, and stays open, also where memory ran out
+pub returns-in_err-submit : goal.returns-in_err-submit
+returns-in_err-submit c =
     let k = c.args.self.now in
-    refines-sessions k _ _ _ c.requires.refines c.requires.refines.grv_proxies
-    (rw c.in_ok-transcript.ensures.ok
-    (open-put (ReadsWithin k.sequencer.committed) k.sessions c.args.session Idle c.requires.refines.opened tt))
+    let role = c.index_mut-commit_proxy.result.now in
+    let at = there (goal.at.returns-in_err-submit c).After-index_mut-commit_proxy in
+    let why = c.in_err-submit.field-0.0 in
+    let is = c.in_err-submit.ensures.submits in
+    left k c.from_residual-in_err-submit.result _ (submits (machine_of k) c.args.session c.args.proxy) why
+    (search rules)
+    (⊎_elim (unless-lacked why _)
+    (unfinished (machine_of k) c.args.session c.args.proxy (seen_as role) why
+    (map-at seen_as k.commit_proxies.items c.args.proxy role at)) is.0)
+    (nobody-comes k c.requires.refines c.args.proxy role at c.submit.new.self c.submit.new.sessions c.reserve.new.self
+    c.in_err-submit.ensures.others is.2 is.3 is.1 c.reserve.ensures.items)
+
+-- one that wrote something waits
+pub returns-in-None : goal.returns-in-None
+returns-in-None c =
+    let k = c.args.self.now in
+    let before = c.requires.refines in
+    let role = c.index_mut-commit_proxy.result.now in
+    let at = there (goal.at.returns-in-None c).After-index_mut-commit_proxy in
+    let is = subst (λ (given : Option Transcript). Submits c.args.session k.sessions role.core.proxy role.waiting
+    (Ok given) c.submit.new.sessions c.submit.new.self.core.proxy c.submit.new.self.waiting) c.in-None.is
+    c.in_ok-submit.ensures.submits in
+    let taken = one-more k.config k.book.items (known_to k.sequencer c.args.proxy) role
+    (before.commit_proxies.each c.args.proxy role at) c.submit.new.self c.in_ok-submit.ensures.others is.0
+    (reads-within k before c.requires.named c.args.session c.args.proxy role at is.0 is.1) is.5 is.6 in
+    accepted (waits k before c.requires.named c.args.session c.args.proxy role at is.0 is.1 c.submit.new.self taken is.2
+    is.3) refl
+    (λ i. record (machine_of k) {
+      sessions = is.4 i;
+      commit_proxies = map seen_as (slice_set k.commit_proxies.items c.args.proxy c.submit.new.self);
+      acknowledged = c.reserve.ensures.items i;
+    })
+    (refines-submitted k before c.args.proxy role at c.submit.new.self c.submit.new.sessions c.reserve.new.self taken.1
+    (rw is.4 (open-put (ReadsWithin k.sequencer.committed) k.sessions c.args.session Waiting before.opened tt)))
 
 -- one that wrote nothing is acknowledged
-pub returns-in-ReadOnly : goal.returns-in-ReadOnly
-returns-in-ReadOnly c =
-    let k = c.args.self.now in
-    let transcript = c.in-ReadOnly.transcript in
-    let there = within-item k.commit_proxies.items c.args.proxy (search rules) in
-    let was = finished-read_only k.sessions c.args.session c.in_ok-transcript.field-0
-    c.in_ok-transcript.ensures.answers transcript c.in-ReadOnly.is in
-    ended _ k c.acknowledge.result _ _ _
-    (submits-read_only (machine_of k) c.args.session c.args.proxy (seen_as there.0) transcript
-    (map-at seen_as k.commit_proxies.items c.args.proxy there.0 there.1) was.0 was.1
-    ∙ ap (λ (sessions : Sessions). Ok (record {
-      answer = answered.ReadOnly transcript.read_version;
-      next = record (machine_of k) {
-        sessions = sessions;
-        acknowledged = k.acknowledged.items ++ record
-            { spot = spot.ReadOnly transcript.read_version; transcript = transcript } ∷ [];
-      };
-    })) (sym c.in_ok-transcript.ensures.ok))
-    (λ out. out) c.acknowledge.ensures
-
--- any other one was the session's, and is small enough
-module _ (c : After-submit) where
-  role-there : slice_get c.args.self.now.commit_proxies.items c.args.proxy
-      ≡ Some c.index_mut-commit_proxy.result.now
-  role-there = read-there c.args.self.now.commit_proxies.items c.args.proxy c.index_mut-commit_proxy.result.now
-      (search rules) c.index_mut-commit_proxy.ensures.value
-
-  was : (open_at c.args.self.now.sessions c.args.session ≡ Some c.in-ToCommit.transcript)
-      × (is_read_only c.in-ToCommit.transcript ≡ false) × (submit_fault c.in-ToCommit.transcript ≡ None)
-      × (c.in-ToCommit.sealed ≡ commit_request_of c.in-ToCommit.transcript)
-  was = finished-some c.args.self.now.sessions c.args.session c.in_ok-transcript.field-0
-      c.in_ok-transcript.ensures.answers c.in-ToCommit.sealed c.in-ToCommit.transcript c.in-ToCommit.is
-
--- so memory alone is a reason to refuse it
-pub returns-in_err-submit-in-ToCommit : goal.returns-in_err-submit-in-ToCommit
-returns-in_err-submit-in-ToCommit c =
+pub returns-in-Some : goal.returns-in-Some
+returns-in-Some c =
     let k = c.args.self.now in
     let before = c.requires.refines in
     let role = c.index_mut-commit_proxy.result.now in
-    let transcript = c.in-ToCommit.transcript in
-    let found = (goal.at.returns-in_err-submit-in-ToCommit c).After-submit in
-    let at = role-there found in
-    let is = was found in
-    lacked k c.from_residual-in_err-submit-in-ToCommit.result _ _ c.in_err-submit-in-ToCommit.field-0.0 (search rules)
-    (c.in_err-submit-in-ToCommit.ensures k.config k.book.items (known_to k.sequencer c.args.proxy)
-    (before.commit_proxies.each c.args.proxy role at) is.3
-    (reads-within k before c.requires.named c.args.session c.args.proxy role at transcript is.0)
-    (unrepeated k before c.requires.named c.args.session c.args.proxy role at transcript is.0)) tt
-
--- and else it waits
-pub returns-in_ok-submit-in-ToCommit : goal.returns-in_ok-submit-in-ToCommit
-returns-in_ok-submit-in-ToCommit c =
-    let k = c.args.self.now in
-    let before = c.requires.refines in
-    let role = c.index_mut-commit_proxy.result.now in
-    let transcript = c.in-ToCommit.transcript in
-    let found = (goal.at.returns-in_ok-submit-in-ToCommit c).After-submit in
-    let at = role-there found in
-    let is = was found in
-    let taken = c.in_ok-submit-in-ToCommit.ensures k.config k.book.items (known_to k.sequencer c.args.proxy)
-    (before.commit_proxies.each c.args.proxy role at) is.3
-    (reads-within k before c.requires.named c.args.session c.args.proxy role at transcript is.0)
-    (unrepeated k before c.requires.named c.args.session c.args.proxy role at transcript is.0) in
-    let now_waits : c.wait.new.self ≡ with_state k.sessions c.args.session Waiting =
-    c.in_ok-wait-in-ToCommit.ensures.ok
-    ∙ ap (λ (sessions : Sessions). with_state sessions c.args.session Waiting) c.in_ok-transcript.ensures.ok
-    ∙ state-again k.sessions c.args.session Idle Waiting in
-    accepted (waits k before c.requires.named c.args.session c.args.proxy role at transcript is.0 c.submit.new.self
-    taken is.1 is.2) refl
-    (ap (λ (sessions : Sessions). record (machine_of k) {
-      sessions = sessions;
-      commit_proxies = map seen_as (slice_set k.commit_proxies.items c.args.proxy c.submit.new.self);
-    }) now_waits)
-    (record {
-      legal = before.legal;
-      room = before.room;
-      sequencer = before.sequencer;
-      book = before.book;
-      parts = before.parts;
-      resolvers = before.resolvers;
-      logs = before.logs;
-      shard_map = before.shard_map;
-      commit_proxies = tied k before c.requires.named c.args.session c.args.proxy role at transcript is.0
-          c.submit.new.self taken;
-      grv_proxies = before.grv_proxies;
-      opened = rw now_waits
-          (open-put (ReadsWithin k.sequencer.committed) k.sessions c.args.session Waiting before.opened tt);
+    let at = there (goal.at.returns-in-Some c).After-index_mut-commit_proxy in
+    let transcript = c.in-Some.transcript in
+    let is = subst (λ (given : Option Transcript). Submits c.args.session k.sessions role.core.proxy role.waiting
+    (Ok given) c.submit.new.sessions c.submit.new.self.core.proxy c.submit.new.self.waiting) c.in-Some.is
+    c.in_ok-submit.ensures.submits in
+    let others = c.in_ok-submit.ensures.others in
+    let told = c.push_reserved.ensures.items
+    ∙ ap (λ (all : List Placed). all ++ record
+    { spot = spot.ReadOnly transcript.read_version; transcript = transcript } ∷ []) c.reserve.ensures.items in
+    accepted (submits-read_only (machine_of k) c.args.session c.args.proxy (seen_as role) transcript
+    (map-at seen_as k.commit_proxies.items c.args.proxy role at) is.0 is.1) refl
+    (λ i. record (machine_of k) {
+      sessions = is.2 i;
+      commit_proxies = proxies-same k before c.args.proxy role at c.submit.new.self c.submit.new.sessions
+          c.push_reserved.new.self others is.3 is.4 i;
+      acknowledged = told i;
     })
+    (refines-room k before c.args.proxy role at c.submit.new.self c.submit.new.sessions c.push_reserved.new.self others
+    is.3 is.4
+    (rw is.2 (open-put (ReadsWithin k.sequencer.committed) k.sessions c.args.session Idle before.opened tt)))
