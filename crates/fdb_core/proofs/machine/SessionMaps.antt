@@ -106,7 +106,7 @@ put_back-same pairs between after number session put back = same_maps _ _ (λ ot
         (eqb_tells number other)
 
 -- a session that did something has done it still where another one is put
-pub known-put : (sessions : Sessions) (number : ℕ) (session : Session) (other : ℕ)
+known-put : (sessions : Sessions) (number : ℕ) (session : Session) (other : ℕ)
     → is_some (get sessions other) ≡ true → is_some (get (insert sessions number session) other) ≡ true
 known-put sessions number session other known =
     ap (λ (there : Option Session). is_some there) (get-insert nat_cmp_total sessions number session other)

@@ -65,16 +65,6 @@ module _ (old : Cluster) (result : Result Answered Refusal) (new : Cluster) (tra
       (by_test-map (ran_out (Err why)) ⊤ (transition ≡ Err why) (LeftAsBefore old new)
       (Stepped old (Err why) new transition) (λ _. kept) (λ same. refuses same kept) same)
 
--- A step that ends in another one, which begins where it is, is the machine's where both come to the same.
-pub ended : (before old : Cluster) (result : Result Answered Refusal) (new : Cluster)
-    (transition : Result Transition Refusal) (to : Transition) → transition ≡ Ok to
-    → (RanOut before new → RanOut old new) → Takes before result new (Ok to) → Takes old result new transition
-ended before old result new transition to is out taken =
-    subst (λ (other : Result Transition Refusal). Takes old result new other) (sym is)
-    (by_test-map (ran_out result) (RanOut before new) (Stepped before result new (Ok to)) (RanOut old new)
-    (Stepped old result new (Ok to)) out
-    (λ step. record { answer = step.answer; machine = step.machine; refines = step.refines }) taken)
-
 -- A step that leaves all as it was where memory ran out in it is tied to the machine in the end, which is the one that
 -- it was or the one that it goes on to. What holds of both holds of it.
 pub left_or_stepped : (P : Machine → Type 0) (old : Cluster) (result : Result Answered Refusal) (new : Cluster)
@@ -86,11 +76,3 @@ left_or_stepped P old result new transition taken before later = by (ran_out res
         → Refines new × P (machine_of new)
     by true kept = (kept.1, subst P (sym kept.0) before)
     by false step = (step.refines, subst P (sym step.machine) later)
-
--- Unless memory ran out, the step did what its transition says.
-pub unless-ran_out : (old : Cluster) (result : Result Answered Refusal) (new : Cluster)
-    (transition : Result Transition Refusal) → Takes old result new transition
-    → Unless (ran_out result) (Stepped old result new transition)
-unless-ran_out old result new transition taken =
-    by_test-map (ran_out result) (RanOut old new) (Stepped old result new transition) ⊤
-    (Stepped old result new transition) (λ _. tt) (λ is. is) taken

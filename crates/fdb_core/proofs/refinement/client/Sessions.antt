@@ -17,7 +17,7 @@ use Rattle.fdb_core.specs.machine.Machine.{Transition}
 use Rattle.fdb_core.specs.machine.Sessions.{Sessions, EachOpen, Open, open_at, with_state}
 use Rattle.fdb_core.specs.refinement.Cluster.{machine_of, sessions_of, GrvProxiesRefine, Refines}
 use Rattle.fdb_core.specs.refinement.commit_proxy.Ties.{ReadsWithin}
-use Rattle.fdb_core.specs.refinement.Steps.{LeftAsBefore, Takes}
+use Rattle.fdb_core.specs.refinement.Steps.{LeftAsBefore, TakesOrLeaves}
 use Rattle.fdb_core.proofs.machine.SessionLemmas.{open-has, open-put}
 use Rattle.fdb_core.proofs.refinement.log.Ties.{set-same}
 use Rattle.fdb_core.proofs.refinement.StepLemmas.{accepted}
@@ -85,7 +85,7 @@ module _ (k : Cluster) (before : Refines k) (session : ℕ) (sessions : Sessions
 
   noted : (operation : Op) (transition : Result Transition Refusal) (there : Noted operation)
       → transition ≡ notes (machine_of k) session there.0 operation
-      → Takes k (Ok answered.Done) (record k { sessions = sessions }) transition
+      → TakesOrLeaves k (Ok answered.Done) (record k { sessions = sessions }) transition
   noted operation transition there is =
       accepted is refl (ap (λ (others : Sessions). record (machine_of k) { sessions = others }) there.2)
       (refines-sessions k k.grv_proxies sessions k.acknowledged before before.grv_proxies
@@ -93,19 +93,19 @@ module _ (k : Cluster) (before : Refines k) (session : ℕ) (sessions : Sessions
       (opened-with_op k.sequencer.committed k.sessions session there.0 operation reply.Done before.opened there.1)))
 
   pub read-added : (range : Range) → Noted (op.AddRead range)
-      → Takes k (Ok answered.Done) (record k { sessions = sessions }) (adds_read (machine_of k) session range)
+      → TakesOrLeaves k (Ok answered.Done) (record k { sessions = sessions }) (adds_read (machine_of k) session range)
   unfolding adds_read
   read-added range there =
       noted (op.AddRead range) (adds_read (machine_of k) session range) there (rw there.1 refl)
 
   pub write-added : (range : Range) → Noted (op.AddWrite range)
-      → Takes k (Ok answered.Done) (record k { sessions = sessions }) (adds_write (machine_of k) session range)
+      → TakesOrLeaves k (Ok answered.Done) (record k { sessions = sessions }) (adds_write (machine_of k) session range)
   unfolding adds_write
   write-added range there =
       noted (op.AddWrite range) (adds_write (machine_of k) session range) there (rw there.1 refl)
 
   pub written : (mutation : Mutation) → mutation_fault mutation ≡ None → Noted (op.Write mutation)
-      → Takes k (Ok answered.Done) (record k { sessions = sessions }) (writes (machine_of k) session mutation)
+      → TakesOrLeaves k (Ok answered.Done) (record k { sessions = sessions }) (writes (machine_of k) session mutation)
   unfolding writes
   written mutation faultless there =
       noted (op.Write mutation) (writes (machine_of k) session mutation) there (rw (there.1, faultless) refl)

@@ -1,6 +1,6 @@
 -- A session submits its open transaction: one that wrote nothing is acknowledged, any other waits at a proxy.
-use Rattle.std.proofs.Common.{◌≡◌, ◌∙◌, refl, sym, ap, ap₂, subst, ℕ, ◌≤◌, Bool, true, false, List, [], ◌∷◌, ◌++◌, map}
-use Rattle.std.proofs.Common.{Option, Some, None, Ok, Vec, Global, slice_get, slice_set, if◌then◌else◌}
+use Rattle.std.proofs.Common.{◌≡◌, ◌∙◌, refl, sym, ap, ap₂, subst, ℕ, ◌≤◌, true, false, List, [], ◌∷◌, ◌++◌, map}
+use Rattle.std.proofs.Common.{Option, Some, None, Ok, Vec, Global, slice_get, slice_set}
 use Rattle.std.specs.Prelude.{IfSome}
 use Rattle.std.specs.List.{AllByRecursion}
 use Rattle.std.specs.Vec.{with_item}
@@ -18,7 +18,7 @@ use Rattle.fdb_core.proofs.refinement.log.Ties.{set-same}
 use Rattle.fdb_txn.specs.book.Transactions.{Transaction}
 use Rattle.fdb_txn.specs.declared.spot.Spot.TheVariants as spot
 use Rattle.fdb_client.specs.declared.finished.Finished.{Finished}
-use Rattle.fdb_client.specs.declared.finished.Finished.TheVariants.{ReadOnly, ToCommit}
+use Rattle.fdb_client.specs.declared.finished.Finished.TheVariants.{ToCommit}
 use Rattle.fdb_client.specs.declared.program.Transcript.{Transcript}
 use Rattle.fdb_client.specs.Finishing.{IsFinished}
 use Rattle.fdb_client.specs.Programs.{commit_request_of, is_read_only}
@@ -49,23 +49,7 @@ module _ (sessions : Sessions) (session : ℕ) (finished : Finished)
       × (IsFinished transcript finished × (submit_fault transcript ≡ None))
   was-open = open-given (open_at sessions session) finished (Finishes (Ok finished)) is
 
-  -- which wrote nothing
-  pub finished-read_only : (shown : Transcript) → finished ≡ ReadOnly shown
-      → (open_at sessions session ≡ Some shown) × (is_read_only shown ≡ true)
-  finished-read_only shown shows =
-      let parts = by_test (is_read_only was-open.0) refl was-open.2.0 in (
-        was-open.1 ∙ ap (λ (it : Transcript). Some it) (sym parts.1),
-        ap is_read_only parts.1 ∙ parts.0,
-      )
-    where
-      by_test : (test : Bool) → is_read_only was-open.0 ≡ test
-          → finished ≡ (if test then ReadOnly was-open.0
-          else ToCommit (commit_request_of was-open.0) was-open.0)
-          → (is_read_only was-open.0 ≡ true) × (shown ≡ was-open.0)
-      by_test true tests made = (tests, cc)
-      by_test false tests made = cc
-
-  -- or wrote something, and is small enough
+  -- which wrote something, and is small enough, where it is to be committed
   pub finished-some : (sealed : Transaction) (shown : Transcript) → finished ≡ ToCommit sealed shown
       → (open_at sessions session ≡ Some shown) × (is_read_only shown ≡ false) × (submit_fault shown ≡ None)
       × (sealed ≡ commit_request_of shown)
@@ -171,7 +155,7 @@ module _ (config : Config) (book : List Entry) (known : Known) (role : CommitPro
       })
 
   -- nobody more waits
-  pub nobody-more : later.core.proxy ≡ role.core.proxy → later.waiting ≡ role.waiting
+  nobody-more : later.core.proxy ≡ role.core.proxy → later.waiting ≡ role.waiting
       → (seen_as later ≡ seen_as role) × CommitProxyRefines config book known later
   nobody-more core waits = (
     seen-waiting role.core.proxy role.waiting core waits,
