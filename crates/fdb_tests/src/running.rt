@@ -114,6 +114,14 @@ pub(crate) fn receipt_of<T, U: Drop>(answer: Result<T, Refused<U>>) -> Result<T,
     }
 }
 
+/// The thread, unless it couldn't be started. What it was to run is dropped then, where its type is a parameter.
+pub(crate) fn thread_of<T, F: Drop>(started: Result<T, F>) -> Result<T, Refusal> {
+    match started {
+        Ok(thread) => Ok(thread),
+        Err(_not_run) => Err(Refusal::NoMemory),
+    }
+}
+
 /// The value of a key as one byte, in a transaction.
 pub(crate) fn byte_of<B: ClusterName, R: Wait>(
     rt: &R,

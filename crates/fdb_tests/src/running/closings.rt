@@ -1,9 +1,9 @@
 // A database that is closed while a commit is under way and another one waits.
 ghost use Rattle.std.specs.Prelude.{◌≡◌};
 
-use crate::making::{coded, count_config, same};
+use crate::making::{ask, both, coded, count_config, same};
 use crate::running::gates::wait_for;
-use crate::running::{Done, Host, Named, commit_code, length_of, write};
+use crate::running::{Done, Host, Named, commit_code, length_of, thread_of, write};
 use fdb_book::Blank;
 use fdb_keys::Refusal;
 use fdb_mutations::Mutation;
@@ -140,6 +140,21 @@ fn begin_code<B: ClusterName, C: Clock + Send + Sync + Drop, R: Wait>(
 }
 
 // What the session is told that does its part.
+fn play_part<B: ClusterName, C: Clock + Send + Sync + Drop, R: Wait>(
+    rt: &R,
+    alloc: Global,
+    session: &mut Session<B>,
+    part: Part,
+    gate: &HeldResolver<C>,
+) -> Told {
+    match part {
+        Part::First => commit_first(rt, alloc, session),
+        Part::Second => commit_second(rt, alloc, session, gate),
+        Part::Last => begin_until_refused(rt, alloc, session, gate),
+    }
+}
+
+// The same, after which the session is dropped.
 fn play<B: ClusterName, C: Clock + Send + Sync + Drop, R: Wait>(
     rt: &R,
     alloc: Global,
@@ -148,11 +163,9 @@ fn play<B: ClusterName, C: Clock + Send + Sync + Drop, R: Wait>(
     gate: &HeldResolver<C>,
 ) -> Told {
     let mut session = session;
-    match part {
-        Part::First => commit_first(rt, alloc, &mut session),
-        Part::Second => commit_second(rt, alloc, &mut session, gate),
-        Part::Last => begin_until_refused(rt, alloc, &mut session, gate),
-    }
+    let told = play_part(rt, alloc, &mut session, part, gate);
+    drop(session);
+    told
 }
 
 fn spawn<B: Named, R: Host>(
@@ -163,23 +176,29 @@ fn spawn<B: Named, R: Host>(
     gate: Arc<HeldResolver<R>>,
 ) -> Result<JoinHandle<Told>, Refusal> {
     let handle = *rt;
-    match thread::spawn(rt, move || play(&handle, alloc, session, part, &*gate)) {
-        Ok(client) => Ok(client),
+    thread_of(thread::spawn(rt, move || play(&handle, alloc, session, part, &*gate)))
+}
+
+// A share of the gate.
+fn shared<C: Clock + Send + Sync + Drop>(
+    gate: &Arc<HeldResolver<C>>,
+) -> Result<Arc<HeldResolver<C>>, Refusal> {
+    match Arc::try_clone(gate) {
+        Ok(gate) => Ok(gate),
         Err(_) => Err(Refusal::NoMemory),
     }
 }
 
+// Starts the thread of a part, if it got its session.
 fn start_one<B: Named, R: Host>(
     rt: &R,
     alloc: Global,
-    session: Session<B>,
+    session: Result<Session<B>, Refusal>,
     part: Part,
     gate: &Arc<HeldResolver<R>>,
 ) -> Result<JoinHandle<Told>, Refusal> {
-    match Arc::try_clone(gate) {
-        Ok(gate) => spawn(rt, alloc, session, part, gate),
-        Err(_) => Err(Refusal::NoMemory),
-    }
+    let (session, gate) = both(session, shared(gate))?;
+    spawn(rt, alloc, session, part, gate)
 }
 
 // Starts a thread for each part. Where it is refused, those are left that were started.
@@ -192,8 +211,7 @@ fn start_all<B: Named, R: Host>(
 ) -> Done {
     clients.reserve(PARTS.len())?;
     for part in PARTS {
-        let session = database.session(alloc)?;
-        let client = start_one(rt, alloc, session, *part, gate)?;
+        let client = start_one(rt, alloc, database.session(alloc), *part, gate)?;
         clients.push(client)?;
     }
     Ok(())
@@ -212,6 +230,32 @@ fn join_all<R: Threads>(
     Ok(told)
 }
 
+// What the three are to be told.
+const WANTED: &[Told] = &[(0, false), (9013, true), (9013, false)];
+
+// Whether all are started, whether they are told what they are to be, and how many entries the record has.
+type Closed = (Result<(), u32>, Result<bool, u32>, Result<usize, u32>);
+
+fn close_held<B: Named, R: Host>(
+    rt: &R,
+    alloc: Global,
+    blank: Blank,
+    config: &Config,
+    gate: &Arc<HeldResolver<R>>,
+) -> Result<Closed, Refusal>
+    requires cells { blank ≡ B.cells }
+    requires config { config.now ≡ B.config }
+{
+    let mut database: Database<B> = Database::start(rt, alloc, blank, config, 100, gate)?;
+    let mut clients = Vec::new(alloc);
+    let started = start_all(rt, alloc, &mut database, gate, &mut clients);
+    gate.await_word(&gate.waits);
+    let record = database.close(rt);
+    let told = join_all(rt, alloc, clients);
+    let are_told = ask(told, |told| told.as_slice() == WANTED);
+    Ok((coded(started), are_told, coded(length_of(record))))
+}
+
 fn close_in_the_middle<B: Named, R: Host>(
     rt: &R,
     alloc: Global,
@@ -222,19 +266,8 @@ fn close_in_the_middle<B: Named, R: Host>(
     requires config { config.now ≡ B.config }
 {
     let gate = Arc::new(alloc, HeldResolver::new(*rt))?;
-    let mut database: Database<B> = Database::start(rt, alloc, blank, config, 100, &gate)?;
-    let mut clients = Vec::new(alloc);
-    let started = start_all(rt, alloc, &mut database, &gate, &mut clients);
-    gate.await_word(&gate.waits);
-    let record = database.close(rt);
-    let told = join_all(rt, alloc, clients)?;
-    same(rt, coded(started), Ok(()));
-    same(
-        rt,
-        told.as_slice() == [(0, false), (9013, true), (9013, false)].as_slice(),
-        true,
-    );
-    same(rt, coded(length_of(record)), Ok(1));
+    let closed = close_held::<B, R>(rt, alloc, blank, config, &gate)?;
+    same(rt, closed, (Ok(()), Ok(true), Ok(1)));
     same(rt, gate.missed.load(Ordering::SeqCst), false);
     Ok(())
 }

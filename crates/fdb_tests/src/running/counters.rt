@@ -1,8 +1,8 @@
 // Clients in threads of their own, each with keys that no other one writes, and one sum that all add to.
 ghost use Rattle.std.specs.Prelude.{◌≡◌};
 
-use crate::making::{coded, count_config, keys_of, same};
-use crate::running::{Done, Host, Named, byte_of, move_keys, receipt_of, write};
+use crate::making::{both, coded, count_config, keys_of, same};
+use crate::running::{Done, Host, Named, byte_of, move_keys, receipt_of, thread_of, write};
 use bytes::Bytes;
 use fdb_book::Blank;
 use fdb_keys::{Key, Refusal};
@@ -49,23 +49,23 @@ fn play_round<B: ClusterName, R: Wait>(
     let seen = byte_of(rt, alloc, session, key)?;
     write(session, Mutation::set(alloc, key, &[round]))?;
     write(session, Mutation::add(alloc, SUM, &[1]))?;
-    let _receipt = receipt_of(session.commit(rt, alloc))?;
+    let receipt = receipt_of(session.commit(rt, alloc))?;
+    drop(receipt);
     Ok(seen)
 }
 
 // All transactions of a client: what its keys have then, and whether each read was what was acknowledged last.
-fn play_client<B: ClusterName, R: Wait>(
+fn play_rounds<B: ClusterName, R: Wait>(
     rt: &R,
     alloc: Global,
-    session: Session<B>,
+    session: &mut Session<B>,
     client: u8,
 ) -> Result<(Model, bool), Refusal> {
-    let mut session = session;
     let mut model = [None; KEYS];
     let mut is_known = true;
     for round in 0..ROUNDS {
         for (letter, value) in LETTERS.iter().zip(&mut model) {
-            let seen = play_round(rt, alloc, &mut session, &[*letter, client], round)?;
+            let seen = play_round(rt, alloc, session, &[*letter, client], round)?;
             is_known = is_known && seen == *value;
             *value = Some(round);
         }
@@ -73,7 +73,32 @@ fn play_client<B: ClusterName, R: Wait>(
     Ok((model, is_known))
 }
 
+// The same, after which the session is dropped.
+fn play_client<B: ClusterName, R: Wait>(
+    rt: &R,
+    alloc: Global,
+    session: Session<B>,
+    client: u8,
+) -> Result<(Model, bool), Refusal> {
+    let mut session = session;
+    let told = play_rounds(rt, alloc, &mut session, client);
+    drop(session);
+    told
+}
+
 type Client = JoinHandle<Result<(Model, bool), Refusal>>;
+
+// Starts a client, if it got its session.
+fn start_client<B: Named, R: Host>(
+    rt: &R,
+    alloc: Global,
+    session: Result<Session<B>, Refusal>,
+    client: u8,
+) -> Result<Client, Refusal> {
+    let session = session?;
+    let handle = *rt;
+    thread_of(thread::spawn(rt, move || play_client(&handle, alloc, session, client)))
+}
 
 // Starts all clients.
 fn start_clients<B: Named, R: Host>(
@@ -84,12 +109,7 @@ fn start_clients<B: Named, R: Host>(
 ) -> Result<(), Refusal> {
     for client in 0..CLIENTS {
         clients.reserve(1)?;
-        let session = database.session(alloc)?;
-        let handle = *rt;
-        let Ok(thread) = thread::spawn(rt, move || play_client(&handle, alloc, session, client))
-        else {
-            return Err(Refusal::NoMemory);
-        };
+        let thread = start_client(rt, alloc, database.session(alloc), client)?;
         clients.push(thread)?;
     }
     Ok(())
@@ -159,13 +179,11 @@ fn has_all(pairs: &[(Key, Bytes)], models: &[Model]) -> bool {
         .all(|(client, model)| has_model(pairs, client, model))
 }
 
-// How many transactions and pairs the record has, whether the sum is that of all that were acknowledged, and whether
-// all keys have what was acknowledged last.
-fn told_of<B: ClusterName>(
-    record: Result<Record<B>, Refusal>,
-    models: &[Model],
-) -> Result<(usize, usize, bool, bool), Refusal> {
-    let record = record?;
+// How many transactions and pairs a record has, whether the sum is that of all that were acknowledged, and whether all
+// keys have what was acknowledged last.
+type Held = (usize, usize, bool, bool);
+
+fn held_by<B: ClusterName>(record: &Record<B>, models: &[Model]) -> Result<Held, Refusal> {
     let mut count = 0;
     for entry in record.front().entries()? {
         count = entry.batch.as_slice().len().saturating_add(count);
@@ -173,6 +191,18 @@ fn told_of<B: ClusterName>(
     let pairs = record.pairs();
     let is_sum = has_pair(pairs, SUM, TRANSACTIONS);
     Ok((count, pairs.len(), is_sum, has_all(pairs, models)))
+}
+
+// Whether all reads were what they were to be, and what the record has.
+fn told_of<B: ClusterName>(
+    played: Result<(Vec<Model>, bool), Refusal>,
+    record: Result<Record<B>, Refusal>,
+) -> Result<(bool, Held), Refusal> {
+    let (played, record) = both(played, record)?;
+    let (models, are_known) = played;
+    let held = held_by(&record, models.as_slice());
+    drop((models, record));
+    Ok((are_known, held?))
 }
 
 fn count<B: Named, R: Host>(
@@ -189,14 +219,8 @@ fn count<B: Named, R: Host>(
     let mut database: Database<B> = Database::start(rt, alloc, blank, config, 1_000, &gate)?;
     let played = play_clients(rt, alloc, &mut database, moves);
     let record = database.close(rt);
-    let (models, are_known) = played?;
-    same(rt, are_known, true);
-    let told = told_of(record, models.as_slice());
-    same(
-        rt,
-        coded(told),
-        Ok((usize::from(TRANSACTIONS), PAIRS, true, true)),
-    );
+    let wanted = (true, (usize::from(TRANSACTIONS), PAIRS, true, true));
+    same(rt, coded(told_of(played, record)), Ok(wanted));
     Ok(())
 }
 

@@ -147,6 +147,23 @@ fn commit_alone<B: Named, R: Host>(
     told
 }
 
+// What a session is told where resolvers wait for each other, and whether the database could be closed.
+fn commit_crossed<B: Named, R: Host>(
+    rt: &R,
+    alloc: Global,
+    blank: Blank,
+    config: &Config,
+    gate: &Arc<CrossedResolvers<R>>,
+) -> Result<(Result<[(u32, u64); 2], u32>, bool), Refusal>
+    requires cells { blank ≡ B.cells }
+    requires config { config.now ≡ B.config }
+{
+    let mut database: Database<B> = Database::start(rt, alloc, blank, config, 100, gate)?;
+    let told = commit_alone(rt, alloc, &mut database);
+    let record = database.close(rt);
+    Ok((coded(told), record.is_ok()))
+}
+
 fn cross<B: Named, R: Host>(rt: &R, alloc: Global, blank: Blank, config: &Config) -> Done
     requires cells { blank ≡ B.cells }
     requires config { config.now ≡ B.config }
@@ -159,11 +176,8 @@ fn cross<B: Named, R: Host>(rt: &R, alloc: Global, blank: Blank, config: &Config
             missed: AtomicBool::new(false),
         },
     )?;
-    let mut database: Database<B> = Database::start(rt, alloc, blank, config, 100, &gate)?;
-    let told = commit_alone(rt, alloc, &mut database);
-    let record = database.close(rt);
-    same(rt, coded(told), Ok([(0, 100), (1, 200)]));
-    same(rt, record.is_ok(), true);
+    let told = commit_crossed::<B, R>(rt, alloc, blank, config, &gate)?;
+    same(rt, told, (Ok([(0, 100), (1, 200)]), true));
     same(rt, gate.missed.load(Ordering::SeqCst), false);
     Ok(())
 }
@@ -205,6 +219,23 @@ fn commit_both<B: Named, R: Host>(
     sum
 }
 
+// What two sessions are told where commit proxies wait for each other, and whether the database could be closed.
+fn commit_met<B: Named, R: Host>(
+    rt: &R,
+    alloc: Global,
+    blank: Blank,
+    config: &Config,
+    gate: &Arc<MeetingProxies<R>>,
+) -> Result<(Result<u32, u32>, bool), Refusal>
+    requires cells { blank ≡ B.cells }
+    requires config { config.now ≡ B.config }
+{
+    let mut database: Database<B> = Database::start(rt, alloc, blank, config, 100, gate)?;
+    let told = commit_both(rt, alloc, &mut database);
+    let record = database.close(rt);
+    Ok((coded(told), record.is_ok()))
+}
+
 fn meet<B: Named, R: Host>(rt: &R, alloc: Global, blank: Blank, config: &Config) -> Done
     requires cells { blank ≡ B.cells }
     requires config { config.now ≡ B.config }
@@ -217,11 +248,8 @@ fn meet<B: Named, R: Host>(rt: &R, alloc: Global, blank: Blank, config: &Config)
             missed: AtomicBool::new(false),
         },
     )?;
-    let mut database: Database<B> = Database::start(rt, alloc, blank, config, 100, &gate)?;
-    let told = commit_both(rt, alloc, &mut database);
-    let record = database.close(rt);
-    same(rt, coded(told), Ok(1));
-    same(rt, record.is_ok(), true);
+    let told = commit_met::<B, R>(rt, alloc, blank, config, &gate)?;
+    same(rt, told, (Ok(1), true));
     same(rt, gate.missed.load(Ordering::SeqCst), false);
     Ok(())
 }
@@ -279,6 +307,23 @@ fn read_in_two<B: Named, R: Host>(
     told
 }
 
+// What two sessions are told where the commit proxy is held, and whether the database could be closed.
+fn read_held<B: Named, R: Host>(
+    rt: &R,
+    alloc: Global,
+    blank: Blank,
+    config: &Config,
+    gate: &Arc<HeldProxy<R>>,
+) -> Result<(Result<Meanwhile, u32>, bool), Refusal>
+    requires cells { blank ≡ B.cells }
+    requires config { config.now ≡ B.config }
+{
+    let mut database: Database<B> = Database::start(rt, alloc, blank, config, 100, gate)?;
+    let told = read_in_two(rt, alloc, &**gate, &mut database);
+    let record = database.close(rt);
+    Ok((coded(told), record.is_ok()))
+}
+
 fn hold<B: Named, R: Host>(rt: &R, alloc: Global, blank: Blank, config: &Config) -> Done
     requires cells { blank ≡ B.cells }
     requires config { config.now ≡ B.config }
@@ -292,15 +337,9 @@ fn hold<B: Named, R: Host>(rt: &R, alloc: Global, blank: Blank, config: &Config)
             missed: AtomicBool::new(false),
         },
     )?;
-    let mut database: Database<B> = Database::start(rt, alloc, blank, config, 100, &gate)?;
-    let told = read_in_two(rt, alloc, &*gate, &mut database);
-    let record = database.close(rt);
-    same(
-        rt,
-        coded(told),
-        Ok(([(0, 100), (1, 200)], (true, 100, Some(1)))),
-    );
-    same(rt, record.is_ok(), true);
+    let told = read_held::<B, R>(rt, alloc, blank, config, &gate)?;
+    let wanted = Ok(([(0, 100), (1, 200)], (true, 100, Some(1))));
+    same(rt, told, (wanted, true));
     same(rt, gate.missed.load(Ordering::SeqCst), false);
     Ok(())
 }

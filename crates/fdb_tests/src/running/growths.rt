@@ -144,8 +144,8 @@ fn play_four<B: Named, R: Host>(
     let gate = Arc::new(alloc, NoGate)?;
     let mut database: Database<B> = Database::start(rt, alloc, blank, config, 100, &gate)?;
     let ends = play_in_two(rt, alloc, config, &mut database);
-    let record = database.close(rt);
-    Ok((ends?, held_by(record)))
+    let held = held_by(database.close(rt));
+    Ok((ends?, held))
 }
 
 // All of that, from the start of the database on.

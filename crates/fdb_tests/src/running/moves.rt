@@ -46,10 +46,10 @@ fn move_in_one<B: Named, R: Host>(
     alloc: Global,
     database: &mut Database<B>,
 ) -> Result<(), Refusal> {
-    match database.session(alloc) {
-        Ok(mut session) => move_and_put(rt, alloc, database, &mut session),
-        Err(why) => Err(why),
-    }
+    let mut session = database.session(alloc)?;
+    let moved = move_and_put(rt, alloc, database, &mut session);
+    drop(session);
+    moved
 }
 
 fn is_wanted(given: &Move, wanted: &Wanted) -> bool {

@@ -253,8 +253,8 @@ fn use_ranges<B: Named, R: Host>(
     let mut database: Database<B> = Database::start(rt, alloc, blank, config, 100, &gate)?;
     let told = read_in_two(rt, alloc, &mut database, case);
     let record = database.close(rt);
-    same(rt, coded(told), Ok(()));
-    same(rt, record.is_ok(), true);
+    same(rt, (coded(told), record.is_ok()), (Ok(()), true));
+    drop(record);
     Ok(())
 }
 
@@ -292,6 +292,14 @@ enum Touch {
 
 const ALL: Asked = (b"a", b"z", 0, false, &[]);
 
+// Whether it is answered, with whatever it may be.
+fn answered<T: Drop>(answer: Result<T, Refusal>) -> Done {
+    match answer {
+        Ok(_given) => Ok(()),
+        Err(why) => Err(why),
+    }
+}
+
 fn touch_keys<B: ClusterName, R: Wait>(
     rt: &R,
     alloc: Global,
@@ -299,22 +307,10 @@ fn touch_keys<B: ClusterName, R: Wait>(
     how: Touch,
 ) -> Result<(), Refusal> {
     match how {
-        Touch::Get => {
-            byte_of(rt, alloc, session, b"d")?;
-            Ok(())
-        }
-        Touch::SnapshotGet => {
-            snapshot_of(rt, alloc, session, b"d")?;
-            Ok(())
-        }
-        Touch::Range => {
-            reads_just(rt, alloc, session, &ALL, false)?;
-            Ok(())
-        }
-        Touch::SnapshotRange => {
-            reads_just(rt, alloc, session, &ALL, true)?;
-            Ok(())
-        }
+        Touch::Get => answered(byte_of(rt, alloc, session, b"d")),
+        Touch::SnapshotGet => answered(snapshot_of(rt, alloc, session, b"d")),
+        Touch::Range => answered(reads_just(rt, alloc, session, &ALL, false)),
+        Touch::SnapshotRange => answered(reads_just(rt, alloc, session, &ALL, true)),
         Touch::AddRead => add_read(alloc, session),
         Touch::AddWrite => add_write(alloc, session),
         Touch::Set => write(session, Mutation::set(alloc, b"d", &[1])),
@@ -387,8 +383,8 @@ fn use_meetings<B: Named, R: Host>(rt: &R, alloc: Global, blank: Blank, config: 
     let mut database: Database<B> = Database::start(rt, alloc, blank, config, 100, &gate)?;
     let told = overtake_in_two(rt, alloc, &mut database);
     let record = database.close(rt);
-    same(rt, coded(told), Ok(()));
-    same(rt, record.is_ok(), true);
+    same(rt, (coded(told), record.is_ok()), (Ok(()), true));
+    drop(record);
     Ok(())
 }
 

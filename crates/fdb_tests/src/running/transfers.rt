@@ -83,24 +83,46 @@ fn transfer<B: ClusterName, R: Wait>(
     Err(Refusal::NotCommitted)
 }
 
-/// The one session gives an account five units, and tells the other one, which then moves three of them.
+/// The one session gives an account five units, and tells the other one.
+fn give<B: ClusterName, R: Wait>(
+    rt: &R,
+    alloc: Global,
+    giver: &mut Session<B>,
+    other: &mut Session<B>,
+) -> Result<(), Refusal> {
+    giver.begin(rt, alloc)?;
+    put_amount(alloc, giver, b"alice", 5)?;
+    match giver.commit(rt, alloc) {
+        Ok(receipt) => other.learn(&receipt),
+        Err(refused) => Err(refused.why),
+    }
+}
+
+/// The same, and the other one then moves three of them.
 fn give_and_move<B: ClusterName, R: Wait>(
     rt: &R,
     alloc: Global,
     giver: &mut Session<B>,
     mover: &mut Session<B>,
 ) -> Result<(), Refusal> {
-    giver.begin(rt, alloc)?;
-    put_amount(alloc, giver, b"alice", 5)?;
-    let told = match giver.commit(rt, alloc) {
-        Ok(receipt) => mover.learn(&receipt),
-        Err(refused) => Err(refused.why),
-    };
-    told?;
+    give(rt, alloc, giver, mover)?;
     for _unit in 0..3 {
         transfer(rt, alloc, mover, b"alice", b"bob")?;
     }
     Ok(())
+}
+
+/// The same with the giver and another session of the database.
+fn play_with<B: ClusterName + Send + Sync + 'static, R: Wait>(
+    rt: &R,
+    alloc: Global,
+    database: &mut Database<B>,
+    giver: &mut Session<B>,
+) -> Result<(), Refusal> {
+    let mut mover = database.session(alloc)?;
+    let played = give_and_move(rt, alloc, giver, &mut mover);
+    drop(mover);
+    played
 }
 
 /// The same with two sessions of the database.
@@ -110,8 +132,9 @@ fn play<B: ClusterName + Send + Sync + 'static, R: Wait>(
     database: &mut Database<B>,
 ) -> Result<(), Refusal> {
     let mut giver = database.session(alloc)?;
-    let mut mover = database.session(alloc)?;
-    give_and_move(rt, alloc, &mut giver, &mut mover)
+    let played = play_with(rt, alloc, database, &mut giver);
+    drop(giver);
+    played
 }
 
 /// Starts a database, plays on it, and closes it whatever came of that.
