@@ -38,9 +38,10 @@ impl Owned {
     ghost use Rattle.fdb_keys.specs.Ranges.{in_set};
     ghost use Rattle.fdb_owners.specs.Parts.{HasSomeOf};
 
-    /// Adds the keys of the part to the set, in O(m (m + n)) time for m ranges of the part and n of the set. Refused
-    /// only as `NoMemory`. Then the set is half changed: it has all keys that it had, and may have any of the part's.
-    /// Which ones isn't said, so whoever wants the set from before, or the whole one, has to make it anew.
+    /// Adds the keys of the part to the set, in O(m (m + n)) time for m ranges of the part and n of the set. An empty set
+    /// becomes a copy of the part's, in O(m) time. Refused only as `NoMemory`. Then the set is half changed: it has all
+    /// keys that it had, and may have any of the part's. Which ones isn't said, so whoever wants the set from before, or
+    /// the whole one, has to make it anew.
     pub fn add_to(&self, set: &mut RangeSet) -> Result<(), Refusal>
         ensures answers { Answers result None
             (λ _. (x : Point) → in_set set.new x ≡ (in_set self.now.ranges x || in_set set.old x)) }
@@ -55,6 +56,10 @@ fn add_all(set: &mut RangeSet, added: &RangeSet) -> Result<(), Refusal>
         (λ _. (x : Point) → in_set set.new x ≡ (in_set added.now x || in_set set.old x)) }
     ensures refused { OnErr result (HasSomeOf added.now set.old set.new) }
 {
+    if set.is_empty() {
+        *set = added.clone()?;
+        return Ok(());
+    }
     for range in added.iter() {
         set.add(range)?;
     }
