@@ -14,6 +14,7 @@ pub mod OwnersLemmas
 pub mod PartsLemmas
 pub mod PlaceLemmas
 pub mod SameHistoryLemmas
+pub mod SoleLemmas
 pub mod SplitLemmas
 pub mod SweepingLemmas
 pub mod TouchedLemmas

@@ -1,9 +1,9 @@
 -- What owners say, by the pieces inside them.
 use Rattle.std.proofs.Common.{◌≡◌, ◌∙◌, sym, ap, subst, refl, ℕ, suc, ◌+◌, ◌<◌, ◌≤◌, Bool, ◌&&◌, ◌==◌, nat_le, List}
 use Rattle.std.proofs.Common.{length}
-use Rattle.std.proofs.Common.{[], ◌∷◌, max, true, Option, Some, None, Result, Ok, Err, if◌then◌else◌, arith}
+use Rattle.std.proofs.Common.{[], ◌∷◌, max, true, Option, Some, None, Result, Ok, if◌then◌else◌, arith}
 use Rattle.std.specs.List.{AllByRecursion}
-use Rattle.std.proofs.lemmas.Bool.{cond-true, cond-false, le-leb, lt-leb, eq-eqb}
+use Rattle.std.proofs.lemmas.Bool.{cond-true, cond-false, le-leb, lt-leb, eq-eqb, eqb-true}
 use Rattle.fdb_keys.specs.Answers.{Answers}
 use Rattle.fdb_keys.specs.Points.{Point}
 use Rattle.fdb_keys.specs.Ranges.{Range, in_range}
@@ -59,6 +59,12 @@ owners-within : (resolvers last : ℕ) (changes : List Change)
     → AllByRecursion (λ (change : Change). change.owner < resolvers) changes
 owners-within resolvers last [] all = tt
 owners-within resolvers last (change ∷ older) all = (all.0.0, owners-within resolvers last older all.1)
+
+-- and the owner at each version exists
+pub owner-known : (resolvers last : ℕ) (history : History) (v : ℕ) → IsHistory resolvers last history
+    → owner_in history v < resolvers
+owner-known resolvers last history v is =
+    owner-below resolvers history.first v history.changes is.first (owners-within resolvers last history.changes is.changes)
 
 -- from the last version on, the owner stays
 settled-in : (resolvers last : ℕ) (history : History) (v : ℕ) → IsHistory resolvers last history → last ≤ v
@@ -139,6 +145,40 @@ module _ (splits : List Point) (pieces : Pieces) (last floor : ℕ) (are : IsPie
       (owned_from-one (history_at pieces x) i last ∙ ap (λ (owner : ℕ). owner == i) (sym (owner-seen x last)))))
       answered)
 
+  -- who owned a point at some version of a span
+  owned-seen : (i from since version : ℕ) (x : Point) → since ≡ suc from → from < version
+      → owned_from (history_at pieces x) i since version
+      ≡ owned_between (seen_as splits pieces last floor) i x from version
+  owned-seen i from since version x is order =
+      ap (λ (first : ℕ). owned_from (history_at pieces x) i first version) is
+      ∙ sym (between-owned_from (history_at pieces x) i from version
+      (history-is (suc (length splits)) last pieces are x).falling order)
+      ∙ ap (λ (one : History). any_between (λ v. owner_in one v == i) from version)
+      (sym (value-joined pieces.front pieces.breaks.entries x rising))
+
+  pub sole-within : (self : Ownership) → seen_as splits pieces last floor ≡ self → (sole : ℕ)
+      → ((resolvers known : ℕ) → IsPieces resolvers known pieces → sole < resolvers) → sole < resolvers_of self
+  sole-within self seen sole within =
+      subst (λ (owners : Ownership). sole < resolvers_of owners) seen (within (suc (length splits)) last are)
+
+  pub sole-writer : (self : Ownership) → seen_as splits pieces last floor ≡ self → (x : Point) (sole : ℕ)
+      → ((i : ℕ) → owned_from (history_at pieces x) i last last ≡ (sole == i)) → (v : ℕ) → self.last ≤ v
+      → owner_at self x v ≡ sole
+  sole-writer self seen x sole alone v from =
+      settled-seen self seen x v from
+      ∙ subst (λ (owners : Ownership). owner_at owners x owners.last ≡ sole) seen
+      (owner-seen x last
+      ∙ eqb-true (owner_in (history_at pieces x) last) sole
+      (sym (owned_from-one (history_at pieces x) sole last) ∙ alone sole ∙ eq-eqb sole sole refl))
+
+  pub sole-reader : (self : Ownership) → seen_as splits pieces last floor ≡ self → (x : Point)
+      (from since version : ℕ) → since ≡ suc from → from < version → (sole i : ℕ)
+      → owned_from (history_at pieces x) i since version ≡ (sole == i)
+      → owned_between self i x from version ≡ (sole == i)
+  sole-reader self seen x from since version is order sole i alone =
+      subst (λ (owners : Ownership). owned_between owners i x from version ≡ (sole == i)) seen
+      (sym (owned-seen i from since version x is order) ∙ alone)
+
   pub readers-answers : (self : Ownership) → seen_as splits pieces last floor ≡ self → (range : Range)
       (from since version : ℕ) → since ≡ suc from → from < version → (result : Result (List Owned) Refusal)
       → Answers result None (λ parts. (resolvers known : ℕ) → IsPieces resolvers known pieces
@@ -153,11 +193,7 @@ module _ (splits : List Point) (pieces : Pieces) (last floor : ℕ) (are : IsPie
       (λ parts are_parts.
       parts-alike (suc (length splits)) _ _ parts (are_parts (suc (length splits)) last are)
       (λ i x. ap (λ (owned : Bool). in_range range x && owned)
-      (ap (λ (first : ℕ). owned_from (history_at pieces x) i first version) is
-      ∙ sym (between-owned_from (history_at pieces x) i from version
-      (history-is (suc (length splits)) last pieces are x).falling order)
-      ∙ ap (λ (one : History). any_between (λ v. owner_in one v == i) from version)
-      (sym (value-joined pieces.front pieces.breaks.entries x rising)))))
+      (owned-seen i from since version x is order)))
       answered)
 
 -- ---- what calls leave

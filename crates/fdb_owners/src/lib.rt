@@ -7,6 +7,7 @@ mod learning;
 mod owners;
 mod parts;
 mod pieces;
+mod sole;
 mod sweeping;
 
 pub use owners::Owners;

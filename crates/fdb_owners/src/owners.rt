@@ -2,9 +2,10 @@ use crate::history::History;
 use crate::learning::learn_moves;
 use crate::parts::{Owned, Span, parts_of};
 use crate::pieces::{Pieces, first_pieces};
+use crate::sole::sole_owner;
 use crate::sweeping::sweep;
 use bytes::Bytes;
-use fdb_keys::{Items, Key, KeyRange, Refusal};
+use fdb_keys::{Items, Key, KeyRange, RangeSet, Refusal};
 use fdb_txn::{Move, RESOLVER_LIMIT, Splits};
 use std::alloc::Global;
 use std::marker::Model;
@@ -57,10 +58,11 @@ impl Model for Owners {
 }
 
 impl Owners {
-    ghost use Rattle.std.specs.Prelude.{◌≡◌, ◌<◌, ◌≤◌, ◌&&◌, ◌==◌, ℕ, None, All, OnErr};
+    ghost use Rattle.std.specs.Prelude.{◌≡◌, ◌<◌, ◌≤◌, ◌&&◌, ◌==◌, ℕ, true, None, All, OnErr, IfSome};
     ghost use Rattle.fdb_keys.specs.Answers.{Answers};
     ghost use Rattle.fdb_keys.specs.Points.{Point};
-    ghost use Rattle.fdb_keys.specs.Ranges.{in_range};
+    ghost use Rattle.fdb_keys.specs.Ranges.{in_range, in_set};
+    ghost use Rattle.fdb_txn.specs.rules.Admission.{has_points};
     ghost use Rattle.fdb_owners.specs.Ownership.{owner_at, resolvers_of, owned_between, changes_of, owners_fault};
     ghost use Rattle.fdb_owners.specs.Ownership.{learn_fault, IsNew, HasLearnt, HasExpired};
     ghost use Rattle.fdb_owners.specs.Parts.{ArePartsOf};
@@ -162,6 +164,41 @@ impl Owners {
             through: version,
         };
         parts_of(self.alloc, &self.pieces, range, span)
+    }
+
+    /// The resolver that alone owns all keys of the set at the last version learnt, and so from that version on, if one
+    /// look finds it: no breakpoint lies between the set's first begin and its last end. `None` also where the set is
+    /// empty. It takes O(log n) for the n breakpoints, and no memory.
+    pub fn sole_writer(&self, set: &RangeSet) -> Option<u32>
+        ensures some { IfSome result (λ _. has_points set.now ≡ true) }
+        ensures within { IfSome result (λ sole. sole < resolvers_of self.now) }
+        ensures alone { IfSome result (λ sole. (v : ℕ) → self.now.last ≤ v → (x : Point)
+            → in_set set.now x ≡ true → owner_at self.now x v ≡ sole) }
+    {
+        let span = Span {
+            since: self.last,
+            through: self.last,
+        };
+        sole_owner(&self.pieces, set, span)
+    }
+
+    /// The resolver that alone owned all keys of the set at each version above `from` and at most `version`, if one look
+    /// finds it: no breakpoint lies between the set's first begin and its last end, and no change there at those
+    /// versions. `None` also where the set is empty. `from` lies below `version`, and not below a version that expired.
+    /// It takes O(log n) for the n breakpoints, and no memory.
+    pub fn sole_reader(&self, set: &RangeSet, from: u64, version: u64) -> Option<u32>
+        requires order { from < version }
+        requires floor { self.now.floor ≤ from }
+        ensures some { IfSome result (λ _. has_points set.now ≡ true) }
+        ensures within { IfSome result (λ sole. sole < resolvers_of self.now) }
+        ensures alone { IfSome result (λ sole. (i : ℕ) (x : Point) → in_set set.now x ≡ true
+            → owned_between self.now i x from version ≡ (sole == i)) }
+    {
+        let span = Span {
+            since: from + 1,
+            through: version,
+        };
+        sole_owner(&self.pieces, set, span)
     }
 
     /// Says that no reader will ask for a span that begins below the version. What is answered of the last version

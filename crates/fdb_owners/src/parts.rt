@@ -18,7 +18,7 @@ ghost use Rattle.fdb_owners.specs.declared.parts.Owned.{Owned};
 use crate::history::{Change, History, split_by};
 use crate::pieces::Pieces;
 use bytes::Bytes;
-use fdb_keys::{Items, KeyRange, RangeSet, Refusal, is_before};
+use fdb_keys::{Items, KeyRange, RangeSet, Refusal};
 use std::alloc::Global;
 use std::ops::Bound;
 
@@ -135,8 +135,8 @@ fn insert_at(
     Ok(())
 }
 
-// The changes of the versions of the span but its first.
-fn changes_within(changes: &[Change], span: Span) -> &[Change]
+/// The changes of the versions of the span but its first.
+pub(crate) fn changes_within(changes: &[Change], span: Span) -> &[Change]
     requires { AreFalling changes.now }
     ensures { result.now ≡ changes_within span.since span.through changes.now }
 {
@@ -206,12 +206,9 @@ fn history_throughout<'a>(pieces: &'a Pieces, range: &KeyRange) -> Option<&'a Hi
     ensures begin { IsTrue (is_bound range.now.begin) }
     ensures end { IsTrue (is_bound range.now.end) }
 {
-    let begin = range.begin();
-    match pieces.breaks.range(..range.end_text()).next_back() {
-        Some((point, _history)) if is_before(begin, point.as_slice()) => None,
-        Some((_point, history)) => Some(history),
-        None => Some(&pieces.front),
-    }
+    // a range's bounds are legal
+    let _begin = range.begin();
+    pieces.history_between(range.begin_text(), range.end_text())
 }
 
 // Adds the keys of the range, which has a point, from breakpoint to breakpoint to the parts of those who owned them.

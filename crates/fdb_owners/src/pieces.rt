@@ -10,7 +10,7 @@ ghost use Rattle.fdb_owners.specs.Pieces.{history_at, IsPieces};
 
 use crate::history::History;
 use bytes::Bytes;
-use fdb_keys::Key;
+use fdb_keys::{Key, is_before};
 use std::alloc::{AllocError, Global};
 use std::collections::BTreeMap;
 
@@ -23,8 +23,9 @@ pub(crate) struct Pieces {
 }
 
 impl Pieces {
-    ghost use Rattle.std.specs.Prelude.{◌≡◌};
-    ghost use Rattle.fdb_interval.specs.Breakpoints.{last_value, breaks_before, AreRising};
+    ghost use Rattle.std.specs.Prelude.{◌≡◌, [], IsTrue, IfSome};
+    ghost use Rattle.fdb_keys.specs.Points.{point_lt};
+    ghost use Rattle.fdb_interval.specs.Breakpoints.{last_value, breaks_before, breaks_inside, AreRising};
     ghost use Rattle.fdb_owners.specs.Pieces.{history_at};
 
     /// The history of the point, in O(log n) comparisons for n breakpoints.
@@ -35,6 +36,22 @@ impl Pieces {
         match self.breaks.range(..=point).next_back() {
             Some((_begin, history)) => history,
             None => &self.front,
+        }
+    }
+
+    /// The history from the begin up to the end, which comes after it, if no breakpoint is between them. It takes
+    /// O(log n) comparisons for n breakpoints.
+    pub(crate) fn history_between(&self, begin: &Bytes, end: &Bytes) -> Option<&History>
+        requires { IsTrue (point_lt begin.now end.now) }
+        ensures history { IfSome result (λ found. found.now ≡ history_at self.now begin.now) }
+        ensures inside { IfSome result (λ _. breaks_inside (record { begin = begin.now; end = end.now })
+            self.now.breaks.entries ≡ []) }
+        ensures rising { AreRising self.now.breaks.entries }
+    {
+        match self.breaks.range(..end).next_back() {
+            Some((point, _history)) if is_before(begin.as_slice(), point.as_slice()) => None,
+            Some((_point, history)) => Some(history),
+            None => Some(&self.front),
         }
     }
 

@@ -2,8 +2,10 @@
 ghost use Rattle.std.specs.Prelude.{◌≡◌, ◌<◌, ◌≤◌, All, IfOk};
 ghost use Rattle.fdb_owners.specs.Ownership.{resolvers_of};
 
-use crate::making::{are_ranges, ask, ask_mut, both, code_of, keys_of, made_of, push, same};
-use fdb_keys::{Items, Key, KeyRange, Refusal};
+use crate::making::{
+    are_ranges, ask, ask_mut, both, code_of, keys_of, made_of, push, same, set_of,
+};
+use fdb_keys::{Items, Key, KeyRange, RangeSet, Refusal};
 use fdb_owners::{Owned, Owners};
 use fdb_txn::Move;
 use std::alloc::Global;
@@ -132,6 +134,91 @@ fn moved_keys_belong_to_the_target(rt: HostRuntime) {
     for (expired, from, version, wanted) in READERS {
         let found = owned_p(alloc, *expired, *from, *version, wanted);
         same(&rt, (*from, found), (*from, Ok(true)));
+    }
+}
+
+// Whether the keys from m to t went over at version 300, a set, the version above which and the one up to which it was
+// read, who alone owned all its keys then, and who alone owns them now.
+type Asked = (
+    bool,
+    &'static [(&'static [u8], &'static [u8])],
+    u64,
+    u64,
+    Option<u32>,
+    Option<u32>,
+);
+
+const SOLE_OWNERS: &[Asked] = &[
+    (false, &[(b"a", b"c")], 0, 100, Some(0), Some(0)),
+    (false, &[(b"n", b"p")], 0, 100, Some(1), Some(1)),
+    // The ranges of a set lie on one side of the split, or on both.
+    (
+        false,
+        &[(b"a", b"b"), (b"c", b"m")],
+        0,
+        100,
+        Some(0),
+        Some(0),
+    ),
+    (false, &[(b"a", b"b"), (b"n", b"p")], 0, 100, None, None),
+    (false, &[(b"a", b"z")], 0, 100, None, None),
+    (false, &[], 0, 100, None, None),
+    // Keys that went over had one owner up to the version before, two in a span over it, and one from it on.
+    (true, &[(b"n", b"p")], 100, 299, Some(1), Some(0)),
+    (true, &[(b"n", b"p")], 100, 300, None, Some(0)),
+    (true, &[(b"n", b"p")], 299, 300, Some(0), Some(0)),
+    (true, &[(b"m", b"t")], 300, 400, Some(0), Some(0)),
+    (true, &[(b"s", b"u")], 300, 400, None, None),
+    (true, &[(b"t", b"z")], 100, 400, Some(1), Some(1)),
+    (true, &[(b"a", b"c")], 100, 400, Some(0), Some(0)),
+];
+
+// The owners before the move, or those that learnt it.
+fn before_or_after(alloc: Global, is_moved: bool) -> Result<Owners, Refusal>
+    ensures { IfOk result (λ owners. owners.floor ≡ 0) }
+{
+    if is_moved {
+        return moved(alloc);
+    }
+    two_resolvers(alloc)
+}
+
+// Who alone owned all keys of the set at the versions above `from` and at most `version`, and who does now.
+fn alone(
+    owners: &Owners,
+    set: Result<RangeSet, Refusal>,
+    from: u64,
+    version: u64,
+) -> Result<(Option<u32>, Option<u32>), u32>
+    requires order { from < version }
+    requires floor { owners.now.floor ≤ from }
+{
+    match set {
+        Ok(set) => Ok((
+            owners.sole_reader(&set, from, version),
+            owners.sole_writer(&set),
+        )),
+        Err(why) => Err(why.code()),
+    }
+}
+
+// The same as a row asks it.
+fn alone_by(alloc: Global, row: &Asked) -> Result<(Option<u32>, Option<u32>), u32> {
+    let (is_moved, bounds, from, version, _, _) = *row;
+    if version <= from {
+        return Err(0);
+    }
+    match before_or_after(alloc, is_moved) {
+        Ok(owners) => alone(&owners, set_of(alloc, bounds), from, version),
+        Err(why) => Err(why.code()),
+    }
+}
+
+#[test]
+fn a_set_on_one_side_has_one_owner(rt: HostRuntime) {
+    let alloc = rt.alloc();
+    for row in SOLE_OWNERS {
+        same(&rt, alone_by(alloc, row), Ok((row.4, row.5)));
     }
 }
 
