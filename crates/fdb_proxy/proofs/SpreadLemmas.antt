@@ -4,7 +4,7 @@ use Rattle.std.proofs.Common.{◌||◌, ◌==◌}
 use Rattle.std.proofs.Common.{List, [], ◌∷◌, ◌++◌, ⊎_elim, arith}
 use Rattle.std.specs.List.{AllByRecursion}
 use Rattle.std.proofs.lemmas.Bool.{cases_Bool, eqb-true, false_from_ne_true, cond-true, cond-false}
-use Rattle.std.proofs.Math.Bool.{or-false}
+use Rattle.std.proofs.Math.Bool.{and-true, or-false}
 use Rattle.std.proofs.lemmas.List.Folds.{list_any-append}
 use Rattle.fdb_keys.specs.Points.{Point}
 use Rattle.fdb_keys.specs.Ranges.{Range, in_range, in_set}
@@ -82,6 +82,24 @@ owned-next n held found more now are adds owned =
       All-from_recursion (λ (part : Owned). part.resolver < n) more are.within k d within,
       All-from_recursion (λ (part : Owned). has_points part.ranges ≡ true) more are.some k d within,
     )))
+
+-- a whole set is the part of the resolver that alone owned it
+pub sole-owned : (n sole : ℕ) (set : List Range) → sole < n → has_points set ≡ true
+    → AreOwned n (record { resolver = sole; ranges = set } ∷ [])
+sole-owned n sole set within some =
+    All-from_recursion (λ (part : Owned). (part.resolver < n) × (has_points part.ranges ≡ true))
+    (record { resolver = sole; ranges = set } ∷ []) ((within, some), tt)
+
+pub sole-held : (sole i : ℕ) (set : List Range) (x : Point) (owned : Bool)
+    → (in_set set x ≡ true → owned ≡ (sole == i))
+    → is_held (record { resolver = sole; ranges = set } ∷ []) i x ≡ (in_set set x && owned)
+sole-held sole i set x owned alone =
+    or-false ((sole == i) && in_set set x) ∙ turned (sole == i) (in_set set x) alone
+  where
+    turned : (own inside : Bool) → (inside ≡ true → owned ≡ own) → (own && inside) ≡ (inside && owned)
+    turned own true alone = and-true own ∙ sym (alone refl)
+    turned true false alone = refl
+    turned false false alone = refl
 
 -- by owners that agree with a book, the parts are those of the book's place
 pub spread-by_book : (owners : Ownership) (moves : List Stamped) (version : ℕ) (t : Transaction) (spread : Spread)

@@ -46,7 +46,17 @@ fn has_points(set: &RangeSet) -> bool
     set.iter().any(|range| !range.is_empty())
 }
 
-// The parts of the reads, by who owned them at some version above `from` and at most `version`.
+// The whole set as the part of one resolver.
+fn sole_part(alloc: Global, resolver: u32, set: &RangeSet) -> Result<Items<Owned>, Refusal>
+    ensures { Answers result None (λ parts. parts ≡ record { resolver = resolver; ranges = set.now } ∷ []) }
+{
+    let ranges = set.clone()?;
+    let mut parts = Items::new(alloc);
+    parts.push(Owned { resolver, ranges })?;
+    Ok(parts)
+}
+
+// The parts of the reads, by who owned them at some version above `from` and at most `version`. Mostly one resolver did.
 fn spread_reads(
     alloc: Global,
     owners: &Owners,
@@ -60,6 +70,10 @@ fn spread_reads(
     ensures held { Answers result None (λ parts. (i : ℕ) (x : Point)
         → is_held parts i x ≡ (in_set reads.now x && owned_between owners.now i x from version)) }
 {
+    if let Some(resolver) = owners.sole_reader(reads, from, version) {
+        let parts = sole_part(alloc, resolver, reads)?;
+        return Ok(parts);
+    }
     let mut parts = Vec::new(alloc);
     for range in reads.iter() {
         let mut more = owners.readers(range, from, version)?.into_vec();
@@ -68,12 +82,16 @@ fn spread_reads(
     Ok(Items::from_vec(parts))
 }
 
-// The parts of the writes, by who owns them from the last version learnt on.
+// The parts of the writes, by who owns them from the last version learnt on. Mostly one resolver does.
 fn spread_writes(alloc: Global, owners: &Owners, writes: &RangeSet) -> Result<Items<Owned>, Refusal>
     ensures owned { IfOk result (AreOwned (resolvers_of owners.now)) }
     ensures held { Answers result None (λ parts. (version : ℕ) → owners.now.last ≤ version → (i : ℕ) (x : Point)
         → is_held parts i x ≡ (in_set writes.now x && (owner_at owners.now x version == i))) }
 {
+    if let Some(resolver) = owners.sole_writer(writes) {
+        let parts = sole_part(alloc, resolver, writes)?;
+        return Ok(parts);
+    }
     let mut parts = Vec::new(alloc);
     for range in writes.iter() {
         let mut more = owners.writers(range)?.into_vec();
@@ -314,8 +332,9 @@ fn parts_with(
 /// A resolver has an item for each transaction that it is asked about. Each transaction read below the version, and
 /// there are fewer than 2^32 of them. Refused only as `NoMemory`.
 ///
-/// The owners tell who owns each range of the batch. What they told is then gone through once, whoever it is for: in
-/// O(n + r) time for n of their parts and r resolvers, beside what adding the parts' ranges to the items' sets takes.
+/// The owners tell who owns a whole set of the batch, if one look finds it, else who owns each of its ranges. What they
+/// told is then gone through once, whoever it is for: in O(n + r) time for n of their parts and r resolvers, beside what
+/// adding the parts' ranges to the items' sets takes.
 pub fn parts_of(
     alloc: Global,
     owners: &Owners,
