@@ -2,7 +2,7 @@
 use Rattle.std.proofs.Common.{◌≡◌, ◌∙◌, sym, ap, ap₂, subst, refl, ℕ, zero, suc, ◌+◌, ◌-◌, ◌<◌, ◌==◌, Bool, true}
 use Rattle.std.proofs.Common.{false, ◌&&◌}
 use Rattle.std.proofs.Common.{◌||◌, List, [], ◌∷◌, ◌++◌, append-nil, length, length-append, slice_get, get_or, set}
-use Rattle.std.proofs.Common.{drop, Option, Some, None}
+use Rattle.std.proofs.Common.{take, drop, Option, Some, None}
 use Rattle.std.proofs.Common.{⊎_elim, arith, Vec}
 use Rattle.std.specs.Option.{option_to_list}
 use Rattle.std.specs.List.{AllByRecursion}
@@ -22,6 +22,7 @@ use Rattle.fdb_owners.specs.declared.parts.Owned.{Owned}
 use Rattle.fdb_resolver.specs.declared.part.Item.{Item}
 use Rattle.fdb_proxy.specs.declared.parting.Kind.{Kind}
 use Rattle.fdb_proxy.specs.declared.parting.Kind.TheVariants.{Reads, Writes}
+use Rattle.fdb_proxy.specs.declared.parting.Head.{Head}
 use Rattle.fdb_proxy.specs.declared.parting.Spread.{Spread}
 use Rattle.fdb_proxy.specs.Spreads.{is_held, IsSpreadOf, IsItemIfAsked}
 use Rattle.fdb_proxy.specs.Held.{Held, is_kind, with_ranges, with_parts, IsItemWith, IsItemSoFar}
@@ -92,11 +93,11 @@ some-at number [] i here = cc
 some-at number (item ∷ items) i here = omega arith
 
 -- what is held alike makes the same items
-pub so_far-same : (number : ℕ) (spread : Spread) (one other : Held) (same : (kind : Kind) (x : Point)
-    → one kind x ≡ other kind x) (item : Option Item) → IsItemSoFar number spread one item
-    → IsItemSoFar number spread other item
-so_far-same number spread one other same None none = λ kind x. sym (same kind x) ∙ none kind x
-so_far-same number spread one other same (Some item) it =
+pub so_far-same : (number : ℕ) (head : Head) (one other : Held) (same : (kind : Kind) (x : Point)
+    → one kind x ≡ other kind x) (item : Option Item) → IsItemSoFar number head one item
+    → IsItemSoFar number head other item
+so_far-same number head one other same None none = λ kind x. sym (same kind x) ∙ none kind x
+so_far-same number head one other same (Some item) it =
     record {
       has = record {
         place = it.has.place;
@@ -108,26 +109,26 @@ so_far-same number spread one other same (Some item) it =
       some = (it.some.0, it.some.1, sym (same it.some.0 it.some.1) ∙ it.some.2);
     }
 
-pub ends-same : (number : ℕ) (spread : Spread) (one other : Held) (before items : List Item)
-    → ((kind : Kind) (x : Point) → one kind x ≡ other kind x) → EndsWithItem number spread one before items
-    → EndsWithItem number spread other before items
-ends-same number spread one other before items same ends =
-    (ends.0, ends.1, so_far-same number spread one other same ends.0 ends.2)
+pub ends-same : (number : ℕ) (head : Head) (one other : Held) (before items : List Item)
+    → ((kind : Kind) (x : Point) → one kind x ≡ other kind x) → EndsWithItem number head one before items
+    → EndsWithItem number head other before items
+ends-same number head one other before items same ends =
+    (ends.0, ends.1, so_far-same number head one other same ends.0 ends.2)
 
 -- an item where nothing of the place was held
-module _ (number : ℕ) (spread : Spread) (held : Held) (before items now : List Item) (index : ℕ)
-    (below : AllByRecursion (IsBelow number) before) (ends : EndsWithItem number spread held before items) where
+module _ (number : ℕ) (head : Head) (held : Held) (before items now : List Item) (index : ℕ)
+    (below : AllByRecursion (IsBelow number) before) (ends : EndsWithItem number head held before items) where
   -- the items end with its item after one was pushed that has nothing
   pub opened-new : (item : Item) → is_at number (slice_get items (length items - 1)) ≡ false
       → now ≡ items ++ item ∷ [] → index ≡ length now - 1 → item.place ≡ number
-      → item.read_version ≡ spread.read_version → item.has_reads ≡ spread.has_reads → item.reads ≡ []
+      → item.read_version ≡ head.read_version → item.has_reads ≡ head.has_reads → item.reads ≡ []
       → item.writes ≡ []
-      → (it : Item) × (now ≡ before ++ it ∷ []) × (index ≡ length before) × IsItemWith number spread held it
+      → (it : Item) × (now ≡ before ++ it ∷ []) × (index ≡ length before) × IsItemWith number head held it
   opened-new item not_at pushed at place read has_reads no_reads no_writes =
       from ends.0 ends.1 ends.2
     where
-      from : (given : Option Item) → items ≡ before ++ option_to_list given → IsItemSoFar number spread held given
-          → (it : Item) × (now ≡ before ++ it ∷ []) × (index ≡ length before) × IsItemWith number spread held it
+      from : (given : Option Item) → items ≡ before ++ option_to_list given → IsItemSoFar number head held given
+          → (it : Item) × (now ≡ before ++ it ∷ []) × (index ≡ length before) × IsItemWith number head held it
       from None is none =
           let same : items ≡ before = is ∙ append-nil before in
           let pushed_to : now ≡ before ++ item ∷ [] = pushed ∙ ap (λ (list : List Item). list ++ item ∷ []) same in
@@ -152,11 +153,11 @@ module _ (number : ℕ) (spread : Spread) (held : Held) (before items now : List
 
   -- and they do where it was there
   pub opened-old : is_at number (slice_get items (length items - 1)) ≡ true → now ≡ items → index ≡ length now - 1
-      → (it : Item) × (now ≡ before ++ it ∷ []) × (index ≡ length before) × IsItemWith number spread held it
+      → (it : Item) × (now ≡ before ++ it ∷ []) × (index ≡ length before) × IsItemWith number head held it
   opened-old here same at = from ends.0 ends.1 ends.2
     where
-      from : (given : Option Item) → items ≡ before ++ option_to_list given → IsItemSoFar number spread held given
-          → (it : Item) × (now ≡ before ++ it ∷ []) × (index ≡ length before) × IsItemWith number spread held it
+      from : (given : Option Item) → items ≡ before ++ option_to_list given → IsItemSoFar number head held given
+          → (it : Item) × (now ≡ before ++ it ∷ []) × (index ≡ length before) × IsItemWith number head held it
       from None is none =
           let nothing : items ≡ before = is ∙ append-nil before in
           absurd (both_ways (is_at number (slice_get items (length items - 1)))
@@ -173,12 +174,12 @@ is_kind-itself Reads = refl
 is_kind-itself Writes = refl
 
 -- a part's ranges came to the last item
-pub ends-held : (number : ℕ) (spread : Spread) (held : Held) (before items now : List Item) (index : ℕ)
+pub ends-held : (number : ℕ) (head : Head) (held : Held) (before items now : List Item) (index : ℕ)
     (item later : Item) (kind : Kind) (ranges : List Range) → has_points ranges ≡ true
     → items ≡ before ++ item ∷ [] → index ≡ length before → now ≡ set items index later
-    → IsItemWith number spread (with_ranges kind ranges held) later
-    → EndsWithItem number spread (with_ranges kind ranges held) before now
-ends-held number spread held before items now index item later kind ranges some is at sets with =
+    → IsItemWith number head (with_ranges kind ranges held) later
+    → EndsWithItem number head (with_ranges kind ranges held) before now
+ends-held number head held before items now index item later kind ranges some is at sets with =
     let point = point_of-set ranges some in (
       Some later,
       sets ∙ ap (λ (list : List Item). set list index later) is ∙ set_at before item [] later index (sym at),
@@ -226,33 +227,33 @@ with_parts-other kind parts part i held not_own other x =
     ∙ or-false (is_held parts i x)))
 
 -- one part more was given out
-pub held-next : (number : ℕ) (spread : Spread) (kind : Kind) (parts more : List Owned) (part : Owned) (i : ℕ)
+pub held-next : (number : ℕ) (head : Head) (kind : Kind) (parts more : List Owned) (part : Owned) (i : ℕ)
     (held : Held) (before : List Item) (lists now : List (Vec Item Global)) (items : Vec Item Global)
     → more ≡ parts ++ part ∷ [] → part.resolver < length lists → now ≡ set lists part.resolver items
-    → EndsWithItem number spread (with_parts kind parts i held) before (items_at lists i)
-    → ((one : Held) → EndsWithItem number spread one before (items_at lists part.resolver)
-    → EndsWithItem number spread (with_ranges kind part.ranges one) before items.items)
-    → EndsWithItem number spread (with_parts kind more i held) before (items_at now i)
-held-next number spread kind parts more part i held before lists now items adds within sets ends step =
-    subst (λ (all : List Owned). EndsWithItem number spread (with_parts kind all i held) before (items_at now i))
+    → EndsWithItem number head (with_parts kind parts i held) before (items_at lists i)
+    → ((one : Held) → EndsWithItem number head one before (items_at lists part.resolver)
+    → EndsWithItem number head (with_ranges kind part.ranges one) before items.items)
+    → EndsWithItem number head (with_parts kind more i held) before (items_at now i)
+held-next number head kind parts more part i held before lists now items adds within sets ends step =
+    subst (λ (all : List Owned). EndsWithItem number head (with_parts kind all i held) before (items_at now i))
     (sym adds)
     (⊎_elim
     (λ (own : (part.resolver == i) ≡ true).
     let same : part.resolver ≡ i = eqb-true part.resolver i own in
-    ends-same number spread (with_ranges kind part.ranges (with_parts kind parts i held))
+    ends-same number head (with_ranges kind part.ranges (with_parts kind parts i held))
     (with_parts kind (parts ++ part ∷ []) i held) before (items_at now i)
     (with_parts-own kind parts part i held own)
-    (subst (EndsWithItem number spread (with_ranges kind part.ranges (with_parts kind parts i held)) before)
+    (subst (EndsWithItem number head (with_ranges kind part.ranges (with_parts kind parts i held)) before)
     (sym (ap (λ (all : List (Vec Item Global)). items_at all i) sets
     ∙ ap (items_at (set lists part.resolver items)) (sym same)
     ∙ items_at-set_same lists part.resolver items within))
     (step (with_parts kind parts i held)
-    (subst (EndsWithItem number spread (with_parts kind parts i held) before) (ap (items_at lists) (sym same)) ends))))
+    (subst (EndsWithItem number head (with_parts kind parts i held) before) (ap (items_at lists) (sym same)) ends))))
     (λ (not_own : (part.resolver == i) ≡ false).
-    ends-same number spread (with_parts kind parts i held)
+    ends-same number head (with_parts kind parts i held)
     (with_parts kind (parts ++ part ∷ []) i held) before (items_at now i)
     (with_parts-other kind parts part i held not_own)
-    (subst (EndsWithItem number spread (with_parts kind parts i held) before)
+    (subst (EndsWithItem number head (with_parts kind parts i held) before)
     (sym (ap (λ (all : List (Vec Item Global)). items_at all i) sets
     ∙ items_at-set_other lists i part.resolver items not_own)) ends))
     (cases_Bool (part.resolver == i)))
@@ -261,9 +262,9 @@ held-next number spread kind parts more part i held before lists now items adds 
 abbrev pub nothing_held : Held
 nothing_held kind x = false
 
-pub ends-at_first : (number : ℕ) (spread : Spread) (items : List Item)
-    → EndsWithItem number spread nothing_held items items
-ends-at_first number spread items = (None, sym (append-nil items), λ kind x. refl)
+pub ends-at_first : (number : ℕ) (head : Head) (items : List Item)
+    → EndsWithItem number head nothing_held items items
+ends-at_first number head items = (None, sym (append-nil items), λ kind x. refl)
 
 -- what resolver i holds of the whole place
 abbrev pub all_held : Spread → ℕ → Held
@@ -277,7 +278,7 @@ all_held-writes spread i x = or-false (is_held spread.writes i x)
 
 -- the place's item is then what the resolver is sent
 item-whole : (splits : List Point) (i number : ℕ) (place : Place) (spread : Spread) → IsSpreadOf splits place spread
-    → (item : Option Item) → IsItemSoFar number spread (all_held spread i) item
+    → (item : Option Item) → IsItemSoFar number spread.head (all_held spread i) item
     → IsItemIfAsked splits i number place item
 item-whole splits i number place spread are None none =
     unasked splits i place spread [] [] are (λ x. sym (none Reads x) ∙ all_held-reads spread i x)
@@ -308,7 +309,7 @@ item-whole splits i number place spread are (Some item) it =
         (points_from-in_set item.writes x (it.has.writes x ∙ held))
 
 pub place-whole : (number : ℕ) (spread : Spread) (i : ℕ) (before items : List Item)
-    → AllByRecursion (IsBelow number) before → EndsWithItem number spread (all_held spread i) before items
+    → AllByRecursion (IsBelow number) before → EndsWithItem number spread.head (all_held spread i) before items
     → (item : Option Item) × (items ≡ before ++ option_to_list item) × AllByRecursion (IsBelow (suc number)) items
     × ((splits : List Point) (of : Place) → IsSpreadOf splits of spread → IsItemIfAsked splits i number of item)
 place-whole number spread i before items below ends = (
@@ -320,7 +321,7 @@ place-whole number spread i before items below ends = (
   λ splits of are. item-whole splits i number of spread are ends.0 ends.2,
 )
   where
-    its-place : (item : Option Item) → IsItemSoFar number spread (all_held spread i) item
+    its-place : (item : Option Item) → IsItemSoFar number spread.head (all_held spread i) item
         → AllByRecursion (IsBelow (suc number)) (option_to_list item)
     its-place None none = tt
     its-place (Some item) it = let place = it.has.place in (omega (arith, place), tt)
@@ -339,6 +340,20 @@ empty-next lists now items n count empty none adds i within = ⊎_elim
     ap (λ (all : List (Vec Item Global)). items_at all i) adds
     ∙ items_at-push_other lists i items (omega (arith, below, count)) ∙ empty i below)
     (cases_Bool (i == n))
+
+-- what is left after some items begins with the next one
+pub next-dropped : {A : Type 0} (items : List A) (n : ℕ) (item : A) (rest : List A) → drop n items ≡ item ∷ rest
+    → (n < length items) × (rest ≡ drop (suc n) items) × (take (suc n) items ≡ take n items ++ item ∷ [])
+next-dropped [] zero item rest is = cc
+next-dropped [] (suc n) item rest is = cc
+next-dropped {A} (first ∷ items) zero item rest is =
+    let same : first ≡ item = cc in
+    let others : items ≡ rest = cc in
+    (omega arith, sym others, ap (λ (one : A). one ∷ []) same)
+next-dropped {A} (first ∷ items) (suc n) item rest is =
+    let later = next-dropped items n item rest is in
+    let within = later.0 in
+    (omega (arith, within), later.1, ap (λ (list : List A). first ∷ list) later.2)
 
 -- the lists that are left begin with that of the next number
 pub next-left : (lists : List (Vec Item Global)) (n : ℕ) (items : Vec Item Global) (rest : List (Vec Item Global))

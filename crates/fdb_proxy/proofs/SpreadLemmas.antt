@@ -103,8 +103,8 @@ sole-held sole i set x owned alone =
 
 -- by owners that agree with a book, the parts are those of the book's place
 pub spread-by_book : (owners : Ownership) (moves : List Stamped) (version : ℕ) (t : Transaction) (spread : Spread)
-    → AgreesWith owners moves → owners.floor ≤ version - window → spread.read_version ≡ t.read
-    → spread.has_reads ≡ has_points t.reads
+    → AgreesWith owners moves → owners.floor ≤ version - window → spread.head.read_version ≡ t.read
+    → spread.head.has_reads ≡ has_points t.reads
     → ((i : ℕ) (x : Point) → is_held spread.reads i x
     ≡ (in_set t.reads x && owned_between owners i x (max t.read (version - window)) version))
     → ((i : ℕ) (x : Point) → is_held spread.writes i x ≡ (in_set t.writes x && (owner_at owners x version == i)))

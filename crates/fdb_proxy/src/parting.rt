@@ -1,5 +1,5 @@
 // What each resolver is sent of a batch.
-ghost use Rattle.std.specs.Prelude.{◌≡◌, ◌<◌, ◌≤◌, ◌-◌, ◌^◌, ◌&&◌, ◌==◌, ◌++◌, ℕ, All, List, length, None, Option};
+ghost use Rattle.std.specs.Prelude.{◌≡◌, ◌<◌, ◌≤◌, ◌-◌, ◌^◌, ◌&&◌, ◌||◌, ◌==◌, ◌++◌, ℕ, All, List, length, None, Option};
 ghost use Rattle.std.specs.Prelude.{◌∷◌, [], true, suc, slice_get, Some, IfOk};
 ghost use Rattle.std.specs.Option.{option_to_list};
 ghost use Rattle.std.specs.List.{AllByRecursion};
@@ -31,11 +31,17 @@ enum Kind {
     Writes,
 }
 
+// What each resolver that is asked about a transaction is told of its reads.
+#[derive(Clone, Copy)]
+struct Head {
+    read_version: u64,
+    has_reads: bool,
+}
+
 // A transaction's reads and writes, in parts of the resolvers that are asked about them.
 #[derive(Drop)]
 struct Spread {
-    read_version: u64,
-    has_reads: bool,
+    head: Head,
     reads: Items<Owned>,
     writes: Items<Owned>,
 }
@@ -113,9 +119,12 @@ fn spread_txn(alloc: Global, owners: &Owners, version: u64, txn: &Sealed) -> Res
     let from = read_version.max(version.saturating_sub(WINDOW));
     let reads = spread_reads(alloc, owners, txn.reads(), from, version)?;
     let writes = spread_writes(alloc, owners, txn.writes())?;
-    Ok(Spread {
+    let head = Head {
         read_version,
         has_reads: has_points(txn.reads()),
+    };
+    Ok(Spread {
+        head,
         reads,
         writes,
     })
@@ -154,23 +163,18 @@ fn ends_at(items: &[Item], place: u32) -> bool
 }
 
 // Where the place's item stands among the resolver's, which end with it. It is made where it isn't there yet.
-fn open_item(
-    alloc: Global,
-    items: &mut Vec<Item>,
-    place: u32,
-    spread: &Spread,
-) -> Result<usize, Refusal>
+fn open_item(alloc: Global, items: &mut Vec<Item>, place: u32, head: Head) -> Result<usize, Refusal>
     ensures within { IfOk result (λ index. index < length items.new.items) }
     ensures answers { Answers result None (λ index. (held : Held) (before : List Item)
-        → AllByRecursion (IsBelow place) before → EndsWithItem place spread.now held before items.old.items
+        → AllByRecursion (IsBelow place) before → EndsWithItem place head held before items.old.items
         → (item : Item) × (items.new.items ≡ before ++ item ∷ []) × (index ≡ length before)
-        × IsItemWith place spread.now held item) }
+        × IsItemWith place head held item) }
 {
     if !ends_at(items.as_slice(), place) {
         items.push(Item {
             place,
-            read_version: spread.read_version,
-            has_reads: spread.has_reads,
+            read_version: head.read_version,
+            has_reads: head.has_reads,
             reads: RangeSet::new(alloc),
             writes: RangeSet::new(alloc),
         })?;
@@ -178,15 +182,27 @@ fn open_item(
     Ok(items.len() - 1)
 }
 
+// The part's keys come to the set, which takes the part's own ranges where it is empty.
+fn join_part(set: &mut RangeSet, part: Owned) -> Result<(), Refusal>
+    ensures { Answers result None
+        (λ _. (x : Point) → in_set set.new x ≡ (in_set part.ranges x || in_set set.old x)) }
+{
+    if set.is_empty() {
+        *set = part.ranges;
+        return Ok(());
+    }
+    part.add_to(set)
+}
+
 // The part's keys come to those of the item.
-fn add_to_item(item: &mut Item, kind: Kind, part: &Owned) -> Result<(), Refusal>
-    ensures { Answers result None (λ _. (place : ℕ) (spread : Spread) (held : Held)
-        → IsItemWith place spread held item.old
-        → IsItemWith place spread (with_ranges kind part.now.ranges held) item.new) }
+fn add_to_item(item: &mut Item, kind: Kind, part: Owned) -> Result<(), Refusal>
+    ensures { Answers result None (λ _. (place : ℕ) (head : Head) (held : Held)
+        → IsItemWith place head held item.old
+        → IsItemWith place head (with_ranges kind part.ranges held) item.new) }
 {
     match kind {
-        Kind::Reads => part.add_to(&mut item.reads),
-        Kind::Writes => part.add_to(&mut item.writes),
+        Kind::Reads => join_part(&mut item.reads, part),
+        Kind::Writes => join_part(&mut item.writes, part),
     }
 }
 
@@ -195,16 +211,16 @@ fn hold(
     alloc: Global,
     items: &mut Vec<Item>,
     place: u32,
-    spread: &Spread,
+    head: Head,
     kind: Kind,
-    part: &Owned,
+    part: Owned,
 ) -> Result<(), Refusal>
-    requires some { has_points part.now.ranges ≡ true }
+    requires some { has_points part.ranges ≡ true }
     ensures { Answers result None (λ _. (held : Held) (before : List Item)
-        → AllByRecursion (IsBelow place) before → EndsWithItem place spread.now held before items.old.items
-        → EndsWithItem place spread.now (with_ranges kind part.now.ranges held) before items.new.items) }
+        → AllByRecursion (IsBelow place) before → EndsWithItem place head held before items.old.items
+        → EndsWithItem place head (with_ranges kind part.ranges held) before items.new.items) }
 {
-    let index = open_item(alloc, items, place, spread)?;
+    let index = open_item(alloc, items, place, head)?;
     add_to_item(&mut items[index], kind, part)?;
     Ok(())
 }
@@ -214,23 +230,23 @@ fn hold_all(
     alloc: Global,
     lists: &mut [Vec<Item>],
     place: u32,
-    spread: &Spread,
+    head: Head,
     kind: Kind,
-    parts: &[Owned],
+    parts: Items<Owned>,
 ) -> Result<(), Refusal>
-    requires owned { AreOwned (length lists.old) parts.now }
+    requires owned { AreOwned (length lists.old) parts }
     ensures count { length lists.new ≡ length lists.old }
     ensures answers { Answers result None (λ _. (i : ℕ) (held : Held) (before : List Item)
         → i < length lists.old → AllByRecursion (IsBelow place) before
-        → EndsWithItem place spread.now held before (items_at lists.old i)
-        → EndsWithItem place spread.now (with_parts kind parts.now i held) before (items_at lists.new i)) }
+        → EndsWithItem place head held before (items_at lists.old i)
+        → EndsWithItem place head (with_parts kind parts i held) before (items_at lists.new i)) }
 {
-    for part in parts {
+    for part in parts.into_vec() {
         hold(
             alloc,
             &mut lists[part.resolver as usize],
             place,
-            spread,
+            head,
             kind,
             part,
         )?;
@@ -243,34 +259,25 @@ fn hold_place(
     alloc: Global,
     lists: &mut [Vec<Item>],
     place: u32,
-    spread: &Spread,
+    spread: Spread,
 ) -> Result<(), Refusal>
-    requires owned { IsOwned (length lists.old) spread.now }
+    requires owned { IsOwned (length lists.old) spread }
     ensures count { length lists.new ≡ length lists.old }
     ensures answers { Answers result None (λ _. (i : ℕ) → i < length lists.old
         → AllByRecursion (IsBelow place) (items_at lists.old i)
         → (item : Option Item)
         × (items_at lists.new i ≡ items_at lists.old i ++ option_to_list item)
         × AllByRecursion (IsBelow (suc place)) (items_at lists.new i)
-        × ((splits : List Point) (of : Place) → IsSpreadOf splits of spread.now
+        × ((splits : List Point) (of : Place) → IsSpreadOf splits of spread
         → IsItemIfAsked splits i place of item)) }
 {
-    hold_all(
-        alloc,
-        lists,
-        place,
-        spread,
-        Kind::Reads,
-        spread.reads.as_slice(),
-    )?;
-    hold_all(
-        alloc,
-        lists,
-        place,
-        spread,
-        Kind::Writes,
-        spread.writes.as_slice(),
-    )?;
+    let Spread {
+        head,
+        reads,
+        writes,
+    } = spread;
+    hold_all(alloc, lists, place, head, Kind::Reads, reads)?;
+    hold_all(alloc, lists, place, head, Kind::Writes, writes)?;
     Ok(())
 }
 
@@ -287,16 +294,20 @@ fn no_items(alloc: Global, resolvers: u32) -> Result<Vec<Vec<Item>>, Refusal>
 }
 
 // What each resolver is sent of all places.
-fn items_of(alloc: Global, resolvers: u32, spreads: &[Spread]) -> Result<Vec<Vec<Item>>, Refusal>
-    requires few { length spreads.now < 2 ^ 32 }
-    requires owned { All (IsOwned resolvers) spreads.now }
+fn items_of(
+    alloc: Global,
+    resolvers: u32,
+    spreads: Items<Spread>,
+) -> Result<Vec<Vec<Item>>, Refusal>
+    requires few { length spreads < 2 ^ 32 }
+    requires owned { All (IsOwned resolvers) spreads }
     ensures { Answers result None (λ lists. (length lists.items ≡ resolvers)
         × ((i : ℕ) → i < resolvers → (splits : List Point) (moves : List Stamped) (version : ℕ)
-        (batch : List Transaction) → AreSpreadsOf splits moves version batch spreads.now
+        (batch : List Transaction) → AreSpreadsOf splits moves version batch spreads
         → AreItems splits moves i version 0 batch (items_at lists.items i))) }
 {
     let mut lists = no_items(alloc, resolvers)?;
-    for (place, spread) in spreads.iter().enumerate() {
+    for (place, spread) in spreads.into_vec().into_iter().enumerate() {
         hold_place(alloc, lists.as_mut_slice(), place as u32, spread)?;
     }
     Ok(lists)
@@ -349,7 +360,7 @@ pub fn parts_of(
         → AreParts owners.now.splits moves position batch.now parts) }
 {
     let spreads = spread_batch(alloc, owners, position.version, batch)?;
-    let lists = items_of(alloc, owners.resolvers(), spreads.as_slice())?;
+    let lists = items_of(alloc, owners.resolvers(), spreads)?;
     let parts = parts_with(alloc, position, lists)?;
     Ok(parts)
 }

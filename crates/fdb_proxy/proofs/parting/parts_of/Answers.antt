@@ -1,21 +1,14 @@
-use Rattle.std.proofs.Common.{◌≡◌, ◌∙◌, sym, ap, subst, ℕ, ◌<◌, List, length, arith}
+use Rattle.std.proofs.Common.{◌≡◌, ◌∙◌, sym, subst, ℕ, ◌<◌, length, arith}
 use Rattle.std.specs.List.{All}
 use Rattle.std.proofs.lemmas.Option.{slice_get_within}
 use Rattle.fdb_owners.specs.Ownership.{resolvers_of}
-use Rattle.fdb_proxy.specs.declared.parting.Spread.{Spread}
 use Rattle.fdb_proxy.specs.Parting.{AreItems}
 use Rattle.fdb_proxy.specs.Spreads.{IsOwned, AreSpreadsOf}
 use Rattle.fdb_proxy.proofs.parting.parts_of.Goals as goal
 
-pub items_of-requires-clause-few : goal.items_of-requires-clause-few
-items_of-requires-clause-few c =
-    let count : length c.in_ok-spreads.spreads ≡ length c.args.batch.now = c.in_ok-spreads.ensures.count in
-    omega (arith, c.requires.few, count, ap (λ (spreads : List Spread). length spreads) c.as_slice.ensures)
-
 pub items_of-requires-clause-owned : goal.items_of-requires-clause-owned
 items_of-requires-clause-owned c =
-    subst (λ (n : ℕ). All (IsOwned n) c.as_slice.result.now) (sym c.resolvers.ensures)
-    (subst (All (IsOwned (resolvers_of c.args.owners.now))) (sym c.as_slice.ensures) c.in_ok-spreads.ensures.owned)
+    subst (λ (n : ℕ). All (IsOwned n) c.in_ok-spreads.spreads) (sym c.resolvers.ensures) c.in_ok-spreads.ensures.owned
 
 pub returns : goal.returns
 returns c moves agrees =
@@ -24,9 +17,8 @@ returns c moves agrees =
     let parts = c.in_ok-parts.parts in
     let count : length parts ≡ resolvers_of c.args.owners.now =
     c.in_ok-parts.ensures.0 ∙ c.in_ok-lists.ensures.0 ∙ c.resolvers.ensures in
-    let spreads : AreSpreadsOf splits moves c.args.position.version batch c.as_slice.result.now =
-    subst (AreSpreadsOf splits moves c.args.position.version batch) (sym c.as_slice.ensures)
-    (c.in_ok-spreads.ensures.spread moves agrees) in
+    let spreads : AreSpreadsOf splits moves c.args.position.version batch c.in_ok-spreads.spreads =
+    c.in_ok-spreads.ensures.spread moves agrees in
     record {
       count = count;
       each = λ i part there.
