@@ -1,5 +1,6 @@
 -- What a call's answer says of its fault.
 use Rattle.std.proofs.Common.{◌≡◌, refl, Option, Some, None, Result, Ok, Err}
+use Rattle.std.specs.Prelude.{IfOk}
 use Rattle.fdb_keys.specs.Answers.{Answers, AnswersExactly}
 use Rattle.fdb_keys.specs.declared.refusal.Refusal.{Refusal}
 use Rattle.fdb_keys.specs.declared.refusal.Refusal.TheVariants.{NoMemory}
@@ -40,6 +41,18 @@ same_fault (Ok x) None P Q says answered = says x answered
 same_fault (Ok x) (Some why) P Q says answered = absurd answered
 same_fault (Err why) None P Q says answered = answered
 same_fault (Err why) (Some other) P Q says answered = answered
+
+-- what a call gave as a part of what another one gave
+pub part_given : {T U : Type 0} (x : T) (y : U) (fault : Option Refusal) (P : T → Type 0) (Q : U → Type 0)
+    → (P x → Q y) → Answers (Ok x) fault P → Answers (Ok y) fault Q
+part_given x y None P Q says answered = says answered
+part_given x y (Some why) P Q says answered = absurd answered
+
+-- and what two clauses say of it together
+pub with_both : {T : Type 0} (result : Result T Refusal) (P Also Q : T → Type 0) → ((x : T) → Also x → P x → Q x)
+    → Answers result None P → IfOk result Also → Answers result None Q
+with_both (Ok x) P Also Q says answered also = says x also answered
+with_both (Err why) P Also Q says answered also = answered
 
 -- a call without a fault that was refused lacked memory
 pub lacked_memory : {T : Type 0} (why : Refusal) (fault : Option Refusal) (P : T → Type 0) → fault ≡ None

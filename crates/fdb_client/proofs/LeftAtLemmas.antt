@@ -1,13 +1,13 @@
 -- What is kept for a point, after something was put under a key.
 use Rattle.std.proofs.Common.{◌≡◌, ◌∙◌, sym, ap, refl, ℕ, Bool, true, false, cond, if◌then◌else◌, List, Option, Some}
-use Rattle.std.proofs.Common.{None, [], ◌∷◌, ◌||◌, Result, Ok, Err, ⊎_elim}
+use Rattle.std.proofs.Common.{None, [], Result, Ok, Err, ⊎_elim}
 use Rattle.std.specs.Ordering.{nat_cmp}
 use Rattle.std.specs.Cmp.{eq_by_cmp_equiv}
 use Rattle.std.specs.Cmp.Lexicographic.{slice_cmp, bytes_decides}
 use Rattle.std.specs.BTreeMap.{is_at}
 use Rattle.std.specs.Map.{lookup}
 use Rattle.std.specs.Prelude.{OnErr, OnOk, is_some}
-use Rattle.std.proofs.lemmas.Bool.{cases_Bool, both_ways, cond-true, cond-false}
+use Rattle.std.proofs.lemmas.Bool.{cases_Bool, cond-true, cond-false}
 use Rattle.std.proofs.lemmas.Cmp.{nat_list_cmp_total}
 use Rattle.std.proofs.lemmas.Map.Text.{is_eq-slice_cmp}
 use Rattle.fdb_keys.specs.Answers.{Answers}
@@ -16,13 +16,12 @@ use Rattle.fdb_keys.specs.Insertion.{with_range}
 use Rattle.fdb_keys.specs.Points.{Point, point_eq}
 use Rattle.fdb_keys.specs.Ranges.{Range, in_set, single_range, is_apart}
 use Rattle.fdb_keys.specs.Texts.{is_key}
-use Rattle.fdb_keys.proofs.ApartLemmas.{in_with_range, with_range-held}
+use Rattle.fdb_keys.proofs.ApartLemmas.{with_range-held}
 use Rattle.fdb_keys.proofs.SingleLemmas.{in_range-single}
 use Rattle.fdb_mutations.specs.declared.mutation.Mutation.{Mutation}
-use Rattle.fdb_mutations.specs.Mutations.{is_blind}
 use Rattle.fdb_client.specs.declared.left.Left.{Left}
 use Rattle.fdb_client.specs.declared.left.Left.TheVariants.{Value, Changes}
-use Rattle.fdb_client.specs.OwnWrites.{kept_of, kept_at, left_after, is_value}
+use Rattle.fdb_client.specs.OwnWrites.{kept_of, kept_at, left_after}
 
 -- what is under a point
 abbrev pub found : List (List ℕ × Left) → Point → Option Left
@@ -33,16 +32,16 @@ pub same_point : (key x : Point) → is_at (slice_cmp nat_cmp key) x ≡ point_e
 same_point key x = (eq_by_cmp_equiv nat_list_cmp_total).symm key x ∙ is_eq-slice_cmp x key
 
 -- with something new under a key it is kept there, and at every other point what was kept before
-pub left_at-put : (before after : List (List ℕ × Left)) (decided : List Range) (key : Point) (left : Left)
+pub left_at-put : (before after : List (List ℕ × Left)) (cleared : List Range) (key : Point) (left : Left)
     → ((x : Point) → found after x ≡ cond (is_at (slice_cmp nat_cmp key) x) (Some left) (found before x))
-    → (x : Point) → kept_at after decided x ≡ (if point_eq x key then left else kept_at before decided x)
-left_at-put before after decided key left there x =
-    ap (kept_of decided x) (there x)
-    ∙ ap (λ (same : Bool). kept_of decided x (cond same (Some left) (found before x))) (same_point key x)
+    → (x : Point) → kept_at after cleared x ≡ (if point_eq x key then left else kept_at before cleared x)
+left_at-put before after cleared key left there x =
+    ap (kept_of cleared x) (there x)
+    ∙ ap (λ (same : Bool). kept_of cleared x (cond same (Some left) (found before x))) (same_point key x)
     ∙ by_point (point_eq x key)
   where
-    by_point : (same : Bool) → kept_of decided x (cond same (Some left) (found before x))
-        ≡ cond same left (kept_of decided x (found before x))
+    by_point : (same : Bool) → kept_of cleared x (cond same (Some left) (found before x))
+        ≡ cond same left (kept_of cleared x (found before x))
     by_point true = refl
     by_point false = refl
 
@@ -68,14 +67,14 @@ changed-at old key x new left change put made =
     (cases_Bool (point_eq x key))
 
 -- the same where what is put there is made of what was kept there
-pub left_at-changed : (before after : List (List ℕ × Left)) (decided : List Range) (key : Point) (left : Left)
+pub left_at-changed : (before after : List (List ℕ × Left)) (cleared : List Range) (key : Point) (left : Left)
     (change : Left → Left)
     → ((x : Point) → found after x ≡ cond (is_at (slice_cmp nat_cmp key) x) (Some left) (found before x))
-    → left ≡ change (kept_at before decided key) → (x : Point)
-    → kept_at after decided x ≡ (if point_eq x key then change (kept_at before decided x) else kept_at before decided x)
-left_at-changed before after decided key left change there made x =
-    changed-at (kept_at before decided) key x (kept_at after decided x) left change
-    (left_at-put before after decided key left there x) made
+    → left ≡ change (kept_at before cleared key) → (x : Point)
+    → kept_at after cleared x ≡ (if point_eq x key then change (kept_at before cleared x) else kept_at before cleared x)
+left_at-changed before after cleared key left change there made x =
+    changed-at (kept_at before cleared) key x (kept_at after cleared x) left change
+    (left_at-put before after cleared key left there x) made
 
 -- where what has an entry is a legal key, it is so with one more entry under a legal key
 pub legal-put : (before after : List (List ℕ × Left)) (key : Point) (left : Left) → is_key key ≡ true
@@ -106,54 +105,13 @@ put-back old key x mid new left again earlier put same =
     by_point true is = refl
     by_point false is = is
 
--- nothing was written to a key without an entry that isn't decided
-pub unwritten : (entries : List (List ℕ × Left)) (decided : List Range) (key : Point) → found entries key ≡ None
-    → is_value (kept_at entries decided key) ≡ false → kept_at entries decided key ≡ Changes []
-unwritten entries decided key absent undecided =
-    ap (kept_of decided key) absent
-    ∙ by_set (in_set decided key)
-    (sym (ap (λ (there : Option Left). is_value (kept_of decided key there)) absent) ∙ undecided)
-  where
-    by_set : (inside : Bool) → is_value (cond inside (Value None) (Changes [])) ≡ false
-        → cond inside (Value None) (Changes []) ≡ Changes []
-    by_set true is = absurd (both_ways _ is refl)
-    by_set false is = refl
-
--- so a first mutation that decides nothing is the only change
-pub first-change : (entries : List (List ℕ × Left)) (decided : List Range) (key : Point) (mutation : Mutation)
-    → found entries key ≡ None → is_value (kept_at entries decided key) ≡ false → is_blind mutation ≡ false
-    → Changes (mutation ∷ []) ≡ left_after (kept_at entries decided key) mutation
-first-change entries decided key mutation absent undecided blind =
-    sym (ap (λ (left : Left). left_after left mutation) (unwritten entries decided key absent undecided)
-    ∙ cond-false _ _ _ blind)
-
--- where the key has an entry and is decided, what is kept stays
-pub left_at-decided_entry : (entries : List (List ℕ × Left)) (decided new_decided : List Range) (key : Point)
-    → is_some (found entries key) ≡ true → new_decided ≡ with_range (single_range key) decided
-    → (x : Point) → kept_at entries new_decided x ≡ kept_at entries decided x
-left_at-decided_entry entries decided new_decided key entry grown x =
-    ⊎_elim
-    (λ (same : point_eq x key ≡ true).
-    by_entry (found entries x) (λ none.
-    both_ways _ (ap (λ (y : Point). is_some (found entries y)) (sym ((bytes_decides x key).0 same)) ∙ none) entry))
-    (λ (other : point_eq x key ≡ false). by_set (same_set other) (found entries x))
-    (cases_Bool (point_eq x key))
-  where
-    by_entry : (there : Option Left) → (is_some there ≡ false → ⊥)
-        → kept_of new_decided x there ≡ kept_of decided x there
-    by_entry None some = absurd (some refl)
-    by_entry (Some there) some = refl
-
-    same_set : point_eq x key ≡ false → in_set new_decided x ≡ in_set decided x
-    same_set other =
-        ap (λ (set : List Range). in_set set x) grown
-        ∙ in_with_range (single_range key) decided x
-        ∙ ap (λ (here : Bool). here || in_set decided x) (in_range-single key x ∙ other)
-
-    by_set : in_set new_decided x ≡ in_set decided x → (there : Option Left)
-        → kept_of new_decided x there ≡ kept_of decided x there
-    by_set same None = ap (λ (is : Bool). cond is (Value None) (Changes [])) same
-    by_set same (Some there) = refl
+-- what a first mutation makes of what was kept at a key without an entry, which is cleared or not
+pub first-change : (entries : List (List ℕ × Left)) (cleared : List Range) (key : Point) (mutation : Mutation)
+    → found entries key ≡ None
+    → left_after (if in_set cleared key then Value None else Changes []) mutation
+    ≡ left_after (kept_at entries cleared key) mutation
+first-change entries cleared key mutation absent =
+    ap (λ (there : Option Left). left_after (kept_of cleared key there) mutation) (sym absent)
 
 -- a key of the set adds nothing to it
 pub key-held : (key : Point) (set : List Range) → is_apart set ≡ true → in_set set key ≡ true
@@ -161,12 +119,6 @@ pub key-held : (key : Point) (set : List Range) → is_apart set ≡ true → in
 key-held key set apart there =
     with_range-held (single_range key) set apart (λ x inside.
     ap (in_set set) ((bytes_decides x key).0 (sym (in_range-single key x) ∙ inside)) ∙ there)
-
--- a set that a key joins where it is blind
-pub where_blind : (blind : Bool) (new old more : List Range) → new ≡ more → (blind ≡ false → new ≡ old)
-    → new ≡ (if blind then more else old)
-where_blind true new old more joined held = joined
-where_blind false new old more joined held = held refl
 
 -- it holds of a call whether it is refused or not
 pub on_err : {T E : Type 0} (result : Result T E) (P : Type 0) → P → OnErr result P

@@ -62,12 +62,12 @@ next-behind range true (Some other) key lies inside =
     (after_next other key here.0)
 
 -- ---- what stands where nothing was written
-untouched : (decided : List Range) (x : Point) (found : Option Left) (old : Option (List ℕ)) → found ≡ None → old ≡ None
-    → value_over (kept_of decided x found) old ≡ None
-untouched decided x found old none absent =
-    ap (λ (left : Option Left). value_over (kept_of decided x left) old) none
-    ∙ ap (value_over (kept_of decided x None)) absent
-    ∙ either (in_set decided x)
+untouched : (cleared : List Range) (x : Point) (found : Option Left) (old : Option (List ℕ)) → found ≡ None → old ≡ None
+    → value_over (kept_of cleared x found) old ≡ None
+untouched cleared x found old none absent =
+    ap (λ (left : Option Left). value_over (kept_of cleared x left) old) none
+    ∙ ap (value_over (kept_of cleared x None)) absent
+    ∙ either (in_set cleared x)
   where
     either : (test : Bool) → value_over (if test then Value None else Changes []) None ≡ None
     either true = refl
@@ -77,7 +77,7 @@ module _ (own : OwnWrites) (map copy : Map) (is_copy : IsCopyOf (left_at own) ma
   -- where neither the map nor the writes have anything, the copy has nothing
   pub no-value : (range : Range) → HasNoEntry own range → HasNoValue map range → HasNoValue copy range
   no-value range no_entry absent x inside =
-      is_copy x ∙ untouched own.decided x (entry_of own x) (get map x) (no_entry x inside) (absent x inside)
+      is_copy x ∙ untouched own.cleared x (entry_of own x) (get map x) (no_entry x inside) (absent x inside)
 
   -- ---- a key of the own writes before the next key of the map
   module _ (is_reverse : Bool) (left : Range) (next : Option Point) (key : Point)

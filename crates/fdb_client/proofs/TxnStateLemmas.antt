@@ -1,9 +1,12 @@
 -- One operation more of what a transaction keeps.
-use Rattle.std.proofs.Common.{◌≡◌, ◌∙◌, sym, ap, ap₂, subst, List, [], ◌∷◌, ◌++◌, None, false}
+use Rattle.std.proofs.Common.{◌≡◌, ◌∙◌, sym, ap, ap₂, subst, Bool, true, false, not, ◌&&◌, List, [], ◌∷◌, ◌++◌, None}
 use Rattle.std.specs.List.{AllByRecursion}
 use Rattle.std.specs.FinMap.{get}
 use Rattle.fdb_keys.specs.Points.{Point}
-use Rattle.fdb_keys.specs.Ranges.{Range, in_set}
+use Rattle.fdb_keys.specs.Ranges.{Range, in_range, in_set, is_apart}
+use Rattle.fdb_keys.specs.Removal.{outside}
+use Rattle.fdb_keys.proofs.ApartLemmas.{same_list}
+use Rattle.fdb_keys.proofs.OutsideLemmas.{in_outside, apart-outside}
 use Rattle.fdb_mutations.specs.declared.mutation.Mutation.{Mutation}
 use Rattle.fdb_mutations.specs.Maps.{Map}
 use Rattle.fdb_mutations.specs.Mutations.{mutation_fault}
@@ -12,11 +15,11 @@ use Rattle.fdb_client.specs.declared.left.Left.TheVariants.{Changes}
 use Rattle.fdb_client.specs.declared.own_writes.OwnWrites.{OwnWrites}
 use Rattle.fdb_client.specs.declared.program.Op.{Op}
 use Rattle.fdb_client.specs.declared.program.Reply.{Reply}
-use Rattle.fdb_client.specs.LeftAt.{left_at, HasLegalKeys}
+use Rattle.fdb_client.specs.LeftAt.{left_at, AreClearedDecided, HasLegalKeys}
 use Rattle.fdb_client.specs.OwnWrites.{left_by, is_value, value_over}
 use Rattle.fdb_client.specs.TxnState.{AreOf, AreWritesOf, WritesNothing}
-use Rattle.fdb_client.specs.Programs.{program, copy, decided, add_decided, add_reads, add_writes, add_mutation}
-use Rattle.fdb_client.specs.Programs.{read_ranges, mutations_of}
+use Rattle.fdb_client.specs.Programs.{program, copy, decided, decided_ranges, add_reads, add_writes}
+use Rattle.fdb_client.specs.Programs.{add_mutation, read_ranges, mutations_of}
 use Rattle.fdb_client.proofs.DecidedLemmas.{in_decided_ranges}
 use Rattle.fdb_client.proofs.OwnWritesLemmas.{decided-left, copy-left, unwritten-left}
 use Rattle.fdb_client.proofs.ProgramLemmas.{program-push, replies-push}
@@ -27,13 +30,13 @@ pub writes-push : (ops : List Op) (op : Op) (own after : OwnWrites) (writes new_
     → AreWritesOf ops own writes
     → ((x : Point) → left_at after x ≡ left_by x (left_at own x) op)
     → HasLegalKeys after
-    → after.decided ≡ add_decided op own.decided
+    → AreClearedDecided after
     → new_writes ≡ add_writes op writes
     → AreWritesOf (op ∷ ops) after new_writes
-writes-push ops op own after writes new_writes are there keys decides written = record {
+writes-push ops op own after writes new_writes are there keys cleared written = record {
   left_there = λ x. there x ∙ ap (λ (before : Left). left_by x before op) (are.left_there x);
   legal_keys = keys;
-  are_decided = decides ∙ ap (add_decided op) are.are_decided;
+  cleared_decided = cleared;
   are_written = written ∙ ap (add_writes op) are.are_written;
 }
 
@@ -43,18 +46,18 @@ module _ (ops : List (Op × Reply)) (done : Op × Reply) where
       (mutations new_mutations : List Mutation) → AreOf ops own reads writes mutations
       → ((x : Point) → left_at after x ≡ left_by x (left_at own x) done.0)
       → HasLegalKeys after
-      → after.decided ≡ add_decided done.0 own.decided
+      → AreClearedDecided after
       → new_reads ≡ add_reads (program ops) done.0 done.1 reads
       → new_writes ≡ add_writes done.0 writes
       → new_mutations ≡ add_mutation done.0 mutations
       → AllByRecursion (λ (mutation : Mutation). mutation_fault mutation ≡ None) new_mutations
       → AreOf (ops ++ done ∷ []) after new_reads new_writes new_mutations
-  are-push own after reads writes new_reads new_writes mutations new_mutations are there keys decides read written
+  are-push own after reads writes new_reads new_writes mutations new_mutations are there keys cleared read written
       added legal =
       let pushed = sym (program-push ops done) in
       record {
         written = subst (λ (all : List Op). AreWritesOf all after new_writes) pushed
-            (writes-push (program ops) done.0 own after writes new_writes are.written there keys decides written);
+            (writes-push (program ops) done.0 own after writes new_writes are.written there keys cleared written);
         are_read = read ∙ ap (add_reads (program ops) done.0 done.1) are.are_read
             ∙ ap₂ read_ranges pushed (sym (replies-push ops done));
         are_mutations = added ∙ ap (add_mutation done.0) are.are_mutations ∙ ap mutations_of pushed;
@@ -68,18 +71,13 @@ module _ (ops : List (Op × Reply)) (done : Op × Reply) where
       → AreOf (ops ++ done ∷ []) own new_reads writes mutations
   are-noted own reads writes new_reads mutations are nothing read =
       are-push own own reads writes new_reads writes mutations mutations are
-      (λ x. sym (nothing.0 x (left_at own x))) are.written.legal_keys (sym (nothing.1 own.decided)) read
-      (sym (nothing.2 writes)) (sym (nothing.3 mutations)) are.legal
+      (λ x. sym (nothing.0 x (left_at own x))) are.written.legal_keys are.written.cleared_decided read
+      (sym (nothing.1 writes)) (sym (nothing.2 mutations)) are.legal
 
 module _ (ops : List Op) (own : OwnWrites) (writes : List Range) (are : AreWritesOf ops own writes) (key : Point) where
   -- the writes that are kept decide a key exactly where the operations do
   pub left_at-decides : is_value (left_at own key) ≡ decided ops key
   left_at-decides = ap is_value (are.left_there key) ∙ decided-left ops key
-
-  -- and where the set of what they decide has it
-  pub left_at-decided : in_set own.decided key ≡ is_value (left_at own key)
-  left_at-decided =
-      ap (λ (set : List Range). in_set set key) are.are_decided ∙ in_decided_ranges ops key ∙ sym left_at-decides
 
   -- and make of what a map has there what the operations make of it
   pub left_at-value : (map : Map) → value_over (left_at own key) (get map key) ≡ get (copy map ops) key
@@ -92,6 +90,18 @@ module _ (ops : List Op) (own : OwnWrites) (writes : List Range) (are : AreWrite
       are.left_there key
       ∙ unwritten-left ops key
       (sym (ap (λ (set : List Range). in_set set key) are.are_written ∙ in_write_ranges ops key) ∙ none)
+
+-- what of a range the writes that are kept don't decide is what lies outside of the ranges of what they decide
+pub undecided-outside : (ops : List Op) (own : OwnWrites) (writes : List Range) → AreWritesOf ops own writes
+    → (range : Range) (undecided : List Range) → is_apart undecided ≡ true
+    → ((x : Point) → in_set undecided x ≡ (in_range range x && not (is_value (left_at own x))))
+    → undecided ≡ outside (decided_ranges ops) range
+undecided-outside ops own writes are range undecided apart points =
+    same_list undecided (outside (decided_ranges ops) range) apart (apart-outside (decided_ranges ops) range) (λ x.
+    points x
+    ∙ ap (λ (decides : Bool). in_range range x && not decides)
+    (left_at-decides ops own writes are x ∙ sym (in_decided_ranges ops x))
+    ∙ sym (in_outside (decided_ranges ops) range x))
 
 -- one more legal mutation
 pub legal-push : (mutations : List Mutation) (mutation : Mutation)

@@ -58,13 +58,13 @@ abbrev pub as_left : LentLeft → Left
 as_left (lent.Value value) = Value (option_copied value)
 as_left (lent.Changes mutations) = Changes mutations.now
 
--- what is kept for a point: what is under its own key, else that nothing stands there where it is decided
+-- what is kept for a point: what is under its own key, else that nothing stands there where it was cleared with a range
 abbrev pub kept_of : List Range → Point → Option Left → Left
-kept_of decided x None = if in_set decided x then Value None else Changes []
-kept_of decided x (Some left) = left
+kept_of cleared x None = if in_set cleared x then Value None else Changes []
+kept_of cleared x (Some left) = left
 
 abbrev pub kept_at : List (List ℕ × Left) → List Range → Point → Left
-kept_at entries decided x = kept_of decided x (lookup (is_at (slice_cmp nat_cmp x)) entries)
+kept_at entries cleared x = kept_of cleared x (lookup (is_at (slice_cmp nat_cmp x)) entries)
 
 -- the keys of a range that have an entry
 abbrev pub keys_between : Range → List (List ℕ × Left) → List Point

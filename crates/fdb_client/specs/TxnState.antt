@@ -11,10 +11,10 @@ use Rattle.fdb_client.specs.declared.txn_state.TxnState.{TxnState}
 use Rattle.fdb_client.specs.declared.program.Op.{Op}
 use Rattle.fdb_client.specs.declared.program.Reply.{Reply}
 use Rattle.fdb_client.specs.declared.program.Transcript.{Transcript}
-use Rattle.fdb_client.specs.LeftAt.{left_at, HasLegalKeys}
+use Rattle.fdb_client.specs.LeftAt.{left_at, AreClearedDecided, HasLegalKeys}
 use Rattle.fdb_client.specs.OwnWrites.{left_by_ops, left_by}
-use Rattle.fdb_client.specs.Programs.{program, replies_of, add_decided, add_writes, add_mutation, decided_ranges}
-use Rattle.fdb_client.specs.Programs.{read_ranges, write_ranges, mutations_of}
+use Rattle.fdb_client.specs.Programs.{program, replies_of, add_writes, add_mutation, read_ranges, write_ranges}
+use Rattle.fdb_client.specs.Programs.{mutations_of}
 
 -- the transcript with one operation more, and the reply to it
 abbrev pub with_op : Transcript → Op → Reply → Transcript
@@ -24,16 +24,15 @@ with_op transcript op reply = record transcript { ops = transcript.ops ++ (op, r
 abbrev pub WritesNothing : Op → Type 0
 WritesNothing op =
     ((x : Point) (left : Left) → left_by x left op ≡ left)
-    × ((ranges : List Range) → add_decided op ranges ≡ ranges)
     × ((ranges : List Range) → add_writes op ranges ≡ ranges)
     × ((mutations : List Mutation) → add_mutation op mutations ≡ mutations)
 
--- what is kept of a program's writes: what they leave at each point, under legal keys alone, what they decide, and the
--- write set
+-- what is kept of a program's writes: what they leave at each point, under legal keys alone and decided where a range
+-- was cleared, and the write set
 pub record AreWritesOf (ops : List Op) (own : OwnWrites) (writes : List Range) : Type 0 where
   pub left_there : (x : Point) → left_at own x ≡ left_by_ops ops x
   pub legal_keys : HasLegalKeys own
-  pub are_decided : own.decided ≡ decided_ranges ops
+  pub cleared_decided : AreClearedDecided own
   pub are_written : writes ≡ write_ranges ops
 
 -- what is kept of the operations: what is kept of their writes, the read set, and the mutations, each of which is a legal

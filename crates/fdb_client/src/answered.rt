@@ -70,7 +70,7 @@ impl Written {
                 key,
                 snapshot: false,
             } => {
-                let value = value_of(self.alloc, &self.own, snapshot, key)?;
+                let (value, _is_decided) = value_of(self.alloc, &self.own, snapshot, key)?;
                 Ok(is_value(reply, value.as_ref()))
             }
             Op::Range {

@@ -1,12 +1,12 @@
 // A mutation is buffered: what it leaves is kept, and what it names joins the write set.
-ghost use Rattle.std.specs.Prelude.{◌≡◌, false, [], None, OnOk, OnErr, IsSome, IsTrue, if◌then◌else◌};
+ghost use Rattle.std.specs.Prelude.{◌≡◌, false, [], None, OnOk, OnErr, if◌then◌else◌};
 ghost use Rattle.fdb_keys.specs.Answers.{Answers};
 ghost use Rattle.fdb_keys.specs.Insertion.{with_range};
 ghost use Rattle.fdb_keys.specs.Points.{Point, point_eq};
 ghost use Rattle.fdb_keys.specs.Ranges.{single_range, in_range, in_set};
-ghost use Rattle.fdb_mutations.specs.Mutations.{named_range, is_blind};
-ghost use Rattle.fdb_client.specs.LeftAt.{left_at, entry_of, HasLegalKeys};
-ghost use Rattle.fdb_client.specs.OwnWrites.{left_after, left_with, is_value};
+ghost use Rattle.fdb_mutations.specs.Mutations.{named_range};
+ghost use Rattle.fdb_client.specs.LeftAt.{left_at, AreClearedDecided, HasLegalKeys};
+ghost use Rattle.fdb_client.specs.OwnWrites.{left_after, left_with};
 ghost use Rattle.fdb_client.specs.declared.left.Left.TheVariants.{Value, Changes};
 
 use crate::left::Left;
@@ -23,16 +23,14 @@ pub(crate) fn buffer(
     mutation: &Mutation,
 ) -> Result<(), Refusal>
     requires legal_keys { HasLegalKeys own.old }
-    requires decided { (x : Point) → in_set own.old.decided x ≡ is_value (left_at own.old x) }
+    requires cleared { AreClearedDecided own.old }
     requires written { (x : Point) → in_set writes.old x ≡ false → left_at own.old x ≡ Changes [] }
     ensures kept { Answers result None (λ _. (x : Point) → left_at own.new x
         ≡ left_with x (left_at own.old x) mutation.now) }
-    ensures decided { OnOk result (own.new.decided
-        ≡ (if is_blind mutation.now then with_range (named_range mutation.now) own.old.decided else own.old.decided)) }
     ensures writes { OnOk result (writes.new ≡ with_range (named_range mutation.now) writes.old) }
     ensures legal_keys { HasLegalKeys own.new }
+    ensures cleared { AreClearedDecided own.new }
     ensures kept_err { OnErr result ((x : Point) → left_at own.new x ≡ left_at own.old x) }
-    ensures decided_err { OnErr result (own.new.decided ≡ own.old.decided) }
     ensures writes_err { OnErr result (writes.new ≡ writes.old) }
 {
     match mutation.named() {
@@ -50,99 +48,10 @@ fn buffer_at_key(
     mutation: &Mutation,
 ) -> Result<(), Refusal>
     requires legal_keys { HasLegalKeys own.old }
-    requires decided { in_set own.old.decided key.now ≡ is_value (left_at own.old key.now) }
     requires written { in_set writes.old key.now ≡ false → left_at own.old key.now ≡ Changes [] }
     ensures kept { Answers result None (λ _. (x : Point) → left_at own.new x
         ≡ (if point_eq x key.now then left_after (left_at own.old x) mutation.now else left_at own.old x)) }
-    ensures decided { OnOk result (own.new.decided
-        ≡ (if is_blind mutation.now then with_range (single_range key.now) own.old.decided else own.old.decided)) }
-    ensures writes { OnOk result (writes.new ≡ with_range (single_range key.now) writes.old) }
-    ensures legal_keys { HasLegalKeys own.new }
-    ensures kept_err { OnErr result ((x : Point) → left_at own.new x ≡ left_at own.old x) }
-    ensures decided_err { OnErr result (own.new.decided ≡ own.old.decided) }
-    ensures writes_err { OnErr result (writes.new ≡ writes.old) }
-{
-    match own.decided_by(alloc, key, mutation)? {
-        Some(left) => decide(alloc, own, writes, key, left),
-        None => change(alloc, own, writes, key, mutation),
-    }
-}
-
-// Leaves this at the key, which then is decided. Where memory runs out, nothing changes.
-fn decide(
-    alloc: Global,
-    own: &mut OwnWrites,
-    writes: &mut TreeRangeSet,
-    key: &Key,
-    left: Left,
-) -> Result<(), Refusal>
-    requires legal_keys { HasLegalKeys own.old }
-    requires undecided { in_set own.old.decided key.now ≡ false → is_value (left_at own.old key.now) ≡ false }
-    requires written { IsTrue (in_set own.old.decided key.now) → IsTrue (in_set writes.old key.now) }
-    ensures kept { Answers result None (λ _. (x : Point)
-        → left_at own.new x ≡ (if point_eq x key.now then left else left_at own.old x)) }
-    ensures decided { OnOk result (own.new.decided ≡ with_range (single_range key.now) own.old.decided) }
-    ensures held { IsTrue (in_set own.old.decided key.now) → own.new.decided ≡ own.old.decided }
-    ensures writes { OnOk result (writes.new ≡ with_range (single_range key.now) writes.old) }
-    ensures legal_keys { HasLegalKeys own.new }
-    ensures kept_err { OnErr result ((x : Point) → left_at own.new x ≡ left_at own.old x) }
-    ensures decided_err { OnErr result (own.new.decided ≡ own.old.decided) }
-    ensures writes_err { OnErr result (writes.new ≡ writes.old) }
-{
-    if own.decided.contains(key) && writes.contains(key) {
-        return own.put(key, left);
-    }
-    match make_decided(alloc, own, writes, key) {
-        Ok(()) => {
-            own.set(key, left);
-            Ok(())
-        }
-        Err(why) => {
-            drop(left);
-            Err(why)
-        }
-    }
-}
-
-// Adds the key, which isn't decided, to what is decided and to the write set, and makes an entry for it. What is kept
-// stays as it is.
-fn make_decided(
-    alloc: Global,
-    own: &mut OwnWrites,
-    writes: &mut TreeRangeSet,
-    key: &Key,
-) -> Result<(), Refusal>
-    requires legal_keys { HasLegalKeys own.old }
-    requires undecided { is_value (left_at own.old key.now) ≡ false }
-    ensures answers { Answers result None (λ _. IsSome (entry_of own.new key.now)) }
-    ensures kept { (x : Point) → left_at own.new x ≡ left_at own.old x }
-    ensures decided { OnOk result (own.new.decided ≡ with_range (single_range key.now) own.old.decided) }
-    ensures writes { OnOk result (writes.new ≡ with_range (single_range key.now) writes.old) }
-    ensures legal_keys { HasLegalKeys own.new }
-    ensures decided_err { OnErr result (own.new.decided ≡ own.old.decided) }
-    ensures writes_err { OnErr result (writes.new ≡ writes.old) }
-{
-    let range = KeyRange::single(alloc, key)?;
-    // Once the key has an entry, only the sets may lack memory.
-    own.make_entry(alloc, key)?;
-    TreeRangeSet::add_to_both(&mut own.decided, writes, &range)
-}
-
-// Buffers a mutation of the key that decides nothing. Where memory runs out, nothing changes.
-fn change(
-    alloc: Global,
-    own: &mut OwnWrites,
-    writes: &mut TreeRangeSet,
-    key: &Key,
-    mutation: &Mutation,
-) -> Result<(), Refusal>
-    requires blind { is_blind mutation.now ≡ false }
-    requires undecided { is_value (left_at own.old key.now) ≡ false }
-    requires legal_keys { HasLegalKeys own.old }
-    requires written { in_set writes.old key.now ≡ false → left_at own.old key.now ≡ Changes [] }
-    ensures kept { Answers result None (λ _. (x : Point) → left_at own.new x
-        ≡ (if point_eq x key.now then left_after (left_at own.old x) mutation.now else left_at own.old x)) }
-    ensures decided { own.new.decided ≡ own.old.decided }
+    ensures cleared { own.new.cleared ≡ own.old.cleared }
     ensures writes { OnOk result (writes.new ≡ with_range (single_range key.now) writes.old) }
     ensures legal_keys { HasLegalKeys own.new }
     ensures kept_err { OnErr result ((x : Point) → left_at own.new x ≡ left_at own.old x) }
@@ -178,15 +87,15 @@ fn clear_range(
     requires { HasLegalKeys own.old }
     ensures kept { Answers result None (λ _. (x : Point) → left_at own.new x
         ≡ (if in_range range.now x then Value None else left_at own.old x)) }
-    ensures decided { OnOk result (own.new.decided ≡ with_range range.now own.old.decided) }
+    ensures cleared { OnOk result (own.new.cleared ≡ with_range range.now own.old.cleared) }
     ensures writes { OnOk result (writes.new ≡ with_range range.now writes.old) }
     ensures legal_keys { HasLegalKeys own.new }
     ensures kept_err { OnErr result ((x : Point) → left_at own.new x ≡ left_at own.old x) }
-    ensures decided_err { OnErr result (own.new.decided ≡ own.old.decided) }
+    ensures cleared_err { OnErr result (own.new.cleared ≡ own.old.cleared) }
     ensures writes_err { OnErr result (writes.new ≡ writes.old) }
 {
     let keys = own.keys_in(alloc, range)?;
-    TreeRangeSet::add_to_both(&mut own.decided, writes, range)?;
+    TreeRangeSet::add_to_both(&mut own.cleared, writes, range)?;
     own.remove_all(keys.as_slice());
     Ok(())
 }

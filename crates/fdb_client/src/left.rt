@@ -1,6 +1,6 @@
 // What a transaction's own writes leave at a key.
 use bytes::Bytes;
-use fdb_keys::Items;
+use fdb_keys::{Items, Refusal};
 use fdb_mutations::Mutation;
 use std::alloc::{AllocError, Global};
 
@@ -13,13 +13,30 @@ pub(crate) enum Left {
 }
 
 impl Left {
-    ghost use Rattle.std.specs.Prelude.{◌≡◌, [], ◌∷◌, false, IfOk, OnOk, OnErr};
-    ghost use Rattle.fdb_mutations.specs.Mutations.{is_blind};
-    ghost use Rattle.fdb_client.specs.OwnWrites.{left_after, is_value};
-    ghost use Rattle.fdb_client.specs.declared.left.Left.TheVariants.{Changes};
+    ghost use Rattle.std.specs.Prelude.{◌≡◌, [], ◌∷◌, None, IfOk, OnErr, if◌then◌else◌};
+    ghost use Rattle.fdb_keys.specs.Answers.{Answers};
+    ghost use Rattle.fdb_client.specs.OwnWrites.{left_after};
+    ghost use Rattle.fdb_client.specs.declared.left.Left.TheVariants.{Value, Changes};
+
+    // What a first mutation leaves at its key, which was cleared with a range before it or wasn't.
+    pub(crate) fn first(
+        alloc: Global,
+        is_cleared: bool,
+        mutation: &Mutation,
+    ) -> Result<Self, Refusal>
+        ensures { Answers result None
+            (λ left. left ≡ left_after (if is_cleared then Value None else Changes []) mutation.now) }
+    {
+        if is_cleared || mutation.is_blind() {
+            let value = mutation.apply_value(alloc, None)?;
+            return Ok(Left::Value(value));
+        }
+        let left = Left::of_change(alloc, mutation)?;
+        Ok(left)
+    }
 
     // What the mutation alone leaves, where it decides nothing.
-    pub(crate) fn of_change(alloc: Global, mutation: &Mutation) -> Result<Self, AllocError>
+    fn of_change(alloc: Global, mutation: &Mutation) -> Result<Self, AllocError>
         ensures { IfOk result (λ left. left ≡ Changes (mutation.now ∷ [])) }
     {
         let copy = mutation.clone()?;
@@ -28,15 +45,21 @@ impl Left {
         Ok(Left::Changes(mutations))
     }
 
-    // One mutation more, which decides nothing. Where memory runs out, nothing changes.
-    pub(crate) fn change(&mut self, mutation: &Mutation) -> Result<(), AllocError>
-        requires blind { is_blind mutation.now ≡ false }
-        requires undecided { is_value self.old ≡ false }
-        ensures ok { OnOk result (self.new ≡ left_after self.old mutation.now) }
+    // One mutation more. Where memory runs out, nothing changes.
+    pub(crate) fn change(&mut self, alloc: Global, mutation: &Mutation) -> Result<(), Refusal>
+        ensures ok { Answers result None (λ _. self.new ≡ left_after self.old mutation.now) }
         ensures err { OnErr result (self.new ≡ self.old) }
     {
-        if let Left::Changes(mutations) = self {
-            mutations.push(mutation.clone()?)?;
+        match self {
+            Left::Value(value) => {
+                *value = mutation.apply_value(alloc, value.as_ref())?;
+            }
+            Left::Changes(_) if mutation.is_blind() => {
+                *self = Left::Value(mutation.apply_value(alloc, None)?);
+            }
+            Left::Changes(mutations) => {
+                mutations.push(mutation.clone()?)?;
+            }
         }
         Ok(())
     }

@@ -1,17 +1,18 @@
 // What a transaction's own writes leave at each key, and which keys they decide.
-ghost use Rattle.std.specs.Prelude.{◌≡◌, None, IfOk, OnOk, OnErr, IsSome, IfSome, IfNone, IsTrue, ⊤, if◌then◌else◌};
-ghost use Rattle.std.specs.Prelude.{not, true, false, []};
+ghost use Rattle.std.specs.Prelude.{◌≡◌, ◌&&◌, ◌||◌, None, IfOk, OnOk, OnErr, IsSome, IfSome, IfNone, IsTrue};
+ghost use Rattle.std.specs.Prelude.{if◌then◌else◌, not, true, false, []};
+ghost use Rattle.std.specs.List.{AllByRecursion};
 ghost use Rattle.fdb_keys.specs.Answers.{Answers};
 ghost use Rattle.fdb_keys.specs.Cutting.{range_behind};
 ghost use Rattle.fdb_keys.specs.Points.{Point, point_eq};
-ghost use Rattle.fdb_keys.specs.Ranges.{in_range, is_empty_range};
-ghost use Rattle.fdb_mutations.specs.Mutations.{is_blind, new_value};
+ghost use Rattle.fdb_keys.specs.Ranges.{in_range, in_set, is_apart, is_empty_range};
+ghost use Rattle.fdb_keys.specs.Texts.{is_key};
 ghost use Rattle.fdb_client.specs.OwnWrites.{left_after, as_left, is_value};
-ghost use Rattle.fdb_client.specs.declared.left.Left.TheVariants.{Value, Changes};
+ghost use Rattle.fdb_client.specs.declared.left.Left.TheVariants.{Changes};
 
 use crate::left::Left;
 use bytes::Bytes;
-use fdb_keys::{Items, Key, KeyRange, Refusal, TreeRangeSet};
+use fdb_keys::{Key, KeyRange, RangeSet, Refusal, TreeRangeSet};
 use fdb_mutations::Mutation;
 use std::alloc::{AllocError, Global};
 use std::collections::BTreeMap;
@@ -20,8 +21,8 @@ use std::collections::BTreeMap;
 pub(crate) struct OwnWrites {
     // What is left at a key, under the key's bytes.
     pub(crate) keys: BTreeMap<Bytes, Left>,
-    // The keys that the writes decide. One of them that isn't among `keys` was cleared with a range.
-    pub(crate) decided: TreeRangeSet,
+    // The keys that were cleared with a range. Nothing is left at one of them that isn't among `keys`.
+    pub(crate) cleared: TreeRangeSet,
 }
 
 // What is left at a key, lent.
@@ -41,18 +42,18 @@ fn lent(left: &Left) -> LentLeft<'_>
 }
 
 impl OwnWrites {
-    ghost use Rattle.fdb_client.specs.LeftAt.{left_at, entry_of, HasLegalKeys, HasNoEntry};
+    ghost use Rattle.fdb_client.specs.LeftAt.{left_at, entry_of, AreClearedDecided, HasLegalKeys, HasNoEntry};
     ghost use Rattle.fdb_client.specs.OwnWrites.{keys_between};
     ghost use Rattle.std.specs.List.{list_any};
 
     pub(crate) fn new(alloc: Global) -> Self
         ensures kept { (x : Point) → left_at result x ≡ Changes [] }
-        ensures decided { result.decided ≡ [] }
+        ensures cleared { result.cleared ≡ [] }
         ensures legal_keys { HasLegalKeys result }
     {
         OwnWrites {
             keys: BTreeMap::new(alloc),
-            decided: TreeRangeSet::new(alloc),
+            cleared: TreeRangeSet::new(alloc),
         }
     }
 
@@ -62,7 +63,7 @@ impl OwnWrites {
     {
         match self.keys.get(key.text()) {
             Some(left) => lent(left),
-            None if self.decided.contains(key) => LentLeft::Value(None),
+            None if self.cleared.contains(key) => LentLeft::Value(None),
             None => LentLeft::Changes(&[]),
         }
     }
@@ -83,7 +84,7 @@ impl OwnWrites {
         ensures answers { Answers result None (λ _. (x : Point)
             → left_at self.new x ≡ (if point_eq x key.now then left else left_at self.old x)) }
         ensures entry { OnOk result (IsSome (entry_of self.new key.now)) }
-        ensures decided { self.new.decided ≡ self.old.decided }
+        ensures cleared { self.new.cleared ≡ self.old.cleared }
         ensures legal_keys { HasLegalKeys self.new }
         ensures err { OnErr result ((x : Point) → left_at self.new x ≡ left_at self.old x) }
     {
@@ -92,28 +93,26 @@ impl OwnWrites {
         Ok(())
     }
 
-    // One mutation more, which decides nothing, changes what stands at the key. Where memory runs out, nothing changes.
+    // One mutation more of the key. Where memory runs out, nothing changes.
     pub(crate) fn change(
         &mut self,
         alloc: Global,
         key: &Key,
         mutation: &Mutation,
     ) -> Result<(), Refusal>
-        requires blind { is_blind mutation.now ≡ false }
-        requires undecided { is_value (left_at self.old key.now) ≡ false }
-        requires legal_keys { HasLegalKeys self.old }
+        requires { HasLegalKeys self.old }
         ensures answers { Answers result None (λ _. (x : Point) → left_at self.new x
             ≡ (if point_eq x key.now then left_after (left_at self.old x) mutation.now else left_at self.old x)) }
         ensures entry { OnOk result (IsSome (entry_of self.new key.now)) }
-        ensures decided { self.new.decided ≡ self.old.decided }
+        ensures cleared { self.new.cleared ≡ self.old.cleared }
         ensures legal_keys { HasLegalKeys self.new }
         ensures err { OnErr result ((x : Point) → left_at self.new x ≡ left_at self.old x) }
     {
         if let Some(left) = self.keys.get_mut(key.text()) {
-            left.change(mutation)?;
+            left.change(alloc, mutation)?;
             return Ok(());
         }
-        let left = Left::of_change(alloc, mutation)?;
+        let left = Left::first(alloc, self.cleared.contains(key), mutation)?;
         self.put(key, left)
     }
 
@@ -122,54 +121,11 @@ impl OwnWrites {
         requires entry { IsSome (entry_of self.old key.now) }
         requires legal_keys { HasLegalKeys self.old }
         ensures kept { (x : Point) → left_at self.new x ≡ (if point_eq x key.now then left else left_at self.old x) }
-        ensures decided { self.new.decided ≡ self.old.decided }
+        ensures cleared { self.new.cleared ≡ self.old.cleared }
         ensures legal_keys { HasLegalKeys self.new }
     {
         if let Some(place) = self.keys.get_mut(key.text()) {
             *place = left;
-        }
-    }
-
-    // Makes an entry for the key, which isn't decided. What is kept stays as it is.
-    pub(crate) fn make_entry(&mut self, alloc: Global, key: &Key) -> Result<(), Refusal>
-        requires undecided { is_value (left_at self.old key.now) ≡ false }
-        requires legal_keys { HasLegalKeys self.old }
-        ensures answers { Answers result None (λ _. IsSome (entry_of self.new key.now)) }
-        ensures kept { (x : Point) → left_at self.new x ≡ left_at self.old x }
-        ensures decided { self.new.decided ≡ self.old.decided }
-        ensures legal_keys { HasLegalKeys self.new }
-    {
-        if self.keys.contains_key(key.text()) {
-            return Ok(());
-        }
-        self.put(key, Left::Changes(Items::new(alloc)))
-    }
-
-    // What the mutation leaves at the key, or nothing where that depends on what stands there.
-    pub(crate) fn decided_by(
-        &self,
-        alloc: Global,
-        key: &Key,
-        mutation: &Mutation,
-    ) -> Result<Option<Left>, Refusal>
-        ensures answers { Answers result None (λ _. ⊤) }
-        ensures decided { IfOk result (λ left. IfSome left
-            (λ value. value ≡ left_after (left_at self.now key.now) mutation.now)) }
-        ensures value { IfOk result (λ left. IfSome left
-            (λ _. is_blind mutation.now ≡ false → IsTrue (is_value (left_at self.now key.now)))) }
-        ensures blind { IfOk result (λ left. IfNone left (is_blind mutation.now ≡ false)) }
-        ensures undecided { IfOk result (λ left. IfNone left (is_value (left_at self.now key.now) ≡ false)) }
-    {
-        match self.left_at(key) {
-            LentLeft::Value(value) => {
-                let value = mutation.apply_value(alloc, value)?;
-                Ok(Some(Left::Value(value)))
-            }
-            LentLeft::Changes(_) if mutation.is_blind() => {
-                let value = mutation.apply_value(alloc, None)?;
-                Ok(Some(Left::Value(value)))
-            }
-            LentLeft::Changes(_) => Ok(None),
         }
     }
 
@@ -236,11 +192,66 @@ impl OwnWrites {
         Ok(keys)
     }
 
+    // The parts of the range that the writes don't decide.
+    pub(crate) fn undecided_in(&self, alloc: Global, range: &KeyRange) -> Result<RangeSet, Refusal>
+        requires legal_keys { HasLegalKeys self.now }
+        requires cleared { AreClearedDecided self.now }
+        ensures answers { Answers result None (λ undecided. (x : Point)
+            → in_set undecided x ≡ (in_range range.now x && not (is_value (left_at self.now x)))) }
+        ensures apart { IfOk result (λ undecided. IsTrue (is_apart undecided)) }
+    {
+        let keys = self.keys_in(alloc, range)?;
+        let mut decided = self.decided_among(alloc, keys.as_slice())?;
+        decided.add_all(&self.cleared_in(alloc, range)?)?;
+        decided.outside(alloc, range)
+    }
+
+    // The parts of the range that were cleared with a range: what lies outside of what lies outside of these.
+    fn cleared_in(&self, alloc: Global, range: &KeyRange) -> Result<RangeSet, Refusal>
+        ensures { Answers result None (λ cleared. (x : Point)
+            → in_set cleared x ≡ (in_range range.now x && in_set self.now.cleared x)) }
+    {
+        let mut others = TreeRangeSet::new(alloc);
+        others.add_all(&self.cleared.outside(alloc, range)?)?;
+        others.outside(alloc, range)
+    }
+
+    // Those of the keys that the writes decide.
+    fn decided_among(&self, alloc: Global, keys: &[Bytes]) -> Result<TreeRangeSet, Refusal>
+        requires { AllByRecursion (λ key. IsTrue (is_key key)) keys.now }
+        ensures { Answers result None (λ decided. (x : Point)
+            → in_set decided x ≡ (list_any (point_eq x) keys.now && is_value (left_at self.now x))) }
+    {
+        let mut decided = TreeRangeSet::new(alloc);
+        for text in keys {
+            self.add_decided(alloc, &mut decided, text)?;
+        }
+        Ok(decided)
+    }
+
+    // Adds the key with the text, if the writes decide it.
+    fn add_decided(
+        &self,
+        alloc: Global,
+        decided: &mut TreeRangeSet,
+        text: &Bytes,
+    ) -> Result<(), Refusal>
+        requires { IsTrue (is_key text.now) }
+        ensures { Answers result None (λ _. (x : Point) → in_set decided.new x
+            ≡ (point_eq x text.now && is_value (left_at self.now x) || in_set decided.old x)) }
+    {
+        let key = Key::from_text(text.clone()?);
+        if self.decides(&key) {
+            decided.add(&KeyRange::single(alloc, &key)?)?;
+        }
+        Ok(())
+    }
+
     // Takes away the entries of the keys. It takes no memory.
     pub(crate) fn remove_all(&mut self, keys: &[Bytes])
         ensures entries { (x : Point)
             → entry_of self.new x ≡ (if list_any (point_eq x) keys.now then None else entry_of self.old x) }
-        ensures decided { self.new.decided ≡ self.old.decided }
+        ensures cleared { self.new.cleared ≡ self.old.cleared }
         ensures legal_keys { HasLegalKeys self.old → HasLegalKeys self.new }
     {
         for key in keys {

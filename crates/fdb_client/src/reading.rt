@@ -25,7 +25,7 @@ pub(crate) fn pairs_copy(pairs: &Items<(Key, Bytes)>) -> Result<Items<(Key, Byte
 }
 
 // What a read of the range scanned, by the pairs that it was given.
-fn scanned_part(
+pub(crate) fn scanned_part(
     alloc: Global,
     range: &KeyRange,
     limit: u32,
@@ -91,21 +91,24 @@ pub(crate) fn value_over(
     }
 }
 
-// What stands at the key after the writes. The snapshot is asked only where they don't decide the key.
+// What stands at the key after the writes, and whether they decide the key. The snapshot is asked only where they don't.
 pub(crate) fn value_of<S: Snapshot>(
     alloc: Global,
     own: &OwnWrites,
     snapshot: &S,
     key: &Key,
-) -> Result<Option<Bytes>, Refusal>
-    ensures { Answers result (if is_value (left_at own.now key.now) then None else S.key_fault snapshot.now key.now)
-        (λ value. value ≡ value_over (left_at own.now key.now) (get (S.map snapshot.now) key.now)) }
+) -> Result<(Option<Bytes>, bool), Refusal>
+    ensures value { Answers result
+        (if is_value (left_at own.now key.now) then None else S.key_fault snapshot.now key.now)
+        (λ read. read.0 ≡ value_over (left_at own.now key.now) (get (S.map snapshot.now) key.now)) }
+    ensures decided { IfOk result (λ read. read.1 ≡ is_value (left_at own.now key.now)) }
 {
     match own.left_at(key) {
-        LentLeft::Value(value) => Ok(copied(value)?),
+        LentLeft::Value(value) => Ok((copied(value)?, true)),
         LentLeft::Changes(mutations) => {
             let old = snapshot.get(key)?;
-            value_after(alloc, old, mutations)
+            let value = value_after(alloc, old, mutations)?;
+            Ok((value, false))
         }
     }
 }

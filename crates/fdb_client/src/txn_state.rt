@@ -5,10 +5,12 @@ ghost use Rattle.std.specs.FinMap.{get};
 ghost use Rattle.std.specs.Option.{option_copied};
 ghost use Rattle.fdb_keys.specs.Answers.{Answers, AnswersOrHandsBack, AnswersExactlyOrHandsBack};
 ghost use Rattle.fdb_keys.specs.Insertion.{with_range, with_ranges};
+ghost use Rattle.fdb_keys.specs.Removal.{outside};
 ghost use Rattle.fdb_mutations.specs.Maps.{Map};
 ghost use Rattle.fdb_mutations.specs.Mutations.{mutation_fault};
 ghost use Rattle.fdb_mutations.specs.PairLaws.{given_of};
-ghost use Rattle.fdb_client.specs.Programs.{program, copy, decided, add_reads, is_read_only, commit_request_of};
+ghost use Rattle.fdb_client.specs.Programs.{program, copy, decided, decided_ranges, add_reads, is_read_only};
+ghost use Rattle.fdb_client.specs.Programs.{commit_request_of};
 ghost use Rattle.fdb_txn.specs.book.Size.{size_fault};
 ghost use Rattle.fdb_client.specs.Finishing.{finish_fault, IsFinished};
 ghost use Rattle.fdb_client.specs.declared.finished.Finished.TheVariants.{ToCommit};
@@ -20,7 +22,7 @@ use crate::finished::Finished;
 use crate::own_writes::OwnWrites;
 use crate::program::{Op, Reply, Transcript};
 use crate::range_read::pairs_of;
-use crate::reading::{pairs_copy, undecided_part, value_of};
+use crate::reading::{pairs_copy, scanned_part, value_of};
 use crate::snapshot::Snapshot;
 use bytes::Bytes;
 use fdb_keys::{Items, Key, KeyRange, RangeSet, Refusal, Refused, TreeRangeSet};
@@ -126,40 +128,35 @@ impl TxnState {
         self.own.decides(key)
     }
 
-    // Whether a read of the key adds it to the read set.
-    fn is_read(&self, key: &Key, is_snapshot: bool) -> bool
-        requires { AreKept self.now }
-        ensures { result ≡ (not is_snapshot && not (decided (program self.now.transcript.ops) key.now)) }
-    {
-        !is_snapshot && !self.decides(key)
-    }
-
-    // Notes what the key was read as. Where memory runs out, nothing changes.
+    // Notes what the key was read as, which own writes decide or don't. Where memory runs out, nothing changes.
     fn note_get(
         &mut self,
         key: &Key,
         is_snapshot: bool,
+        is_decided: bool,
         value: Option<&Bytes>,
     ) -> Result<(), Refusal>
-        requires { AreKept self.old }
+        requires kept { AreKept self.old }
+        requires decided { is_decided ≡ decided (program self.old.transcript.ops) key.now }
         ensures answers { Answers result None (λ _. self.new.transcript ≡ with_op self.old.transcript
             (operation.Get key.now is_snapshot) (answer.Value (option_copied value.entry))) }
         ensures err { OnErr result (self.new ≡ self.old) }
         ensures kept { OnOk result (AreKept self.new) }
     {
-        if !self.is_read(key, is_snapshot) {
+        if !is_read(is_snapshot, is_decided) {
             return self.note(answered_get(key, is_snapshot, value)?);
         }
         let range = KeyRange::single(self.alloc, key)?;
         self.note_read(answered_get(key, is_snapshot, value)?, &range)
     }
 
-    // What stands at the key after its own writes.
-    fn read<S: Snapshot>(&self, snapshot: &S, key: &Key) -> Result<Option<Bytes>, Refusal>
+    // What stands at the key after its own writes, and whether they decide the key.
+    fn read<S: Snapshot>(&self, snapshot: &S, key: &Key) -> Result<(Option<Bytes>, bool), Refusal>
         requires { AreKept self.now }
-        ensures { Answers result
+        ensures value { Answers result
             (if decided (program self.now.transcript.ops) key.now then None else S.key_fault snapshot.now key.now)
-            (λ value. value ≡ get (copy (S.map snapshot.now) (program self.now.transcript.ops)) key.now) }
+            (λ read. read.0 ≡ get (copy (S.map snapshot.now) (program self.now.transcript.ops)) key.now) }
+        ensures decided { IfOk result (λ read. read.1 ≡ decided (program self.now.transcript.ops) key.now) }
     {
         value_of(self.alloc, &self.own, snapshot, key)
     }
@@ -180,9 +177,18 @@ impl TxnState {
         ensures err { OnErr result (self.new ≡ self.old) }
         ensures kept { OnOk result (AreKept self.new) }
     {
-        let value = self.read(snapshot, key)?;
-        self.note_get(key, is_snapshot, value.as_ref())?;
+        let (value, is_decided) = self.read(snapshot, key)?;
+        self.note_get(key, is_snapshot, is_decided, value.as_ref())?;
         Ok(value)
+    }
+
+    // The parts of the range that its own writes don't decide.
+    fn undecided_in(&self, range: &KeyRange) -> Result<RangeSet, Refusal>
+        requires { AreKept self.now }
+        ensures { Answers result None
+            (λ undecided. undecided ≡ outside (decided_ranges (program self.now.transcript.ops)) range.now) }
+    {
+        self.own.undecided_in(self.alloc, range)
     }
 
     // Notes what the range was read as. Where memory runs out, nothing changes.
@@ -204,15 +210,8 @@ impl TxnState {
         if is_snapshot {
             return self.note(answered_range(range, limit, reverse, true, pairs)?);
         }
-        let given = pairs.as_slice();
-        let undecided = undecided_part(
-            self.alloc,
-            &self.own.decided,
-            range,
-            limit,
-            reverse,
-            given,
-        )?;
+        let scanned = scanned_part(self.alloc, range, limit, reverse, pairs.as_slice())?;
+        let undecided = self.undecided_in(&scanned)?;
         self.note_reads(
             answered_range(range, limit, reverse, false, pairs)?,
             &undecided,
@@ -380,6 +379,13 @@ impl TxnState {
             }),
         }
     }
+}
+
+// Whether a read of a key adds it to the read set.
+fn is_read(is_snapshot: bool, is_decided: bool) -> bool
+    ensures { result ≡ (not is_snapshot && not is_decided) }
+{
+    !is_snapshot && !is_decided
 }
 
 // Lists a write among the operations. Where memory runs out, nothing changes.

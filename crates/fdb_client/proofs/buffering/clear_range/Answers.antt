@@ -14,8 +14,8 @@ returns-clause-kept c =
     let after = c.remove_all.new.self in
     let listed : c.as_slice.result.now ≡ keys_between c.args.range.now own.keys.entries =
     c.as_slice.ensures.value ∙ c.in_ok-keys.ensures in
-    left_at-cleared c.args.range.now own.keys.entries after.keys.entries own.decided after.decided
+    left_at-cleared c.args.range.now own.keys.entries after.keys.entries own.cleared after.cleared
     (λ x. c.remove_all.ensures.entries x
     ∙ ap (λ (keys : List Point). cond (list_any (point_eq x) keys) None (found own.keys.entries x)) listed)
-    (λ x. ap (λ (set : List Range). in_set set x) (c.remove_all.ensures.decided ∙ c.in_ok-add_to_both.ensures.answers)
-    ∙ in_with_range c.args.range.now own.decided x)
+    (λ x. ap (λ (set : List Range). in_set set x) (c.remove_all.ensures.cleared ∙ c.in_ok-add_to_both.ensures.answers)
+    ∙ in_with_range c.args.range.now own.cleared x)

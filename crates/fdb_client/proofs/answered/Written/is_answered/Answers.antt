@@ -26,8 +26,8 @@ returns-in_ok-value-in-Get-default-false c = λ earlier are.
     let key = c.in-Get-default-false.key in
     let value = c.in_ok-value-in-Get-default-false.value in
     let is : c.args.op.now ≡ Get key false = search rules in
-    let read = given value (if is_value (left_at now.own key) then None else None) _
-    c.in_ok-value-in-Get-default-false.ensures in
+    let read = given _ (if is_value (left_at now.own key) then None else None) _
+    c.in_ok-value-in-Get-default-false.ensures.value in
     answered-get map earlier c.args.op.now c.args.reply.now key value c.is_value.result is
     (read.1 ∙ left_at-value earlier now.own now.writes are key map)
     (rw c.as_ref.ensures.value at c.is_value.ensures)

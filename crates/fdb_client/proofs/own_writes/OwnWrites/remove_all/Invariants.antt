@@ -8,4 +8,4 @@ abbrev pub invariant-loop-key : goal.invariant-loop-key
 invariant-loop-key l =
     ((x : Point) → entry_of l.self x
     ≡ cond (list_any (point_eq x) (take l.key-index l.keys)) None (entry_of l.initial.self x))
-    × (l.self.decided ≡ l.initial.self.decided)
+    × (l.self.cleared ≡ l.initial.self.cleared)

@@ -1,16 +1,15 @@
-use Rattle.std.proofs.Common.{◌≡◌, ◌∙◌, sym, ap, refl, subst, List, [], ◌∷◌, ◌++◌}
+use Rattle.std.proofs.Common.{◌∙◌, sym, ap, refl, subst, List, [], ◌∷◌, ◌++◌}
 use Rattle.fdb_keys.specs.Insertion.{with_range}
-use Rattle.fdb_keys.specs.Points.{Point}
 use Rattle.fdb_keys.specs.Ranges.{Range, in_set}
 use Rattle.fdb_mutations.specs.Mutations.{named_range}
 use Rattle.fdb_client.specs.declared.own_writes.OwnWrites.{OwnWrites}
 use Rattle.fdb_client.specs.declared.txn_state.TxnState.{TxnState}
 use Rattle.fdb_client.specs.declared.program.Op.TheVariants as operation
 use Rattle.fdb_client.specs.declared.program.Reply.TheVariants as answer
-use Rattle.fdb_client.specs.LeftAt.{left_at, HasLegalKeys}
-use Rattle.fdb_client.specs.OwnWrites.{left_with, is_value}
-use Rattle.fdb_client.specs.Programs.{program, add_decided}
-use Rattle.fdb_client.proofs.TxnStateLemmas.{are-push, left_at-decided, left_at-unwritten, legal-push}
+use Rattle.fdb_client.specs.LeftAt.{left_at, AreClearedDecided, HasLegalKeys}
+use Rattle.fdb_client.specs.OwnWrites.{left_with}
+use Rattle.fdb_client.specs.Programs.{program}
+use Rattle.fdb_client.proofs.TxnStateLemmas.{are-push, left_at-unwritten, legal-push}
 use Rattle.fdb_client.proofs.txn_state.TxnState.write.Goals as goal
 
 pub buffer-requires-clause-legal_keys : goal.buffer-requires-clause-legal_keys
@@ -18,12 +17,10 @@ buffer-requires-clause-legal_keys c =
     let own = ap (λ (state : TxnState). state.own) c.in_ok-list_write.ensures.answers in
     subst HasLegalKeys (sym own) c.requires.kept.written.legal_keys
 
-pub buffer-requires-clause-decided : goal.buffer-requires-clause-decided
-buffer-requires-clause-decided c =
-    let old = c.args.self.now in
+pub buffer-requires-clause-cleared : goal.buffer-requires-clause-cleared
+buffer-requires-clause-cleared c =
     let own = ap (λ (state : TxnState). state.own) c.in_ok-list_write.ensures.answers in
-    subst (λ (there : OwnWrites). (x : Point) → in_set there.decided x ≡ is_value (left_at there x)) (sym own)
-    (λ x. left_at-decided (program old.transcript.ops) old.own old.writes c.requires.kept.written x)
+    subst AreClearedDecided (sym own) c.requires.kept.written.cleared_decided
 
 pub buffer-requires-clause-written : goal.buffer-requires-clause-written
 buffer-requires-clause-written c = λ x none.
@@ -46,8 +43,7 @@ returns-clause-kept c =
     old.reads old.writes old.reads c.buffer.new.writes old.mutations (old.mutations ++ mutation ∷ []) c.requires.kept
     (λ x. c.in_default.ensures.kept x ∙ ap (λ (there : OwnWrites). left_with x (left_at there x) mutation) own)
     c.in_default.ensures.legal_keys
-    (c.in_default.ensures.decided
-    ∙ ap (λ (there : OwnWrites). add_decided (operation.Write mutation) there.decided) own)
+    c.in_default.ensures.cleared
     refl
     (c.in_default.ensures.writes ∙ ap (with_range (named_range mutation)) writes)
     refl
