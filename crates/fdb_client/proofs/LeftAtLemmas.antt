@@ -6,19 +6,18 @@ use Rattle.std.specs.Cmp.{eq_by_cmp_equiv}
 use Rattle.std.specs.Cmp.Lexicographic.{slice_cmp, bytes_decides}
 use Rattle.std.specs.BTreeMap.{is_at}
 use Rattle.std.specs.Map.{lookup}
-use Rattle.std.specs.Prelude.{OnErr, OnOk, is_some}
+use Rattle.std.specs.Prelude.{OnErr, is_some}
 use Rattle.std.proofs.lemmas.Bool.{cases_Bool, cond-true, cond-false}
 use Rattle.std.proofs.lemmas.Cmp.{nat_list_cmp_total}
 use Rattle.std.proofs.lemmas.Map.Text.{is_eq-slice_cmp}
 use Rattle.fdb_keys.specs.Answers.{Answers}
 use Rattle.fdb_keys.specs.declared.refusal.Refusal.{Refusal}
-use Rattle.fdb_keys.specs.Insertion.{with_range}
 use Rattle.fdb_keys.specs.Points.{Point, point_eq}
-use Rattle.fdb_keys.specs.Ranges.{Range, in_set, single_range, is_apart}
+use Rattle.fdb_keys.specs.Ranges.{Range, in_set}
 use Rattle.fdb_keys.specs.Texts.{is_key}
-use Rattle.fdb_keys.proofs.ApartLemmas.{with_range-held}
-use Rattle.fdb_keys.proofs.SingleLemmas.{in_range-single}
 use Rattle.fdb_mutations.specs.declared.mutation.Mutation.{Mutation}
+use Rattle.fdb_mutations.specs.Mutations.{is_blind, new_value}
+use Rattle.fdb_mutations.proofs.Effects.{blind_is_blind}
 use Rattle.fdb_client.specs.declared.left.Left.{Left}
 use Rattle.fdb_client.specs.declared.left.Left.TheVariants.{Value, Changes}
 use Rattle.fdb_client.specs.OwnWrites.{kept_of, kept_at, left_after}
@@ -88,23 +87,6 @@ legal-put before after key left legal all there x some =
     all x (ap is_some (sym (there x ∙ cond-false _ _ _ (same_point key x ∙ other))) ∙ some))
     (cases_Bool (point_eq x key))
 
--- what was kept at a key is put there again
-pub left_at-same : (old : Point → Left) (key x : Point) (new left : Left)
-    → new ≡ (if point_eq x key then left else old x) → left ≡ old key → new ≡ old x
-left_at-same old key x new left put same =
-    changed-at old key x new left (λ (left_at : Left). left_at) put same ∙ either_way (point_eq x key) (old x)
-
--- or is put there again after something else was
-pub put-back : (old : Point → Left) (key x : Point) (mid new left again : Left)
-    → mid ≡ (if point_eq x key then left else old x) → new ≡ (if point_eq x key then again else mid)
-    → again ≡ old key → new ≡ old x
-put-back old key x mid new left again earlier put same =
-    left_at-same old key x new again (put ∙ by_point (point_eq x key) earlier) same
-  where
-    by_point : (here : Bool) → mid ≡ cond here left (old x) → cond here again mid ≡ cond here again (old x)
-    by_point true is = refl
-    by_point false is = is
-
 -- what a first mutation makes of what was kept at a key without an entry, which is cleared or not
 pub first-change : (entries : List (List ℕ × Left)) (cleared : List Range) (key : Point) (mutation : Mutation)
     → found entries key ≡ None
@@ -113,30 +95,19 @@ pub first-change : (entries : List (List ℕ × Left)) (cleared : List Range) (k
 first-change entries cleared key mutation absent =
     ap (λ (there : Option Left). left_after (kept_of cleared key there) mutation) (sym absent)
 
--- a key of the set adds nothing to it
-pub key-held : (key : Point) (set : List Range) → is_apart set ≡ true → in_set set key ≡ true
-    → with_range (single_range key) set ≡ set
-key-held key set apart there =
-    with_range-held (single_range key) set apart (λ x inside.
-    ap (in_set set) ((bytes_decides x key).0 (sym (in_range-single key x) ∙ inside)) ∙ there)
+-- what a blind mutation leaves doesn't depend on what was left
+pub blind-after : (left : Left) (mutation : Mutation) → is_blind mutation ≡ true
+    → Value (new_value mutation None) ≡ left_after left mutation
+blind-after (Value value) mutation blind = ap Value (blind_is_blind mutation blind None value)
+blind-after (Changes mutations) mutation blind = sym (cond-true _ _ _ blind)
 
 -- it holds of a call whether it is refused or not
 pub on_err : {T E : Type 0} (result : Result T E) (P : Type 0) → P → OnErr result P
 on_err (Ok given) P holds = tt
 on_err (Err why) P holds = holds
 
-pub on_ok : {T E : Type 0} (result : Result T E) (P : Type 0) → P → OnOk result P
-on_ok (Ok given) P holds = holds
-on_ok (Err why) P holds = tt
-
 -- what follows of what holds of a call that isn't refused
 pub answers_also : {T : Type 0} (result : Result T Refusal) (P Q : Type 0) → (P → Q)
     → Answers result None (λ _. P) → Answers result None (λ _. Q)
 answers_also (Ok given) P Q step holds = step holds
 answers_also (Err why) P Q step ran_out = ran_out
-
--- what follows of it there, and holds of a refused call, holds
-pub either_answer : {T : Type 0} (result : Result T Refusal) (P Q : Type 0) → (P → Q)
-    → Answers result None (λ _. P) → OnErr result Q → Q
-either_answer (Ok given) P Q step holds err = step holds
-either_answer (Err why) P Q step ran_out err = err

@@ -1,5 +1,6 @@
 pub mod AnsweredLemmas
 mod ClearedLemmas
+mod ConflictLemmas
 pub mod DecidedLemmas
 mod FaultLemmas
 mod KeyExamplesLemmas

@@ -2,7 +2,7 @@
 use Rattle.std.proofs.Common.{◌≡◌, ◌∙◌, sym, ap, refl, ℕ, Bool, true, false, ◌&&◌, ◌||◌, if◌then◌else◌, List, [], ◌∷◌}
 use Rattle.std.proofs.Common.{◌++◌, fold, Option, None, ⊎_elim}
 use Rattle.std.specs.FinMap.{get}
-use Rattle.std.proofs.lemmas.Bool.{cases_Bool, or_parts, cond-true, cond-false}
+use Rattle.std.proofs.lemmas.Bool.{cases_Bool, cond-true, cond-false}
 use Rattle.std.proofs.lemmas.List.Sums.{fold-append}
 use Rattle.fdb_keys.specs.Points.{Point}
 use Rattle.fdb_mutations.specs.declared.mutation.Mutation.{Mutation}
@@ -15,7 +15,7 @@ use Rattle.fdb_client.specs.declared.program.Op.{Op}
 use Rattle.fdb_client.specs.declared.program.Op.TheVariants.{Get, Write, AddRead, AddWrite}
 use Rattle.fdb_client.specs.declared.program.Op.TheVariants as operation
 use Rattle.fdb_client.specs.OwnWrites.{left_after, left_by_ops, value_over, is_value}
-use Rattle.fdb_client.specs.Programs.{copy, decided, write_set, writes_on}
+use Rattle.fdb_client.specs.Programs.{copy, decided}
 
 -- what one more mutation leaves is a value where it was one, or where the mutation is blind
 after-is_value : (left : Left) (mutation : Mutation)
@@ -97,15 +97,3 @@ copy-left map (Write mutation ∷ earlier) x =
         ≡ value_over (if named then left_after (left_by_ops earlier x) mutation else left_by_ops earlier x) (get map x)
     by_name true = sym (over-after (left_by_ops earlier x) mutation (get map x))
     by_name false = refl
-
--- at a point that a program doesn't write its writes leave what stood there
-pub unwritten-left : (ops : List Op) (x : Point) → write_set ops x ≡ false → left_by_ops ops x ≡ Changes []
-unwritten-left [] x none = refl
-unwritten-left (Get key snapshot ∷ earlier) x none = unwritten-left earlier x none
-unwritten-left (operation.Range range limit is_reverse snapshot ∷ earlier) x none = unwritten-left earlier x none
-unwritten-left (AddRead range ∷ earlier) x none = unwritten-left earlier x none
-unwritten-left (AddWrite range ∷ earlier) x none =
-    unwritten-left earlier x (or_parts (writes_on (AddWrite range) x) (write_set earlier x) none).1
-unwritten-left (Write mutation ∷ earlier) x none =
-    cond-false (names mutation x) _ _ (or_parts (names mutation x) (write_set earlier x) none).0
-    ∙ unwritten-left earlier x (or_parts (names mutation x) (write_set earlier x) none).1

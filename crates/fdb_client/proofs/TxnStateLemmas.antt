@@ -1,5 +1,5 @@
 -- One operation more of what a transaction keeps.
-use Rattle.std.proofs.Common.{◌≡◌, ◌∙◌, sym, ap, ap₂, subst, Bool, true, false, not, ◌&&◌, List, [], ◌∷◌, ◌++◌, None}
+use Rattle.std.proofs.Common.{◌≡◌, ◌∙◌, sym, ap, ap₂, subst, Bool, true, not, ◌&&◌, List, [], ◌∷◌, ◌++◌, None}
 use Rattle.std.specs.List.{AllByRecursion}
 use Rattle.std.specs.FinMap.{get}
 use Rattle.fdb_keys.specs.Points.{Point}
@@ -11,7 +11,6 @@ use Rattle.fdb_mutations.specs.declared.mutation.Mutation.{Mutation}
 use Rattle.fdb_mutations.specs.Maps.{Map}
 use Rattle.fdb_mutations.specs.Mutations.{mutation_fault}
 use Rattle.fdb_client.specs.declared.left.Left.{Left}
-use Rattle.fdb_client.specs.declared.left.Left.TheVariants.{Changes}
 use Rattle.fdb_client.specs.declared.own_writes.OwnWrites.{OwnWrites}
 use Rattle.fdb_client.specs.declared.program.Op.{Op}
 use Rattle.fdb_client.specs.declared.program.Reply.{Reply}
@@ -21,9 +20,8 @@ use Rattle.fdb_client.specs.TxnState.{AreOf, AreWritesOf, WritesNothing}
 use Rattle.fdb_client.specs.Programs.{program, copy, decided, decided_ranges, add_reads, add_writes}
 use Rattle.fdb_client.specs.Programs.{add_mutation, read_ranges, mutations_of}
 use Rattle.fdb_client.proofs.DecidedLemmas.{in_decided_ranges}
-use Rattle.fdb_client.proofs.OwnWritesLemmas.{decided-left, copy-left, unwritten-left}
+use Rattle.fdb_client.proofs.OwnWritesLemmas.{decided-left, copy-left}
 use Rattle.fdb_client.proofs.ProgramLemmas.{program-push, replies-push}
-use Rattle.fdb_client.proofs.WriteSetLemmas.{in_write_ranges}
 
 -- what is kept of a program's writes with one operation more: each part has what the operation adds to it
 pub writes-push : (ops : List Op) (op : Op) (own after : OwnWrites) (writes new_writes : List Range)
@@ -83,13 +81,6 @@ module _ (ops : List Op) (own : OwnWrites) (writes : List Range) (are : AreWrite
   pub left_at-value : (map : Map) → value_over (left_at own key) (get map key) ≡ get (copy map ops) key
   left_at-value map =
       ap (λ (there : Left). value_over there (get map key)) (are.left_there key) ∙ sym (copy-left map ops key)
-
-  -- where nothing is written nothing is left
-  pub left_at-unwritten : in_set writes key ≡ false → left_at own key ≡ Changes []
-  left_at-unwritten none =
-      are.left_there key
-      ∙ unwritten-left ops key
-      (sym (ap (λ (set : List Range). in_set set key) are.are_written ∙ in_write_ranges ops key) ∙ none)
 
 -- what of a range the writes that are kept don't decide is what lies outside of the ranges of what they decide
 pub undecided-outside : (ops : List Op) (own : OwnWrites) (writes : List Range) → AreWritesOf ops own writes

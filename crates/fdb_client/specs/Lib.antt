@@ -1,3 +1,4 @@
+pub mod Conflicts
 pub mod Finishing
 pub mod LeftAt
 pub mod Merging

@@ -8,13 +8,14 @@ ghost use Rattle.fdb_client.specs.TxnState.{AreWritesOf};
 ghost use Rattle.fdb_client.specs.declared.program.Op.{Op as Operation};
 
 use crate::buffering::buffer;
+use crate::conflict_set::ConflictSet;
 use crate::own_writes::OwnWrites;
 use crate::plain_snapshot::PlainSnapshot;
 use crate::program::{Op, Reply, Transcript};
 use crate::range_read::pairs_of;
 use crate::reading::value_of;
 use bytes::Bytes;
-use fdb_keys::{Items, Key, Refusal, TreeRangeSet};
+use fdb_keys::{Items, Key, Refusal};
 use fdb_mutations::PlainMap;
 use std::alloc::Global;
 
@@ -23,7 +24,7 @@ use std::alloc::Global;
 struct Written {
     alloc: Global,
     own: OwnWrites,
-    writes: TreeRangeSet,
+    writes: ConflictSet,
 }
 
 impl Written {
@@ -41,7 +42,7 @@ impl Written {
         Written {
             alloc,
             own: OwnWrites::new(alloc),
-            writes: TreeRangeSet::new(alloc),
+            writes: ConflictSet::new(alloc),
         }
     }
 

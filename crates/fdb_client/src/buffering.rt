@@ -9,9 +9,9 @@ ghost use Rattle.fdb_client.specs.LeftAt.{left_at, AreClearedDecided, HasLegalKe
 ghost use Rattle.fdb_client.specs.OwnWrites.{left_after, left_with};
 ghost use Rattle.fdb_client.specs.declared.left.Left.TheVariants.{Value, Changes};
 
-use crate::left::Left;
+use crate::conflict_set::ConflictSet;
 use crate::own_writes::OwnWrites;
-use fdb_keys::{Items, Key, KeyRange, Refusal, TreeRangeSet};
+use fdb_keys::{KeyRange, Refusal};
 use fdb_mutations::{Mutation, Named};
 use std::alloc::Global;
 
@@ -19,12 +19,11 @@ use std::alloc::Global;
 pub(crate) fn buffer(
     alloc: Global,
     own: &mut OwnWrites,
-    writes: &mut TreeRangeSet,
+    writes: &mut ConflictSet,
     mutation: &Mutation,
 ) -> Result<(), Refusal>
     requires legal_keys { HasLegalKeys own.old }
     requires cleared { AreClearedDecided own.old }
-    requires written { (x : Point) → in_set writes.old x ≡ false → left_at own.old x ≡ Changes [] }
     ensures kept { Answers result None (λ _. (x : Point) → left_at own.new x
         ≡ left_with x (left_at own.old x) mutation.now) }
     ensures writes { OnOk result (writes.new ≡ with_range (named_range mutation.now) writes.old) }
@@ -34,54 +33,16 @@ pub(crate) fn buffer(
     ensures writes_err { OnErr result (writes.new ≡ writes.old) }
 {
     match mutation.named() {
-        Named::Key(key) => buffer_at_key(alloc, own, writes, key, mutation),
+        Named::Key(key) => writes.add_changed(own, key, mutation),
         Named::Range(range) => clear_range(alloc, own, writes, range),
     }
-}
-
-// Buffers a mutation of the key. Where memory runs out, nothing changes.
-fn buffer_at_key(
-    alloc: Global,
-    own: &mut OwnWrites,
-    writes: &mut TreeRangeSet,
-    key: &Key,
-    mutation: &Mutation,
-) -> Result<(), Refusal>
-    requires legal_keys { HasLegalKeys own.old }
-    requires written { in_set writes.old key.now ≡ false → left_at own.old key.now ≡ Changes [] }
-    ensures kept { Answers result None (λ _. (x : Point) → left_at own.new x
-        ≡ (if point_eq x key.now then left_after (left_at own.old x) mutation.now else left_at own.old x)) }
-    ensures cleared { own.new.cleared ≡ own.old.cleared }
-    ensures writes { OnOk result (writes.new ≡ with_range (single_range key.now) writes.old) }
-    ensures legal_keys { HasLegalKeys own.new }
-    ensures kept_err { OnErr result ((x : Point) → left_at own.new x ≡ left_at own.old x) }
-    ensures writes_err { OnErr result (writes.new ≡ writes.old) }
-{
-    own.change(alloc, key, mutation)?;
-    if writes.contains(key) {
-        return Ok(());
-    }
-    if let Err(why) = add_key(alloc, writes, key) {
-        own.set(key, Left::Changes(Items::new(alloc)));
-        return Err(why);
-    }
-    Ok(())
-}
-
-// Adds the key alone. Where memory runs out, nothing changes.
-pub(crate) fn add_key(alloc: Global, set: &mut TreeRangeSet, key: &Key) -> Result<(), Refusal>
-    ensures answers { Answers result None (λ _. set.new ≡ with_range (single_range key.now) set.old) }
-    ensures err { OnErr result (set.new ≡ set.old) }
-{
-    let range = KeyRange::single(alloc, key)?;
-    set.add(&range)
 }
 
 // Buffers that the keys of the range are cleared. Where memory runs out, nothing changes.
 fn clear_range(
     alloc: Global,
     own: &mut OwnWrites,
-    writes: &mut TreeRangeSet,
+    writes: &mut ConflictSet,
     range: &KeyRange,
 ) -> Result<(), Refusal>
     requires { HasLegalKeys own.old }
@@ -95,7 +56,7 @@ fn clear_range(
     ensures writes_err { OnErr result (writes.new ≡ writes.old) }
 {
     let keys = own.keys_in(alloc, range)?;
-    TreeRangeSet::add_to_both(&mut own.cleared, writes, range)?;
+    writes.add_beside(&mut own.cleared, range)?;
     own.remove_all(keys.as_slice());
     Ok(())
 }

@@ -13,21 +13,24 @@ pub(crate) enum Left {
 }
 
 impl Left {
-    ghost use Rattle.std.specs.Prelude.{◌≡◌, [], ◌∷◌, None, IfOk, OnErr, if◌then◌else◌};
+    ghost use Rattle.std.specs.Prelude.{◌≡◌, [], ◌∷◌, false, None, IfOk, OnErr, if◌then◌else◌};
     ghost use Rattle.fdb_keys.specs.Answers.{Answers};
+    ghost use Rattle.fdb_mutations.specs.Mutations.{is_blind};
     ghost use Rattle.fdb_client.specs.OwnWrites.{left_after};
     ghost use Rattle.fdb_client.specs.declared.left.Left.TheVariants.{Value, Changes};
 
-    // What a first mutation leaves at its key, which was cleared with a range before it or wasn't.
+    // What a first mutation leaves at its key, which was cleared with a range before it or wasn't. The mutation isn't
+    // blind.
     pub(crate) fn first(
         alloc: Global,
         is_cleared: bool,
         mutation: &Mutation,
     ) -> Result<Self, Refusal>
+        requires { is_blind mutation.now ≡ false }
         ensures { Answers result None
             (λ left. left ≡ left_after (if is_cleared then Value None else Changes []) mutation.now) }
     {
-        if is_cleared || mutation.is_blind() {
+        if is_cleared {
             let value = mutation.apply_value(alloc, None)?;
             return Ok(Left::Value(value));
         }
@@ -45,17 +48,15 @@ impl Left {
         Ok(Left::Changes(mutations))
     }
 
-    // One mutation more. Where memory runs out, nothing changes.
+    // One mutation more, which isn't blind. Where memory runs out, nothing changes.
     pub(crate) fn change(&mut self, alloc: Global, mutation: &Mutation) -> Result<(), Refusal>
+        requires { is_blind mutation.now ≡ false }
         ensures ok { Answers result None (λ _. self.new ≡ left_after self.old mutation.now) }
         ensures err { OnErr result (self.new ≡ self.old) }
     {
         match self {
             Left::Value(value) => {
                 *value = mutation.apply_value(alloc, value.as_ref())?;
-            }
-            Left::Changes(_) if mutation.is_blind() => {
-                *self = Left::Value(mutation.apply_value(alloc, None)?);
             }
             Left::Changes(mutations) => {
                 mutations.push(mutation.clone()?)?;

@@ -4,6 +4,7 @@
 
 mod answered;
 mod buffering;
+mod conflict_set;
 mod finished;
 pub mod laws;
 mod left;
@@ -18,6 +19,7 @@ mod txn;
 mod txn_state;
 
 pub use answered::is_answered_on;
+pub use conflict_set::ConflictSet;
 pub use finished::Finished;
 pub use plain_snapshot::PlainSnapshot;
 pub use program::{Op, Reply, Transcript};

@@ -108,25 +108,16 @@ impl OwnWrites {
         ensures legal_keys { HasLegalKeys self.new }
         ensures err { OnErr result ((x : Point) → left_at self.new x ≡ left_at self.old x) }
     {
+        if mutation.is_blind() {
+            let value = mutation.apply_value(alloc, None)?;
+            return self.put(key, Left::Value(value));
+        }
         if let Some(left) = self.keys.get_mut(key.text()) {
             left.change(alloc, mutation)?;
             return Ok(());
         }
         let left = Left::first(alloc, self.cleared.contains(key), mutation)?;
         self.put(key, left)
-    }
-
-    // Leaves this at the key, which has an entry. It takes no memory.
-    pub(crate) fn set(&mut self, key: &Key, left: Left)
-        requires entry { IsSome (entry_of self.old key.now) }
-        requires legal_keys { HasLegalKeys self.old }
-        ensures kept { (x : Point) → left_at self.new x ≡ (if point_eq x key.now then left else left_at self.old x) }
-        ensures cleared { self.new.cleared ≡ self.old.cleared }
-        ensures legal_keys { HasLegalKeys self.new }
-    {
-        if let Some(place) = self.keys.get_mut(key.text()) {
-            *place = left;
-        }
     }
 
     // The first key of the range that has an entry, or the last one where the range is read from its end.

@@ -2,6 +2,7 @@
 ghost use Rattle.std.specs.Prelude.{◌≡◌, ◌↔◌, List, [], None, true, IsTrue};
 ghost use Rattle.fdb_keys.specs.Answers.{Answers};
 ghost use Rattle.fdb_keys.specs.Insertion.{with_range};
+ghost use Rattle.fdb_keys.specs.Ranges.{single_range};
 ghost use Rattle.fdb_mutations.specs.Maps.{Map};
 ghost use Rattle.fdb_mutations.specs.Mutations.{named_range};
 ghost use Rattle.fdb_mutations.specs.PairLaws.{given_of};
@@ -12,7 +13,6 @@ ghost use Rattle.fdb_client.specs.Programs.{add_writes, add_mutation, decided_ra
 ghost use Rattle.fdb_client.specs.Programs.{mutations_of, commit_request_of};
 ghost use Rattle.fdb_client.specs.ProgramLaws.{is_ordinary, AgreeWhereOrdinary};
 
-use crate::buffering::add_key;
 use crate::program::{Op, Reply, Transcript};
 use crate::reading::undecided_part;
 use bytes::Bytes;
@@ -20,6 +20,14 @@ use fdb_keys::{Items, Key, KeyRange, RangeSet, Refusal, TreeRangeSet};
 use fdb_mutations::{Mutation, Named};
 use fdb_txn::Sealed;
 use std::alloc::Global;
+
+// Adds the key alone.
+fn add_key(alloc: Global, set: &mut TreeRangeSet, key: &Key) -> Result<(), Refusal>
+    ensures { Answers result None (λ _. set.new ≡ with_range (single_range key.now) set.old) }
+{
+    let range = KeyRange::single(alloc, key)?;
+    set.add(&range)
+}
 
 // Adds what the mutation names.
 fn add_named(alloc: Global, set: &mut TreeRangeSet, mutation: &Mutation) -> Result<(), Refusal>

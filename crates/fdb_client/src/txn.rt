@@ -1,9 +1,10 @@
+use crate::conflict_set::ConflictSet;
 use crate::finished::Finished;
 use crate::program::Transcript;
 use crate::snapshot::Snapshot;
 use crate::txn_state::TxnState;
 use bytes::Bytes;
-use fdb_keys::{Items, Key, KeyRange, Refusal, Refused, TreeRangeSet};
+use fdb_keys::{Items, Key, KeyRange, Refusal, Refused};
 use fdb_mutations::Mutation;
 use fdb_txn::TxnId;
 use std::alloc::Global;
@@ -171,7 +172,7 @@ impl Txn {
 
     /// The read set: what its ordinary reads read of what wasn't decided, and the ranges that were added. Where its
     /// replies are those of the program on a map, these are the points that the program reads on that map.
-    pub fn read_conflicts(&self) -> &TreeRangeSet
+    pub fn read_conflicts(&self) -> &ConflictSet
         ensures value { result.now ≡ read_ranges (program self.now.ops) (replies_of self.now.ops) }
         ensures points { (map : Map) → IsExecuted map self.now.ops → (x : Point)
             → in_set result.now x ≡ read_set map (program self.now.ops) x }
@@ -180,7 +181,7 @@ impl Txn {
     }
 
     /// The write set: what its mutations name, and the ranges that were added.
-    pub fn write_conflicts(&self) -> &TreeRangeSet
+    pub fn write_conflicts(&self) -> &ConflictSet
         ensures value { result.now ≡ write_ranges (program self.now.ops) }
         ensures points { (x : Point) → in_set result.now x ≡ write_set (program self.now.ops) x }
     {

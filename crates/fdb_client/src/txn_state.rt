@@ -5,6 +5,7 @@ ghost use Rattle.std.specs.FinMap.{get};
 ghost use Rattle.std.specs.Option.{option_copied};
 ghost use Rattle.fdb_keys.specs.Answers.{Answers, AnswersOrHandsBack, AnswersExactlyOrHandsBack};
 ghost use Rattle.fdb_keys.specs.Insertion.{with_range, with_ranges};
+ghost use Rattle.fdb_keys.specs.Ranges.{single_range};
 ghost use Rattle.fdb_keys.specs.Removal.{outside};
 ghost use Rattle.fdb_mutations.specs.Maps.{Map};
 ghost use Rattle.fdb_mutations.specs.Mutations.{mutation_fault};
@@ -18,6 +19,7 @@ ghost use Rattle.fdb_client.specs.declared.program.Op.TheVariants as operation;
 ghost use Rattle.fdb_client.specs.declared.program.Reply.TheVariants as answer;
 
 use crate::buffering::buffer;
+use crate::conflict_set::ConflictSet;
 use crate::finished::Finished;
 use crate::own_writes::OwnWrites;
 use crate::program::{Op, Reply, Transcript};
@@ -25,7 +27,7 @@ use crate::range_read::pairs_of;
 use crate::reading::{pairs_copy, scanned_part, value_of};
 use crate::snapshot::Snapshot;
 use bytes::Bytes;
-use fdb_keys::{Items, Key, KeyRange, RangeSet, Refusal, Refused, TreeRangeSet};
+use fdb_keys::{Items, Key, KeyRange, RangeSet, Refusal, Refused};
 use fdb_mutations::{Mutation, copied};
 use fdb_txn::{Sealed, TxnId};
 use std::alloc::{AllocError, Global};
@@ -37,8 +39,8 @@ pub(crate) struct TxnState {
     // What its writes leave at each key.
     pub(crate) own: OwnWrites,
     // What it reads and what it writes.
-    pub(crate) reads: TreeRangeSet,
-    pub(crate) writes: TreeRangeSet,
+    pub(crate) reads: ConflictSet,
+    pub(crate) writes: ConflictSet,
     // The mutations among its operations.
     pub(crate) mutations: Items<Mutation>,
 }
@@ -59,8 +61,8 @@ impl TxnState {
                 ops: Items::new(alloc),
             },
             own: OwnWrites::new(alloc),
-            reads: TreeRangeSet::new(alloc),
-            writes: TreeRangeSet::new(alloc),
+            reads: ConflictSet::new(alloc),
+            writes: ConflictSet::new(alloc),
             mutations: Items::new(alloc),
         }
     }
@@ -77,6 +79,26 @@ impl TxnState {
         ensures kept { OnOk result (AreKept self.new) }
     {
         self.transcript.ops.push(done)?;
+        Ok(())
+    }
+
+    // Notes an operation with its reply, which reads a key. Where memory runs out, nothing changes.
+    fn note_key(&mut self, done: (Op, Reply), key: &Key) -> Result<(), Refusal>
+        requires kept { AreKept self.old }
+        requires unwritten { WritesNothing done.0 }
+        requires read { add_reads (program self.old.transcript.ops) done.0 done.1 self.old.reads
+            ≡ with_range (single_range key.now) self.old.reads }
+        ensures answers { Answers result None (λ _. self.new.transcript
+            ≡ with_op self.old.transcript done.0 done.1) }
+        ensures err { OnErr result (self.new ≡ self.old) }
+        ensures kept { OnOk result (AreKept self.new) }
+    {
+        let count = self.transcript.ops.len();
+        self.transcript.ops.push(done)?;
+        if let Err(why) = self.reads.add_key(key) {
+            self.transcript.ops.truncate(count);
+            return Err(why);
+        }
         Ok(())
     }
 
@@ -146,8 +168,7 @@ impl TxnState {
         if !is_read(is_snapshot, is_decided) {
             return self.note(answered_get(key, is_snapshot, value)?);
         }
-        let range = KeyRange::single(self.alloc, key)?;
-        self.note_read(answered_get(key, is_snapshot, value)?, &range)
+        self.note_key(answered_get(key, is_snapshot, value)?, key)
     }
 
     // What stands at the key after its own writes, and whether they decide the key.

@@ -8,8 +8,8 @@ use self::cut_snapshot::CutSnapshot;
 use self::steps::{Asked, Change, Text};
 use crate::making::{are_ranges, ask, coded, filled, made_of, same, text_of};
 use bytes::Bytes;
-use fdb_client::{Finished, PlainSnapshot, Snapshot, Txn};
-use fdb_keys::{Items, Key, KeyRange, Refusal, Refused, TreeRangeSet};
+use fdb_client::{ConflictSet, Finished, PlainSnapshot, Snapshot, Txn};
+use fdb_keys::{Items, Key, KeyRange, Refusal, Refused};
 use fdb_mutations::{Mutation, PlainMap};
 use fdb_txn::{Sealed, TxnId};
 use std::alloc::Global;
@@ -157,7 +157,7 @@ fn gives(
     Ok(are(pairs.as_slice(), wanted))
 }
 
-fn has(set: &TreeRangeSet, alloc: Global, bounds: &[(Text, Text)]) -> Result<bool, Refusal> {
+fn has(set: &ConflictSet, alloc: Global, bounds: &[(Text, Text)]) -> Result<bool, Refusal> {
     let set = set.to_set(alloc)?;
     Ok(are_ranges(set.iter().as_slice(), bounds))
 }

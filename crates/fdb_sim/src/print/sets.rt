@@ -3,8 +3,8 @@ ghost use Rattle.std.specs.Prelude.{◌≡◌, ◌++◌, OnOk, string_bytes};
 ghost use Rattle.fdb_sim.specs.print.Sets.{range_text, ranges_text, sets_text};
 
 use crate::print::texts::push_text;
-use fdb_client::Txn;
-use fdb_keys::{KeyRange, TreeRangeSet};
+use fdb_client::{ConflictSet, Txn};
+use fdb_keys::KeyRange;
 use std::alloc::AllocError;
 
 /// Appends both sets, each as its ranges.
@@ -17,10 +17,19 @@ pub fn push_sets(text: &mut String, txn: &Txn) -> Result<(), AllocError>
     push_ranges(text, txn.write_conflicts())
 }
 
-fn push_ranges(text: &mut String, set: &TreeRangeSet) -> Result<(), AllocError>
+fn push_ranges(text: &mut String, set: &ConflictSet) -> Result<(), AllocError>
     ensures { OnOk result (string_bytes text.new ≡ string_bytes text.old ++ ranges_text set.now) }
 {
-    for range in set.iter() {
+    match set.to_set(*text.allocator()) {
+        Ok(ranges) => push_list(text, ranges.iter().as_slice()),
+        Err(_) => Err(AllocError),
+    }
+}
+
+fn push_list(text: &mut String, ranges: &[KeyRange]) -> Result<(), AllocError>
+    ensures { OnOk result (string_bytes text.new ≡ string_bytes text.old ++ ranges_text ranges.now) }
+{
+    for range in ranges {
         push_range(text, range)?;
     }
     Ok(())

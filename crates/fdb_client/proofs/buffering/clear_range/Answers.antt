@@ -17,5 +17,5 @@ returns-clause-kept c =
     left_at-cleared c.args.range.now own.keys.entries after.keys.entries own.cleared after.cleared
     (λ x. c.remove_all.ensures.entries x
     ∙ ap (λ (keys : List Point). cond (list_any (point_eq x) keys) None (found own.keys.entries x)) listed)
-    (λ x. ap (λ (set : List Range). in_set set x) (c.remove_all.ensures.cleared ∙ c.in_ok-add_to_both.ensures.answers)
+    (λ x. ap (λ (set : List Range). in_set set x) (c.remove_all.ensures.cleared ∙ c.in_ok-add_beside.ensures.other)
     ∙ in_with_range c.args.range.now own.cleared x)

@@ -27,4 +27,4 @@ returns-else-contains c earlier same =
     subst (λ (ranges : List Range). Answers c.add_key.result None (λ _. c.add_key.new.set ≡ ranges))
     (sym (reads-key earlier c.args.op.now key c.args.reply.now c.args.decided.now c.args.reads.now false
     is same (sym c.if-contains.false ∙ c.contains.ensures.value)))
-    c.add_key.ensures.answers
+    c.add_key.ensures

@@ -4,13 +4,26 @@ use Rattle.std.specs.Cmp.Lexicographic.{slice_cmp}
 use Rattle.std.specs.BTreeMap.{is_at}
 use Rattle.fdb_keys.specs.Points.{Point, point_eq}
 use Rattle.fdb_keys.specs.Ranges.{in_set}
+use Rattle.fdb_mutations.specs.Mutations.{new_value}
 use Rattle.fdb_client.specs.declared.left.Left.{Left}
 use Rattle.fdb_client.specs.declared.left.Left.TheVariants.{Value, Changes}
 use Rattle.fdb_client.specs.LeftAt.{left_at}
 use Rattle.fdb_client.specs.OwnWrites.{left_after, kept_at}
-use Rattle.fdb_client.proofs.LeftAtLemmas.{found, left_at-changed, changed-at, first-change, legal-put, either_way}
+use Rattle.fdb_client.proofs.LeftAtLemmas.{blind-after, found, left_at-changed, changed-at, first-change, legal-put, either_way}
 use Rattle.fdb_client.proofs.LeftAtLemmas.{on_err, answers_also}
 use Rattle.fdb_client.proofs.own_writes.OwnWrites.change.Goals as goal
+
+pub returns-then-is_blind-clause-answers : goal.returns-then-is_blind-clause-answers
+returns-then-is_blind-clause-answers c =
+    let own = c.args.self.now in
+    let key = c.args.key.now in
+    let mutation = c.args.mutation.now in
+    let value = c.in_ok-value.value in
+    let made : value ≡ new_value mutation None = search rules in
+    answers_also c.put.result _ _ (λ put x.
+    changed-at (left_at own) key x (left_at c.put.new.self x) (Value value)
+    (λ (before : Left). left_after before mutation) (put x)
+    (ap Value made ∙ blind-after (left_at own key) mutation (search rules))) c.put.ensures.answers
 
 pub returns-in_err-change-clause-err : goal.returns-in_err-change-clause-err
 returns-in_err-change-clause-err c =
@@ -21,7 +34,7 @@ returns-in_err-change-clause-err c =
     ≡ cond (is_at (slice_cmp nat_cmp key) x) (Some c.change.new.self) (found own.keys.entries x)
     = λ x. let follows = c.get_mut.follows.holds c.change.new.self in search rules in
     let same : c.change.new.self ≡ left_at own key = search rules in
-    on_err c.from_residual.result _ (λ x.
+    on_err c.from_residual-in_err-change.result _ (λ x.
     left_at-changed own.keys.entries after.entries own.cleared key c.change.new.self (λ (left : Left). left) there
     same x
     ∙ either_way (point_eq x key) (left_at own x))
@@ -60,12 +73,12 @@ returns-clause-answers c =
     let cleared : c.contains.result ≡ in_set own.cleared key = search rules in
     let left = c.in_ok-left.left in
     let same : c.get_mut.follows.lender-at-none.entries ≡ own.keys.entries = search rules in
-    answers_also c.put.result _ _ (λ put x.
-    changed-at (left_at own) key x (left_at c.put.new.self x) left
+    answers_also c.put-2.result _ _ (λ put x.
+    changed-at (left_at own) key x (left_at c.put-2.new.self x) left
     (λ (before : Left). left_after before mutation)
     (put x ∙ ap (λ (entries : List (List ℕ × Left)).
     if point_eq x key then left else kept_at entries own.cleared x) same)
     (c.in_ok-left.ensures
     ∙ ap (λ (is_cleared : Bool). left_after (if is_cleared then Value None else Changes []) mutation) cleared
     ∙ first-change own.keys.entries own.cleared key mutation absent))
-    c.put.ensures.answers
+    c.put-2.ensures.answers

@@ -7,4 +7,4 @@ returns-clause-kept c =
     let old = c.args.self.now in
     rw c.in_ok-push.ensures.ok (are-noted old.transcript.ops c.args.done old.own old.reads old.writes
     c.add_all.new.self old.mutations c.requires.kept c.requires.unwritten
-    (c.in_default.ensures.list ∙ sym c.requires.read))
+    (c.in_default.ensures.answers ∙ sym c.requires.read))

@@ -1,6 +1,5 @@
-use Rattle.std.proofs.Common.{◌∙◌, sym, ap, refl, subst, List, [], ◌∷◌, ◌++◌}
+use Rattle.std.proofs.Common.{◌∙◌, sym, ap, refl, subst, [], ◌∷◌, ◌++◌}
 use Rattle.fdb_keys.specs.Insertion.{with_range}
-use Rattle.fdb_keys.specs.Ranges.{Range, in_set}
 use Rattle.fdb_mutations.specs.Mutations.{named_range}
 use Rattle.fdb_client.specs.declared.own_writes.OwnWrites.{OwnWrites}
 use Rattle.fdb_client.specs.declared.txn_state.TxnState.{TxnState}
@@ -8,8 +7,7 @@ use Rattle.fdb_client.specs.declared.program.Op.TheVariants as operation
 use Rattle.fdb_client.specs.declared.program.Reply.TheVariants as answer
 use Rattle.fdb_client.specs.LeftAt.{left_at, AreClearedDecided, HasLegalKeys}
 use Rattle.fdb_client.specs.OwnWrites.{left_with}
-use Rattle.fdb_client.specs.Programs.{program}
-use Rattle.fdb_client.proofs.TxnStateLemmas.{are-push, left_at-unwritten, legal-push}
+use Rattle.fdb_client.proofs.TxnStateLemmas.{are-push, legal-push}
 use Rattle.fdb_client.proofs.txn_state.TxnState.write.Goals as goal
 
 pub buffer-requires-clause-legal_keys : goal.buffer-requires-clause-legal_keys
@@ -21,16 +19,6 @@ pub buffer-requires-clause-cleared : goal.buffer-requires-clause-cleared
 buffer-requires-clause-cleared c =
     let own = ap (λ (state : TxnState). state.own) c.in_ok-list_write.ensures.answers in
     subst AreClearedDecided (sym own) c.requires.kept.written.cleared_decided
-
-pub buffer-requires-clause-written : goal.buffer-requires-clause-written
-buffer-requires-clause-written c = λ x none.
-    let old = c.args.self.now in
-    let listed = c.in_ok-list_write.ensures.answers in
-    let own = ap (λ (state : TxnState). state.own) listed in
-    let writes = ap (λ (state : TxnState). state.writes) listed in
-    ap (λ (there : OwnWrites). left_at there x) own
-    ∙ left_at-unwritten (program old.transcript.ops) old.own old.writes c.requires.kept.written x
-    (sym (ap (λ (set : List Range). in_set set x) writes) ∙ none)
 
 pub returns-clause-kept : goal.returns-clause-kept
 returns-clause-kept c =

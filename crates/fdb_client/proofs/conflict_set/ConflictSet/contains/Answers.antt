@@ -1,0 +1,30 @@
+use Rattle.std.proofs.Common.{◌∙◌, sym, ap, Bool, ◌||◌, List}
+use Rattle.std.specs.List.{list_any}
+use Rattle.fdb_keys.specs.Points.{point_eq}
+use Rattle.fdb_keys.specs.Ranges.{Range, in_set}
+use Rattle.fdb_client.proofs.ConflictLemmas.{in_with_keys}
+use Rattle.fdb_client.proofs.conflict_set.ConflictSet.contains.Goals as goal
+
+pub returns-then-has : goal.returns-then-has
+returns-then-has c =
+    let key = c.args.key.now in
+    let keys = c.self.inside.keys in
+    let ranges = c.self.inside.ranges in
+    c.if-has.true
+    ∙ sym
+    (ap (λ (set : List Range). in_set set key) (sym c.self.view_is)
+    ∙ in_with_keys keys ranges key
+    ∙ ap (λ (listed : Bool). listed || in_set ranges key)
+    (sym (c.has.ensures ∙ ap (list_any (point_eq key)) c.as_slice.ensures) ∙ c.if-has.true))
+
+pub returns-else-has : goal.returns-else-has
+returns-else-has c =
+    let key = c.args.key.now in
+    let keys = c.self.inside.keys in
+    let ranges = c.self.inside.ranges in
+    c.contains.ensures.value
+    ∙ sym
+    (ap (λ (set : List Range). in_set set key) (sym c.self.view_is)
+    ∙ in_with_keys keys ranges key
+    ∙ ap (λ (listed : Bool). listed || in_set ranges key)
+    (sym (c.has.ensures ∙ ap (list_any (point_eq key)) c.as_slice.ensures) ∙ c.if-has.false))
