@@ -30,6 +30,10 @@ in_with_keys keys ranges x =
     in_with_ranges (map single_range keys) ranges x
     ∙ ap (λ (here : Bool). here || in_set ranges x) (in_singles keys x)
 
+pub apart-keys : (keys : List Point) (ranges : List Range) → is_apart ranges ≡ true
+    → is_apart (with_keys keys ranges) ≡ true
+apart-keys keys ranges apart = apart-with_ranges (map single_range keys) ranges apart
+
 -- one key more
 pub keys-push : (keys : List Point) (ranges : List Range) (key : Point)
     → with_keys (keys ++ key ∷ []) ranges ≡ with_range (single_range key) (with_keys keys ranges)
@@ -50,8 +54,8 @@ pub keys-add_all : (keys : List Point) (ranges added : List Range) → is_apart 
 keys-add_all keys ranges added apart =
     let held = with_keys keys ranges in
     same_list (with_keys keys (with_ranges added ranges)) (with_ranges added held)
-    (apart-with_ranges (map single_range keys) (with_ranges added ranges) (apart-with_ranges added ranges apart))
-    (apart-with_ranges added held (apart-with_ranges (map single_range keys) ranges apart))
+    (apart-keys keys (with_ranges added ranges) (apart-with_ranges added ranges apart))
+    (apart-with_ranges added held (apart-keys keys ranges apart))
     (λ x.
     in_with_keys keys (with_ranges added ranges) x
     ∙ ap (λ (there : Bool). list_any (point_eq x) keys || there) (in_with_ranges added ranges x)

@@ -54,7 +54,7 @@ impl ConflictSet {
         }
     }
 
-    /// Whether the set has no key. It takes no memory, and O(1) time.
+    /// Whether the set has no range. It takes no memory, and O(1) time.
     pub fn is_empty(&self) -> bool
         ensures { result ≡ (length self.now == 0) }
     {
@@ -63,7 +63,8 @@ impl ConflictSet {
 
     /// Whether the key lies in the set. It takes no memory, and O(n) time for n keys that were added alone.
     pub fn contains(&self, key: &Key) -> bool
-        ensures { result ≡ in_set self.now key.now }
+        ensures value { result ≡ in_set self.now key.now }
+        ensures apart { IsTrue (is_apart self.now) }
     {
         has(self.keys.as_slice(), key) || self.ranges.contains(key)
     }
