@@ -1,13 +1,13 @@
 // A mutation is buffered: what it leaves is kept, and what it names joins the write set.
-ghost use Rattle.std.specs.Prelude.{◌≡◌, false, [], None, OnOk, OnErr, if◌then◌else◌};
+ghost use Rattle.std.specs.Prelude.{◌≡◌, None, OnOk, OnErr, if◌then◌else◌};
 ghost use Rattle.fdb_keys.specs.Answers.{Answers};
 ghost use Rattle.fdb_keys.specs.Insertion.{with_range};
-ghost use Rattle.fdb_keys.specs.Points.{Point, point_eq};
-ghost use Rattle.fdb_keys.specs.Ranges.{single_range, in_range, in_set};
+ghost use Rattle.fdb_keys.specs.Points.{Point};
+ghost use Rattle.fdb_keys.specs.Ranges.{in_range};
 ghost use Rattle.fdb_mutations.specs.Mutations.{named_range};
 ghost use Rattle.fdb_client.specs.LeftAt.{left_at, AreClearedDecided, HasLegalKeys};
-ghost use Rattle.fdb_client.specs.OwnWrites.{left_after, left_with};
-ghost use Rattle.fdb_client.specs.declared.left.Left.TheVariants.{Value, Changes};
+ghost use Rattle.fdb_client.specs.OwnWrites.{left_with};
+ghost use Rattle.fdb_client.specs.declared.left.Left.TheVariants.{Value};
 
 use crate::conflict_set::ConflictSet;
 use crate::own_writes::OwnWrites;

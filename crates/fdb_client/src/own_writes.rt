@@ -83,7 +83,6 @@ impl OwnWrites {
         requires { HasLegalKeys self.old }
         ensures answers { Answers result None (λ _. (x : Point)
             → left_at self.new x ≡ (if point_eq x key.now then left else left_at self.old x)) }
-        ensures entry { OnOk result (IsSome (entry_of self.new key.now)) }
         ensures cleared { self.new.cleared ≡ self.old.cleared }
         ensures legal_keys { HasLegalKeys self.new }
         ensures err { OnErr result ((x : Point) → left_at self.new x ≡ left_at self.old x) }
@@ -103,7 +102,6 @@ impl OwnWrites {
         requires { HasLegalKeys self.old }
         ensures answers { Answers result None (λ _. (x : Point) → left_at self.new x
             ≡ (if point_eq x key.now then left_after (left_at self.old x) mutation.now else left_at self.old x)) }
-        ensures entry { OnOk result (IsSome (entry_of self.new key.now)) }
         ensures cleared { self.new.cleared ≡ self.old.cleared }
         ensures legal_keys { HasLegalKeys self.new }
         ensures err { OnErr result ((x : Point) → left_at self.new x ≡ left_at self.old x) }
