@@ -189,6 +189,14 @@ impl Txn {
         &self.state.writes
     }
 
+    /// Whether the transaction writes nothing: it has no mutation, and its write set is empty. It takes no memory, and
+    /// O(1) time.
+    pub fn is_read_only(&self) -> bool
+        ensures { result ≡ is_read_only self.now }
+    {
+        self.state.is_read_only()
+    }
+
     /// What is left to do of it: nothing where it has no mutation and an empty write set, which takes no memory and is
     /// never refused, and else to commit it. Refused as `TransactionTooLarge` where what is to be committed has more
     /// than 10,000,000 bytes, and as `NoMemory` where memory runs out before that is known; a refusal hands the

@@ -329,8 +329,8 @@ impl TxnState {
         Ok(())
     }
 
-    // Whether it writes nothing.
-    fn is_read_only(&self) -> bool
+    /// Whether it writes nothing.
+    pub(crate) fn is_read_only(&self) -> bool
         requires { AreKept self.now }
         ensures { result ≡ is_read_only self.now.transcript }
     {

@@ -48,7 +48,7 @@ impl Model for CommitCore {
 }
 
 impl CommitCore {
-    ghost use Rattle.std.specs.Prelude.{◌≡◌, ◌==◌, ◌≤◌, ⊤, true, not, [], take, length, IsSome, IsNone, OnErr, map};
+    ghost use Rattle.std.specs.Prelude.{◌≡◌, ◌==◌, ◌≤◌, ⊤, true, not, [], take, length, IsSome, IsNone, IfOk, OnErr, None, map};
     ghost use Rattle.fdb_keys.specs.Answers.{Answers, AnswersExactly, AnswersOrHandsBack, AnswersExactlyOrHandsBack};
     ghost use Rattle.fdb_txn.specs.Limits.{place_limit};
     ghost use Rattle.fdb_txn.specs.book.Transactions.{Transaction};
@@ -59,6 +59,8 @@ impl CommitCore {
     ghost use Rattle.fdb_proxy.specs.CommitProxies.{parts_in, verdict_fault, with_verdict, decide_fault, outcomes_in};
     ghost use Rattle.fdb_proxy.specs.CommitProxies.{deciding, messages_fault, messages_of, logged_fault, with_logged};
     ghost use Rattle.fdb_proxy.specs.CommitProxies.{all_logged_fault, done_fault, answers_in, finishing};
+    ghost use Rattle.fdb_proxy.specs.Logging.{messages_by};
+    ghost use Rattle.fdb_proxy.specs.declared.stage.Stage.TheVariants as Stage;
 
     /// The commit proxy with the number, of so many roles as the configuration says. Nobody waits there yet. Refused as
     /// `BadConfig` where the configuration isn't legal and where it has no proxy with the number, and as `NoMemory`.
@@ -230,8 +232,30 @@ impl CommitCore {
                 Ok(())
             }
             Err(why) => {
-                self.stage.enter(Stage::Entered);
-                self.is_failed = true;
+                self.lose_ticket();
+                Err(why)
+            }
+        }
+    }
+
+    /// Learns the ticket of the batch, as `learn` does, and answers what each resolver is asked about it, as `parts`
+    /// does then: one part for each of them in order. Refused as `learn` is. Where memory runs out, also for the parts,
+    /// the proxy has failed just as after `learn`. It takes the time of `learn`, and O(n) for the parts' n items, with
+    /// their ranges.
+    pub fn learn_with_parts(&mut self, ticket: &Ticket) -> Result<Items<Part>, Refusal>
+        requires { IsTicketFor self.old.proxy ticket.now }
+        ensures answers { Answers result (learn_fault self.old.proxy ticket.now)
+            (λ parts. HasLearntTicket self.old.proxy ticket.now self.new.proxy
+            × (parts ≡ parts_in self.new.proxy.stage)) }
+        ensures refused { IsSome (learn_fault self.old.proxy ticket.now) → self.new.proxy ≡ self.old.proxy }
+        ensures failed { IsNone (learn_fault self.old.proxy ticket.now)
+            → OnErr result (HasFailed self.old.proxy ticket.now self.new.proxy) }
+    {
+        self.learn(ticket)?;
+        match self.parts() {
+            Ok(parts) => Ok(parts),
+            Err(why) => {
+                self.lose_ticket();
                 Err(why)
             }
         }
@@ -274,24 +298,25 @@ impl CommitCore {
             (outcomes ≡ outcomes_in self.old.proxy) × (self.new.proxy ≡ deciding self.old.proxy)) }
         ensures refused { OnErr result (self.new ≡ self.old) }
     {
-        self.check_works()?;
-        let Stage::Resolving(batch) = &self.stage else {
-            return Err(Refusal::WrongState);
-        };
-        if let Some(missing) = batch.first_missing() {
-            return Err(Refusal::NotYet(missing as u64));
-        }
-        let places = self.requests.batch();
-        let outcomes = batch.outcomes(self.alloc, places.len())?;
-        let decided = Logging::new(
-            self.alloc,
-            batch.position,
-            places,
-            outcomes.as_slice(),
-            self.logs,
-        )?;
+        let (outcomes, decided) = self.decided()?;
         self.stage.enter(Stage::Logging(decided));
         Ok(outcomes)
+    }
+
+    /// Decides the batch, as `decide` does, and answers with what becomes of each place the message of the batch for
+    /// each log, as `messages` does then. Refused as `decide` is, also where memory runs out for the messages. Then
+    /// nothing changes. It takes O(n) time for the n places, verdicts and mutations of the batch, times the number of
+    /// logs for the mutations.
+    pub fn decide_with_messages(&mut self) -> Result<(Items<Outcome>, Items<LogMsg>), Refusal>
+        ensures answers { Answers result (decide_fault self.old.proxy) (λ given.
+            (given.0 ≡ outcomes_in self.old.proxy) × (self.new.proxy ≡ deciding self.old.proxy)
+            × (given.1 ≡ messages_of self.new.proxy)) }
+        ensures refused { OnErr result (self.new ≡ self.old) }
+    {
+        let (outcomes, decided) = self.decided()?;
+        let messages = self.messages_by(&decided)?;
+        self.stage.enter(Stage::Logging(decided));
+        Ok((outcomes, messages))
     }
 
     /// The message of the batch for each log: the mutations of the places that commit of which the log keeps a tag, by
@@ -304,9 +329,7 @@ impl CommitCore {
         let Stage::Logging(decided) = &self.stage else {
             return Err(Refusal::WrongState);
         };
-        let batch = self.requests.batch();
-        let messages = decided.messages(self.alloc, &self.shards, self.logs, batch)?;
-        Ok(messages)
+        self.messages_by(decided)
     }
 
     /// Takes a log's acknowledgement. It takes no memory. Refused as `Failed`; as `Stale` unless the batch waits for
@@ -354,6 +377,50 @@ impl CommitCore {
         self.requests.finish();
         let stage = mem::replace(&mut self.stage, Stage::Idle);
         Ok(stage.into_answers(self.alloc))
+    }
+
+    // The batch has an entry, but its ticket wasn't learnt: the proxy has failed.
+    fn lose_ticket(&mut self)
+        ensures { self.new.proxy ≡ record self.old.proxy { stage = Stage.Entered; is_failed = true } }
+    {
+        self.stage.enter(Stage::Entered);
+        self.is_failed = true;
+    }
+
+    // What becomes of each place, and the batch once it is decided.
+    fn decided(&self) -> Result<(Items<Outcome>, Logging), Refusal>
+        ensures answers { Answers result (decide_fault self.now.proxy) (λ given.
+            (given.0 ≡ outcomes_in self.now.proxy)
+            × (deciding self.now.proxy ≡ record self.now.proxy { stage = Stage.Logging given.1 })) }
+        ensures each { IfOk result (λ given. length self.now.proxy.batch ≡ length given.1.answers) }
+    {
+        self.check_works()?;
+        let Stage::Resolving(batch) = &self.stage else {
+            return Err(Refusal::WrongState);
+        };
+        if let Some(missing) = batch.first_missing() {
+            return Err(Refusal::NotYet(missing as u64));
+        }
+        let places = self.requests.batch();
+        let outcomes = batch.outcomes(self.alloc, places.len())?;
+        let decided = Logging::new(
+            self.alloc,
+            batch.position,
+            places,
+            outcomes.as_slice(),
+            self.logs,
+        )?;
+        Ok((outcomes, decided))
+    }
+
+    // The message for each log of the batch that is decided so.
+    fn messages_by(&self, decided: &Logging) -> Result<Items<LogMsg>, Refusal>
+        requires { length self.now.proxy.batch ≡ length decided.now.answers }
+        ensures { Answers result None (λ messages. messages
+            ≡ messages_by self.now.proxy.shard_splits self.now.proxy.logs self.now.proxy.batch decided.now) }
+    {
+        let batch = self.requests.batch();
+        decided.messages(self.alloc, &self.shards, self.logs, batch)
     }
 
     fn check_works(&self) -> Result<(), Refusal>

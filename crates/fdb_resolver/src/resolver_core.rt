@@ -95,6 +95,14 @@ impl ResolverCore {
         }
     }
 
+    /// Whether memory ran out in `take`: then every part is refused as `Failed`, but one of another resolver. It takes no
+    /// memory, and O(1) time.
+    pub fn is_failed(&self) -> bool
+        ensures { result ≡ self.now.is_failed }
+    {
+        self.is_failed
+    }
+
     fn check(&self, part: &Part) -> Result<(), Refusal>
         ensures { AnswersExactly result (part_fault self.now part.now) (λ _. ⊤) }
     {
