@@ -143,8 +143,5 @@ fn check<R: Clock>(
 
 // What the check finds of all transcripts that the world acknowledged, beside its book.
 fn compare(alloc: Global, world: &World) -> Result<u64, CheckFault> {
-    match world.config() {
-        Some(config) => serial_check(alloc, config, world.book(), world.acknowledged()),
-        None => Err(CheckFault::NoMemory),
-    }
+    serial_check(alloc, world.config(), world.book(), world.acknowledged())
 }

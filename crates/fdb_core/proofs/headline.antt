@@ -1,6 +1,8 @@
 pub mod AnswerExamplesLemmas
 pub mod CommittedLaws
 pub mod ExamplesLemmas
+pub mod FailureExamplesLemmas
+pub mod FailureLemmas
 pub mod FrontLaws
 pub mod HeadlineLaws
 pub mod MoveExamplesLemmas

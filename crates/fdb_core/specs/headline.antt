@@ -4,6 +4,7 @@ pub mod Books
 pub mod Committed
 pub mod Due
 pub mod Examples
+pub mod FailureExamples
 pub mod Fronts
 pub mod Headline
 pub mod MoveExamples

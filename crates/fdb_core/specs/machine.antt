@@ -1,10 +1,9 @@
 pub mod ClientSteps
 pub mod CommitProxySteps
 pub mod GrvProxySteps
+pub mod Failures
 pub mod InFlight
-pub mod Lent
 pub mod Machine
-pub mod Opened
 pub mod RoleSteps
 pub mod Roles
 pub mod SequencerSteps

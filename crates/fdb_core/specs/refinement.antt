@@ -1,6 +1,8 @@
 pub mod Cluster
+pub mod Restoring
 pub mod Starts
 pub mod Steps
+pub mod Systems
 pub mod Views
 pub mod client
 pub mod commit_proxy

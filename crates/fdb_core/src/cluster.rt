@@ -1,8 +1,9 @@
 // The parts of a world: the machine's bookkeeping, and what the roles keep for themselves.
 ghost use Rattle.std.specs.Prelude.{◌≡◌, suc, [], length, replicate, None, IfOk};
 ghost use Rattle.fdb_keys.specs.Answers.{Answers};
-ghost use Rattle.fdb_core.specs.machine.Worlds.{start};
-ghost use Rattle.fdb_core.specs.refinement.Cluster.{machine_of, Refines};
+ghost use Rattle.fdb_core.specs.machine.Worlds.{first_state};
+ghost use Rattle.fdb_core.specs.refinement.Restoring.{Tied};
+ghost use Rattle.fdb_core.specs.refinement.Systems.{state_of};
 ghost use Rattle.fdb_core.specs.refinement.commit_proxy.Ties.{IsNewCommitProxy};
 ghost use Rattle.fdb_core.specs.refinement.log.Ties.{Each};
 ghost use Rattle.fdb_core.specs.refinement.Starts.{AreNewLogs, AreNewShards, IsNewResolver};
@@ -55,8 +56,8 @@ impl Cluster {
     pub(crate) fn new(alloc: Global, config: Config, shard_map: ShardMap) -> Result<Self, Refusal>
         requires served { config_fault config ≡ None }
         requires shard_map { shard_map ≡ config.shard_splits }
-        ensures machine { Answers result None (λ cluster. machine_of cluster ≡ start config) }
-        ensures refines { IfOk result Refines }
+        ensures state { Answers result None (λ cluster. state_of cluster ≡ first_state config) }
+        ensures tied { IfOk result Tied }
     {
         let (sequencer, resolvers) = new_sequencer_and_resolvers(alloc, &config)?;
         let (logs, shards) = new_logs_and_shards(alloc, &config, &shard_map)?;

@@ -20,6 +20,8 @@ ghost use Rattle.fdb_core.specs.headline.Examples.{OnlyTheFirstIsSerialized, Rea
 ghost use Rattle.fdb_core.specs.headline.Examples.{AnEmptyShardDoesNotServe, OnlyOrdinaryReadsCount, BegunByServing};
 ghost use Rattle.fdb_core.specs.headline.Examples.{ForgetfulRolesDoNotKeep, ReadOffTheTrace, Traced};
 ghost use Rattle.fdb_core.specs.headline.Examples.{ShardsGoOnAndForget, EachServedVersionCounts};
+ghost use Rattle.fdb_core.specs.headline.FailureExamples.{FailedRolesRefuse, ReadsAskTheirShards};
+ghost use Rattle.fdb_core.specs.headline.FailureExamples.{ReadersUseNoProxy, TheStepsOwnRoleFails};
 ghost use Rattle.fdb_core.specs.headline.Due.{WhatIsDueIsAccepted, DecisionsWait};
 ghost use Rattle.fdb_core.specs.headline.ReadingExamples.{EachOperationIsNoted, ReadAtTwoProxies, ReadOffTheRoles};
 ghost use Rattle.fdb_core.specs.headline.ScriptExamples.{WorkedScriptsAreTraces};
@@ -107,11 +109,11 @@ pub fn who_begins_after_an_acknowledgement_is_ordered_after_it()
     ensures { RealTime }
 {}
 
-/// Over every trace whose world hasn't failed the steps that deliver and take messages are accepted where they are
-/// due, and no others, as what accepted steps are answered says: a resolver takes the next entry of the book, and a log
-/// the next decided one; what one of them says of an entry that it took reaches the proxy that waits for it, once; and
-/// a proxy decides where the verdicts came of each resolver that is asked. Else it is told to wait for the least
-/// resolver of which they are missing.
+/// After every trace the steps that deliver and take messages are accepted where they are due, unless memory runs out in
+/// them or they use a role that has failed, and no others, as what accepted steps are answered says: a resolver takes the
+/// next entry of the book, and a log the next decided one; what one of them says of an entry that it took reaches the
+/// proxy that waits for it, once; and a proxy decides where the verdicts came of each resolver that is asked. Else it
+/// is told to wait for the least resolver of which they are missing.
 pub fn steps_of_roles_are_accepted_where_they_are_due()
     ensures due { WhatIsDueIsAccepted }
     ensures waits { DecisionsWait }
@@ -120,8 +122,9 @@ pub fn steps_of_roles_are_accepted_where_they_are_due()
 /// What the headline says of small worlds: which transactions are serialized at which spots and which aren't, who is
 /// ordered after a version, what an empty shard would have to answer, which reads count, who has begun, what a role
 /// that forgets would have to keep, what is read off steps of every kind and of a trace with a conflict, which answers
-/// a trace has, what a shard of two pulls, forgets and pops and at which versions it answers from the run, and who is
-/// asked where keys go over from one resolver to another.
+/// a trace has, what a shard of two pulls, forgets and pops and at which versions it answers from the run, who is asked
+/// where keys go over from one resolver to another, which steps are refused where a role has failed, and which roles
+/// may fail in a step in which memory runs out.
 pub fn worked_examples()
     ensures spots { OnlyTheFirstIsSerialized }
     ensures read_only { ReadOnlyAtItsVersion }
@@ -147,6 +150,10 @@ pub fn worked_examples()
     ensures messages { EarlyMessagesAreNoAnswers }
     ensures outcomes { OtherOutcomesAreNoAnswers }
     ensures due { MessagesAreDue }
+    ensures refused { FailedRolesRefuse }
+    ensures asked { ReadsAskTheirShards }
+    ensures readers { ReadersUseNoProxy }
+    ensures own { TheStepsOwnRoleFails }
 {}
 
 /// Over every trace the entries are a book: their versions rise, and each previous version is that of the entry before;

@@ -8,8 +8,9 @@ mod sequencer;
 mod shard;
 
 ghost use Rattle.fdb_core.specs.invariant.Invariant.{Invariant};
-ghost use Rattle.fdb_core.specs.refinement.Cluster.{machine_of, Refines};
-ghost use Rattle.fdb_core.specs.refinement.Steps.{TakesStep};
+ghost use Rattle.fdb_core.specs.refinement.Cluster.{machine_of};
+ghost use Rattle.fdb_core.specs.refinement.Restoring.{Tied};
+ghost use Rattle.fdb_core.specs.refinement.Steps.{Takes};
 
 use crate::cluster::Cluster;
 use crate::roles::client::read::Read;
@@ -19,9 +20,9 @@ use fdb_keys::Refusal;
 impl Cluster {
     /// Takes the step.
     pub(crate) fn step(&mut self, step: &Step) -> Result<Answered, Refusal>
-        requires refines { Refines self.old }
+        requires tied { Tied self.old }
         requires named { Invariant (machine_of self.old) }
-        ensures { TakesStep self.old step.now result self.new }
+        ensures { Takes self.old step.now result self.new }
     {
         match step {
             Step::Ask { session, proxy } => self.ask(*session, *proxy),

@@ -1,7 +1,3 @@
-ghost use Rattle.std.specs.Prelude.{◌≡◌};
-ghost use Rattle.fdb_core.specs.machine.Steps.{ran_out as has_run_out};
-ghost use Rattle.fdb_core.specs.machine.Worlds.{fails_world as has_failed_world, leaves_world as is_left};
-
 use crate::check::serial::check_all;
 use crate::cluster::Cluster;
 use crate::in_flight::InFlight;
@@ -30,14 +26,14 @@ pub enum CheckFault {
 #[derive(Drop)]
 pub struct World {
     cluster: Cluster,
-    // Memory ran out in a step that may have changed only a part of what it was to change.
-    failed: bool,
 }
 
 impl Model for World {
-    ghost use Rattle.std.specs.Prelude.{◌≡◌, false, None};
+    ghost use Rattle.std.specs.Prelude.{◌≡◌, None};
     ghost use Rattle.fdb_proxy.specs.Configs.{config_fault};
-    ghost use Rattle.fdb_core.specs.refinement.Cluster.{machine_of, system_of, Refines};
+    ghost use Rattle.fdb_core.specs.refinement.Cluster.{machine_of};
+    ghost use Rattle.fdb_core.specs.refinement.Restoring.{Tied};
+    ghost use Rattle.fdb_core.specs.refinement.Systems.{system_of};
     ghost use Rattle.fdb_core.specs.headline.Serving.{System};
     ghost use Rattle.fdb_core.specs.invariant.Invariant.{Invariant};
     ghost use Rattle.std.specs.Coded.{codes};
@@ -47,15 +43,14 @@ impl Model for World {
 
     ghost coded = { Prim.hlevel (codes, sessions.the_row.coded) };
 
-    ghost view = { λ world. system_of world.failed world.cluster };
+    ghost view = { λ world. system_of world.cluster };
 
-    ghost invariant = { λ world. world.failed ≡ false
-        → Refines world.cluster × Invariant (machine_of world.cluster) × (config_fault world.cluster.config ≡ None) };
+    ghost invariant = { λ world.
+        Tied world.cluster × Invariant (machine_of world.cluster) × (config_fault world.cluster.config ≡ None) };
 }
 
 impl World {
-    ghost use Rattle.std.specs.Prelude.{◌≡◌, suc, List, [], ◌∷◌, ◌++◌, length, None, Some, IfSome, Result, IfOk};
-    ghost use Rattle.std.specs.Prelude.{MatchResult};
+    ghost use Rattle.std.specs.Prelude.{◌≡◌, suc, List, [], ◌∷◌, ◌++◌, length, None, Result, IfOk, MatchResult};
     ghost use Rattle.std.specs.List.{AllByRecursion};
     ghost use Rattle.fdb_keys.specs.Answers.{Answers};
     ghost use Rattle.fdb_keys.specs.declared.refusal.Refusal.{Refusal};
@@ -63,49 +58,45 @@ impl World {
     ghost use Rattle.fdb_core.specs.declared.step.Answered.{Answered};
     ghost use Rattle.fdb_core.specs.declared.step.Step.{Step};
     ghost use Rattle.std.specs.Option.{option_copied};
-    ghost use Rattle.fdb_txn.specs.book.History.{AreEntries, IsBook, IsSealed};
-    ghost use Rattle.fdb_core.specs.check.Checking.{FindsSerialized};
+    ghost use Rattle.fdb_txn.specs.book.History.{IsBook, IsSealed};
     ghost use Rattle.fdb_core.specs.machine.InFlight.{in_flight};
-    ghost use Rattle.fdb_core.specs.machine.Lent.{has_failed, config_in, book_in, acknowledged_in};
-    ghost use Rattle.fdb_core.specs.machine.Opened.{open_in};
+    ghost use Rattle.fdb_core.specs.machine.Sessions.{open_at};
     ghost use Rattle.fdb_core.specs.headline.Headline.{IsStrictlySerializable};
     ghost use Rattle.fdb_core.specs.headline.Serving.{RolesKeep};
     ghost use Rattle.fdb_core.specs.headline.Traces.{IsTraceOf};
     ghost use Rattle.fdb_proxy.specs.Configs.{config_fault};
-    ghost use Rattle.fdb_core.specs.machine.Worlds.{start, IsStep};
+    ghost use Rattle.fdb_core.specs.machine.Worlds.{first_state, IsStep};
 
     /// The world before its first step.
     ///
     /// Refused as `BadConfig` unless there are 1 to 16 proxies of each kind, 1 to 16 logs, 1 to 64 resolvers, 1 to 64
     /// shards and a book of 1 to 1,048,576 entries; splits are keys that rise, none of them empty; and as `NoMemory`.
     pub fn new(alloc: Global, config: Config) -> Result<Self, Refusal>
-        ensures started { Answers result (config_fault config) (λ world. world.machine ≡ Some (start config)) }
+        ensures started { Answers result (config_fault config) (λ world. world.state ≡ first_state config) }
         ensures roles { IfOk result RolesKeep }
     {
         config.check()?;
         let shard_map = ShardMap::new(alloc, config.shard_splits.as_slice())?;
         let cluster = Cluster::new(alloc, config, shard_map)?;
-        Ok(World {
-            cluster,
-            failed: false,
-        })
+        Ok(World { cluster })
     }
 
-    /// Takes one step, and answers what the machine answers. A refused step changes nothing. Where memory
-    /// runs out in the step, the answer is `NoMemory`: after a step of a client or of a read-version proxy, a report, a
-    /// move, or one in which a shard forgets or has its log drop messages, the world is as before; after any other one
-    /// the world has failed, and every later step is refused as `Failed`.
+    /// Takes one step, and answers what the machine answers. A refused step changes nothing. One that uses a role which
+    /// has failed is refused as `Failed`, unless it names something that isn't there, which is `Unknown`. Where memory
+    /// runs out in the step, the answer is `NoMemory`: then the world is as before, or the role that takes the step has
+    /// failed besides, the commit proxy that seals (and then no entry was added), the resolver or the log that takes an
+    /// entry, or the shard that pulls. No other step has a role fail, and all other roles go on.
     ///
     /// Where the world stands for a trace, it then stands for that trace with this step and its answer. Each
     /// transaction that the trace acknowledged is serialized at its spot: it is committed there, and each of its
     /// ordinary reads was answered as when the committed transactions run one at a time from the empty map, by
     /// commit version and place in the batch. It is ordered after all that were acknowledged before it began. And
-    /// every shard answers, at each version that it serves, from the serial map.
+    /// every shard that hasn't failed answers, at each version that it serves, from the serial map.
     pub fn step(&mut self, step: Step) -> Result<Answered, Refusal>
-        ensures step { IsStep self.old.machine step result self.new.machine }
+        ensures step { IsStep self.old.state step result self.new.state }
         ensures roles { RolesKeep self.new }
         ensures headline { (config : Config) (steps : List Step) (answers : List (Result Answered Refusal))
-            → IsTraceOf config steps answers self.old.machine
+            → IsTraceOf config steps answers self.old.state
             → IsStrictlySerializable config (steps ++ step ∷ []) (answers ++ result ∷ []) self.new }
     {
         let answer = self.take(&step);
@@ -114,128 +105,60 @@ impl World {
     }
 
     pub(crate) fn take(&mut self, step: &Step) -> Result<Answered, Refusal>
-        ensures step { IsStep self.old.machine step.now result self.new.machine }
+        ensures step { IsStep self.old.state step.now result self.new.state }
         ensures roles { RolesKeep self.new }
     {
-        if self.failed {
-            return Err(Refusal::Failed);
-        }
-        let answer = self.cluster.step(step);
-        self.failed = fails_world(step, &answer);
-        answer
-    }
-
-    /// Whether the world has failed, since memory ran out in a step that doesn't leave it as before then. From then on
-    /// every step is refused as `Failed`, and the world lends nothing.
-    pub fn has_failed(&self) -> bool
-        ensures { result ≡ has_failed self.now.machine }
-    {
-        self.failed
+        self.cluster.step(step)
     }
 
     /// The batch that the commit proxy of this number has in flight, with the number of resolvers and of logs.
-    /// It takes no memory. Refused as `Failed` once the world has failed, else as `Unknown` where no proxy
-    /// has the number, and else as `WrongState` where it has no batch in flight.
+    /// It takes no memory. Refused as `Unknown` where no proxy has the number, as `Failed` where the proxy has failed,
+    /// and as `WrongState` where it has no batch in flight.
     pub fn in_flight(&self, proxy: u32) -> Result<InFlight, Refusal>
-        ensures { result ≡ in_flight self.now.machine proxy }
+        ensures { result ≡ in_flight self.now.state proxy }
     {
-        if !self.failed {
-            return self.cluster.in_flight(proxy);
-        }
-        Err(Refusal::Failed)
+        self.cluster.in_flight(proxy)
     }
 
-    /// The session's open transaction. There is none where the session has no open transaction, and once the world has
-    /// failed.
+    /// The session's open transaction. There is none where the session has no open transaction.
     pub fn txn(&self, session: u32) -> Option<&Txn>
-        ensures { option_copied result ≡ open_in self.now.machine session }
+        ensures { option_copied result ≡ open_at self.now.state.machine.sessions session }
     {
-        if self.failed {
-            return None;
-        }
         self.cluster.sessions.open(session)
     }
 
-    /// The configuration of the world. There is none once the world has failed.
-    pub fn config(&self) -> Option<&Config>
-        ensures lent { option_copied result ≡ config_in self.now.machine }
-        ensures legal { IfSome result (λ config. config_fault config.now ≡ None) }
+    /// The configuration of the world.
+    pub fn config(&self) -> &Config
+        ensures lent { result.now ≡ self.now.state.machine.config }
+        ensures legal { config_fault result.now ≡ None }
     {
-        if self.failed {
-            return None;
-        }
-        Some(&self.cluster.config)
+        &self.cluster.config
     }
 
-    /// The entries of the book, the first one first; none once the world has failed. With the world's configuration
-    /// they meet the conditions of `serial_check`.
+    /// The entries of the book, the first one first. With the world's configuration they meet the conditions of
+    /// `serial_check`.
     pub fn book(&self) -> &[Entry]
-        ensures lent { result.now ≡ book_in self.now.machine }
-        ensures is_book { (config : Config) → config_in self.now.machine ≡ Some config
-            → IsBook (suc (length config.resolver_splits)) result.now }
+        ensures lent { result.now ≡ self.now.state.machine.book }
+        ensures is_book { IsBook (suc (length self.now.state.machine.config.resolver_splits)) result.now }
         ensures each_sealed { AllByRecursion IsSealed result.now }
     {
-        if self.failed {
-            return &[];
-        }
         self.cluster.book.as_slice()
     }
 
-    /// The acknowledged transactions, in the order in which their clients were told; none once the world has failed.
+    /// The acknowledged transactions, in the order in which their clients were told.
     pub fn acknowledged(&self) -> &[Placed]
-        ensures { result.now ≡ acknowledged_in self.now.machine }
+        ensures { result.now ≡ self.now.state.machine.acknowledged }
     {
-        if self.failed {
-            return &[];
-        }
         self.cluster.acknowledged.as_slice()
     }
 
-    /// Compares the ordinary replies of every acknowledged transaction, and the shard at its version, with
-    /// the run of one transaction at a time. Answers the number of acknowledged transactions, or a fault
-    /// that names what differs. As long as the world hasn't failed nothing differs, and the check
-    /// fails only where it lacks memory itself. After that, transactions alone are compared, with the entries that
-    /// there are; where these are a book's, the fault is the first transaction in the order of spots that is answered
-    /// otherwise.
+    /// Compares the ordinary replies of every acknowledged transaction, and each shard that hasn't failed at its
+    /// version, with the run of one transaction at a time. Answers the number of acknowledged transactions. Nothing
+    /// differs, whatever roles have failed, so the check fails only where it lacks memory itself.
     pub fn check(&self) -> Result<u64, CheckFault>
-        ensures sound { IfSome self.now.machine
-            (λ machine. MatchResult result (λ count. count ≡ length machine.acknowledged)
-            (λ fault. fault ≡ CheckFault.NoMemory)) }
-        ensures failed { let history = self.now.history in let splits = history.config.resolver_splits in
-            self.now.machine ≡ None → AreEntries (suc (length splits)) 0 history.book
-            → FindsSerialized result splits history.book history.acknowledged }
+        ensures { MatchResult result (λ count. count ≡ length self.now.state.machine.acknowledged)
+            (λ fault. fault ≡ CheckFault.NoMemory) }
     {
-        check_all(&self.cluster, !self.failed)
+        check_all(&self.cluster)
     }
-}
-
-// Memory ran out in the step, and steps of its kind don't leave the world as before then.
-fn fails_world(step: &Step, answer: &Result<Answered, Refusal>) -> bool
-    ensures { result ≡ has_failed_world step.now answer.now }
-{
-    ran_out(answer) && !leaves_world(step)
-}
-
-// Whether steps of this kind leave the world as before where memory runs out in them.
-fn leaves_world(step: &Step) -> bool
-    ensures { result ≡ is_left step.now }
-{
-    !matches!(
-        step,
-        Step::Seal { .. }
-            | Step::Resolve { .. }
-            | Step::Verdict { .. }
-            | Step::Decide { .. }
-            | Step::Push { .. }
-            | Step::Logged { .. }
-            | Step::Answer { .. }
-            | Step::Pull { .. }
-    )
-}
-
-// Memory ran out in the step.
-fn ran_out(answer: &Result<Answered, Refusal>) -> bool
-    ensures { result ≡ has_run_out answer.now }
-{
-    matches!(answer, Err(Refusal::NoMemory))
 }

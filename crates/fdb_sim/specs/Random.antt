@@ -6,22 +6,11 @@ use Rattle.serde_json.specs.Data.{Members, boolean, number, unsigned, string, ob
 use Rattle.serde_json.specs.Written.{compact_text}
 use Rattle.fdb_keys.specs.declared.refusal.Refusal.{Refusal}
 use Rattle.fdb_keys.specs.declared.refusal.Refusal.TheVariants.{NoMemory}
-use Rattle.fdb_core.specs.declared.step.Answered.{Answered}
-use Rattle.fdb_core.specs.machine.Machine.{Machine}
 use Rattle.fdb_sim.specs.play.Scripts.{printed_line, refused_line}
 use Rattle.fdb_sim.specs.declared.random.ended.Ended.{Ended}
 use Rattle.fdb_sim.specs.declared.random.ended.Ended.TheVariants.{Io, Refused}
 use Rattle.fdb_sim.specs.declared.random.report.Report.{Report}
 use Rattle.fdb_sim.specs.declared.random.tally.Tally.{Tally}
-
--- memory didn't run out in a step of the world
-abbrev pub Works : Option Machine → Type 0
-Works None = ⊥
-Works (Some machine) = ⊤
-
--- it doesn't in this step either, unless that is what is answered
-abbrev pub GoesOn : Option Machine → Result Answered Refusal → Option Machine → Type 0
-GoesOn old result new = Works old → (result ≡ Err NoMemory → ⊥) → Works new
 
 -- whether the check found no difference, where it then says how many transactions it compared
 abbrev pub has_held : Option ℕ → Bool

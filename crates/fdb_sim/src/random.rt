@@ -1,7 +1,7 @@
 //! Steps that are drawn from a seed, and taken by a world of two proxies of each kind, two resolvers, two logs and two
 //! shards.
 ghost use Rattle.std.specs.Prelude.{◌≡◌, ◌≤◌, ◌⊎◌, ℕ, Some, IfOk, IfErr, OnOk};
-ghost use Rattle.fdb_sim.specs.Random.{EndsWith, IsEnded, IsReportOf, ReportPrints, RunPrints, Works};
+ghost use Rattle.fdb_sim.specs.Random.{EndsWith, IsEnded, IsReportOf, ReportPrints, RunPrints};
 ghost use Rattle.fdb_sim.specs.Streams.{IsStreamError};
 ghost use Rattle.fdb_sim.specs.declared.random.ended.Ended.TheVariants.{Io};
 ghost use Rattle.fdb_sim.specs.play.Scripts.{Printed};
@@ -90,9 +90,7 @@ pub fn run_steps<W: Watch>(
     ran
 }
 
-fn new_world(alloc: Global) -> Result<World, Refusal>
-    ensures { IfOk result (λ world. Works world.machine) }
-{
+fn new_world(alloc: Global) -> Result<World, Refusal> {
     let config = config_of(alloc)?;
     World::new(alloc, config)
 }
@@ -124,7 +122,6 @@ fn run_in<W: Watch>(
     steps: u32,
     watch: &mut W,
 ) -> Result<(Tally, Report), Ended>
-    requires { Works world.old.machine }
     ensures report { IfOk result (λ ran. IsReportOf steps ran.0 ran.1) }
     ensures errors { IfErr result (EndsWith W.errors) }
 {
@@ -141,8 +138,6 @@ fn take_all<W: Watch>(
     steps: u32,
     watch: &mut W,
 ) -> Result<Tally, Ended>
-    requires { Works world.old.machine }
-    ensures works { OnOk result (Works world.new.machine) }
     ensures errors { IfErr result (EndsWith W.errors) }
 {
     let mut drawing = Drawing::new(seed);
@@ -160,10 +155,7 @@ fn take_one(
     alloc: Global,
     drawing: &mut Drawing,
     tally: &mut Tally,
-) -> Result<(), Refusal>
-    requires { Works world.old.machine }
-    ensures { OnOk result (Works world.new.machine) }
-{
+) -> Result<(), Refusal> {
     let act = drawing.draw(world);
     let answer = take(world, alloc, act);
     drawing.note(&answer);
@@ -180,7 +172,6 @@ fn take_one(
 // How many transactions were compared. There is no difference, as long as memory didn't run out. Fails only where it does
 // now.
 fn check(world: &World) -> Result<Option<u64>, Refusal>
-    requires { Works world.now.machine }
     ensures { IfOk result (λ checked. (count : ℕ) × (checked ≡ Some count)) }
 {
     match world.check() {

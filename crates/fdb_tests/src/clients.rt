@@ -102,6 +102,8 @@ enum Line {
     // Whether the own writes decide the key.
     Decides(Text),
     ReadVersion,
+    // Whether it writes nothing.
+    IsReadOnly,
 }
 
 // The one byte of a value, if there is one, the number that is asked for, 1 where something is done or holds, or the
@@ -208,6 +210,7 @@ fn answer(txn: &mut Txn, base: CutSnapshot<'_>, alloc: Global, line: Line) -> An
         Line::Ops => Ok(Some(txn.transcript().ops.len())),
         Line::Decides(key) => held(decides(txn, alloc, key)),
         Line::ReadVersion => Ok(Some(txn.read_version() as usize)),
+        Line::IsReadOnly => held(Ok(txn.is_read_only())),
     }
 }
 
@@ -445,6 +448,7 @@ static CASES: [Case; 21] = [
             (Line::AddWrite(b"a", b"a"), DONE),
             (Line::Reads(&[]), YES),
             (Line::Writes(&[]), YES),
+            (Line::IsReadOnly, YES),
         ],
         writes: &[],
         ended: READ_ONLY,
@@ -452,21 +456,27 @@ static CASES: [Case; 21] = [
     Case {
         what: "reads alone are finished",
         fault: None,
-        lines: &[(Line::Get(b"a", ORDINARY), Ok(Some(1)))],
+        lines: &[
+            (Line::Get(b"a", ORDINARY), Ok(Some(1))),
+            (Line::IsReadOnly, YES),
+        ],
         writes: &[],
         ended: READ_ONLY,
     },
     Case {
         what: "added writes are to commit",
         fault: FUTURE,
-        lines: &[(Line::AddWrite(b"a", b"c"), DONE)],
+        lines: &[(Line::AddWrite(b"a", b"c"), DONE), (Line::IsReadOnly, NO)],
         writes: &[(b"a", b"c")],
         ended: Ok(Some((true, 0, false))),
     },
     Case {
         what: "mutations are to commit",
         fault: FUTURE,
-        lines: &[(Line::Write(Change::Set(b"a", 1)), DONE)],
+        lines: &[
+            (Line::Write(Change::Set(b"a", 1)), DONE),
+            (Line::IsReadOnly, NO),
+        ],
         writes: &[(b"a", b"a\0")],
         ended: Ok(Some((true, 1, true))),
     },

@@ -6,8 +6,8 @@ use fdb_mutations::Mutation;
 use fdb_txn::TagMsg;
 use std::alloc::Global;
 
-// What the log answers to a message of entry 7 after the version before it.
-fn take(
+/// What the log answers to a message of entry 7 after the version before it.
+pub fn take(
     core: &mut LogCore,
     log: u32,
     version: u64,
@@ -44,10 +44,11 @@ fn add(body: &mut Items<Tagged>, sent: Result<Tagged, Refusal>) -> Result<(), Re
     }
 }
 
-// Clears by their places, keys and tags.
-type Clears = &'static [(u32, &'static [u8], &'static [u32])];
+/// Clears by their places, keys and tags.
+pub type Clears = &'static [(u32, &'static [u8], &'static [u32])];
 
-fn body_of(alloc: Global, clears: Clears) -> Result<Items<Tagged>, Refusal> {
+/// What a message sends.
+pub fn body_of(alloc: Global, clears: Clears) -> Result<Items<Tagged>, Refusal> {
     let mut body = Items::new(alloc);
     for (place, key, tags) in clears {
         add(&mut body, tagged(alloc, *place, key, tags))?;

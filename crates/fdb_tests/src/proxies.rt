@@ -1,5 +1,5 @@
 // Proxies with known answers.
-mod committing;
+pub mod committing;
 
 use crate::making::{code_of, count_config, keys_of, made_of, rising_keys, same, split_config};
 use fdb_keys::{Items, Key, Refusal};

@@ -9,12 +9,12 @@ use fdb_keys::{Items, RangeSet, Refusal};
 use fdb_resolver::{Item, Part, ResolverCore, Verdict};
 use std::alloc::Global;
 
-// A place: its read version, the key that it reads, if there is one, and the key that it writes.
-type Place = (u64, Option<&'static [u8]>, &'static [u8]);
+/// A place: its read version, the key that it reads, if there is one, and the key that it writes.
+pub type Place = (u64, Option<&'static [u8]>, &'static [u8]);
 
-// A part of the entry with index 7: the resolver, the version and the previous version, and the places. Then the
-// verdicts, and whether they are given, or the code of the refusal and the number that it names.
-type Row = (
+/// A part of the entry with index 7: the resolver, the version and the previous version, and the places. Then the
+/// verdicts, and whether they are given, or the code of the refusal and the number that it names.
+pub type Row = (
     u32,
     [u64; 2],
     &'static [Place],
@@ -141,7 +141,8 @@ fn items_of(alloc: Global, places: &[Place]) -> Result<Items<Item>, Refusal>
     Ok(items)
 }
 
-fn part(alloc: Global, row: &Row) -> Result<Part, Refusal>
+/// The part.
+pub fn part(alloc: Global, row: &Row) -> Result<Part, Refusal>
     ensures { IfOk result (λ part. IsPart part) }
 {
     let (resolver, [version, prev], places, _, _) = *row;

@@ -65,8 +65,8 @@ fn peek_with(alloc: Global, first: Body, second: Body) -> Result<Peek, Refusal>
     })
 }
 
-// The same of those two bodies.
-fn peek_of_two(alloc: Global) -> Result<Peek, Refusal>
+/// The same of those two bodies.
+pub fn peek_of_two(alloc: Global) -> Result<Peek, Refusal>
     ensures { IfOk result (λ peek. IsPeek peek) }
 {
     let first = first_body(alloc)?;
@@ -94,8 +94,8 @@ fn apply_none(shard: &mut Shard, alloc: Global, tag: u32, version: u64) -> Resul
     shard.apply(&empty_peek(alloc, tag, version))
 }
 
-// The shard of the keys from the begin up to the end, whose tag is 0.
-fn new_shard(alloc: Global, begin: &[u8], end: &[u8]) -> Result<Shard, Refusal> {
+/// The shard of the keys from the begin up to the end, whose tag is 0.
+pub fn new_shard(alloc: Global, begin: &[u8], end: &[u8]) -> Result<Shard, Refusal> {
     let range = KeyRange::new(alloc, begin, end)?;
     Ok(Shard::new(alloc, 0, range))
 }

@@ -55,16 +55,16 @@ module _ (splits : List Point) (book : List Entry) (entries : AreEntries (suc (l
   holds-there : (from : ℕ) (until : Option ℕ) (map : Map) → IsUntil book n until → from ≡ last_version (take n book)
       → map ≡ serial_map splits (seen_before book n).places → (role : ShardRole) → HasTheMapThere from until map role
       → is_between (last_version (take n book)) until role ≡ true → HoldsTheRun splits book role
-  holds-there from until map next is_last same role has between =
+  holds-there from until map next is_last same role has between works =
       subst (λ (m : Map). HasTheMap m role.core) (same ∙ sym (here until next role between))
-      (has (subst (λ (v : ℕ). is_between v until role ≡ true) (sym is_last) between))
+      (has works (subst (λ (v : ℕ). is_between v until role ≡ true) (sym is_last) between))
 
   there-holds : (from : ℕ) (until : Option ℕ) (map : Map) → IsUntil book n until → from ≡ last_version (take n book)
       → map ≡ serial_map splits (seen_before book n).places → (role : ShardRole) → HoldsTheRun splits book role
       → HasTheMapThere from until map role
-  there-holds from until map next is_last same role holds between =
+  there-holds from until map next is_last same role holds works between =
       subst (λ (m : Map). HasTheMap m role.core)
-      (here until next role (subst (λ (v : ℕ). is_between v until role ≡ true) is_last between) ∙ sym same) holds
+      (here until next role (subst (λ (v : ℕ). is_between v until role ≡ true) is_last between) ∙ sym same) (holds works)
 
   -- a fault that is found between two entries is one of the check
   pub stops-shards : (shards : List ShardRole) (from : ℕ) (until : Option ℕ) (map : Map) (fault : CheckFault)

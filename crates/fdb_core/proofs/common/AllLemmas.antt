@@ -32,6 +32,14 @@ module _ {A : Type 0} (P : A → Type 0) where
   all-take zero (y ∷ ys) all = tt
   all-take (suc n) (y ∷ ys) all = (all.0, all-take n ys all.1)
 
+  -- one more item of the front
+  pub all-next : (n : ℕ) (xs : List A) (x : A) → AllByRecursion P (take n xs) → slice_get xs n ≡ Some x → P x
+      → AllByRecursion P (take (suc n) xs)
+  all-next zero [] x all there here = tt
+  all-next (suc n) [] x all there here = tt
+  all-next zero (y ∷ ys) x all there here = let same : y ≡ x = cc in (subst P (sym same) here, tt)
+  all-next (suc n) (y ∷ ys) x all there here = (all.0, all-next n ys x all.1 there here)
+
 -- what holds of each item holds of each that is made of one
 pub all-map : {A B : Type 0} (P : A → Type 0) (Q : B → Type 0) (f : A → B) → ((x : A) → P x → Q (f x)) → (xs : List A)
     → AllByRecursion P xs → AllByRecursion Q (map f xs)

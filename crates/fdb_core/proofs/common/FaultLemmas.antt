@@ -1,6 +1,7 @@
 -- What follows from how a call answered.
-use Rattle.std.proofs.Common.{◌≡◌, refl, ap, subst, sym, Bool, true, false, Option, Some, None, Result, Ok, Err}
+use Rattle.std.proofs.Common.{◌≡◌, ◌⊎◌, inl, inr, refl, ap, subst, sym, Bool, true, false, Option, Some, None, Result, Ok, Err}
 use Rattle.std.specs.Prelude.{⊤}
+use Rattle.std.specs.Option.{IsNone, IsSome}
 use Rattle.fdb_keys.specs.Answers.{Answers, AnswersExactly}
 use Rattle.fdb_keys.specs.declared.refusal.Refusal.{Refusal}
 use Rattle.fdb_keys.specs.declared.refusal.Refusal.TheVariants.{NoMemory}
@@ -97,3 +98,9 @@ answers-by {T} result fault same P Q is follows answers = by_fault result same
     by_fault (Ok given) (Some why) answered next = answered
     by_fault (Err why) None answered next = answered
     by_fault (Err why) (Some other) answered next = answered
+
+-- a call that is refused leaves what it was called on as it was, or has failed, by whether it had a fault
+pub left-or-failed : {A : Type 0} (fault : Option Refusal) (old new : A) (HasFailed : Type 0)
+    → (IsSome fault → new ≡ old) → (IsNone fault → HasFailed) → (new ≡ old) ⊎ HasFailed
+left-or-failed None old new HasFailed refused failed = inr (failed refl)
+left-or-failed (Some why) old new HasFailed refused failed = inl (refused refl)

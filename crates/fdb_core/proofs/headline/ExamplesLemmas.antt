@@ -37,6 +37,7 @@ use Rattle.fdb_core.specs.headline.Serving.{ShardServes}
 use Rattle.fdb_core.specs.declared.roles.client.Placed.{Placed}
 use Rattle.fdb_core.specs.declared.step.Answered.TheVariants as answered
 use Rattle.fdb_core.specs.machine.GrvProxySteps.{asks, grants}
+use Rattle.fdb_core.specs.machine.Failures.{none_failed}
 use Rattle.fdb_core.specs.machine.Machine.{Transition}
 use Rattle.fdb_core.specs.machine.RoleSteps.{pulls, forgets, pops}
 use Rattle.fdb_core.specs.machine.Sessions.{Session}
@@ -137,7 +138,7 @@ forgetful_roles_do_not_keep = (
   (λ keeps.
       let part = (keeps.1 0 _ _ refl refl).each 0 empty_part refl in
       ⊎_elim (λ asked. cc (asked.1.2)) (λ unasked. let wrong : true ≡ false = unasked.0 in cc) part.items),
-  (λ keeps. let wrong : 0 ≡ 1 = ap sent_of (keeps.kept 0 refl) in omega (arith, wrong)),
+  (λ keeps. let wrong : 0 ≡ 1 = ap sent_of ((keeps refl).kept 0 refl) in omega (arith, wrong)),
 )
   where
     sent_of : List TagMsg → ℕ
@@ -188,7 +189,7 @@ after_a_version = (
 pub an_empty_shard_does_not_serve : AnEmptyShardDoesNotServe
 unfolding point_lt insertion.inserted
 an_empty_shard_does_not_serve serves =
-    let nothing = serves 100 (codes "a") (omega arith) (omega arith) refl in
+    let nothing = serves refl 100 (codes "a") (omega arith) (omega arith) refl in
     let something : get (effects empty (commit_request_of (reads_and_sets 0 None)).mutations) (codes "a") ≡ Some
     (codes "1") =
     get-effects empty (commit_request_of (reads_and_sets 0 None)).mutations (codes "a") in
@@ -216,7 +217,7 @@ each_served_version_counts = (cleared, still_serves)
       keys = [];
     }) → ⊥
     still_serves serves =
-        let nothing = serves 100 (codes "a") (omega arith) (omega arith) refl in
+        let nothing = serves refl 100 (codes "a") (omega arith) (omega arith) refl in
         let something : get sets (codes "a") ≡ Some (codes "1") =
         get-effects empty (commit_request_of (reads_and_sets 0 None)).mutations (codes "a") in
         let wrong : None ≡ Some (codes "1") = nothing ∙ something in cc
@@ -235,12 +236,13 @@ traced = (
     _,
     inl (
       sym (ap answer_of one-asks),
-      ap (λ (result : Result Transition Refusal). Some (after (start plain) result)) (sym one-asks),
+      ap (λ (result : Result Transition Refusal). record
+          { machine = after (start plain) result; failed = none_failed plain }) (sym one-asks),
     ),
     refl,
   ),
-  (λ world stands. ⊎_elim (λ went. let wrong = went.0 in cc) (λ failed. let wrong = failed.0 in cc) stands.1),
-  (λ world stands. ⊎_elim (λ went. let wrong = went.0 in cc) (λ failed. let wrong = failed.0 in cc) stands.1),
+  (λ world stands. ⊎_elim (λ went. let wrong = went.0 in cc) (λ lacked. let wrong = lacked.0 in cc) stands.1),
+  (λ world stands. ⊎_elim (λ went. let wrong = went.0 in cc) (λ lacked. let wrong = lacked.0 in cc) stands.1),
 )
 
 pub shards_go_on_and_forget : ShardsGoOnAndForget

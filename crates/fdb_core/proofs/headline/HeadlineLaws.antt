@@ -1,6 +1,5 @@
 -- A world that stands for a trace is strictly serializable.
-use Rattle.std.proofs.Common.{◌∙◌, sym, ap, subst, List, [], ◌∷◌, ◌++◌, Option, Some, None, Result}
-use Rattle.std.specs.Prelude.{IfSome}
+use Rattle.std.proofs.Common.{◌∙◌, sym, ap, subst, List, [], ◌∷◌, ◌++◌, Result}
 use Rattle.fdb_keys.specs.declared.refusal.Refusal.{Refusal}
 use Rattle.fdb_txn.specs.declared.entry.Entry.{Entry}
 use Rattle.fdb_proxy.specs.declared.config.Config.{Config}
@@ -13,7 +12,7 @@ use Rattle.fdb_core.specs.invariant.Invariant.{Invariant}
 use Rattle.fdb_core.specs.machine.Steps.{next, after}
 use Rattle.fdb_core.specs.headline.Serving.{System, AllServe, RolesKeep}
 use Rattle.fdb_core.specs.headline.Traces.{IsTraceOf}
-use Rattle.fdb_core.specs.machine.Worlds.{start, IsStep}
+use Rattle.fdb_core.specs.machine.Worlds.{first_state, IsStep}
 use Rattle.fdb_core.proofs.headline.RunsLemmas.{run-push}
 use Rattle.fdb_core.proofs.headline.TraceLaws.{traces_tell}
 use Rattle.fdb_core.proofs.invariant.SoundLaws.{sound_steps}
@@ -28,32 +27,32 @@ sound-after = kept-next Invariant sound_steps
 -- a world that stands for a trace, and whose roles keep what the book says, is strictly serializable
 pub strictly_serializable : (config : Config) (steps : List Step) (given : List (Result Answered Refusal))
     (system : System)
-    → IsTraceOf config steps given system.machine → RolesKeep system → IsStrictlySerializable config steps given system
+    → IsTraceOf config steps given system.state → RolesKeep system → IsStrictlySerializable config steps given system
 strictly_serializable config steps given system stands keep = record {
   is_trace_of = stands;
-  book = traces_tell_books config steps given system.machine stands;
-  serial = acknowledged_serialized config steps given system.machine stands;
-  real_time = real_time config steps given system.machine stands;
-  served = served system.machine stands keep;
+  book = traces_tell_books config steps given system.state stands;
+  serial = acknowledged_serialized config steps given system.state stands;
+  real_time = real_time config steps given system.state stands;
+  served = served;
 }
   where
-    served : (machine : Option Machine) → IsTraceOf config steps given machine
-        → RolesKeep (record system { machine = machine })
-        → IfSome machine (λ _. AllServe config (readings_of steps given).book system.shards)
-    served None stands keep = tt
-    served (Some m) stands keep =
-        let is = traces_tell config steps given m stands in
-        let told = trace-tells config steps given (Some m) stands in
+    m : Machine
+    m = system.state.machine
+
+    served : AllServe config (readings_of steps given).book system.shards
+    served =
+        let is = traces_tell config steps given system.state stands in
+        let told = trace-tells config steps given system.state stands in
         subst (λ (c : Config). AllServe c (readings_of steps given).book system.shards)
         (ap (λ (n : Machine). n.config) is ∙ config-kept config steps given)
         (subst (λ (book : List Entry). AllServe m.config book system.shards)
-        (ap (λ (n : Machine). n.book) is ∙ sym told.book_told) keep.6)
+        (ap (λ (n : Machine). n.book) is ∙ sym told.book_told) keep.7)
 
 -- where a world stands for a trace, it then stands for that trace with the next step and its answer
 pub serializable-step : (config : Config) (steps : List Step) (given : List (Result Answered Refusal))
     (old new : System) (taken : Step) (answer : Result Answered Refusal)
-    → IsStep old.machine taken answer new.machine → RolesKeep new → IsTraceOf config steps given old.machine
+    → IsStep old.state taken answer new.state → RolesKeep new → IsTraceOf config steps given old.state
     → IsStrictlySerializable config (steps ++ taken ∷ []) (given ++ answer ∷ []) new
 serializable-step config steps given old new taken answer stepped keep stands =
     strictly_serializable config (steps ++ taken ∷ []) (given ++ answer ∷ []) new
-    (run-push (Some (start config)) old.machine new.machine steps given taken answer stands stepped) keep
+    (run-push (first_state config) old.state new.state steps given taken answer stands stepped) keep

@@ -79,6 +79,6 @@ other_shards_are_elsewhere = (
     empty = λ v x. refl;
   }),
   (λ at. let wrong : 1 ≤ 0 = at.serving in omega (arith, wrong)),
-  (λ at. an_empty_shard_does_not_serve at.serves),
+  (λ at. an_empty_shard_does_not_serve (λ _. at.serves)),
   (λ at. let wrong : 0 ≡ 100 = at.version in omega (arith, wrong)),
 )

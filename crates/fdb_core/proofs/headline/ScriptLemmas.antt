@@ -43,7 +43,9 @@ use Rattle.fdb_core.specs.machine.Roles as roles
 use Rattle.fdb_core.specs.machine.Sessions.{Session, SessionState, Sessions, Idle, Asking, Open, Waiting, new_session}
 use Rattle.fdb_core.specs.machine.Sessions.{session_of, is_busy, has_used_up, begins_next, open_of, serve, tell_all}
 use Rattle.fdb_core.specs.machine.Steps.{next, answer_of, after}
-use Rattle.fdb_core.specs.machine.Worlds.{start, IsRun}
+use Rattle.fdb_core.specs.machine.Failures.{State, none_failed}
+use Rattle.fdb_core.proofs.headline.FailureLemmas.{none-taken}
+use Rattle.fdb_core.specs.machine.Worlds.{taken_of, start, IsRun}
 use Rattle.fdb_core.proofs.checking.ValueLemmas.{get-copy, value_after_op}
 use Rattle.fdb_core.proofs.machine.SessionMaps.{session-put, session-new}
 
@@ -469,25 +471,35 @@ after-is m step (Err why) answers = unchanged (next m step) answers
     unchanged (Ok transition) said = cc
     unchanged (Err refusal) said = refl
 
+-- the first state after which the machine is this one, where no role has failed
+abbrev at_start : Config → Machine → State
+at_start config m = record { machine = m; failed = none_failed config }
+
 -- where these agree, the list is a run
-follows : (known : Known) (m : Machine) (steps : List Step) (answers : List (Result Answered Refusal))
+follows : (config : Config) (known : Known) (m : Machine) (steps : List Step) (answers : List (Result Answered Refusal))
     → m.sessions ≡ sessions_of known → length steps ≡ length answers
     → shown known m steps answers ≡ listed known steps answers
-    → IsRun (Some m) steps answers (Some (after_steps m steps answers))
-follows known m [] [] has even agree = refl
-follows known m [] (answer ∷ answers) has even agree = absurd (omega (arith, even))
-follows known m (step ∷ steps) [] has even agree = absurd (omega (arith, even))
-follows known m (step ∷ steps) (answer ∷ answers) has even agree =
+    → IsRun (at_start config m) steps answers (at_start config (after_steps m steps answers))
+follows config known m [] [] has even agree = refl
+follows config known m [] (answer ∷ answers) has even agree = absurd (omega (arith, even))
+follows config known m (step ∷ steps) [] has even agree = absurd (omega (arith, even))
+follows config known m (step ∷ steps) (answer ∷ answers) has even agree =
     let taken : next m step ≡ next_by known m step = next-known known m step has in
     let later : Known = after_line known step answer in
     let result : Result Transition Refusal = next_by known m step in
     let firsts : (answer_of result, (after m result).sessions) ≡ (answer, sessions_of later) = heads agree in
-    let answered : answer_of (next m step) ≡ answer = ap answer_of taken ∙ ap (λ p. p.0) firsts in (
-      Some (after m result),
-      inl (sym answered, ap (λ (r : Result Transition Refusal). Some (after m r)) (sym taken)),
-      subst (λ (last : Machine). IsRun (Some (after m result)) steps answers (Some (after_steps last steps answers)))
+    let answered : answer_of (next m step) ≡ answer = ap answer_of taken ∙ ap (λ p. p.0) firsts in
+    let unused : taken_of (at_start config m) step ≡ next m step = none-taken config m step in (
+      at_start config (after m result),
+      inl (
+        sym answered ∙ ap answer_of (sym unused),
+        ap (λ (r : Result Transition Refusal). at_start config (after m r)) (sym (unused ∙ taken)),
+      ),
+      subst (λ (last : Machine). IsRun (at_start config (after m result)) steps answers
+          (at_start config (after_steps last steps answers)))
           (ap (after m) (sym taken) ∙ after-is m step answer answered)
-          (follows later (after m result) steps answers (ap (λ p. p.1) firsts) (omega (arith, even)) (tails agree)),
+          (follows config later (after m result) steps answers (ap (λ p. p.1) firsts) (omega (arith, even))
+          (tails agree)),
     )
   where
     heads : {A : Type 0} {x y : A} {xs ys : List A} → x ∷ xs ≡ y ∷ ys → x ≡ y
@@ -505,4 +517,4 @@ pub computes : (config : Config) (lines : List Line)
     → shown [] (start config) (steps_of lines) (answers_of lines) ≡ listed [] (steps_of lines) (answers_of lines)
     → IsScript config lines
 computes config lines agree =
-    follows [] (start config) (steps_of lines) (answers_of lines) refl (as_many lines) agree
+    follows config [] (start config) (steps_of lines) (answers_of lines) refl (as_many lines) agree

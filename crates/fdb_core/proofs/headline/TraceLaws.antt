@@ -1,14 +1,15 @@
 -- Traces: what every step keeps holds after any of them, and they tell the machine.
-use Rattle.std.proofs.Common.{◌≡◌, ◌∙◌, sym, ap, refl, ℕ, zero, suc, List, [], ◌∷◌, take, drop, Some, Result, Ok, Err}
+use Rattle.std.proofs.Common.{◌≡◌, ◌∙◌, sym, ap, refl, ℕ, zero, suc, List, [], ◌∷◌, take, drop, Result, Ok, Err}
 use Rattle.std.proofs.Common.{⊎_elim}
 use Rattle.fdb_keys.specs.declared.refusal.Refusal.{Refusal}
 use Rattle.fdb_core.specs.declared.step.Answered.{Answered}
 use Rattle.fdb_core.specs.declared.step.Step.{Step}
+use Rattle.fdb_core.specs.machine.Failures.{State}
 use Rattle.fdb_core.specs.machine.Machine.{Machine, Transition}
 use Rattle.fdb_core.specs.machine.Steps.{next, answer_of, after}
 use Rattle.fdb_core.specs.headline.Traces.{after_step, after_steps, TracesDetermineTheMachine}
-use Rattle.fdb_core.specs.machine.Worlds.{start, IsRun}
-use Rattle.fdb_core.proofs.headline.RunsLemmas.{run-next}
+use Rattle.fdb_core.specs.machine.Worlds.{first_state, IsRun}
+use Rattle.fdb_core.proofs.headline.RunsLemmas.{IsMachineStep, run-next}
 
 -- what every step keeps holds after any step with any answer
 kept-after_step : (P : Machine → Type 0) → ((m : Machine) (taken : Step) → P m → P (after m (next m taken)))
@@ -47,18 +48,22 @@ after_step-answered m taken (Ok transition) is = refl
 after_step-answered m taken (Err refusal) is = ap (after m) (sym is)
 
 -- a run leaves the machine to which its steps with their answers take it
-run-after_steps : (m new : Machine) (steps : List Step) (given : List (Result Answered Refusal))
-    → IsRun (Some m) steps given (Some new) → new ≡ after_steps m steps given
-run-after_steps m new [] [] ran = cc
-run-after_steps m new [] (answer ∷ given) ran = absurd ran
-run-after_steps m new (taken ∷ steps) [] ran = absurd ran
-run-after_steps m new (taken ∷ steps) (answer ∷ given) ran = ⊎_elim
-    (λ went. run-after_steps (after m (next m taken)) new steps given went.1
-    ∙ ap (λ (mid : Machine). after_steps mid steps given)
-    (sym (ap (after_step m taken) went.0 ∙ after_step-answered m taken (next m taken) refl)))
-    (λ left. run-after_steps m new steps given left.1
-    ∙ ap (λ (a : Result Answered Refusal). after_steps (after_step m taken a) steps given) (sym left.0))
-    (run-next m new taken answer steps given ran)
+run-after_steps : (old new : State) (steps : List Step) (given : List (Result Answered Refusal))
+    → IsRun old steps given new → new.machine ≡ after_steps old.machine steps given
+run-after_steps old new [] [] ran = ap (λ (state : State). state.machine) ran
+run-after_steps old new [] (answer ∷ given) ran = absurd ran
+run-after_steps old new (taken ∷ steps) [] ran = absurd ran
+run-after_steps old new (taken ∷ steps) (answer ∷ given) ran =
+    let first = run-next old new taken answer steps given ran in
+    run-after_steps first.0 new steps given first.2
+    ∙ ap (λ (m : Machine). after_steps m steps given) (one first.0.machine first.1)
+  where
+    one : (mid : Machine) → IsMachineStep old.machine taken answer mid → mid ≡ after_step old.machine taken answer
+    one mid step = ⊎_elim
+        (λ went. went.1 ∙ sym (ap (after_step old.machine taken) went.0
+        ∙ after_step-answered old.machine taken (next old.machine taken) refl))
+        (λ refused. refused.2 ∙ ap (after_step old.machine taken) (sym refused.1))
+        step
 
 pub traces_tell : TracesDetermineTheMachine
-traces_tell config steps given m stands = run-after_steps (start config) m steps given stands
+traces_tell config steps given world stands = run-after_steps (first_state config) world steps given stands

@@ -147,7 +147,7 @@ logged-start config = record {
 }
 
 pub acknowledged_are_logged : AcknowledgedAreLogged
-acknowledged_are_logged config steps answers m stands =
+acknowledged_are_logged config steps answers world stands =
     subst (λ (machine : Machine). AllByRecursion (λ (placed : Placed). IsTakenByAll machine.logs placed.spot)
-    machine.acknowledged) (sym (traces_tell config steps answers m stands))
+    machine.acknowledged) (sym (traces_tell config steps answers world stands))
     (kept-by_trace AreLogged logged_steps (start config) steps answers (logged-start config)).acknowledged

@@ -67,8 +67,8 @@ module _ (session : ℕ) where
       state = (session_of m.sessions session).state
 
 pub sessions_are_where_their_states_say : SessionsAreWhereTheirStatesSay
-sessions_are_where_their_states_say config steps given m trace session =
-    stands-there session m (subst (Stands session) (sym (traces_tell config steps given m trace))
+sessions_are_where_their_states_say config steps given world trace session =
+    stands-there session world.machine (subst (Stands session) (sym (traces_tell config steps given world trace))
     ((sessions_stand config steps given).0 session))
 
 -- a session is busy exactly where its state says that it is somewhere
@@ -93,11 +93,14 @@ busy-somewhere session state grv_proxies commit_proxies there = (
 
 pub asks_are_refused : AsksAreRefused
 unfolding asks
-asks_are_refused config steps given m trace session proxy there at =
+asks_are_refused config steps given world trace session proxy there at =
     let busy = busy-somewhere session (session_of m.sessions session).state m.grv_proxies m.commit_proxies
-    (sessions_are_where_their_states_say config steps given m trace session) in
+    (sessions_are_where_their_states_say config steps given world trace session) in
     rw at (by_test (is_busy (session_of m.sessions session).state) _ busy)
   where
+    m : Machine
+    m = world.machine
+
     by_test : (test : Bool) (transition : Transition)
         → (test ≡ true) ↔ (is_somewhere session m.grv_proxies m.commit_proxies ≡ true)
         → (refused_where test WrongState (Ok transition) ≡ Err WrongState) ↔

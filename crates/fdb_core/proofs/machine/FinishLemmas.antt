@@ -30,6 +30,18 @@ finished-to_commit transcript shown sealed finished is shows = by_test (is_read_
     by_test true is = cc
     by_test false is = (refl, cc, cc)
 
+-- and what is left of one that wrote nothing is itself
+pub finished-read_only : (transcript shown : Transcript) (finished : Finished)
+    → IsFinished transcript finished → finished ≡ ReadOnly shown
+    → (is_read_only transcript ≡ true) × (shown ≡ transcript)
+finished-read_only transcript shown finished is shows = by_test (is_read_only transcript) is
+  where
+    by_test : (test : Bool)
+        → finished ≡ (if test then ReadOnly transcript else ToCommit (commit_request_of transcript) transcript)
+        → (test ≡ true) × (shown ≡ transcript)
+    by_test true is = (refl, cc)
+    by_test false is = cc
+
 -- who isn't finished isn't submitted, unless memory ran out
 pub unfinished : (m : Machine) (session proxy : ℕ) (commit_proxy : CommitProxy) (why : Refusal)
     → slice_get m.commit_proxies proxy ≡ Some commit_proxy

@@ -1,6 +1,6 @@
 -- The sessions as a map: what is looked up after one was put.
 use Rattle.std.proofs.Common.{◌≡◌, ◌≢◌, ◌∙◌, sym, ap, refl, subst, ⊎_elim, ℕ, Bool, true, false, cond, List, Option}
-use Rattle.std.proofs.Common.{None, Some, [], ◌∷◌}
+use Rattle.std.proofs.Common.{zero, suc, None, Some, [], ◌∷◌, slice_get}
 use Rattle.std.specs.Option.{is_some}
 use Rattle.std.specs.Prelude.{◌==◌, unwrap_or}
 use Rattle.std.specs.Ordering.{nat_cmp, eq_by_cmp}
@@ -12,7 +12,8 @@ use Rattle.std.proofs.lemmas.Bool.{eq-eqb, ne_eqb, false_from_ne_true}
 use Rattle.std.proofs.lemmas.Bool.Decides.{eqb_tells}
 use Rattle.fdb_txn.proofs.NumberMaps.{at_number, get-pairs, same_maps}
 use Rattle.fdb_proxy.specs.Askers.{Asker}
-use Rattle.fdb_core.specs.refinement.client.Sessions.{AreKnown}
+use Rattle.fdb_client.specs.declared.program.Transcript.{Transcript}
+use Rattle.fdb_core.specs.refinement.client.Sessions.{AreKnown, HaveActed}
 use Rattle.fdb_core.specs.machine.Sessions.{Session, SessionState, Sessions, new_session, session_of, with_state}
 
 -- only equal numbers tie
@@ -122,6 +123,33 @@ pub all_known-put : (sessions : Sessions) (number : ℕ) (session : Session) (as
 all_known-put sessions number session [] known = tt
 all_known-put sessions number session (asker ∷ askers) known =
     (known-put sessions number session asker.0 known.0, all_known-put sessions number session askers known.1)
+
+-- and so have the sessions of all transactions
+pub all_acted-put : (sessions : Sessions) (number : ℕ) (session : Session) (transcripts : List Transcript)
+    → HaveActed sessions transcripts → HaveActed (insert sessions number session) transcripts
+all_acted-put sessions number session [] acted = tt
+all_acted-put sessions number session (t ∷ ts) acted =
+    (known-put sessions number session t.id.session acted.0, all_acted-put sessions number session ts acted.1)
+
+-- also the session of one of them
+pub acted-at : (sessions : Sessions) (transcripts : List Transcript) (i : ℕ) (transcript : Transcript)
+    → HaveActed sessions transcripts → slice_get transcripts i ≡ Some transcript
+    → is_some (get sessions transcript.id.session) ≡ true
+acted-at sessions [] i transcript acted there = cc
+acted-at sessions (t ∷ ts) zero transcript acted there =
+    let same : t ≡ transcript = cc in
+    subst (λ (one : Transcript). is_some (get sessions one.id.session) ≡ true) same acted.0
+acted-at sessions (t ∷ ts) (suc i) transcript acted there = acted-at sessions ts i transcript acted.1 there
+
+-- one that acted has an entry
+pub acted-there : (pairs : List (ℕ × Session)) (sessions : Sessions) (number : ℕ) → from_entries pairs ≡ sessions
+    → is_some (get sessions number) ≡ true → None ≡ at_number pairs number → ⊥
+acted-there pairs sessions number is acted none = never
+    (sym (ap (λ (there : Option Session). is_some there)
+    (sym (ap (λ (map : Sessions). get map number) is) ∙ get-pairs pairs number ∙ sym none)) ∙ acted)
+  where
+    never : is_some {T = Session} None ≡ true → ⊥
+    never wrong = cc
 
 -- and so with its last state alone
 pub state-again : (sessions : Sessions) (number : ℕ) (first last : SessionState)

@@ -1,6 +1,6 @@
 -- Each accepted step is answered by what the trace told before.
-use Rattle.std.proofs.Common.{◌≡◌, ◌∙◌, refl, sym, ap, subst, ⊎_elim, ℕ, max, List, [], ◌∷◌, map, length, take, Option}
-use Rattle.std.proofs.Common.{Some, None, Result, Ok, Err}
+use Rattle.std.proofs.Common.{◌≡◌, ◌∙◌, refl, sym, ap, subst, ⊎_elim, ℕ, max, List, [], ◌∷◌, map, length, take}
+use Rattle.std.proofs.Common.{Some, Result, Ok, Err}
 use Rattle.std.specs.List.{AllByRecursion, slice_get}
 use Rattle.std.specs.FinMap.{get}
 use Rattle.std.proofs.lemmas.Option.{same_Some}
@@ -24,15 +24,16 @@ use Rattle.fdb_core.specs.headline.Readings.{Readings, SealedBatch, read, readin
 use Rattle.fdb_core.specs.invariant.Invariant.{Invariant, CommitProxyIsSound}
 use Rattle.fdb_core.specs.machine.ClientSteps.{answered_by}
 use Rattle.fdb_core.specs.machine.CommitProxySteps.{is_idle, replies_from}
+use Rattle.fdb_core.specs.machine.Failures.{State}
 use Rattle.fdb_core.specs.machine.Machine.{Machine, Transition}
 use Rattle.fdb_core.specs.machine.Roles.{CommitProxy, Reported}
 use Rattle.fdb_core.specs.machine.Steps.{next, answer_of}
 use Rattle.fdb_proxy.specs.Verdicts.{outcomes_on}
-use Rattle.fdb_core.specs.machine.Worlds.{start, IsRun, IsStep}
+use Rattle.fdb_core.specs.machine.Worlds.{start, first_state, IsRun}
 use Rattle.fdb_client.specs.Programs.{program, copy, reply_on, commit_request_of}
 use Rattle.fdb_proxy.specs.declared.outcome.Outcome.{Outcome}
 use Rattle.fdb_core.proofs.common.AllLemmas.{all-at}
-use Rattle.fdb_core.proofs.headline.RunsLemmas.{run-last}
+use Rattle.fdb_core.proofs.headline.RunsLemmas.{IsMachineStep, machine-step, run-last}
 use Rattle.fdb_core.proofs.headline.TraceLaws.{traces_tell}
 use Rattle.fdb_core.proofs.invariant.SerializedLemmas.{wrote_nothing}
 use Rattle.fdb_core.proofs.invariant.SessionPlaces.{in_flight_once}
@@ -192,8 +193,8 @@ answered_steps = record {
 
 pub answered_by_trace : AnsweredByTheTrace
 answered_by_trace config steps given taken answer world stands =
-    let last = run-last (Some (start config)) world steps given taken (Ok answer) stands in
-    from_mid last.0 last.1 last.2
+    let last = run-last (first_state config) world steps given taken (Ok answer) stands in
+    from_mid last.0 last.1 (machine-step last.0 taken (Ok answer) world last.2)
   where
     from_result : (m : Machine) (r : Readings) (result : Result Transition Refusal)
         → IfAccepted (λ transition. AnswersTold m taken transition.answer transition.next) result
@@ -204,15 +205,16 @@ answered_by_trace config steps given taken answer world stands =
         subst (IsAnswered m.config r taken) same (holds r has sound tells told)
     from_result m r (Err refusal) holds has sound tells told is = cc
 
-    from_mid : (mid : Option Machine) → IsRun (Some (start config)) steps given mid → IsStep mid taken (Ok answer) world
+    from_mid : (mid : State) → IsRun (first_state config) steps given mid
+        → IsMachineStep mid.machine taken (Ok answer) world.machine
         → IsAnswered config (readings_of steps given) taken answer
-    from_mid None ran stepped = let wrong = stepped.0 in cc
-    from_mid (Some m) ran stepped =
-        let is = traces_tell config steps given m ran in
+    from_mid mid ran stepped =
+        let m = mid.machine in
+        let is = traces_tell config steps given mid ran in
         let tells = subst (TellsMachine (readings_of steps given)) (sym is)
-        (trace-tells config steps given (Some m) ran) in
+        (trace-tells config steps given mid ran) in
         let told = subst (TellsRoles (readings_of steps given)) (sym is)
-        (trace-tells-roles config steps given (Some m) ran) in
+        (trace-tells-roles config steps given mid ran) in
         let has = subst HasRoles (sym is)
         (kept-by_trace HasRoles roles_stay (start config) steps given (roles-start config)) in
         subst (λ (c : Config). IsAnswered c (readings_of steps given) taken answer)
@@ -220,5 +222,5 @@ answered_by_trace config steps given taken answer world stands =
         (⊎_elim
         (λ went. from_result m (readings_of steps given) (next m taken) (holds-next AnswersTold answered_steps m taken)
         has (subst Invariant (sym is) (sound-trace config steps given)) tells told went.0)
-        (λ failed. let wrong = failed.0 in cc)
+        (λ refused. let wrong = refused.1 in cc)
         stepped)

@@ -1,6 +1,6 @@
 -- What is due is accepted.
 use Rattle.std.proofs.Common.{◌≡◌, ◌∙◌, ◌<◌, refl, sym, ap, subst, arith, ⊎_elim, ℕ, zero, suc, ◌+◌, Bool, true, false}
-use Rattle.std.proofs.Common.{List, [], ◌∷◌, ◌++◌, length, Option, Some, None, Result, Ok, Err, if◌then◌else◌}
+use Rattle.std.proofs.Common.{List, [], ◌∷◌, length, Option, Some, None, Result, Ok, Err, if◌then◌else◌}
 use Rattle.std.specs.Prelude.{unwrap_or, not, ◌&&◌, ◌||◌}
 use Rattle.std.specs.List.{slice_get}
 use Rattle.std.proofs.lemmas.Bool.{eq-eqb, lt-leb}
@@ -25,13 +25,13 @@ use Rattle.fdb_core.specs.headline.Readings.{Readings, readings_of}
 use Rattle.fdb_core.specs.headline.Traces.{IsTraceOf, machine_of_trace}
 use Rattle.fdb_core.specs.invariant.Invariant.{Invariant}
 use Rattle.fdb_core.specs.machine.CommitProxySteps.{receives, decides, awaits, is_idle, is_resolving, is_logging}
+use Rattle.fdb_core.specs.machine.Failures.{State, uses_failed, unless_failed}
 use Rattle.fdb_core.specs.machine.Machine.{Machine, Transition, is_set, first_missing}
 use Rattle.fdb_core.specs.machine.RoleSteps.{resolves, pushes}
 use Rattle.fdb_core.specs.machine.Roles.{CommitProxy, Stage, Idle, Resolving, Logging, Reported, FromResolver, FromLog}
-use Rattle.fdb_core.specs.machine.Steps.{next, answer_of}
-use Rattle.fdb_core.specs.machine.Worlds.{start, IsRun, IsStep, leaves_world}
+use Rattle.fdb_core.specs.machine.Steps.{next, answer_of, ran_out}
+use Rattle.fdb_core.specs.machine.Worlds.{start, IsStep}
 use Rattle.fdb_core.proofs.common.AllLemmas.{within-item}
-use Rattle.fdb_core.proofs.headline.RunsLemmas.{run-last}
 use Rattle.fdb_core.proofs.headline.TraceLaws.{traces_tell}
 use Rattle.fdb_core.proofs.invariant.SoundLaws.{sound-trace}
 use Rattle.fdb_core.proofs.machine.Steps.{kept-by_trace}
@@ -366,54 +366,24 @@ module _ (m : Machine) (r : Readings) (has : HasRoles m) (sound : Invariant m) (
   due-accepts (step.Pop shard) due = absurd due
   due-accepts (step.Move range to) due = absurd due
 
--- steps that are due are of the kinds after which no machine is left where memory runs out
-due-fails : (config : Config) (r : Readings) (taken : Step) → IsDue config r taken → leaves_world taken ≡ false
-due-fails config r (step.Ask session proxy) due = absurd due
-due-fails config r (step.Grant proxy) due = absurd due
-due-fails config r (step.Get session key snapshot) due = absurd due
-due-fails config r (step.GetRange session range limit is_reverse snapshot) due = absurd due
-due-fails config r (step.Write session mutation) due = absurd due
-due-fails config r (step.AddRead session range) due = absurd due
-due-fails config r (step.AddWrite session range) due = absurd due
-due-fails config r (step.Submit session proxy) due = absurd due
-due-fails config r (step.Seal proxy advance) due = refl
-due-fails config r (step.Resolve entry resolver) due = refl
-due-fails config r (step.Verdict entry resolver) due = refl
-due-fails config r (step.Decide proxy) due = refl
-due-fails config r (step.Push entry log) due = refl
-due-fails config r (step.Logged entry log) due = refl
-due-fails config r (step.Report proxy) due = absurd due
-due-fails config r (step.Answer proxy) due = refl
-due-fails config r (step.Pull shard limit) due = refl
-due-fails config r (step.Forget shard version) due = absurd due
-due-fails config r (step.Pop shard) due = absurd due
-due-fails config r (step.Move range to) due = absurd due
-
--- what holds of the machine and of what is told before the last step of a trace, whose world is there after it
+-- what holds of the machine and of what is told after a trace, where memory doesn't run out in the next step, and that
+-- uses no role that has failed
 module _ (config : Config) (steps : List Step) (given : List (Result Answered Refusal)) (taken : Step)
-    (result : Result Answered Refusal) (after : Machine)
-    (stands : IsTraceOf config (steps ++ taken ∷ []) (given ++ result ∷ []) (Some after)) where
+    (result : Result Answered Refusal) (world later : State) (stands : IsTraceOf config steps given world)
+    (stepped : IsStep world taken result later) (ample : ran_out result ≡ false)
+    (works : uses_failed world.machine world.failed taken ≡ false) where
   abbrev before : Machine
   before = machine_of_trace config steps given
 
   abbrev told_before : Readings
   told_before = readings_of steps given
 
-  stepped : (mid : Option Machine) × IsRun (Some (start config)) steps given mid × IsStep mid taken result (Some after)
-  stepped =
-      let last = run-last (Some (start config)) (Some after) steps given taken result stands in (last.0, last.1, last.2)
-
-  -- it answers what the machine answers, where its world would be none if memory had run out in it
-  answers-so : leaves_world taken ≡ false → result ≡ answer_of (next before taken)
-  answers-so kind = by stepped.0 stepped.1 stepped.2
-    where
-      by : (mid : Option Machine) → IsRun (Some (start config)) steps given mid → IsStep mid taken result (Some after)
-          → result ≡ answer_of (next before taken)
-      by None ran step = let wrong : Some after ≡ None = step.1 in cc
-      by (Some m) ran step = ⊎_elim
-          (λ went. went.0 ∙ ap (λ (n : Machine). answer_of (next n taken)) (traces_tell config steps given m ran))
-          (λ lacked. let wrong : Some after ≡ None = lacked.1
-          ∙ ap (λ (leaves : Bool). if leaves then Some m else None) kind in cc) step
+  -- it answers what the machine answers
+  answers-so : result ≡ answer_of (next before taken)
+  answers-so = ⊎_elim
+      (λ went. went.0 ∙ ap (λ (uses : Bool). answer_of (unless_failed uses (next world.machine taken))) works
+      ∙ ap (λ (n : Machine). answer_of (next n taken)) (traces_tell config steps given world stands))
+      (λ lacked. let both : true ≡ false = sym (ap ran_out lacked.0) ∙ ample in cc) stepped
 
   config-is : before.config ≡ config
   config-is = config-kept config steps given
@@ -422,31 +392,33 @@ module _ (config : Config) (steps : List Step) (given : List (Result Answered Re
   has-roles = kept-by_trace HasRoles roles_stay (start config) steps given (roles-start config)
 
   tells-before : TellsMachine told_before before
-  tells-before = trace-tells config steps given stepped.0 stepped.1
+  tells-before = trace-tells config steps given world stands
 
   tells-roles : TellsRoles told_before before
-  tells-roles = trace-tells-roles config steps given stepped.0 stepped.1
+  tells-roles = trace-tells-roles config steps given world stands
 
   accepted-where-due : IsDue config told_before taken → (answer : Answered) × (result ≡ Ok answer)
   accepted-where-due due =
       let accepts = due-accepts before told_before has-roles (sound-trace config steps given) tells-before tells-roles
       taken
       (subst (λ (c : Config). IsDue c told_before taken) (sym config-is) due) in
-      (accepts.0.answer, answers-so (due-fails config told_before taken due) ∙ ap answer_of accepts.1)
+      (accepts.0.answer, answers-so ∙ ap answer_of accepts.1)
 
 pub what_is_due_is_accepted : WhatIsDueIsAccepted
-what_is_due_is_accepted config steps given taken result m stands due =
-    accepted-where-due config steps given taken result m stands due
+what_is_due_is_accepted config steps given taken result world later stands stepped ample works due =
+    accepted-where-due config steps given taken result world later stands stepped ample works due
 
 pub decisions_wait : DecisionsWait
-decisions_wait config steps given proxy resolver result m stands least =
-    let own = config-is config steps given (step.Decide proxy) result m stands in
+decisions_wait config steps given proxy resolver result world later stands stepped ample works least =
+    let decide = step.Decide proxy in
+    let own = config-is config steps given decide result world later stands stepped ample works in
     let machine = machine_of_trace config steps given in
     let r = readings_of steps given in
     let missing = subst (λ (c : Config). IsLeastMissing c r proxy resolver) (sym own) least in
-    answers-so config steps given (step.Decide proxy) result m stands refl
-    ∙ ap answer_of (decision-waits machine r (has-roles config steps given (step.Decide proxy) result m stands)
+    answers-so config steps given decide result world later stands stepped ample works
+    ∙ ap answer_of (decision-waits machine r
+    (has-roles config steps given decide result world later stands stepped ample works)
     (sound-trace config steps given)
-    (tells-before config steps given (step.Decide proxy) result m stands)
-    (tells-roles config steps given (step.Decide proxy) result m stands) proxy missing.entry missing.waits resolver
-    missing.p missing.there missing.exists missing.asked missing.missing missing.others)
+    (tells-before config steps given decide result world later stands stepped ample works)
+    (tells-roles config steps given decide result world later stands stepped ample works) proxy missing.entry
+    missing.waits resolver missing.p missing.there missing.exists missing.asked missing.missing missing.others)

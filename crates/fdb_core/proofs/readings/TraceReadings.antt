@@ -1,6 +1,6 @@
 -- After every trace the machine is what the trace tells, and so what holds of the machine holds of what is read off.
 use Rattle.std.proofs.Common.{◌≡◌, ◌∙◌, ◌<◌, ◌≤◌, le_refl, le_trans, refl, sym, ap, subst, arith, ⊎_elim, ℕ, zero, suc}
-use Rattle.std.proofs.Common.{min, Bool, true, false, cond, List, [], ◌∷◌, length, take, Option, Some, None, Result, Ok}
+use Rattle.std.proofs.Common.{min, Bool, true, false, cond, List, [], ◌∷◌, length, take, Some, Result, Ok}
 use Rattle.std.proofs.Common.{Err}
 use Rattle.std.specs.Prelude.{nat_lt}
 use Rattle.std.specs.List.{AllByRecursion, slice_get}
@@ -26,11 +26,12 @@ use Rattle.fdb_core.specs.headline.Traces.{after_step, after_steps, machine_of_t
 use Rattle.fdb_core.specs.headline.Traces.{WorldsShowWhatIsTold}
 use Rattle.fdb_core.specs.invariant.Invariant.{Invariant, IsSerializedIn, IsReported}
 use Rattle.fdb_core.specs.machine.Sessions.{Session, open_of, next_number, greatest_number}
+use Rattle.fdb_core.specs.machine.Failures.{State}
 use Rattle.fdb_core.specs.machine.Machine.{Machine, Transition}
 use Rattle.fdb_core.specs.machine.Roles.{CommitProxy, ShardProgress}
 use Rattle.fdb_core.specs.machine.Steps.{next, answer_of, after}
-use Rattle.fdb_core.specs.machine.Worlds.{start, idle_proxy, IsRun}
-use Rattle.fdb_core.proofs.headline.RunsLemmas.{left-cases}
+use Rattle.fdb_core.specs.machine.Worlds.{start, first_state, idle_proxy, IsRun}
+use Rattle.fdb_core.proofs.headline.RunsLemmas.{IsMachineStep, run-next}
 use Rattle.fdb_core.proofs.common.AllLemmas.{all-at, all-both, all-replicate}
 use Rattle.fdb_core.proofs.headline.TraceLaws.{after_step-answered, traces_tell}
 use Rattle.fdb_core.proofs.invariant.OnceLaws.{machine-once}
@@ -56,50 +57,44 @@ step-tells m r taken sound tells = by_result (next m taken) (holds-next TellsOn 
     by_result (Ok transition) leads = leads r sound tells
     by_result (Err refusal) leads = tells
 
--- once memory ran out nothing is told any more
-nothing-more : (m : Machine) (r : Readings) (steps : List Step) (given : List (Result Answered Refusal))
-    (world : Option Machine)
-    → IsRun None steps given world → (read_steps r steps given ≡ r) × (after_steps m steps given ≡ m)
-nothing-more m r [] [] world ran = (refl, refl)
-nothing-more m r [] (answer ∷ given) world ran = absurd ran
-nothing-more m r (taken ∷ steps) [] world ran = absurd ran
-nothing-more m r (taken ∷ steps) (answer ∷ given) world ran =
-    let rest = nothing-more m r steps given world (subst (λ (mid : Option Machine). IsRun mid steps given world) ran.1.1
-    ran.2) in (
-      ap (λ (a : Result Answered Refusal). read_steps (read_step r taken a) steps given) ran.1.0 ∙ rest.0,
-      ap (λ (a : Result Answered Refusal). after_steps (after_step m taken a) steps given) ran.1.0 ∙ rest.1,
-    )
-
 -- what is told of the machine, and stays so with each step, is told after the steps of a run
 module _ (T : Readings → Machine → Type 0)
     (goes : (m : Machine) (r : Readings) (taken : Step) → Invariant m → T r m
     → T (read_step r taken (answer_of (next m taken))) (after m (next m taken))) where
-  run-tells : (m : Machine) (r : Readings) (steps : List Step) (given : List (Result Answered Refusal))
-      (world : Option Machine) → Invariant m → T r m → IsRun (Some m) steps given world
-      → T (read_steps r steps given) (after_steps m steps given)
-  run-tells m r [] [] world sound tells ran = tells
-  run-tells m r [] (answer ∷ given) world sound tells ran = absurd ran
-  run-tells m r (taken ∷ steps) [] world sound tells ran = absurd ran
-  run-tells m r (taken ∷ steps) (answer ∷ given) world sound tells ran = ⊎_elim
-      (λ went. let goes_on = subst (λ (mid : Option Machine). IsRun mid steps given world) went.1 ran.2 in
-      let rest = run-tells (after m (next m taken)) (read_step r taken (answer_of (next m taken))) steps given world
-      (kept-next Invariant sound_steps m taken sound) (goes m r taken sound tells) goes_on in
-      subst (λ (a : Result Answered Refusal). T (read_steps (read_step r taken a) steps given)
-      (after_steps (after_step m taken a) steps given)) (sym went.0)
-      (subst (λ (mid : Machine). T (read_steps (read_step r taken (answer_of (next m taken))) steps given)
-      (after_steps mid steps given)) (sym (after_step-answered m taken (next m taken) refl)) rest))
-      (λ lacked.
-      subst (λ (a : Result Answered Refusal). T (read_steps (read_step r taken a) steps given)
-      (after_steps (after_step m taken a) steps given)) (sym lacked.0)
-      (⊎_elim
-      (λ kept. run-tells m r steps given world sound tells
-      (subst (λ (mid : Option Machine). IsRun mid steps given world) kept ran.2))
-      (λ failed. let rest = nothing-more m r steps given world
-      (subst (λ (mid : Option Machine). IsRun mid steps given world) failed.1 ran.2) in
-      subst (λ (told : Readings). T told (after_steps m steps given)) (sym rest.0)
-      (subst (T r) (sym rest.1) tells))
-      (left-cases m taken ran.0 lacked.1)))
-      ran.1
+  run-tells : (old : State) (r : Readings) (steps : List Step) (given : List (Result Answered Refusal)) (world : State)
+      → Invariant old.machine → T r old.machine → IsRun old steps given world
+      → T (read_steps r steps given) (after_steps old.machine steps given)
+  run-tells old r [] [] world sound tells ran = tells
+  run-tells old r [] (answer ∷ given) world sound tells ran = absurd ran
+  run-tells old r (taken ∷ steps) [] world sound tells ran = absurd ran
+  run-tells old r (taken ∷ steps) (answer ∷ given) world sound tells ran =
+      let first = run-next old world taken answer steps given ran in
+      let one = went first.0.machine first.1 in
+      subst (λ (m : Machine). T (read_steps (read_step r taken answer) steps given) (after_steps m steps given)) one.2
+      (run-tells first.0 (read_step r taken answer) steps given world one.0 one.1 first.2)
+    where
+      m : Machine
+      m = old.machine
+
+      -- the machine after the step is sound and told, and is the one to which the answer takes it
+      went : (mid : Machine) → IsMachineStep m taken answer mid
+          → Invariant mid × T (read_step r taken answer) mid × (mid ≡ after_step m taken answer)
+      went mid step = ⊎_elim
+          (λ goes_on. (
+            subst Invariant (sym goes_on.1) (kept-next Invariant sound_steps m taken sound),
+            subst (T (read_step r taken answer)) (sym goes_on.1)
+                (subst (λ (a : Result Answered Refusal). T (read_step r taken a) (after m (next m taken)))
+                (sym goes_on.0) (goes m r taken sound tells)),
+            goes_on.1 ∙ sym (ap (after_step m taken) goes_on.0
+                ∙ after_step-answered m taken (next m taken) refl),
+          ))
+          (λ refused. (
+            subst Invariant (sym refused.2) sound,
+            subst (T (read_step r taken answer)) (sym refused.2)
+                (subst (λ (a : Result Answered Refusal). T (read_step r taken a) m) (sym refused.1) tells),
+            refused.2 ∙ ap (after_step m taken) (sym refused.1),
+          ))
+          step
 
 -- the machine is told with how far its roles are
 abbrev TellsAll : Readings → Machine → Type 0
@@ -164,20 +159,20 @@ start-roles config = record {
 
 -- a trace tells its machine
 pub trace-tells : (config : Config) (steps : List Step) (given : List (Result Answered Refusal))
-    (world : Option Machine)
+    (world : State)
     → IsTraceOf config steps given world
     → TellsMachine (readings_of steps given) (machine_of_trace config steps given)
 trace-tells config steps given world stands =
-    run-tells TellsMachine step-tells (start config) nothing_read steps given world
+    run-tells TellsMachine step-tells (first_state config) nothing_read steps given world
     (sound-start config) (start-tells config) stands
 
 -- and how far its roles are
 pub trace-tells-roles : (config : Config) (steps : List Step) (given : List (Result Answered Refusal))
-    (world : Option Machine)
+    (world : State)
     → IsTraceOf config steps given world
     → TellsRoles (readings_of steps given) (machine_of_trace config steps given)
 trace-tells-roles config steps given world stands =
-    (run-tells TellsAll all-tells (start config) nothing_read steps given world
+    (run-tells TellsAll all-tells (first_state config) nothing_read steps given world
     (sound-start config) (start-tells config, start-roles config) stands).1
 
 -- the configuration stays
@@ -207,15 +202,15 @@ config-kept config steps given = kept-by_trace (λ m. m.config ≡ config)
 
 -- the committed version is the greatest one that was reported
 pub committed_is_greatest_reported : CommittedIsGreatestReported
-committed_is_greatest_reported config steps given m stands =
-    ap (λ (n : Machine). n.committed) (traces_tell config steps given m stands)
-    ∙ sym (trace-tells config steps given (Some m) stands).reported_told
+committed_is_greatest_reported config steps given world stands =
+    ap (λ (n : Machine). n.committed) (traces_tell config steps given world stands)
+    ∙ sym (trace-tells config steps given world stands).reported_told
 
 -- a world shows what its trace tells
 pub worlds_show_what_is_told : WorldsShowWhatIsTold
-worlds_show_what_is_told config steps given m stands =
-    let tells : TellsMachine (readings_of steps given) m = subst (TellsMachine (readings_of steps given))
-    (sym (traces_tell config steps given m stands)) (trace-tells config steps given (Some m) stands) in
+worlds_show_what_is_told config steps given world stands =
+    let tells : TellsMachine (readings_of steps given) world.machine = subst (TellsMachine (readings_of steps given))
+    (sym (traces_tell config steps given world stands)) (trace-tells config steps given world stands) in
     record {
       book = sym tells.book_told;
       pending = sym tells.moves_told;
@@ -273,9 +268,9 @@ acknowledged_serialized config steps given world stands =
     Reached splits book placed = IsSerialized splits book placed × (spot_version placed.spot ≤ last_version book)
 
 -- the first steps of a run are one
-run-first : (n : ℕ) (old : Option Machine) (steps : List Step) (given : List (Result Answered Refusal))
-    (world : Option Machine) → IsRun old steps given world
-    → (mid : Option Machine) × IsRun old (take n steps) (take n given) mid
+run-first : (n : ℕ) (old : State) (steps : List Step) (given : List (Result Answered Refusal))
+    (world : State) → IsRun old steps given world
+    → (mid : State) × IsRun old (take n steps) (take n given) mid
 run-first zero old steps given world ran = (old, refl)
 run-first (suc n) old [] [] world ran = (old, refl)
 run-first (suc n) old [] (answer ∷ given) world ran = absurd ran
@@ -301,7 +296,7 @@ begun-told r m id tells begun =
 -- who begins after an acknowledgement is ordered after it
 pub real_time : RealTime
 real_time config steps given world stands n i j one other at_one at_other fresh =
-    let first = run-first n (Some (start config)) steps given world stands in
+    let first = run-first n (first_state config) steps given world stands in
     let earlier = trace-tells config (take n steps) (take n given) first.0 first.1 in
     let later = trace-tells config steps given world stands in
     let m = machine_of_trace config (take n steps) (take n given) in

@@ -40,7 +40,7 @@ use Rattle.fdb_core.proofs.refinement.log.Fronts.{new-log, new-shard}
 use Rattle.fdb_core.proofs.headline.ProxyLaws.{new_proxies_have_no_entry}
 
 -- what is made of items of which the same is made is so many of it
-all-same : {A B : Type 0} (f : A → B) (made : B) (n : ℕ) (xs : List A) → length xs ≡ n
+pub all-same : {A B : Type 0} (f : A → B) (made : B) (n : ℕ) (xs : List A) → length xs ≡ n
     → ((i : ℕ) (x : A) → slice_get xs i ≡ Some x → f x ≡ made) → map f xs ≡ replicate n made
 all-same f made n [] count each = ap (λ (m : ℕ). replicate m made) count
 all-same f made zero (x ∷ xs) count each = absurd (omega (arith, count))

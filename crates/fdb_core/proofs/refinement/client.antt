@@ -1,3 +1,4 @@
+pub mod ReadFaults
 pub mod Reading
 pub mod Sessions
 pub mod Submitting

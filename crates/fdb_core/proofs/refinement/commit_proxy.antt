@@ -4,9 +4,11 @@ pub mod CoreDeciding
 pub mod CoreSealing
 pub mod CoreStages
 pub mod Deciding
+pub mod Failing
 pub mod Fronts
 pub mod Pushes
 pub mod Receiving
 pub mod Reporting
 pub mod Sealing
 pub mod Ties
+pub mod Unsealed

@@ -1,3 +1,4 @@
+pub mod Failing
 pub mod Fronts
 pub mod Pushing
 pub mod Ties

@@ -1,2 +1,3 @@
 pub mod AtBook
+pub mod Failing
 pub mod Resolving

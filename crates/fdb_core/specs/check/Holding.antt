@@ -1,5 +1,5 @@
 -- What shards have, beside the run.
-use Rattle.std.specs.Prelude.{◌≡◌, ℕ, Bool, true, ◌&&◌, nat_lt, nat_le, List, Option, Some, None, Result, MatchResult}
+use Rattle.std.specs.Prelude.{◌≡◌, ℕ, Bool, true, false, ◌&&◌, nat_lt, nat_le, List, Option, Some, None, Result, MatchResult}
 use Rattle.std.specs.Prelude.{◌⊎◌, slice_get}
 use Rattle.std.specs.List.{AllByRecursion}
 use Rattle.std.specs.FinMap.{get}
@@ -18,9 +18,11 @@ use Rattle.fdb_core.specs.declared.world.CheckFault.TheVariants as fault
 abbrev pub HasTheMap : Map → Shard → Type 0
 HasTheMap map shard = (x : Point) → in_range shard.range x ≡ true → value_at shard shard.version x ≡ get map x
 
--- at its version the shard has the run's values in its range
+-- at its version the shard, unless it has failed, has the run's values in its range
 abbrev pub HoldsTheRun : List Point → List Entry → ShardRole → Type 0
-HoldsTheRun splits book role = HasTheMap (serial_map_at splits role.core.version (seen_of book).places) role.core
+HoldsTheRun splits book role =
+    role.core.is_failed ≡ false
+    → HasTheMap (serial_map_at splits role.core.version (seen_of book).places) role.core
 
 -- the version is below the end, where there is one
 abbrev pub is_below : ℕ → Option ℕ → Bool
@@ -31,9 +33,10 @@ is_below version (Some end) = nat_lt version end
 abbrev pub is_between : ℕ → Option ℕ → ShardRole → Bool
 is_between from until role = nat_le from role.core.version && is_below role.core.version until
 
--- a shard that is there has the map
+-- a shard that is there has the map, unless it has failed
 abbrev pub HasTheMapThere : ℕ → Option ℕ → Map → ShardRole → Type 0
-HasTheMapThere from until map role = is_between from until role ≡ true → HasTheMap map role.core
+HasTheMapThere from until map role =
+    role.core.is_failed ≡ false → is_between from until role ≡ true → HasTheMap map role.core
 
 -- the fault names one of the shards, of which the claim isn't true
 abbrev pub ShardDiffers : (ShardRole → Type 0) → List ShardRole → CheckFault → Type 0

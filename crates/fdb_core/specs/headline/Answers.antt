@@ -31,7 +31,7 @@ use Rattle.fdb_core.specs.declared.step.Step.TheVariants as step
 use Rattle.fdb_core.specs.headline.Headline.{WroteNothing}
 use Rattle.fdb_core.specs.headline.Readings.{Readings, SealedBatch, read, readings_of, is_of_session, of_session}
 use Rattle.fdb_core.specs.headline.Traces.{IsTraceOf}
-use Rattle.fdb_core.specs.machine.Machine.{Machine}
+use Rattle.fdb_core.specs.machine.Failures.{State}
 use Rattle.fdb_client.specs.Programs.{program, copy, commit_request_of}
 
 -- What becomes of place p of an entry by the rule, after the places before it: it has a commit version and its place
@@ -221,6 +221,6 @@ module _ (config : Config) (r : Readings) where
 abbrev pub AnsweredByTheTrace : Type 0
 AnsweredByTheTrace =
     (config : Config) (steps : List Step) (answers : List (Result Answered Refusal)) (taken : Step) (answer : Answered)
-    (world : Option Machine)
+    (world : State)
     → IsTraceOf config (steps ++ taken ∷ []) (answers ++ Ok answer ∷ []) world
     → IsAnswered config (readings_of steps answers) taken answer

@@ -1,5 +1,5 @@
 -- What a trace tells of its entries is a book.
-use Rattle.std.specs.Prelude.{◌≤◌, ◌==◌, ℕ, suc, List, length, Option, Result}
+use Rattle.std.specs.Prelude.{◌≤◌, ◌==◌, ℕ, suc, List, length, Result}
 use Rattle.std.specs.List.{AllByRecursion, count_by}
 use Rattle.fdb_keys.specs.declared.refusal.Refusal.{Refusal}
 use Rattle.fdb_txn.specs.book.History.{IsBook, IsSealed}
@@ -8,7 +8,7 @@ use Rattle.fdb_core.specs.declared.step.Answered.{Answered}
 use Rattle.fdb_core.specs.declared.step.Step.{Step}
 use Rattle.fdb_core.specs.headline.Readings.{Readings, readings_of}
 use Rattle.fdb_core.specs.headline.Traces.{IsTraceOf}
-use Rattle.fdb_core.specs.machine.Machine.{Machine}
+use Rattle.fdb_core.specs.machine.Failures.{State}
 
 -- The entries are a book for as many resolvers as there are, so that no transaction is in it twice, and each
 -- transaction's write set has all that its mutations name.
@@ -22,11 +22,11 @@ AnswersOnce r = (entry : ℕ) → count_by (λ (other : ℕ). other == entry) r.
 -- over every trace the entries are a book
 abbrev pub TracesTellBooks : Type 0
 TracesTellBooks =
-    (config : Config) (steps : List Step) (answers : List (Result Answered Refusal)) (world : Option Machine)
+    (config : Config) (steps : List Step) (answers : List (Result Answered Refusal)) (world : State)
     → IsTraceOf config steps answers world → HasBook config (readings_of steps answers)
 
 -- and are answered once at most
 abbrev pub EntriesAreAnsweredOnce : Type 0
 EntriesAreAnsweredOnce =
-    (config : Config) (steps : List Step) (answers : List (Result Answered Refusal)) (world : Option Machine)
+    (config : Config) (steps : List Step) (answers : List (Result Answered Refusal)) (world : State)
     → IsTraceOf config steps answers world → AnswersOnce (readings_of steps answers)

@@ -1,7 +1,7 @@
 -- Which steps of roles are due: messages are delivered where their step made them, in their turn, and a proxy decides
 -- where it has all verdicts that it needs. Such a step is accepted, and one that isn't due isn't, as what accepted
 -- steps are answered says.
-use Rattle.std.specs.Prelude.{◌≡◌, ◌<◌, ◌++◌, ℕ, suc, true, false, List, [], ◌∷◌, length, Some, Result, Ok, Err}
+use Rattle.std.specs.Prelude.{◌≡◌, ◌<◌, ℕ, suc, true, false, List, length, Some, Result, Ok, Err}
 use Rattle.fdb_keys.specs.declared.refusal.Refusal.{Refusal}
 use Rattle.fdb_keys.specs.declared.refusal.Refusal.TheVariants.{NotYet}
 use Rattle.fdb_txn.specs.book.Book.{Place}
@@ -12,7 +12,9 @@ use Rattle.fdb_core.specs.declared.step.Step.TheVariants as step
 use Rattle.fdb_core.specs.headline.Answers.{IsAskedAt, IsVerdictDue, IsPushed, IsAcknowledgementDue}
 use Rattle.fdb_core.specs.headline.Readings.{Readings, readings_of}
 use Rattle.fdb_core.specs.headline.Traces.{IsTraceOf}
-use Rattle.fdb_core.specs.machine.Machine.{Machine}
+use Rattle.fdb_core.specs.machine.Failures.{State, uses_failed}
+use Rattle.fdb_core.specs.machine.Steps.{ran_out}
+use Rattle.fdb_core.specs.machine.Worlds.{IsStep}
 
 module _ (config : Config) (r : Readings) where
   -- the entry is the next one for the resolver
@@ -49,18 +51,20 @@ module _ (config : Config) (r : Readings) where
     pub missing : r.progress.verdicts_came entry resolver ≡ false
     pub others : CameBelow entry resolver
 
--- Over every trace whose world hasn't failed a step that is due is accepted.
+-- After every trace a step that is due is accepted, unless memory runs out in it or it uses a role that has failed.
 abbrev pub WhatIsDueIsAccepted : Type 0
 WhatIsDueIsAccepted =
     (config : Config) (steps : List Step) (answers : List (Result Answered Refusal)) (taken : Step)
-    (result : Result Answered Refusal) (m : Machine)
-    → IsTraceOf config (steps ++ taken ∷ []) (answers ++ result ∷ []) (Some m)
+    (result : Result Answered Refusal) (world later : State)
+    → IsTraceOf config steps answers world → IsStep world taken result later
+    → ran_out result ≡ false → uses_failed world.machine world.failed taken ≡ false
     → IsDue config (readings_of steps answers) taken → (answer : Answered) × (result ≡ Ok answer)
 
 -- And a proxy whose verdicts haven't all come is told to wait for the least resolver of which they are missing.
 abbrev pub DecisionsWait : Type 0
 DecisionsWait =
     (config : Config) (steps : List Step) (answers : List (Result Answered Refusal)) (proxy resolver : ℕ)
-    (result : Result Answered Refusal) (m : Machine)
-    → IsTraceOf config (steps ++ step.Decide proxy ∷ []) (answers ++ result ∷ []) (Some m)
+    (result : Result Answered Refusal) (world later : State)
+    → IsTraceOf config steps answers world → IsStep world (step.Decide proxy) result later
+    → ran_out result ≡ false → uses_failed world.machine world.failed (step.Decide proxy) ≡ false
     → IsLeastMissing config (readings_of steps answers) proxy resolver → result ≡ Err (NotYet resolver)

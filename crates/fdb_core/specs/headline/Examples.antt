@@ -26,6 +26,7 @@ use Rattle.fdb_core.specs.declared.step.Step.{Step}
 use Rattle.fdb_core.specs.declared.step.Step.TheVariants as step
 use Rattle.fdb_core.specs.headline.Headline.{AnsweredOn, IsSerializedAtSpot, AllSerialized}
 use Rattle.fdb_core.specs.headline.Readings.{Readings, nothing_read, readings_of}
+use Rattle.fdb_core.specs.machine.Failures.{State, none_failed}
 use Rattle.fdb_core.specs.machine.Machine.{Machine}
 use Rattle.fdb_client.specs.Programs.{commit_request_of}
 use Rattle.fdb_core.specs.declared.roles.client.Placed.{Placed}
@@ -289,6 +290,7 @@ abbrev pub Traced : Type 0
 Traced =
     (machine_of_trace plain (step.Grant 7 ∷ []) (Err Unknown ∷ []) ≡ start plain)
     × (machine_of_trace plain (step.Ask 5 0 ∷ []) (Ok answered.Done ∷ []) ≡ one_asks)
-    × IsTraceOf plain (step.Ask 5 0 ∷ []) (Ok answered.Done ∷ []) (Some one_asks)
-    × ((world : Option Machine) → IsTraceOf plain (step.Grant 0 ∷ []) (Ok answered.Done ∷ []) world → ⊥)
-    × ((world : Option Machine) → IsTraceOf plain (step.Grant 7 ∷ []) (Err Stale ∷ []) world → ⊥)
+    × IsTraceOf plain (step.Ask 5 0 ∷ []) (Ok answered.Done ∷ [])
+    (record { machine = one_asks; failed = none_failed plain })
+    × ((world : State) → IsTraceOf plain (step.Grant 0 ∷ []) (Ok answered.Done ∷ []) world → ⊥)
+    × ((world : State) → IsTraceOf plain (step.Grant 7 ∷ []) (Err Stale ∷ []) world → ⊥)

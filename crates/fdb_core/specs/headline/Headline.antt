@@ -1,5 +1,5 @@
 -- What an acknowledgement means: where the transaction stands, and what its reads were answered.
-use Rattle.std.specs.Prelude.{◌≡◌, ◌≤◌, ℕ, true, List, [], Option, Some, IfSome, Result}
+use Rattle.std.specs.Prelude.{◌≡◌, ◌≤◌, ℕ, true, List, [], Some, Result}
 use Rattle.std.specs.List.{AllByRecursion}
 use Rattle.fdb_keys.specs.declared.refusal.Refusal.{Refusal}
 use Rattle.fdb_keys.specs.Points.{Point}
@@ -16,7 +16,7 @@ use Rattle.fdb_core.specs.declared.roles.client.Placed.{Placed}
 use Rattle.fdb_client.specs.declared.program.Transcript.{Transcript}
 use Rattle.fdb_core.specs.declared.step.Answered.{Answered}
 use Rattle.fdb_core.specs.declared.step.Step.{Step}
-use Rattle.fdb_core.specs.machine.Machine.{Machine}
+use Rattle.fdb_core.specs.machine.Failures.{State}
 use Rattle.fdb_core.specs.headline.Readings.{Readings, readings_of}
 use Rattle.fdb_client.specs.ProgramLaws.{AgreeWhereOrdinary}
 use Rattle.fdb_client.specs.Programs.{program, replies_of, exec, mutations_of, write_ranges, commit_request_of}
@@ -71,7 +71,7 @@ AllSerialized splits r =
 -- version and place in the batch.
 abbrev pub AcknowledgedAreSerialized : Type 0
 AcknowledgedAreSerialized =
-    (config : Config) (steps : List Step) (answers : List (Result Answered Refusal)) (world : Option Machine)
+    (config : Config) (steps : List Step) (answers : List (Result Answered Refusal)) (world : State)
     → IsTraceOf config steps answers world
     → AllSerialized config.resolver_splits (readings_of steps answers)
 
@@ -81,8 +81,8 @@ AcknowledgedAreSerialized =
 -- of the committed transactions one at a time.
 pub record IsStrictlySerializable (config : Config) (steps : List Step) (answers : List (Result Answered Refusal))
     (system : System) : Type 0 where
-  pub is_trace_of : IsTraceOf config steps answers system.machine
+  pub is_trace_of : IsTraceOf config steps answers system.state
   pub book : HasBook config (readings_of steps answers)
   pub serial : AllSerialized config.resolver_splits (readings_of steps answers)
   pub real_time : KeepsRealTime steps answers
-  pub served : IfSome system.machine (λ _. AllServe config (readings_of steps answers).book system.shards)
+  pub served : AllServe config (readings_of steps answers).book system.shards

@@ -23,6 +23,7 @@ use Rattle.fdb_proxy.specs.declared.config.Config.{Config}
 use Rattle.fdb_core.specs.declared.step.Answered.{Answered}
 use Rattle.fdb_core.specs.headline.Readings.{readings_of}
 use Rattle.fdb_core.specs.headline.Traces.{IsTraceOf}
+use Rattle.fdb_core.specs.machine.Failures.{State}
 use Rattle.fdb_core.specs.machine.RoleSteps.{version_of_shard}
 use Rattle.fdb_core.specs.machine.Machine.{Machine, Transition}
 use Rattle.fdb_core.specs.machine.Sessions.{open_at}
@@ -44,8 +45,8 @@ GrantsCommitted =
 -- over every trace the committed version is the greatest one that was reported
 abbrev pub CommittedIsGreatestReported : Type 0
 CommittedIsGreatestReported =
-    (config : Config) (steps : List Step) (answers : List (Result Answered Refusal)) (m : Machine)
-    → IsTraceOf config steps answers (Some m) → m.committed ≡ (readings_of steps answers).reported
+    (config : Config) (steps : List Step) (answers : List (Result Answered Refusal)) (world : State)
+    → IsTraceOf config steps answers world → world.machine.committed ≡ (readings_of steps answers).reported
 
 -- a read answers as the transaction's own operations, executed on the map at its read version, leave the key
 abbrev pub GetsFromTheRun : Type 0
@@ -143,6 +144,6 @@ IsTakenByAll logs (spot.ReadOnly version) = ⊤
 -- over every trace every log has taken each entry with an acknowledged place
 abbrev pub AcknowledgedAreLogged : Type 0
 AcknowledgedAreLogged =
-    (config : Config) (steps : List Step) (answers : List (Result Answered Refusal)) (m : Machine)
-    → IsTraceOf config steps answers (Some m)
-    → AllByRecursion (λ (placed : Placed). IsTakenByAll m.logs placed.spot) m.acknowledged
+    (config : Config) (steps : List Step) (answers : List (Result Answered Refusal)) (world : State)
+    → IsTraceOf config steps answers world
+    → AllByRecursion (λ (placed : Placed). IsTakenByAll world.machine.logs placed.spot) world.machine.acknowledged

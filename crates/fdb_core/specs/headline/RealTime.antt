@@ -1,5 +1,5 @@
 -- Real time: who begins after another transaction was acknowledged is never ordered before it.
-use Rattle.std.specs.Prelude.{◌≡◌, ◌<◌, ◌≤◌, ℕ, List, take, Option, Some, Result, slice_get}
+use Rattle.std.specs.Prelude.{◌≡◌, ◌<◌, ◌≤◌, ℕ, List, take, Some, Result, slice_get}
 use Rattle.fdb_keys.specs.declared.refusal.Refusal.{Refusal}
 use Rattle.fdb_txn.specs.declared.spot.Spot.{Spot}
 use Rattle.fdb_txn.specs.declared.spot.Spot.TheVariants as spot
@@ -8,7 +8,7 @@ use Rattle.fdb_proxy.specs.declared.config.Config.{Config}
 use Rattle.fdb_core.specs.declared.roles.client.Placed.{Placed}
 use Rattle.fdb_core.specs.declared.step.Answered.{Answered}
 use Rattle.fdb_core.specs.declared.step.Step.{Step}
-use Rattle.fdb_core.specs.machine.Machine.{Machine}
+use Rattle.fdb_core.specs.machine.Failures.{State}
 use Rattle.fdb_core.specs.headline.Readings.{Readings, readings_of, times_begun}
 use Rattle.fdb_core.specs.headline.Traces.{IsTraceOf}
 
@@ -44,5 +44,5 @@ KeepsRealTime steps answers =
 -- every trace keeps real time
 abbrev pub RealTime : Type 0
 RealTime =
-    (config : Config) (steps : List Step) (answers : List (Result Answered Refusal)) (world : Option Machine)
+    (config : Config) (steps : List Step) (answers : List (Result Answered Refusal)) (world : State)
     → IsTraceOf config steps answers world → KeepsRealTime steps answers

@@ -15,6 +15,7 @@ use Rattle.fdb_core.specs.declared.step.Step.{Step}
 use Rattle.fdb_core.specs.declared.step.Step.TheVariants as step
 use Rattle.fdb_core.specs.headline.MoveExamples.{from_to}
 use Rattle.fdb_core.specs.headline.Traces.{machine_of_trace, IsTraceOf}
+use Rattle.fdb_core.specs.machine.Failures.{none_failed}
 
 -- a step with its answer
 abbrev pub Line : Type 0
@@ -29,7 +30,7 @@ answers_of lines = map (λ (line : Line). line.1) lines
 -- the lines are a trace: a world answers each step so, from the first one on
 abbrev pub IsScript : Config → List Line → Type 0
 IsScript config lines = IsTraceOf config (steps_of lines) (answers_of lines)
-    (Some (machine_of_trace config (steps_of lines) (answers_of lines)))
+    (record { machine = machine_of_trace config (steps_of lines) (answers_of lines); failed = none_failed config })
 
 -- so many proxies of each kind, two resolvers that part the keys at m, one log and one shard
 abbrev pub parted_at_m : ℕ → Config

@@ -1,6 +1,6 @@
 -- What a world shows of its roles, and what holds of it.
-use Rattle.std.specs.Prelude.{◌≡◌, ◌<◌, ◌≤◌, ◌-◌, ◌++◌, ℕ, suc, true, false, List, take, length, Option, Some, None}
-use Rattle.std.specs.Prelude.{IfSome, slice_get, if◌then◌else◌}
+use Rattle.std.specs.Prelude.{◌≡◌, ◌<◌, ◌≤◌, ◌-◌, ◌++◌, ℕ, suc, true, false, List, map, take, length, Option, Some, None}
+use Rattle.std.specs.Prelude.{slice_get, if◌then◌else◌}
 use Rattle.std.specs.FinMap.{get}
 use Rattle.fdb_keys.specs.declared.refusal.Refusal.TheVariants.{Stale}
 use Rattle.fdb_keys.specs.Points.{Point}
@@ -26,23 +26,15 @@ use Rattle.fdb_txn.specs.declared.entry.Entry.{Entry}
 use Rattle.fdb_proxy.specs.declared.config.Config.{Config}
 use Rattle.fdb_proxy.specs.Parting.{AreParts}
 use Rattle.fdb_proxy.specs.Verdicts.{moves_through}
-use Rattle.fdb_core.specs.declared.roles.client.Placed.{Placed}
+use Rattle.fdb_core.specs.machine.Failures.{State}
 use Rattle.fdb_core.specs.machine.Roles.{ShardProgress}
 use Rattle.fdb_core.specs.machine.RoleSteps.{version_of_shard}
 use Rattle.fdb_core.specs.machine.SequencerSteps.{dated_moves}
 use Rattle.fdb_core.specs.machine.Machine.{Machine, is_set}
 
--- What a check of a world goes by, also once it has failed: the configuration, the entries that there are,
--- and those that were acknowledged.
-pub record History : Type 0 where
-  pub config : Config
-  pub book : List Entry
-  pub acknowledged : List Placed
-
--- What a world shows: the machine, what each of its roles keeps, and what a check goes by.
+-- What a world shows: the machine with the roles that have failed, and what each of its roles keeps.
 pub record System : Type 0 where
-  -- none once the world has failed
-  pub machine : Option Machine
+  pub state : State
   pub sequencer : Sequencer
   pub resolvers : List Resolver
   -- for each entry the parts for the resolvers
@@ -51,7 +43,6 @@ pub record System : Type 0 where
   pub messages : List (Option (List LogMsg))
   pub logs : List Log
   pub shards : List Shard
-  pub history : History
 
 -- Each role of the one list, which says how far the roles are, keeps what the property says; there are as many of
 -- these as of those.
@@ -72,13 +63,14 @@ SequencerKeeps m sequencer =
     × ((proxy : ℕ) → proxy < m.config.proxies
     → (learnt : List Dated) × (learnt ++ unlearnt_by sequencer proxy ≡ dated_moves m.book))
 
--- A resolver that took so many entries has its number, has not failed, and has the version of the last of them. From
+-- A resolver that took so many entries has, unless it has failed, its number and the version of the last of them. From
 -- the begin of that one's window on it tells at each point the greatest version of a place of theirs that it admitted
 -- and that wrote the point where the resolver owned it.
 abbrev pub ResolverKeeps : Machine → ℕ → ℕ → Resolver → Type 0
 ResolverKeeps m i taken resolver =
     let last = last_version (take taken m.book) in
-    (resolver.index ≡ i) × (resolver.is_failed ≡ false) × (resolver.last ≡ last)
+    resolver.is_failed ≡ false
+    → (resolver.index ≡ i) × (resolver.last ≡ last)
     × IsStateOf m.config.resolver_splits i (seen_before m.book taken).places (last - window)
     (version_at resolver.versions)
 
@@ -102,13 +94,12 @@ MessagesKeep m messages =
     then Some (log_messages m.config.resolver_splits m.config.shard_splits m.config.logs i (seen_before m.book i) entry)
     else None))
 
--- A log that took so many entries has its number, has not failed, and has the version of the last of them. Of each of
--- its tags it keeps just the messages of these entries above the version through which the tag's shard popped them.
-pub record LogKeeps (m : Machine) (i taken : ℕ) (log : Log) : Type 0 where
+-- A log that took so many entries and works has its number and the version of the last of them. Of each of its tags it
+-- keeps just the messages of these entries above the version through which the tag's shard popped them.
+pub record WorkingLogKeeps (m : Machine) (i taken : ℕ) (log : Log) : Type 0 where
   pub number : log.log ≡ i
   pub logs : log.logs ≡ length m.logs
   pub tags : log.tags ≡ length m.shards
-  pub works : log.is_failed ≡ false
   pub last : log.last ≡ last_version (take taken m.book)
   pub popped : (tag : ℕ) (progress : ShardProgress) → keeps log tag ≡ true → slice_get m.shards tag ≡ Some progress
       → popped_through log tag ≡ progress.popped
@@ -116,21 +107,28 @@ pub record LogKeeps (m : Machine) (i taken : ℕ) (log : Log) : Type 0 where
       → kept log tag ≡ above (popped_through log tag)
       (messages_for m.config.resolver_splits (piece m.config.shard_splits tag) (take taken m.book))
 
--- A shard that is so far has its number as its tag and its piece of the keys, has not failed, and serves from its floor
+-- what each log keeps, unless it has failed
+abbrev pub LogKeeps : Machine → ℕ → ℕ → Log → Type 0
+LogKeeps m i taken log = log.is_failed ≡ false → WorkingLogKeeps m i taken log
+
+-- A shard that is so far and works has its number as its tag and its piece of the keys, and serves from its floor
 -- through the version of the last entry that it applied. What its log was told to drop it has applied.
-pub record ShardReaches (m : Machine) (i : ℕ) (progress : ShardProgress) (shard : Shard) : Type 0 where
+pub record WorkingShardReaches (m : Machine) (i : ℕ) (progress : ShardProgress) (shard : Shard) : Type 0 where
   pub tag : shard.tag ≡ i
   pub range : shard.range ≡ piece m.config.shard_splits i
-  pub works : shard.is_failed ≡ false
   pub floor : shard.floor ≡ progress.floor
   pub version : shard.version ≡ version_of_shard m.book progress
   pub popped : progress.popped ≤ shard.version
 
--- A shard answers, at each version that it serves (from its floor through its version) and at each point that it
--- holds, what stands there on the serial map.
+-- how far each shard is, unless it has failed
+abbrev pub ShardReaches : Machine → ℕ → ShardProgress → Shard → Type 0
+ShardReaches m i progress shard = shard.is_failed ≡ false → WorkingShardReaches m i progress shard
+
+-- A shard that hasn't failed answers, at each version that it serves (from its floor through its version) and at each
+-- point that it holds, what stands there on the serial map.
 abbrev pub ShardServes : Config → List Entry → ℕ → Shard → Type 0
 ShardServes config book i shard =
-    (v : ℕ) (x : Point) → shard.floor ≤ v → v ≤ shard.version → in_range (piece config.shard_splits i) x ≡ true
+    shard.is_failed ≡ false → (v : ℕ) (x : Point) → shard.floor ≤ v → v ≤ shard.version → in_range (piece config.shard_splits i) x ≡ true
     → value_at shard v x ≡ get (serial_map_at config.resolver_splits v (seen_of book).places) x
 
 -- there is a shard for each piece between the splits, and every shard does so
@@ -139,13 +137,19 @@ AllServe config book shards =
     (length shards ≡ suc (length config.shard_splits))
     × ((i : ℕ) (shard : Shard) → slice_get shards i ≡ Some shard → ShardServes config book i shard)
 
--- What each role keeps is what the book says of it; of a world that has failed nothing is said.
+-- which of the resolvers, the logs and the shards have failed
+pub record HaveFailed (system : System) : Type 0 where
+  pub resolvers : system.state.failed.resolvers ≡ map (λ (resolver : Resolver). resolver.is_failed) system.resolvers
+  pub logs : system.state.failed.logs ≡ map (λ (log : Log). log.is_failed) system.logs
+  pub shards : system.state.failed.shards ≡ map (λ (shard : Shard). shard.is_failed) system.shards
+
+-- What each role keeps is what the book says of it, unless the role has failed.
 abbrev pub RolesKeep : System → Type 0
-RolesKeep system = IfSome system.machine (λ (m : Machine).
-    SequencerKeeps m system.sequencer
+RolesKeep system = let m = system.state.machine in
+    HaveFailed system × SequencerKeeps m system.sequencer
     × EachKeeps (ResolverKeeps m) m.resolvers system.resolvers
     × PartsKeep m system.parts
     × MessagesKeep m system.messages
     × EachKeeps (LogKeeps m) m.logs system.logs
     × EachKeeps (ShardReaches m) m.shards system.shards
-    × AllServe m.config m.book system.shards)
+    × AllServe m.config m.book system.shards

@@ -10,7 +10,7 @@ use Rattle.fdb_core.specs.declared.step.Answered.{Answered}
 use Rattle.fdb_core.specs.declared.step.Step.{Step}
 use Rattle.fdb_core.specs.declared.step.Step.TheVariants as step
 use Rattle.fdb_core.specs.headline.Traces.{IsTraceOf}
-use Rattle.fdb_core.specs.machine.Machine.{Machine}
+use Rattle.fdb_core.specs.machine.Failures.{State}
 use Rattle.fdb_core.specs.machine.Roles.{CommitProxy}
 use Rattle.fdb_core.specs.machine.Sessions.{SessionState, Asking, Waiting, session_of}
 use Rattle.fdb_core.specs.machine.Steps.{next}
@@ -55,15 +55,16 @@ pub record IsWhereItsStateSays (session : ℕ) (state : SessionState) (grv_proxi
 -- over every trace each session is where its state says
 abbrev pub SessionsAreWhereTheirStatesSay : Type 0
 SessionsAreWhereTheirStatesSay =
-    (config : Config) (steps : List Step) (answers : List (Result Answered Refusal)) (m : Machine)
-    → IsTraceOf config steps answers (Some m)
-    → (session : ℕ) → IsWhereItsStateSays session (session_of m.sessions session).state m.grv_proxies m.commit_proxies
+    (config : Config) (steps : List Step) (answers : List (Result Answered Refusal)) (world : State)
+    → IsTraceOf config steps answers world
+    → (session : ℕ) → let m = world.machine in
+    IsWhereItsStateSays session (session_of m.sessions session).state m.grv_proxies m.commit_proxies
 
 -- so over every trace a session that asks at a read-version proxy is refused as in the wrong state exactly where it
 -- asks, or waits for an answer, at one of the proxies
 abbrev pub AsksAreRefused : Type 0
 AsksAreRefused =
-    (config : Config) (steps : List Step) (answers : List (Result Answered Refusal)) (m : Machine)
-    → IsTraceOf config steps answers (Some m)
-    → (session proxy : ℕ) (there : List ℕ) → slice_get m.grv_proxies proxy ≡ Some there
+    (config : Config) (steps : List Step) (answers : List (Result Answered Refusal)) (world : State)
+    → IsTraceOf config steps answers world
+    → (session proxy : ℕ) (there : List ℕ) → let m = world.machine in slice_get m.grv_proxies proxy ≡ Some there
     → (next m (step.Ask session proxy) ≡ Err WrongState) ↔ (is_somewhere session m.grv_proxies m.commit_proxies ≡ true)

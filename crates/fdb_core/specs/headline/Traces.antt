@@ -7,11 +7,12 @@ use Rattle.fdb_core.specs.declared.step.Answered.{Answered}
 use Rattle.fdb_core.specs.declared.step.Step.{Step}
 use Rattle.fdb_core.specs.headline.Readings.{Readings, readings_of, is_of_session, times_begun}
 use Rattle.fdb_core.specs.machine.CommitProxySteps.{is_idle}
+use Rattle.fdb_core.specs.machine.Failures.{State}
 use Rattle.fdb_core.specs.machine.Machine.{Machine}
 use Rattle.fdb_core.specs.machine.Roles.{CommitProxy}
 use Rattle.fdb_core.specs.machine.Sessions.{session_of, open_at, next_number, greatest_number}
 use Rattle.fdb_core.specs.machine.Steps.{next, after}
-use Rattle.fdb_core.specs.machine.Worlds.{start, IsRun}
+use Rattle.fdb_core.specs.machine.Worlds.{start, first_state, IsRun}
 
 -- the machine after a step with its answer: an accepted step takes it on, a refused one leaves it as it is
 abbrev pub after_step : Machine → Step → Result Answered Refusal → Machine
@@ -30,14 +31,14 @@ machine_of_trace config steps answers = after_steps (start config) steps answers
 
 -- What a world shows stands for a trace: from the first world on, each step of the trace was answered as the trace
 -- says, and left the world so in the end.
-abbrev pub IsTraceOf : Config → List Step → List (Result Answered Refusal) → Option Machine → Type 0
-IsTraceOf config steps answers world = IsRun (Some (start config)) steps answers world
+abbrev pub IsTraceOf : Config → List Step → List (Result Answered Refusal) → State → Type 0
+IsTraceOf config steps answers world = IsRun (first_state config) steps answers world
 
 -- a world that stands for a trace shows the machine of the trace
 abbrev pub TracesDetermineTheMachine : Type 0
 TracesDetermineTheMachine =
-    (config : Config) (steps : List Step) (answers : List (Result Answered Refusal)) (m : Machine)
-    → IsTraceOf config steps answers (Some m) → m ≡ machine_of_trace config steps answers
+    (config : Config) (steps : List Step) (answers : List (Result Answered Refusal)) (world : State)
+    → IsTraceOf config steps answers world → world.machine ≡ machine_of_trace config steps answers
 
 -- the transaction alone in a list, which is empty where there is none
 abbrev pub alone : Option Transcript → List Transcript
@@ -65,5 +66,5 @@ pub record HasWhatIsTold (r : Readings) (m : Machine) : Type 0 where
 -- a world that stands for a trace shows what the trace tells
 abbrev pub WorldsShowWhatIsTold : Type 0
 WorldsShowWhatIsTold =
-    (config : Config) (steps : List Step) (answers : List (Result Answered Refusal)) (m : Machine)
-    → IsTraceOf config steps answers (Some m) → HasWhatIsTold (readings_of steps answers) m
+    (config : Config) (steps : List Step) (answers : List (Result Answered Refusal)) (world : State)
+    → IsTraceOf config steps answers world → HasWhatIsTold (readings_of steps answers) world.machine

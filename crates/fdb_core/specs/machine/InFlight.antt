@@ -4,7 +4,8 @@ use Rattle.fdb_keys.specs.declared.refusal.Refusal.{Refusal}
 use Rattle.fdb_keys.specs.declared.refusal.Refusal.TheVariants.{Failed, Unknown, WrongState}
 use Rattle.fdb_core.specs.declared.in_flight.InFlight.{InFlight}
 use Rattle.fdb_core.specs.machine.Roles.{CommitProxy}
-use Rattle.fdb_core.specs.machine.Machine.{Machine}
+use Rattle.fdb_core.specs.machine.Failures.{State}
+use Rattle.fdb_core.specs.machine.Machine.{Machine, is_set}
 use Rattle.fdb_core.specs.machine.CommitProxySteps.{is_idle}
 
 -- the batch in flight at a commit proxy, which may be none of the machine's
@@ -18,7 +19,7 @@ in_flight_on m (Some commit_proxy) =
 abbrev pub in_flight_at : Machine → ℕ → Result InFlight Refusal
 in_flight_at m proxy = in_flight_on m (slice_get m.commit_proxies proxy)
 
--- what a world answers, which has no machine once it has failed
-abbrev pub in_flight : Option Machine → ℕ → Result InFlight Refusal
-in_flight None proxy = Err Failed
-in_flight (Some m) proxy = in_flight_at m proxy
+-- what a world answers: a commit proxy that has failed tells nothing
+abbrev pub in_flight : State → ℕ → Result InFlight Refusal
+in_flight state proxy =
+    if is_set state.failed.commit_proxies proxy then Err Failed else in_flight_at state.machine proxy

@@ -12,9 +12,6 @@ use Rattle.fdb_txn.specs.Limits.{resolver_limit, proxy_limit, log_limit, shard_l
 use Rattle.fdb_txn.specs.rules.Splits.{are_splits}
 use Rattle.fdb_core.specs.declared.cluster.Cluster.{Cluster}
 use Rattle.fdb_core.specs.declared.roles.commit_proxy.CommitProxyRole.{CommitProxyRole}
-use Rattle.fdb_core.specs.declared.roles.log.LogRole.{LogRole}
-use Rattle.fdb_core.specs.declared.roles.shard.ShardRole.{ShardRole}
-use Rattle.fdb_core.specs.declared.roles.resolver.ResolverRole.{ResolverRole}
 use Rattle.fdb_txn.specs.book.Book.{Seen, last_version, seen_before}
 use Rattle.fdb_log.specs.declared.message.LogMsg.{LogMsg}
 use Rattle.fdb_storage.specs.LogMessages.{log_messages}
@@ -24,7 +21,6 @@ use Rattle.fdb_core.specs.machine.Sessions.{EachOpen}
 use Rattle.fdb_core.specs.refinement.commit_proxy.Ties.{ReadsWithin, CommitProxyRefines, Known, known_to, seen_as}
 use Rattle.fdb_core.specs.refinement.resolver.Resolving.{ResolversRefine, PartsRefine, taken_by}
 use Rattle.fdb_core.specs.refinement.log.Ties.{logs_taken, progress_of, LogsRefine}
-use Rattle.fdb_core.specs.headline.Serving.{System}
 
 -- who asks at a read-version proxy
 abbrev pub sessions_of : List Asker → List ℕ
@@ -47,22 +43,6 @@ machine_of k =
       sessions = k.sessions;
       committed = k.sequencer.committed;
       acknowledged = k.acknowledged.items;
-    }
-
--- what the world shows: the machine unless the world has failed, and what its sequencer, its resolvers, its logs and its
--- shards keep, with the parts that were made for the resolvers and the messages that were made for the logs, and what
--- a check goes by
-abbrev pub system_of : Bool → Cluster → System
-system_of failed k =
-    record {
-      machine = if failed then None else Some (machine_of k);
-      sequencer = k.sequencer;
-      resolvers = map (λ (role : ResolverRole). role.core) k.resolvers.items;
-      parts = k.parts.items;
-      messages = k.messages.items;
-      logs = map (λ (role : LogRole). role.core) k.logs.items;
-      shards = map (λ (role : ShardRole). role.core) k.shards.items;
-      history = record { config = k.config; book = k.book.items; acknowledged = k.acknowledged.items };
     }
 
 -- each entry's version is above that of the entry before it

@@ -1,6 +1,5 @@
 // The comparison of transcripts with the run of one transaction at a time.
-ghost use Rattle.std.specs.Prelude.{◌≡◌, ◌<◌, ◌≤◌, ◌⊎◌, suc, true, List, [], length, All, None, IfOk, MatchResult};
-ghost use Rattle.std.specs.Prelude.{if◌then◌else◌};
+ghost use Rattle.std.specs.Prelude.{◌≡◌, ◌<◌, ◌≤◌, ◌⊎◌, suc, List, length, All, None, IfOk, MatchResult};
 ghost use Rattle.std.specs.List.{AllByRecursion};
 ghost use Rattle.std.specs.List.Sorted.{IsPermutation};
 ghost use Rattle.fdb_keys.specs.Points.{Point};
@@ -20,7 +19,6 @@ use crate::check::standing::is_serialized;
 use crate::check::visits::{Visit, sorted_visits, visit_at};
 use crate::cluster::Cluster;
 use crate::roles::client::Placed;
-use crate::roles::shard::ShardRole;
 use crate::world::CheckFault;
 use fdb_keys::Items;
 use fdb_proxy::{Config, Outcome};
@@ -112,20 +110,19 @@ pub fn serial_check(
     check_placed(alloc, judged.as_slice(), book, placed)
 }
 
-/// Compares every acknowledged transcript with the run of one transaction at a time, and each shard at its
-/// version where `with_shards` says so. Answers the number of acknowledged transactions. A fault is found just where
+/// Compares every acknowledged transcript with the run of one transaction at a time, and each shard that hasn't failed
+/// at its version. Answers the number of acknowledged transactions. A fault is found just where
 /// something differs, for each book whose entries follow on one another from version 0 on, whose moves go to resolvers
 /// that exist, and whose transactions read below the versions of their entries and have in their write sets what their
 /// mutations name. Keys that are no splits among at most 64 resolvers, as no world's configuration has them, are
 /// answered as out of memory.
-pub(crate) fn check_all(cluster: &Cluster, with_shards: bool) -> Result<u64, CheckFault>
-    requires { with_shards ≡ true → length cluster.now.shards.items ≤ shard_limit }
+pub(crate) fn check_all(cluster: &Cluster) -> Result<u64, CheckFault>
+    requires { length cluster.now.shards.items ≤ shard_limit }
     ensures count { IfOk result (λ count. count ≡ length cluster.now.acknowledged.items) }
     ensures finds { AreEntries (suc (length cluster.now.config.resolver_splits)) 0 cluster.now.book.items
         → Finds result cluster.now.config.resolver_splits cluster.now.book.items
-        cluster.now.acknowledged.items (if with_shards then cluster.now.shards.items else []) }
+        cluster.now.acknowledged.items cluster.now.shards.items }
 {
-    let shards: &[ShardRole] = if with_shards { &cluster.shards } else { &[] };
     let splits = cluster.config.resolver_splits.as_slice();
     let judged = judge_book(cluster.alloc, splits, &cluster.book)?;
     let outcomes = judged.as_slice();
@@ -135,6 +132,6 @@ pub(crate) fn check_all(cluster: &Cluster, with_shards: bool) -> Result<u64, Che
         &cluster.book,
         &cluster.acknowledged,
     )?;
-    check_shards(cluster.alloc, outcomes, &cluster.book, shards)?;
+    check_shards(cluster.alloc, outcomes, &cluster.book, &cluster.shards)?;
     Ok(count)
 }

@@ -19,8 +19,8 @@ use fdb_proxy::Outcome;
 use fdb_txn::Entry;
 use std::alloc::Global;
 
-// Whether the shard has at its version the map's values in its range. Refused only where memory runs out, or ran out
-// in the shard.
+// Whether the shard has at its version the map's values in its range. Refused only where memory runs out, or where the
+// shard has failed.
 fn has_map(alloc: Global, role: &ShardRole, map: &PlainMap) -> Result<bool, Refusal>
     ensures { IfOk result (λ held. IsTrue held ↔ HasTheMap map.now role.now.core) }
 {
@@ -41,7 +41,7 @@ fn is_below(version: u64, end: Option<u64>) -> bool
     }
 }
 
-// Compares the shard with the map, if its version is from one on up to another.
+// Compares the shard with the map, if it hasn't failed and its version is from one on up to another.
 fn compare_shard(
     alloc: Global,
     map: &PlainMap,
@@ -55,7 +55,7 @@ fn compare_shard(
         ⊎ ((fault ≡ CheckFault.Shard number) × ¬ (HasTheMapThere from until map.now role.now))) }
 {
     let version = role.core.version();
-    if version < from || !is_below(version, until) {
+    if role.core.is_failed() || version < from || !is_below(version, until) {
         return Ok(());
     }
     match has_map(alloc, role, map) {
@@ -125,7 +125,7 @@ fn run_all(
     Ok(())
 }
 
-/// Compares each shard at its version with the run of the book.
+/// Compares each shard that hasn't failed at its version with the run of the book.
 pub(crate) fn check_shards(
     alloc: Global,
     judged: &[Items<Outcome>],

@@ -1,15 +1,16 @@
 // A commit proxy of the world.
 pub(crate) mod replying;
+mod sealing;
 mod submitting;
 
-ghost use Rattle.std.specs.Prelude.{◌≡◌, length, take, drop, OnOk, IfOk};
-ghost use Rattle.fdb_txn.specs.Limits.{place_limit};
+ghost use Rattle.std.specs.Prelude.{◌≡◌, length};
 ghost use Rattle.fdb_keys.specs.Answers.{Answers};
 ghost use Rattle.fdb_proxy.specs.Configs.{config_fault};
 ghost use Rattle.fdb_core.specs.refinement.commit_proxy.Ties.{IsNewCommitProxy};
 ghost use Rattle.fdb_core.specs.refinement.log.Ties.{Each};
 
 use crate::roles::client::sessions::Sessions;
+use crate::roles::commit_proxy::sealing::seal_first;
 use crate::roles::commit_proxy::submitting::take_in;
 use fdb_client::Transcript;
 use fdb_keys::{Items, Refusal};
@@ -17,8 +18,8 @@ use fdb_log::{LogAck, LogMsg};
 use fdb_proxy::{CommitCore, Config, Outcome};
 use fdb_resolver::{Part, Verdicts};
 use fdb_sequencer::Ticket;
-use fdb_txn::{Batch, PLACE_LIMIT, TxnId};
-use std::alloc::{AllocError, Global};
+use fdb_txn::{Batch, TxnId};
+use std::alloc::Global;
 use std::mem;
 
 /// Who tells a commit proxy something of an entry.
@@ -54,7 +55,8 @@ impl CommitProxyRole {
     ghost use Rattle.fdb_txn.specs.declared.entry.Entry.{Entry};
     ghost use Rattle.fdb_storage.specs.LogMessages.{log_messages};
     ghost use Rattle.fdb_proxy.specs.declared.config.Config.{Config};
-    ghost use Rattle.fdb_proxy.specs.CommitProxies.{IsTicketFor, sealing, waiting_for};
+    ghost use Rattle.fdb_proxy.specs.CommitProxies.{IsTicketFor, learn_fault, sealing, waiting_for};
+    ghost use Rattle.fdb_proxy.specs.CommitProxies.{is_idle as has_no_batch};
     ghost use Rattle.fdb_proxy.specs.Configs.{config_fault};
     ghost use Rattle.fdb_proxy.specs.Requests.{place_of};
     ghost use Rattle.fdb_proxy.specs.Verdicts.{is_needed};
@@ -67,6 +69,7 @@ impl CommitProxyRole {
     ghost use Rattle.fdb_core.specs.machine.Sessions.{open_at};
     ghost use Rattle.fdb_core.specs.refinement.client.Submitting.{Submits};
     ghost use Rattle.fdb_core.specs.refinement.commit_proxy.Ties.{IsNextTicket, Seals, Decides, IsDone};
+    ghost use Rattle.fdb_core.specs.refinement.commit_proxy.Ties.{IsLeftUnsealed};
 
     /// The commit proxy with the number, without a batch, at which nobody waits. Refused only as `NoMemory`.
     pub(crate) fn new(alloc: Global, index: u32, config: &Config) -> Result<Self, Refusal>
@@ -86,7 +89,7 @@ impl CommitProxyRole {
 
     /// Whether no batch is in flight.
     pub(crate) fn is_idle(&self) -> bool
-        ensures { result ≡ is_idle (seen_as self.now).stage }
+        ensures { result ≡ has_no_batch self.now.core.proxy.stage }
     {
         self.core.is_idle()
     }
@@ -115,40 +118,36 @@ impl CommitProxyRole {
         submitted
     }
 
-    // What the first of those who wait were answered, at most as many as a batch may have, is what those in flight
-    // were.
-    fn take_transcripts(&mut self, alloc: Global) -> Result<(), AllocError>
-        ensures { OnOk result (self.new ≡ record self.old {
-          waiting = drop place_limit self.old.waiting;
-          in_flight = take place_limit self.old.waiting;
-        }) }
-    {
-        let mut first = mem::replace(&mut self.waiting, Items::new(alloc)).into_vec();
-        self.waiting = Items::from_vec(cut(alloc, &mut first)?);
-        self.in_flight = Items::from_vec(first);
-        Ok(())
-    }
-
     /// The first of those who wait, at most as many as a batch may have, become the batch of the ticket's entry.
-    /// Answers the batch, and the part of each resolver. Refused only as `NoMemory`.
+    /// Answers the batch, and the part of each resolver. Refused only as `NoMemory`. Then who waits is as before, and
+    /// the core is, too, or has failed while it learnt the ticket.
     pub(crate) fn seal(
         &mut self,
         alloc: Global,
         ticket: &Ticket,
     ) -> Result<(Batch, Items<Part>), Refusal>
         requires { IsTicketFor (sealing self.old.core.proxy) ticket.now }
-        ensures { (config : Config) (book : List Entry) (known : Known)
+        ensures answers { (config : Config) (book : List Entry) (known : Known)
             → CommitProxyRefines config book known self.old → is_idle (seen_as self.old).stage ≡ true
             → IsNextTicket config book known ticket.now → AreEntries (suc (length config.resolver_splits)) 0 book
             → Answers result None
             (λ given. Seals config book known ticket.now self.old given.0 given.1 self.new) }
+        ensures left { learn_fault (sealing self.old.core.proxy) ticket.now ≡ None
+            → OnErr result (IsLeftUnsealed ticket.now self.old self.new) }
     {
-        let batch = self.core.seal()?;
-        self.core.learn(ticket)?;
-        let parts = self.core.parts()?;
-        self.take_transcripts(alloc)?;
-        self.entry = ticket.index;
-        Ok((batch, parts))
+        let mut first = mem::replace(&mut self.waiting, Items::new(alloc)).into_vec();
+        match seal_first(alloc, &mut self.core, &mut first, ticket) {
+            Ok((batch, parts, rest)) => {
+                self.waiting = Items::from_vec(rest);
+                self.in_flight = Items::from_vec(first);
+                self.entry = ticket.index;
+                Ok((batch, parts))
+            }
+            Err(why) => {
+                self.waiting = Items::from_vec(first);
+                Err(why)
+            }
+        }
     }
 
     /// A resolver's verdicts came. Refused as `Stale` where the batch doesn't wait for them, and then nothing changes.
@@ -165,10 +164,10 @@ impl CommitProxyRole {
         self.core.verdict(verdicts)
     }
 
-    /// Decides the batch. Answers what becomes of each place. Refused as `WrongState` unless the batch waits for
-    /// verdicts, as `NotYet` with the least resolver that is asked about some place and whose verdicts haven't come,
-    /// and as `NoMemory`. Then nothing changes.
-    pub(crate) fn decide(&mut self) -> Result<Items<Outcome>, Refusal>
+    /// Decides the batch. Answers what becomes of each place, and the messages for the logs. Refused as `WrongState`
+    /// unless the batch waits for verdicts, as `NotYet` with the least resolver that is asked about some place and whose
+    /// verdicts haven't come, and as `NoMemory`. Then nothing changes.
+    pub(crate) fn decide(&mut self) -> Result<(Items<Outcome>, Items<LogMsg>), Refusal>
         ensures wrong { (config : Config) (book : List Entry) (known : Known)
             → CommitProxyRefines config book known self.old → is_resolving (seen_as self.old).stage ≡ false
             → result ≡ Err WrongState }
@@ -179,22 +178,12 @@ impl CommitProxyRole {
             → Answers result (waiting_for (first_missing
             (λ resolver. is_needed config.resolver_splits resolver (seen_before book self.old.entry) entry) 0
             (seen_as self.old).verdicts_received))
-            (λ outcomes. Decides config book known entry self.old outcomes self.new) }
+            (λ given. Decides config book known entry self.old given.0 self.new
+            × (given.1 ≡ log_messages config.resolver_splits config.shard_splits config.logs self.old.entry
+            (seen_before book self.old.entry) entry)) }
         ensures refused { OnErr result (self.new ≡ self.old) }
     {
-        self.core.decide()
-    }
-
-    /// The messages of the decided batch for the logs. Refused as `NoMemory`, and else only unless the batch is
-    /// decided.
-    pub(crate) fn messages(&self) -> Result<Items<LogMsg>, Refusal>
-        ensures { (config : Config) (book : List Entry) (known : Known) (entry : Entry)
-            → CommitProxyRefines config book known self.now → is_logging (seen_as self.now).stage ≡ true
-            → slice_get book self.now.entry ≡ Some entry
-            → Answers result None (λ messages. messages ≡ log_messages config.resolver_splits config.shard_splits
-            config.logs self.now.entry (seen_before book self.now.entry) entry) }
-    {
-        self.core.messages()
+        self.core.decide_with_messages()
     }
 
     /// A log's acknowledgement came. Refused as `Stale` where the batch doesn't wait for it, and then nothing changes.
@@ -251,18 +240,6 @@ impl CommitProxyRole {
         let transcripts = mem::replace(&mut self.in_flight, Items::new(alloc));
         Ok((transcripts, answers))
     }
-}
-
-// Leaves at most as many as a batch may have, and gives the others.
-fn cut(alloc: Global, waiting: &mut Vec<Transcript>) -> Result<Vec<Transcript>, AllocError>
-    ensures rest { IfOk result (λ rest. rest.items ≡ drop place_limit waiting.old.items) }
-    ensures first { OnOk result (waiting.new.items ≡ take place_limit waiting.old.items) }
-{
-    if waiting.len() <= PLACE_LIMIT {
-        return Ok(Vec::new(alloc));
-    }
-    let rest = waiting.split_off(PLACE_LIMIT)?;
-    Ok(rest)
 }
 
 /// As many commit proxies as the configuration says, without batches. Refused only as `NoMemory`.

@@ -1,5 +1,6 @@
 // A resolver of the world.
-ghost use Rattle.std.specs.Prelude.{◌≡◌, ◌<◌, length, slice_get, IfOk};
+ghost use Rattle.std.specs.Prelude.{◌≡◌, ◌<◌, ◌≤◌, ◌+◌, ◌++◌, length, slice_get, IfOk};
+ghost use Rattle.std.specs.Vec.{vec_len, vec_capacity};
 ghost use Rattle.fdb_core.specs.refinement.log.Ties.{Each};
 ghost use Rattle.fdb_core.specs.refinement.Starts.{IsNewResolver};
 
@@ -16,7 +17,7 @@ pub(crate) struct ResolverRole {
 }
 
 impl ResolverRole {
-    ghost use Rattle.std.specs.Prelude.{◌≡◌, ◌<◌, ◌-◌, ◌+◌, ◌^◌, ◌++◌, suc, [], ◌∷◌, ℕ, List, length, None, Some, IfOk};
+    ghost use Rattle.std.specs.Prelude.{◌≡◌, ◌<◌, ◌-◌, ◌+◌, ◌^◌, ◌++◌, suc, [], ◌∷◌, ℕ, List, length, None, Some, IfOk, OnErr};
     ghost use Rattle.std.specs.Prelude.{slice_get};
     ghost use Rattle.fdb_keys.specs.Answers.{Answers};
     ghost use Rattle.fdb_keys.specs.Points.{Point};
@@ -26,7 +27,7 @@ impl ResolverRole {
     ghost use Rattle.fdb_proxy.specs.Parting.{IsPartOf};
     ghost use Rattle.fdb_proxy.specs.Verdicts.{moves_through};
     ghost use Rattle.fdb_resolver.specs.Parts.{IsPart};
-    ghost use Rattle.fdb_core.specs.refinement.resolver.Resolving.{ResolverRefines, IsResolverAt, TakesNext};
+    ghost use Rattle.fdb_core.specs.refinement.resolver.Resolving.{ResolverRefines, IsResolverAt, TakesNext, IsLeftBy};
 
     /// The resolver with the number, which took nothing.
     pub(crate) fn new(alloc: Global, index: u32) -> Self
@@ -40,7 +41,8 @@ impl ResolverRole {
         }
     }
 
-    /// Takes its part of the next entry, and answers what the rule says of each place that it is asked about.
+    /// Takes its part of the next entry, and answers what the rule says of each place that it is asked about. Refused
+    /// only as `NoMemory` where it works: then it has taken and sent nothing, and its core is as it was or has failed.
     pub(crate) fn take(
         &mut self,
         alloc: Global,
@@ -48,20 +50,22 @@ impl ResolverRole {
     ) -> Result<Items<(u32, Verdict)>, Refusal>
         requires part { IsPart part.now }
         requires few { self.old.taken < 2 ^ 32 - 1 }
-        ensures { (splits : List Point) (before : List Entry) (entry : Entry) (i index : ℕ)
+        ensures takes { (splits : List Point) (before : List Entry) (entry : Entry) (i index : ℕ)
             → IsResolverAt splits before i self.old.core
             → AreEntries (suc (length splits)) 0 (before ++ entry ∷ [])
             → IsPartOf splits (moves_through (seen_of before) entry)
             (record { index = index; version = entry.version; prev = entry.prev }) entry.batch i part.now
             → Answers result None (λ answer. TakesNext splits before entry i index self.old answer self.new) }
+        ensures left { OnErr result (IsLeftBy self.old self.new) }
     {
-        // What is sent has room before the core changes.
+        // What is sent and answered has room before the core changes.
         self.sent.reserve(1)?;
+        let mut answer = Vec::with_capacity(alloc, part.items.as_slice().len())?;
         let verdicts = self.core.take(part)?;
-        let answer = Items::from_vec(Vec::from_slice(alloc, verdicts.answers.as_slice())?);
-        self.sent.push(verdicts)?;
+        copy_all(&mut answer, verdicts.answers.as_slice());
+        self.sent.push_reserved(verdicts);
         self.taken += 1;
-        Ok(answer)
+        Ok(Items::from_vec(answer))
     }
 
     /// What it sent of the entry, which it took.
@@ -76,6 +80,16 @@ impl ResolverRole {
             index: sent.index,
             answers,
         })
+    }
+}
+
+// Adds copies of the verdicts, for which there is room.
+fn copy_all(answer: &mut Vec<(u32, Verdict)>, verdicts: &[(u32, Verdict)])
+    requires { vec_len answer.old + length verdicts.now ≤ vec_capacity answer.old }
+    ensures { answer.new.items ≡ answer.old.items ++ verdicts.now }
+{
+    for verdict in verdicts {
+        answer.push_reserved(*verdict);
     }
 }
 

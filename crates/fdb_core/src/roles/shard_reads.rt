@@ -53,13 +53,16 @@ impl<'a> Model for ShardReads<'a> {
 }
 
 impl<'a> ShardReads<'a> {
-    // Refused where a shard that holds some of the range doesn't serve the version. The end is looked at since it is no
-    // later than the end of the keys: so each point of the range has a shard.
+    // Refused where a shard that holds some of the range has failed or doesn't serve the version. The end is looked at
+    // since it is no later than the end of the keys: so each point of the range has a shard.
     fn check_range(&self, range: &KeyRange) -> Result<(), Refusal>
         ensures answers { AnswersExactly result (range_fault self.now range.now) (λ _. ⊤) }
         ensures legal { IsTrue (is_bound range.now.end) }
     {
         let _end = range.end();
+        if is_failed(self.shards, range) {
+            return Err(Refusal::Failed);
+        }
         if is_forgotten(self.shards, self.version, range) {
             return Err(Refusal::TransactionTooOld);
         }
@@ -164,6 +167,14 @@ impl<'a> Snapshot for ShardReads<'a> {
         let (pairs, more) = page_of(found, limit);
         Ok(Page { pairs, more })
     }
+}
+
+// Whether a shard that holds some of the range has failed.
+fn is_failed(shards: &[ShardRole], range: &KeyRange) -> bool
+    ensures { result ≡ list_any (λ (role : Role).
+        ranges_meet role.core.range range.now && role.core.is_failed) shards.now }
+{
+    shards.iter().any(|role| role.core.range().meets(range) && role.core.is_failed())
 }
 
 // Whether a shard that holds some of the range no longer serves the version.

@@ -1,15 +1,21 @@
 // The steps of clients.
+ghost use Rattle.std.specs.Prelude.{◌≡◌, ◌+◌, ◌≤◌, ◌++◌, [], ◌∷◌, ℕ, true, Some, slice_get, vec_len, vec_capacity};
+ghost use Rattle.fdb_txn.specs.declared.spot.Spot.TheVariants as spot;
+ghost use Rattle.fdb_core.specs.declared.roles.commit_proxy.CommitProxyRole.{CommitProxyRole};
+ghost use Rattle.fdb_core.specs.declared.step.Answered.TheVariants as answered;
 ghost use Rattle.fdb_core.specs.invariant.Invariant.{Invariant};
-ghost use Rattle.fdb_core.specs.machine.ClientSteps.{reads, writes, adds_read, adds_write, submits};
-ghost use Rattle.fdb_core.specs.refinement.Cluster.{machine_of, Refines};
-ghost use Rattle.fdb_core.specs.refinement.client.Reading.{operation_of};
-ghost use Rattle.fdb_core.specs.refinement.Steps.{TakesOrLeaves};
+ghost use Rattle.fdb_core.specs.declared.step.Step.TheVariants as step;
+ghost use Rattle.fdb_core.specs.refinement.Cluster.{machine_of};
+ghost use Rattle.fdb_core.specs.refinement.Restoring.{Tied, proxy_failed};
+ghost use Rattle.fdb_core.specs.refinement.client.Reading.{step_of};
+ghost use Rattle.fdb_core.specs.refinement.Steps.{Takes};
 
 use crate::cluster::Cluster;
 use crate::roles::client::Placed;
 use crate::roles::client::read::Read;
 use crate::roles::shard_reads::ShardReads;
 use crate::step::Answered;
+use fdb_client::{Finished, Transcript};
 use fdb_keys::{KeyRange, Refusal};
 use fdb_mutations::Mutation;
 use fdb_txn::Spot;
@@ -22,9 +28,8 @@ impl Cluster {
         read: Read<'_>,
         snapshot: bool,
     ) -> Result<Answered, Refusal>
-        requires { Refines self.old }
-        ensures { TakesOrLeaves self.old result self.new
-            (reads (machine_of self.old) session (operation_of read.entry snapshot)) }
+        requires { Tied self.old }
+        ensures { Takes self.old (step_of session read.entry snapshot) result self.new }
     {
         let Some(txn) = self.sessions.open(session) else {
             return Err(Refusal::NoTransaction);
@@ -42,8 +47,8 @@ impl Cluster {
 
     #[tactic(auto, unfolding(crate::specs::machine::ClientSteps::writes))]
     pub(crate) fn write(&mut self, session: u32, mutation: &Mutation) -> Result<Answered, Refusal>
-        requires { Refines self.old }
-        ensures { TakesOrLeaves self.old result self.new (writes (machine_of self.old) session mutation.now) }
+        requires { Tied self.old }
+        ensures { Takes self.old (step.Write session mutation.now) result self.new }
     {
         self.sessions.write(session, mutation)?;
         Ok(Answered::Done)
@@ -51,8 +56,8 @@ impl Cluster {
 
     #[tactic(auto, unfolding(crate::specs::machine::ClientSteps::adds_read))]
     pub(crate) fn add_read(&mut self, session: u32, range: &KeyRange) -> Result<Answered, Refusal>
-        requires { Refines self.old }
-        ensures { TakesOrLeaves self.old result self.new (adds_read (machine_of self.old) session range.now) }
+        requires { Tied self.old }
+        ensures { Takes self.old (step.AddRead session range.now) result self.new }
     {
         self.sessions.add_read(session, range)?;
         Ok(Answered::Done)
@@ -60,8 +65,8 @@ impl Cluster {
 
     #[tactic(auto, unfolding(crate::specs::machine::ClientSteps::adds_write))]
     pub(crate) fn add_write(&mut self, session: u32, range: &KeyRange) -> Result<Answered, Refusal>
-        requires { Refines self.old }
-        ensures { TakesOrLeaves self.old result self.new (adds_write (machine_of self.old) session range.now) }
+        requires { Tied self.old }
+        ensures { Takes self.old (step.AddWrite session range.now) result self.new }
     {
         self.sessions.add_write(session, range)?;
         Ok(Answered::Done)
@@ -69,25 +74,58 @@ impl Cluster {
 
     #[tactic(auto, unfolding(crate::specs::machine::ClientSteps::submits))]
     pub(crate) fn submit(&mut self, session: u32, proxy: u32) -> Result<Answered, Refusal>
-        requires refines { Refines self.old }
+        requires tied { Tied self.old }
         requires named { Invariant (machine_of self.old) }
-        ensures { TakesOrLeaves self.old result self.new (submits (machine_of self.old) session proxy) }
+        ensures { Takes self.old (step.Submit session proxy) result self.new }
     {
         let at = proxy as usize;
         if at >= self.commit_proxies.len() {
             return Err(Refusal::Unknown);
         }
+        if self.commit_proxies[at].core.is_failed() {
+            return self.submit_past(session);
+        }
         self.acknowledged.reserve(1)?;
         let commit_proxy = &mut self.commit_proxies[at];
         match commit_proxy.submit(self.alloc, &mut self.sessions, session)? {
             None => Ok(Answered::Done),
-            // It wrote nothing, and is acknowledged at its read version.
-            Some(transcript) => {
-                let version = transcript.read_version;
-                let spot = Spot::ReadOnly { version };
-                self.acknowledged.push_reserved(Placed { spot, transcript });
-                Ok(Answered::ReadOnly(version))
-            }
+            Some(transcript) => Ok(acknowledge(&mut self.acknowledged, transcript)),
         }
     }
+
+    // The session submits at a commit proxy that has failed. A transaction that wrote nothing uses no proxy, so it is
+    // acknowledged all the same.
+    #[tactic(auto, unfolding(crate::specs::machine::ClientSteps::submits))]
+    fn submit_past(&mut self, session: u32) -> Result<Answered, Refusal>
+        requires { Tied self.old }
+        ensures { (proxy : ℕ) (role : CommitProxyRole) → slice_get self.old.commit_proxies.items proxy ≡ Some role
+            → proxy_failed role ≡ true → Takes self.old (step.Submit session proxy) result self.new }
+    {
+        let Some(txn) = self.sessions.open(session) else {
+            return Err(Refusal::NoTransaction);
+        };
+        if !txn.is_read_only() {
+            return Err(Refusal::Failed);
+        }
+        // Room comes first: once the transaction is finished, it can't be left open.
+        self.acknowledged.reserve(1)?;
+        match self.sessions.finish(session)? {
+            Finished::ReadOnly(transcript) => Ok(acknowledge(&mut self.acknowledged, transcript)),
+            // It wrote nothing, so it isn't one to commit.
+            Finished::ToCommit(..) => Err(Refusal::Failed),
+        }
+    }
+}
+
+// The transaction, which wrote nothing, is acknowledged at its read version. There is room for it.
+fn acknowledge(acknowledged: &mut Vec<Placed>, transcript: Transcript) -> Answered
+    requires { vec_len acknowledged.old + 1 ≤ vec_capacity acknowledged.old }
+    ensures answer { result ≡ answered.ReadOnly transcript.read_version }
+    ensures items { acknowledged.new.items ≡ acknowledged.old.items
+        ++ record { spot = spot.ReadOnly transcript.read_version; transcript = transcript } ∷ [] }
+{
+    let version = transcript.read_version;
+    let spot = Spot::ReadOnly { version };
+    acknowledged.push_reserved(Placed { spot, transcript });
+    Answered::ReadOnly(version)
 }

@@ -1,10 +1,15 @@
 // The steps of the commit proxies.
-ghost use Rattle.std.specs.Prelude.{◌≡◌, ◌++◌, [], ◌∷◌, false, None, OnOk, MatchResult};
-ghost use Rattle.fdb_core.specs.machine.CommitProxySteps.{taken_by_sender, seals, receives, decides, reports, answers};
-ghost use Rattle.fdb_core.specs.machine.Roles.{FromResolver, FromLog};
-ghost use Rattle.fdb_core.specs.refinement.Cluster.{machine_of, Refines};
+ghost use Rattle.std.specs.Prelude.{◌≡◌, ◌+◌, ◌≤◌, ◌⊎◌, ◌++◌, [], ◌∷◌, false, None, Err, OnOk, OnErr, MatchResult};
+ghost use Rattle.std.specs.Prelude.{vec_len, vec_capacity};
+ghost use Rattle.fdb_keys.specs.declared.refusal.Refusal.TheVariants.{NoMemory};
+ghost use Rattle.fdb_core.specs.invariant.Invariant.{Invariant};
+ghost use Rattle.fdb_core.specs.declared.step.Step.TheVariants as step;
+ghost use Rattle.fdb_core.specs.machine.CommitProxySteps.{taken_by_sender};
+ghost use Rattle.fdb_core.specs.refinement.Cluster.{machine_of};
+ghost use Rattle.fdb_core.specs.refinement.Restoring.{Tied};
 ghost use Rattle.fdb_core.specs.refinement.commit_proxy.Receiving.{IsReceiver, IsUnknown};
-ghost use Rattle.fdb_core.specs.refinement.Steps.{Takes, TakesOrLeaves};
+ghost use Rattle.fdb_core.specs.refinement.commit_proxy.Sealing.{IsTicketToSeal};
+ghost use Rattle.fdb_core.specs.refinement.Steps.{Takes, transition_of};
 ghost use Rattle.fdb_core.specs.refinement.Views.{sender_of};
 
 use crate::cluster::Cluster;
@@ -20,14 +25,18 @@ use fdb_txn::Entry;
 use std::alloc::AllocError;
 
 impl Cluster {
-    #[tactic(auto, unfolding(crate::specs::machine::CommitProxySteps::seals))]
-    pub(crate) fn seal(&mut self, proxy: u32, advance: u64) -> Result<Answered, Refusal>
-        requires { Refines self.old }
-        ensures { Takes self.old result self.new (seals (machine_of self.old) proxy advance) }
+    // The ticket of the proxy's next batch. Refused as the seal is, and as `NoMemory`.
+    fn plan_seal(&self, proxy: u32, advance: u64) -> Result<Ticket, Refusal>
+        requires { Tied self.now }
+        ensures { MatchResult result (IsTicketToSeal self.now proxy advance)
+            (λ why. (why ≡ NoMemory) ⊎ (transition_of self.now (step.Seal proxy advance) ≡ Err why)) }
     {
         let at = proxy as usize;
         if at >= self.commit_proxies.len() {
             return Err(Refusal::Unknown);
+        }
+        if self.commit_proxies[at].core.is_failed() {
+            return Err(Refusal::Failed);
         }
         if !self.commit_proxies[at].is_idle() {
             return Err(Refusal::WrongState);
@@ -36,6 +45,14 @@ impl Cluster {
         if self.config.book as usize <= self.book.len() {
             return Err(Refusal::BookFull);
         }
+        Ok(ticket)
+    }
+
+    pub(crate) fn seal(&mut self, proxy: u32, advance: u64) -> Result<Answered, Refusal>
+        requires { Tied self.old }
+        ensures { Takes self.old (step.Seal proxy advance) result self.new }
+    {
+        let ticket = self.plan_seal(proxy, advance)?;
         make_room(
             &mut self.book,
             &mut self.entry_proxies,
@@ -43,7 +60,7 @@ impl Cluster {
             &mut self.parts,
             &mut self.messages,
         )?;
-        let commit_proxy = &mut self.commit_proxies[at];
+        let commit_proxy = &mut self.commit_proxies[proxy as usize];
         let (batch, parts) = commit_proxy.seal(self.alloc, &ticket)?;
         let places = batch.as_slice().len() as u32;
         issue(&mut self.sequencer, &ticket);
@@ -54,12 +71,12 @@ impl Cluster {
             pending: moves,
             ..
         } = ticket;
-        self.book.push(Entry {
+        self.book.push_reserved(Entry {
             version,
             prev,
             moves,
             batch,
-        })?;
+        });
         add_undecided(
             proxy,
             parts,
@@ -67,7 +84,7 @@ impl Cluster {
             &mut self.decided,
             &mut self.parts,
             &mut self.messages,
-        )?;
+        );
         Ok(Answered::Issued {
             index,
             version,
@@ -111,10 +128,13 @@ impl Cluster {
     }
 
     pub(crate) fn verdict(&mut self, entry: u32, resolver: u32) -> Result<Answered, Refusal>
-        requires { Refines self.old }
-        ensures { Takes self.old result self.new (receives (machine_of self.old) entry (FromResolver resolver)) }
+        requires { Tied self.old }
+        ensures { Takes self.old (step.Verdict entry resolver) result self.new }
     {
         let at = self.receiver(entry, Sender::Resolver(resolver))?;
+        if self.commit_proxies[at].core.is_failed() {
+            return Err(Refusal::Failed);
+        }
         let verdicts = self.resolvers[resolver as usize].sent_on(self.alloc, entry as usize)?;
         let commit_proxy = &mut self.commit_proxies[at];
         commit_proxy.verdict(verdicts)?;
@@ -122,10 +142,13 @@ impl Cluster {
     }
 
     pub(crate) fn logged(&mut self, entry: u32, log: u32) -> Result<Answered, Refusal>
-        requires { Refines self.old }
-        ensures { Takes self.old result self.new (receives (machine_of self.old) entry (FromLog log)) }
+        requires { Tied self.old }
+        ensures { Takes self.old (step.Logged entry log) result self.new }
     {
         let at = self.receiver(entry, Sender::Log(log))?;
+        if self.commit_proxies[at].core.is_failed() {
+            return Err(Refusal::Failed);
+        }
         let commit_proxy = &mut self.commit_proxies[at];
         commit_proxy.logged(LogAck { log, index: entry })?;
         Ok(Answered::Done)
@@ -133,16 +156,18 @@ impl Cluster {
 
     #[tactic(auto, unfolding(crate::specs::machine::CommitProxySteps::decides))]
     pub(crate) fn decide(&mut self, proxy: u32) -> Result<Answered, Refusal>
-        requires { Refines self.old }
-        ensures { Takes self.old result self.new (decides (machine_of self.old) proxy) }
+        requires { Tied self.old }
+        ensures { Takes self.old (step.Decide proxy) result self.new }
     {
         let at = proxy as usize;
         if at >= self.commit_proxies.len() {
             return Err(Refusal::Unknown);
         }
+        if self.commit_proxies[at].core.is_failed() {
+            return Err(Refusal::Failed);
+        }
         let i = self.commit_proxies[at].entry as usize;
-        let outcomes = self.commit_proxies[at].decide()?;
-        let messages = self.commit_proxies[at].messages()?;
+        let (outcomes, messages) = self.commit_proxies[at].decide()?;
         self.messages[i] = Some(messages);
         self.decided[i] = true;
         Ok(Answered::Decided(outcomes))
@@ -150,12 +175,15 @@ impl Cluster {
 
     #[tactic(auto, unfolding(crate::specs::machine::CommitProxySteps::reports))]
     pub(crate) fn report(&mut self, proxy: u32) -> Result<Answered, Refusal>
-        requires { Refines self.old }
-        ensures { TakesOrLeaves self.old result self.new (reports (machine_of self.old) proxy) }
+        requires { Tied self.old }
+        ensures { Takes self.old (step.Report proxy) result self.new }
     {
         let at = proxy as usize;
         if at >= self.commit_proxies.len() {
             return Err(Refusal::Unknown);
+        }
+        if self.commit_proxies[at].core.is_failed() {
+            return Err(Refusal::Failed);
         }
         self.commit_proxies[at].check_logged()?;
         let i = self.commit_proxies[at].entry as usize;
@@ -167,14 +195,18 @@ impl Cluster {
 
     #[tactic(auto, unfolding(crate::specs::machine::CommitProxySteps::answers))]
     pub(crate) fn answer(&mut self, proxy: u32) -> Result<Answered, Refusal>
-        requires { Refines self.old }
-        ensures { Takes self.old result self.new (answers (machine_of self.old) proxy) }
+        requires tied { Tied self.old }
+        requires named { Invariant (machine_of self.old) }
+        ensures { Takes self.old (step.Answer proxy) result self.new }
     {
         let at = proxy as usize;
         if at >= self.commit_proxies.len() {
             return Err(Refusal::Unknown);
         }
         let commit_proxy = &self.commit_proxies[at];
+        if commit_proxy.core.is_failed() {
+            return Err(Refusal::Failed);
+        }
         if commit_proxy.is_idle() {
             return Err(Refusal::WrongState);
         }
@@ -182,13 +214,17 @@ impl Cluster {
         if !is_reported {
             return Err(Refusal::NotYet(self.book[entry as usize].version));
         }
+        // Room comes first: once the batch is done, its clients must be told.
+        let count = commit_proxy.in_flight.len();
+        let mut told = Vec::with_capacity(self.alloc, count)?;
+        self.acknowledged.reserve(count)?;
         let commit_proxy = &mut self.commit_proxies[at];
         let (transcripts, answers) = commit_proxy.finish(self.alloc)?;
-        let (transcripts, answers) = (transcripts.as_slice(), answers.as_slice());
-        let told = reply_all(self.alloc, answers)?;
-        place_all(&mut self.acknowledged, entry, transcripts, answers)?;
-        tell_all(&mut self.sessions, transcripts)?;
-        Ok(Answered::Answers(told))
+        let answers = answers.as_slice();
+        reply_all(&mut told, answers);
+        tell_all(&mut self.sessions, transcripts.as_slice());
+        place_all(&mut self.acknowledged, entry, transcripts, answers);
+        Ok(Answered::Answers(Items::from_vec(told)))
     }
 }
 
@@ -205,6 +241,10 @@ fn make_room(
     ensures decided { decided.new.items ≡ decided.old.items }
     ensures parts { pooled.new.items ≡ pooled.old.items }
     ensures messages { messages.new.items ≡ messages.old.items }
+    ensures room { OnOk result ((vec_len book.new + 1 ≤ vec_capacity book.new)
+        × (vec_len entry_proxies.new + 1 ≤ vec_capacity entry_proxies.new)
+        × (vec_len decided.new + 1 ≤ vec_capacity decided.new) × (vec_len pooled.new + 1 ≤ vec_capacity pooled.new)
+        × (vec_len messages.new + 1 ≤ vec_capacity messages.new)) }
 {
     book.reserve(1)?;
     entry_proxies.reserve(1)?;
@@ -213,7 +253,8 @@ fn make_room(
     messages.reserve(1)
 }
 
-// One more entry is of the proxy and has the parts. It isn't decided, so there are no messages of it yet.
+// One more entry is of the proxy and has the parts. It isn't decided, so there are no messages of it yet. There is room
+// for all of it.
 fn add_undecided(
     proxy: u32,
     parts: Items<Part>,
@@ -221,15 +262,18 @@ fn add_undecided(
     decided: &mut Vec<bool>,
     pooled: &mut Vec<Items<Part>>,
     messages: &mut Vec<Option<Items<LogMsg>>>,
-) -> Result<(), AllocError>
-    ensures parts { OnOk result (pooled.new.items ≡ pooled.old.items ++ parts ∷ []) }
-    ensures entry_proxies { OnOk result (entry_proxies.new.items ≡ entry_proxies.old.items ++ proxy ∷ []) }
-    ensures decided { OnOk result (decided.new.items ≡ decided.old.items ++ false ∷ []) }
-    ensures messages { OnOk result (messages.new.items ≡ messages.old.items ++ None ∷ []) }
+)
+    requires entry_proxies { vec_len entry_proxies.old + 1 ≤ vec_capacity entry_proxies.old }
+    requires decided { vec_len decided.old + 1 ≤ vec_capacity decided.old }
+    requires parts { vec_len pooled.old + 1 ≤ vec_capacity pooled.old }
+    requires messages { vec_len messages.old + 1 ≤ vec_capacity messages.old }
+    ensures parts { pooled.new.items ≡ pooled.old.items ++ parts ∷ [] }
+    ensures entry_proxies { entry_proxies.new.items ≡ entry_proxies.old.items ++ proxy ∷ [] }
+    ensures decided { decided.new.items ≡ decided.old.items ++ false ∷ [] }
+    ensures messages { messages.new.items ≡ messages.old.items ++ None ∷ [] }
 {
-    pooled.push(parts)?;
-    entry_proxies.push(proxy)?;
-    decided.push(false)?;
-    messages.push(None)?;
-    Ok(())
+    pooled.push_reserved(parts);
+    entry_proxies.push_reserved(proxy);
+    decided.push_reserved(false);
+    messages.push_reserved(None);
 }

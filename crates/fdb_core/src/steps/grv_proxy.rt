@@ -1,8 +1,9 @@
 // Sessions ask a read-version proxy, which serves them.
 ghost use Rattle.fdb_core.specs.invariant.Invariant.{Invariant};
-ghost use Rattle.fdb_core.specs.machine.GrvProxySteps.{asks, grants};
-ghost use Rattle.fdb_core.specs.refinement.Cluster.{machine_of, Refines};
-ghost use Rattle.fdb_core.specs.refinement.Steps.{TakesOrLeaves};
+ghost use Rattle.fdb_core.specs.declared.step.Step.TheVariants as step;
+ghost use Rattle.fdb_core.specs.refinement.Cluster.{machine_of};
+ghost use Rattle.fdb_core.specs.refinement.Restoring.{Tied};
+ghost use Rattle.fdb_core.specs.refinement.Steps.{Takes};
 
 use crate::cluster::Cluster;
 use crate::roles::grv_proxy::{are_used_up, serve_all};
@@ -12,8 +13,8 @@ use fdb_keys::Refusal;
 impl Cluster {
     #[tactic(auto, unfolding(crate::specs::machine::GrvProxySteps::asks))]
     pub(crate) fn ask(&mut self, session: u32, proxy: u32) -> Result<Answered, Refusal>
-        requires { Refines self.old }
-        ensures { TakesOrLeaves self.old result self.new (asks (machine_of self.old) session proxy) }
+        requires { Tied self.old }
+        ensures { Takes self.old (step.Ask session proxy) result self.new }
     {
         let at = proxy as usize;
         if at >= self.grv_proxies.len() {
@@ -29,9 +30,9 @@ impl Cluster {
 
     #[tactic(auto, unfolding(crate::specs::machine::GrvProxySteps::grants))]
     pub(crate) fn grant(&mut self, proxy: u32) -> Result<Answered, Refusal>
-        requires refines { Refines self.old }
+        requires tied { Tied self.old }
         requires named { Invariant (machine_of self.old) }
-        ensures { TakesOrLeaves self.old result self.new (grants (machine_of self.old) proxy) }
+        ensures { Takes self.old (step.Grant proxy) result self.new }
     {
         let at = proxy as usize;
         if at >= self.grv_proxies.len() {

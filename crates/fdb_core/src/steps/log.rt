@@ -1,7 +1,7 @@
 // A log takes its message of an entry.
-ghost use Rattle.fdb_core.specs.refinement.Cluster.{machine_of, Refines};
+ghost use Rattle.fdb_core.specs.declared.step.Step.TheVariants as step;
+ghost use Rattle.fdb_core.specs.refinement.Restoring.{Tied};
 ghost use Rattle.fdb_core.specs.refinement.Steps.{Takes};
-ghost use Rattle.fdb_core.specs.machine.RoleSteps.{pushes};
 
 use crate::cluster::Cluster;
 use crate::step::Answered;
@@ -10,8 +10,8 @@ use fdb_keys::Refusal;
 impl Cluster {
     #[tactic(auto, unfolding(crate::specs::machine::RoleSteps::pushes))]
     pub(crate) fn push(&mut self, entry: u32, log: u32) -> Result<Answered, Refusal>
-        requires { Refines self.old }
-        ensures { Takes self.old result self.new (pushes (machine_of self.old) entry log) }
+        requires { Tied self.old }
+        ensures { Takes self.old (step.Push entry log) result self.new }
     {
         let (i, of) = (entry as usize, log as usize);
         if i >= self.messages.len() || of >= self.logs.len() {
@@ -20,6 +20,9 @@ impl Cluster {
         let Some(messages) = &self.messages[i] else {
             return Err(Refusal::Unknown);
         };
+        if self.logs[of].core.is_failed() {
+            return Err(Refusal::Failed);
+        }
         let role = &mut self.logs[of];
         role.core.push(&messages.as_slice()[of])?;
         role.taken += 1;

@@ -1,7 +1,7 @@
 // A resolver takes its part of an entry.
-ghost use Rattle.fdb_core.specs.refinement.Cluster.{machine_of, Refines};
+ghost use Rattle.fdb_core.specs.declared.step.Step.TheVariants as step;
+ghost use Rattle.fdb_core.specs.refinement.Restoring.{Tied};
 ghost use Rattle.fdb_core.specs.refinement.Steps.{Takes};
-ghost use Rattle.fdb_core.specs.machine.RoleSteps.{resolves};
 
 use crate::cluster::Cluster;
 use crate::step::Answered;
@@ -10,12 +10,15 @@ use fdb_keys::Refusal;
 impl Cluster {
     #[tactic(auto, unfolding(crate::specs::machine::RoleSteps::resolves))]
     pub(crate) fn resolve(&mut self, entry: u32, resolver: u32) -> Result<Answered, Refusal>
-        requires { Refines self.old }
-        ensures { Takes self.old result self.new (resolves (machine_of self.old) entry resolver) }
+        requires { Tied self.old }
+        ensures { Takes self.old (step.Resolve entry resolver) result self.new }
     {
         let (i, of) = (entry as usize, resolver as usize);
         if i >= self.book.len() || of >= self.resolvers.len() {
             return Err(Refusal::Unknown);
+        }
+        if self.resolvers[of].core.is_failed() {
+            return Err(Refusal::Failed);
         }
         let taken = self.resolvers[of].taken;
         if entry < taken {

@@ -1,7 +1,7 @@
 // Keys go over to another resolver.
-ghost use Rattle.fdb_core.specs.refinement.Cluster.{machine_of, Refines};
-ghost use Rattle.fdb_core.specs.refinement.Steps.{TakesOrLeaves};
-ghost use Rattle.fdb_core.specs.machine.SequencerSteps.{moves};
+ghost use Rattle.fdb_core.specs.declared.step.Step.TheVariants as step;
+ghost use Rattle.fdb_core.specs.refinement.Restoring.{Tied};
+ghost use Rattle.fdb_core.specs.refinement.Steps.{Takes};
 
 use crate::cluster::Cluster;
 use crate::step::Answered;
@@ -11,8 +11,8 @@ use fdb_txn::Move;
 impl Cluster {
     #[tactic(auto, unfolding(crate::specs::machine::SequencerSteps::moves))]
     pub(crate) fn move_to(&mut self, range: &KeyRange, to: u32) -> Result<Answered, Refusal>
-        requires { Refines self.old }
-        ensures { TakesOrLeaves self.old result self.new (moves (machine_of self.old) range.now to) }
+        requires { Tied self.old }
+        ensures { Takes self.old (step.Move range.now to) result self.new }
     {
         let range = range.clone()?;
         self.sequencer.move_to(Move { range, to })?;

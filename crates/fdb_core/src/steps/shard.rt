@@ -1,7 +1,7 @@
 // A shard applies what its log has, forgets old versions, and has its log drop what it applied.
-ghost use Rattle.fdb_core.specs.refinement.Cluster.{machine_of, Refines};
-ghost use Rattle.fdb_core.specs.refinement.Steps.{Takes, TakesOrLeaves};
-ghost use Rattle.fdb_core.specs.machine.RoleSteps.{pulls, forgets, pops};
+ghost use Rattle.fdb_core.specs.declared.step.Step.TheVariants as step;
+ghost use Rattle.fdb_core.specs.refinement.Restoring.{Tied};
+ghost use Rattle.fdb_core.specs.refinement.Steps.{Takes};
 
 use crate::cluster::Cluster;
 use crate::step::Answered;
@@ -10,14 +10,21 @@ use fdb_keys::Refusal;
 impl Cluster {
     #[tactic(auto, unfolding(crate::specs::machine::RoleSteps::pulls))]
     pub(crate) fn pull(&mut self, shard: u32, limit: u32) -> Result<Answered, Refusal>
-        requires { Refines self.old }
-        ensures { Takes self.old result self.new (pulls (machine_of self.old) shard limit) }
+        requires { Tied self.old }
+        ensures { Takes self.old (step.Pull shard limit) result self.new }
     {
         let of = shard as usize;
         if of >= self.shards.len() {
             return Err(Refusal::Unknown);
         }
-        let log = &self.logs[of % self.logs.len()];
+        if self.shards[of].core.is_failed() {
+            return Err(Refusal::Failed);
+        }
+        let from = of % self.logs.len();
+        if self.logs[from].core.is_failed() {
+            return Err(Refusal::Failed);
+        }
+        let log = &self.logs[from];
         let role = &mut self.shards[of];
         let peek = log.core.peek(shard, role.core.version(), limit)?;
         role.core.apply(&peek)?;
@@ -27,12 +34,15 @@ impl Cluster {
 
     #[tactic(auto, unfolding(crate::specs::machine::RoleSteps::forgets))]
     pub(crate) fn forget(&mut self, shard: u32, version: u64) -> Result<Answered, Refusal>
-        requires { Refines self.old }
-        ensures { TakesOrLeaves self.old result self.new (forgets (machine_of self.old) shard version) }
+        requires { Tied self.old }
+        ensures { Takes self.old (step.Forget shard version) result self.new }
     {
         let of = shard as usize;
         if of >= self.shards.len() {
             return Err(Refusal::Unknown);
+        }
+        if self.shards[of].core.is_failed() {
+            return Err(Refusal::Failed);
         }
         let role = &mut self.shards[of];
         role.core.forget(version)?;
@@ -41,14 +51,20 @@ impl Cluster {
 
     #[tactic(auto, unfolding(crate::specs::machine::RoleSteps::pops))]
     pub(crate) fn pop(&mut self, shard: u32) -> Result<Answered, Refusal>
-        requires { Refines self.old }
-        ensures { TakesOrLeaves self.old result self.new (pops (machine_of self.old) shard) }
+        requires { Tied self.old }
+        ensures { Takes self.old (step.Pop shard) result self.new }
     {
         let of = shard as usize;
         if of >= self.shards.len() {
             return Err(Refusal::Unknown);
         }
+        if self.shards[of].core.is_failed() {
+            return Err(Refusal::Failed);
+        }
         let from = of % self.logs.len();
+        if self.logs[from].core.is_failed() {
+            return Err(Refusal::Failed);
+        }
         let log = &mut self.logs[from];
         let role = &mut self.shards[of];
         let version = role.core.version();

@@ -5,8 +5,8 @@ use Rattle.fdb_keys.specs.declared.refusal.Refusal.{Refusal}
 use Rattle.fdb_keys.specs.Answers.{Answers}
 use Rattle.fdb_proxy.specs.declared.config.Config.{Config}
 use Rattle.fdb_proxy.specs.Configs.{config_fault}
-use Rattle.fdb_core.specs.machine.Machine.{Machine}
-use Rattle.fdb_core.specs.machine.Worlds.{start}
+use Rattle.fdb_core.specs.machine.Failures.{State}
+use Rattle.fdb_core.specs.machine.Worlds.{first_state}
 use Rattle.std.specs.Prelude.{IfOk, OnOk, IfErr, IfSome, codes}
 use Rattle.std.specs.Io.KnownBytes.{IsAtEnd, Appends}
 use Rattle.std.specs.declared.io.Error.{Error}
@@ -93,9 +93,9 @@ plays-out : (number : ℕ) (lines : List (List ℕ)) → Plays number lines (ref
 plays-out number [] = inr (refl, refl)
 plays-out number (line ∷ lines) = inr (inr (refl, refl))
 
-plays_on-out : (number : ℕ) (world : Option Machine) (lines : List (List ℕ))
+plays_on-out : (number : ℕ) (world : State) (lines : List (List ℕ))
     → PlaysOn number world lines (refused_line NoMemory) 2
-plays_on-out number world [] = inr (inr (refl, refl))
+plays_on-out number world [] = inr (refl, refl)
 plays_on-out number world (line ∷ lines) = inr (inr (inr (refl, refl)))
 
 -- where reading stops, what is printed is that memory ran out
@@ -183,7 +183,7 @@ if_err_map (Err fault) P Q map holds = map fault holds
 
 -- reading stops after the configuration
 pub steps_reading_stops : (errors : Error → Type 0) (old mid writer written : Option (List ℕ)) (first number : ℕ)
-    (before now : Option Machine) (stopped : Stop)
+    (before now : State) (stopped : Stop)
     → Printed writer written (λ said. Reaches old mid said (PlaysOn first before) (PlaysOn number now))
     → IsInputFault errors stopped
     → Says stopped
@@ -196,7 +196,7 @@ steps_reading_stops errors old mid writer written first number before now stoppe
 
 -- no line is left, and the check prints what it found
 pub steps_checked : (old mid writer written closed : Option (List ℕ)) (first number status : ℕ)
-    (before now : Option Machine)
+    (before now : State)
     → Printed writer written (λ said. Reaches old mid said (PlaysOn first before) (PlaysOn number now))
     → IsAtEnd mid → Printed written closed (λ printed. IsChecked now printed status)
     → Printed writer closed (λ printed. Knows old (λ all. PlaysOn first before all printed status))
@@ -207,7 +207,7 @@ steps_checked old mid writer written closed first number status before now reach
 )
 
 -- no line is left, and the check stops
-pub steps_unchecked : (old mid writer written closed : Option (List ℕ)) (first number : ℕ) (before now : Option Machine)
+pub steps_unchecked : (old mid writer written closed : Option (List ℕ)) (first number : ℕ) (before now : State)
     (stopped : Stop)
     → Printed writer written (λ said. Reaches old mid said (PlaysOn first before) (PlaysOn number now))
     → IsAtEnd mid → Says stopped (λ last. Printed written closed (λ printed. IsChecked now (printed ++ last) 2))
@@ -227,7 +227,7 @@ steps_unchecked old mid writer written closed first number before now stopped re
 
 -- a line stops the script
 pub steps_line_stops : (old mid new writer written : Option (List ℕ)) (line : List ℕ) (first number next : ℕ)
-    (before now : Option Machine) (stopped : Stop)
+    (before now : State) (stopped : Stop)
     → Printed writer written (λ said. Reaches old mid said (PlaysOn first before) (PlaysOn number now))
     → LosesLine mid new line → next ≡ suc number → is_silent line ≡ false
     → Says stopped (λ last. StopsAt next line last 2)
@@ -244,7 +244,7 @@ steps_line_stops old mid new writer written line first number next before now st
 
 -- a silent line
 pub steps_silent : (old mid new writer written : Option (List ℕ)) (line : List ℕ) (first number next : ℕ)
-    (before now : Option Machine)
+    (before now : State)
     → Printed writer written (λ said. Reaches old mid said (PlaysOn first before) (PlaysOn number now))
     → LosesLine mid new line → next ≡ suc number → is_silent line ≡ true
     → Printed writer written (λ said. Reaches old new said (PlaysOn first before) (PlaysOn next now))
@@ -258,7 +258,7 @@ steps_silent old mid new writer written line first number next before now reache
 
 -- a line that gives a step, or whose key is refused
 pub steps_line : (old mid new writer written closed : Option (List ℕ)) (line told : List ℕ) (first number next : ℕ)
-    (before now after : Option Machine)
+    (before now after : State)
     → Printed writer written (λ said. Reaches old mid said (PlaysOn first before) (PlaysOn number now))
     → LosesLine mid new line → next ≡ suc number → is_silent line ≡ false
     → AnswersLine line now told after → Appends written closed told
@@ -344,9 +344,9 @@ run_refused input known after writer number next config stopped is first reached
 
 -- the configuration's own line, and what the lines after it print
 pub run_played : (input known after writer greeted closed : Option (List ℕ)) (number next status : ℕ) (config : Config)
-    (world : Option Machine)
+    (world : State)
     → known ≡ input → number ≡ 0 → Reaches known after [] (Plays number) (PlaysFrom next config)
-    → (config_fault config ≡ None) × (world ≡ Some (start config)) → Appends writer greeted (printed_line (codes "ok"))
+    → (config_fault config ≡ None) × (world ≡ first_state config) → Appends writer greeted (printed_line (codes "ok"))
     → Printed greeted closed (λ printed. Knows after (λ all. PlaysOn next world all printed status))
     → Printed writer closed (λ printed. Knows input (λ lines. Plays 0 lines printed status))
 run_played input known after writer greeted closed number next status config world is first reached made ok played = (
@@ -362,9 +362,9 @@ run_played input known after writer greeted closed number next status config wor
 )
 
 pub run_stopped : (input known after writer greeted closed : Option (List ℕ)) (number next : ℕ) (config : Config)
-    (world : Option Machine) (stopped : Stop)
+    (world : State) (stopped : Stop)
     → known ≡ input → number ≡ 0 → Reaches known after [] (Plays number) (PlaysFrom next config)
-    → (config_fault config ≡ None) × (world ≡ Some (start config)) → Appends writer greeted (printed_line (codes "ok"))
+    → (config_fault config ≡ None) × (world ≡ first_state config) → Appends writer greeted (printed_line (codes "ok"))
     → Says stopped
     (λ last. Printed greeted closed (λ printed. Knows after (λ all. PlaysOn next world all (printed ++ last) 2)))
     → Says stopped (λ last. Printed writer closed (λ printed. Knows input (λ lines. Plays 0 lines (printed ++ last) 2)))

@@ -6,7 +6,7 @@ use Rattle.fdb_core.specs.declared.step.Answered.{Answered}
 use Rattle.fdb_core.specs.declared.step.Step.{Step}
 use Rattle.fdb_core.specs.declared.step.Step.TheVariants.{Resolve, Verdict, Decide, Push, Logged, Report, Answer}
 use Rattle.fdb_core.specs.machine.InFlight.{in_flight}
-use Rattle.fdb_core.specs.machine.Machine.{Machine}
+use Rattle.fdb_core.specs.machine.Failures.{State}
 use Rattle.fdb_core.specs.machine.Worlds.{IsStep}
 
 -- the steps of each role of a kind, from role 0 on
@@ -29,38 +29,38 @@ steps_before_answer proxy flight =
     ++ for_each (log_steps flight.entry) flight.logs ++ (Report proxy ∷ [])
 
 -- the steps are taken one after another, and none is refused
-abbrev pub AreAccepted : Option Machine → List Step → Option Machine → Type 0
+abbrev pub AreAccepted : State → List Step → State → Type 0
 AreAccepted old [] new = new ≡ old
 AreAccepted old (step ∷ steps) new =
-    (said : Answered) × (mid : Option Machine) × IsStep old step (Ok said) mid × AreAccepted mid steps new
+    (said : Answered) × (mid : State) × IsStep old step (Ok said) mid × AreAccepted mid steps new
 
 -- the steps are taken one after another through the first one that is refused
-abbrev pub AreRefused : Option Machine → List Step → Refusal → Option Machine → Type 0
+abbrev pub AreRefused : State → List Step → Refusal → State → Type 0
 AreRefused old [] why new = ⊥
 AreRefused old (step ∷ steps) why new =
     IsStep old step (Err why) new
-    ⊎ ((said : Answered) × (mid : Option Machine) × IsStep old step (Ok said) mid × AreRefused mid steps why new)
+    ⊎ ((said : Answered) × (mid : State) × IsStep old step (Ok said) mid × AreRefused mid steps why new)
 
 -- the steps are taken until one is refused
-abbrev pub AreTried : {T : Type 0} → Option Machine → List Step → Result T Refusal → Option Machine → Type 0
+abbrev pub AreTried : {T : Type 0} → State → List Step → Result T Refusal → State → Type 0
 AreTried old steps (Ok given) new = AreAccepted old steps new
 AreTried old steps (Err why) new = AreRefused old steps why new
 
 -- All steps of the batch are taken, and the last one answers its clients; or one of them is refused, and no
 -- further one is taken.
-abbrev pub DrivesWhole : ℕ → InFlight → Option Machine → Result Answered Refusal → Option Machine → Type 0
+abbrev pub DrivesWhole : ℕ → InFlight → State → Result Answered Refusal → State → Type 0
 DrivesWhole proxy flight old (Ok said) new =
-    (mid : Option Machine) × AreAccepted old (steps_before_answer proxy flight) mid
+    (mid : State) × AreAccepted old (steps_before_answer proxy flight) mid
     × IsStep mid (Answer proxy) (Ok said) new
 DrivesWhole proxy flight old (Err why) new = AreRefused old
     (steps_before_answer proxy flight ++ (Answer proxy ∷ [])) why new
 
 -- a batch that is there is driven, and else nothing is done
-abbrev pub DrivesFlight : ℕ → Result InFlight Refusal → Option Machine
-    → Result Answered Refusal → Option Machine → Type 0
+abbrev pub DrivesFlight : ℕ → Result InFlight Refusal → State
+    → Result Answered Refusal → State → Type 0
 DrivesFlight proxy (Ok flight) old result new = DrivesWhole proxy flight old result new
 DrivesFlight proxy (Err why) old result new = (result ≡ Err why) × (new ≡ old)
 
 -- the batch that the proxy has in flight is driven to its end, or to the first step that is refused
-abbrev pub Drives : ℕ → Option Machine → Result Answered Refusal → Option Machine → Type 0
+abbrev pub Drives : ℕ → State → Result Answered Refusal → State → Type 0
 Drives proxy old result new = DrivesFlight proxy (in_flight old proxy) old result new

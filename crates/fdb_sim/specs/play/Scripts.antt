@@ -10,8 +10,8 @@ use Rattle.fdb_proxy.specs.declared.config.Config.{Config}
 use Rattle.fdb_proxy.specs.Configs.{config_fault}
 use Rattle.fdb_core.specs.declared.step.Answered.{Answered}
 use Rattle.fdb_core.specs.declared.step.Step.{Step}
-use Rattle.fdb_core.specs.machine.Machine.{Machine}
-use Rattle.fdb_core.specs.machine.Worlds.{IsStep, start}
+use Rattle.fdb_core.specs.machine.Failures.{State}
+use Rattle.fdb_core.specs.machine.Worlds.{IsStep, first_state}
 use Rattle.fdb_sim.specs.declared.script.line.Line.{Line}
 use Rattle.fdb_sim.specs.declared.script.line.Line.TheVariants as given
 use Rattle.fdb_sim.specs.declared.script.step_line.Kind.{Kind}
@@ -51,58 +51,42 @@ abbrev pub RunsOut : List ℕ → ℕ → Type 0
 RunsOut printed status = Ends (refused_line NoMemory) printed status
 
 -- the check found no difference: the number of acknowledged transactions is printed
-abbrev pub Holds : Option Machine → List ℕ → ℕ → Type 0
+abbrev pub Holds : State → List ℕ → ℕ → Type 0
 Holds world printed status =
-    (count : ℕ) × IfSome world (λ machine. count ≡ length machine.acknowledged)
+    (count : ℕ) × (count ≡ length world.machine.acknowledged)
     × (printed ≡ printed_line (codes "checked " ++ decimal count)) × (status ≡ 0)
 
--- the check found a transaction that was answered otherwise
-abbrev pub TxnDiffers : List ℕ → ℕ → Type 0
-TxnDiffers printed status =
-    (id : TxnId) × (printed ≡ printed_line
-    (codes "failed txn " ++ decimal id.session ++ codes ":" ++ decimal id.number)) × (status ≡ 1)
-
--- the check found a shard that holds another map
-abbrev pub ShardDiffers : List ℕ → ℕ → Type 0
-ShardDiffers printed status = (shard : ℕ)
-    × (printed ≡ printed_line (codes "failed shard " ++ decimal shard)) × (status ≡ 1)
-
--- the check found a difference, which it does at most where the world has failed
-abbrev pub Differs : Option Machine → List ℕ → ℕ → Type 0
-Differs None printed status = TxnDiffers printed status ⊎ ShardDiffers printed status
-Differs (Some machine) printed status = ⊥
-
--- the end of a script whose lines are all taken
-abbrev pub IsChecked : Option Machine → List ℕ → ℕ → Type 0
-IsChecked world printed status = Holds world printed status ⊎ (Differs world printed status ⊎ RunsOut printed status)
+-- the end of a script whose lines are all taken: the check finds no difference, whatever roles have failed
+abbrev pub IsChecked : State → List ℕ → ℕ → Type 0
+IsChecked world printed status = Holds world printed status ⊎ RunsOut printed status
 
 -- the line gives a step, which the world takes
-abbrev pub TakesStep : List ℕ → Option Machine → List ℕ → Option Machine → Type 0
+abbrev pub TakesStep : List ℕ → State → List ℕ → State → Type 0
 TakesStep line old printed new =
     (kind : Kind) × (step : Step) × (result : Result Answered Refusal) × WritesLine line (given.Step kind step)
     × (step_fault step ≡ None)
     × IsStep old step result new × (printed ≡ printed_line (result_text kind result))
 
 -- the line drives the batch that a commit proxy has in flight: what the last step taken answers is printed
-abbrev pub DrivesBatch : List ℕ → Option Machine → List ℕ → Option Machine → Type 0
+abbrev pub DrivesBatch : List ℕ → State → List ℕ → State → Type 0
 DrivesBatch line old printed new =
     (proxy : ℕ) × (result : Result Answered Refusal) × WritesLine line (given.Drive proxy)
     × Drives proxy old result new × (printed ≡ printed_line (result_text Answer result))
 
 -- the line gives a step whose key or range is refused, and no step is taken
-abbrev pub RefusesKey : List ℕ → Option Machine → List ℕ → Option Machine → Type 0
+abbrev pub RefusesKey : List ℕ → State → List ℕ → State → Type 0
 RefusesKey line old printed new =
     (read : Line) × (refusal : Refusal) × WritesLine line read × (read_fault read ≡ Some refusal)
     × (new ≡ old) × (printed ≡ refused_line refusal)
 
 -- the line shows the sets of a session's open transaction, and the world stays as it is
-abbrev pub ShowsSets : List ℕ → Option Machine → List ℕ → Option Machine → Type 0
+abbrev pub ShowsSets : List ℕ → State → List ℕ → State → Type 0
 ShowsSets line old printed new =
     (session : ℕ) × WritesLine line (given.Show session) × (new ≡ old)
     × (printed ≡ printed_line (shown_text (lent old session)))
 
 -- what a line after the configuration prints, and the world that it leaves
-abbrev pub AnswersLine : List ℕ → Option Machine → List ℕ → Option Machine → Type 0
+abbrev pub AnswersLine : List ℕ → State → List ℕ → State → Type 0
 AnswersLine line old printed new = TakesStep line old printed new
     ⊎ (DrivesBatch line old printed new ⊎ (ShowsSets line old printed new ⊎ RefusesKey line old printed new))
 
@@ -112,11 +96,11 @@ StopsAt number line printed status =
     (((read : Line) → ¬ WritesLine line read) × Ends (bad_line number) printed status) ⊎ RunsOut printed status
 
 -- what the lines after the configuration print, and the status: `number` lines came before them
-abbrev pub PlaysOn : ℕ → Option Machine → List (List ℕ) → List ℕ → ℕ → Type 0
+abbrev pub PlaysOn : ℕ → State → List (List ℕ) → List ℕ → ℕ → Type 0
 PlaysOn number world [] printed status = IsChecked world printed status
 PlaysOn number world (line ∷ lines) printed status =
     ((is_silent line ≡ true) × PlaysOn (suc number) world lines printed status)
-    ⊎ (((is_silent line ≡ false) × (said : List ℕ) × (more : List ℕ) × (new : Option Machine)
+    ⊎ (((is_silent line ≡ false) × (said : List ℕ) × (more : List ℕ) × (new : State)
     × AnswersLine line world said new × PlaysOn (suc number) new lines more status × (printed ≡ said ++ more))
     ⊎ (((is_silent line ≡ false) × StopsAt (suc number) line printed status)
     ⊎ RunsOut printed status))
@@ -124,7 +108,7 @@ PlaysOn number world (line ∷ lines) printed status =
 -- what a configuration and the lines after it print
 abbrev pub PlaysFrom : ℕ → Config → List (List ℕ) → List ℕ → ℕ → Type 0
 PlaysFrom number config lines printed status =
-    ((config_fault config ≡ None) × (more : List ℕ) × PlaysOn number (Some (start config)) lines more status
+    ((config_fault config ≡ None) × (more : List ℕ) × PlaysOn number (first_state config) lines more status
     × (printed ≡ printed_line (codes "ok") ++ more))
     ⊎ (((refusal : Refusal) × (config_fault config ≡ Some refusal) × Ends (refused_line refusal) printed status)
     ⊎ RunsOut printed status)

@@ -12,14 +12,14 @@ use fdb_keys::Refusal;
 ///
 /// Refused as `World::in_flight` is where the proxy has no batch, and no step is taken then.
 pub fn drive(world: &mut World, proxy: u32) -> Result<Answered, Refusal>
-    ensures { Drives proxy world.old.machine result world.new.machine }
+    ensures { Drives proxy world.old.state result world.new.state }
 {
     let flight = world.in_flight(proxy)?;
     drive_whole(world, proxy, flight)
 }
 
 fn drive_whole(world: &mut World, proxy: u32, flight: InFlight) -> Result<Answered, Refusal>
-    ensures { DrivesWhole proxy flight world.old.machine result world.new.machine }
+    ensures { DrivesWhole proxy flight world.old.state result world.new.state }
 {
     resolve_everywhere(world, flight)?;
     world.step(Step::Decide { proxy })?;
@@ -29,8 +29,8 @@ fn drive_whole(world: &mut World, proxy: u32, flight: InFlight) -> Result<Answer
 }
 
 fn resolve_everywhere(world: &mut World, flight: InFlight) -> Result<(), Refusal>
-    ensures { AreTried world.old.machine (for_each (resolver_steps flight.entry) flight.resolvers) result
-        world.new.machine }
+    ensures { AreTried world.old.state (for_each (resolver_steps flight.entry) flight.resolvers) result
+        world.new.state }
 {
     for resolver in 0..flight.resolvers {
         resolve_at(world, flight.entry, resolver)?;
@@ -39,7 +39,7 @@ fn resolve_everywhere(world: &mut World, flight: InFlight) -> Result<(), Refusal
 }
 
 fn resolve_at(world: &mut World, entry: u32, resolver: u32) -> Result<(), Refusal>
-    ensures { AreTried world.old.machine (resolver_steps entry resolver) result world.new.machine }
+    ensures { AreTried world.old.state (resolver_steps entry resolver) result world.new.state }
 {
     world.step(Step::Resolve { entry, resolver })?;
     world.step(Step::Verdict { entry, resolver })?;
@@ -47,7 +47,7 @@ fn resolve_at(world: &mut World, entry: u32, resolver: u32) -> Result<(), Refusa
 }
 
 fn log_everywhere(world: &mut World, flight: InFlight) -> Result<(), Refusal>
-    ensures { AreTried world.old.machine (for_each (log_steps flight.entry) flight.logs) result world.new.machine }
+    ensures { AreTried world.old.state (for_each (log_steps flight.entry) flight.logs) result world.new.state }
 {
     for log in 0..flight.logs {
         log_at(world, flight.entry, log)?;
@@ -56,7 +56,7 @@ fn log_everywhere(world: &mut World, flight: InFlight) -> Result<(), Refusal>
 }
 
 fn log_at(world: &mut World, entry: u32, log: u32) -> Result<(), Refusal>
-    ensures { AreTried world.old.machine (log_steps entry log) result world.new.machine }
+    ensures { AreTried world.old.state (log_steps entry log) result world.new.state }
 {
     world.step(Step::Push { entry, log })?;
     world.step(Step::Logged { entry, log })?;

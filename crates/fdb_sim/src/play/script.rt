@@ -2,7 +2,7 @@ ghost use Rattle.std.specs.Prelude.{◌≡◌, ◌<◌, ◌≤◌, ◌++◌, ℕ
 ghost use Rattle.std.specs.Prelude.{string_bytes, codes};
 ghost use Rattle.std.specs.Io.KnownBytes.{Appends};
 ghost use Rattle.fdb_proxy.specs.Configs.{config_fault};
-ghost use Rattle.fdb_core.specs.machine.Worlds.{start};
+ghost use Rattle.fdb_core.specs.machine.Worlds.{first_state};
 ghost use Rattle.fdb_sim.specs.Streams.{FailsWith, IsLimitedError, IsStreamError};
 ghost use Rattle.fdb_sim.specs.script.Configs.{WritesConfig, line_fault};
 ghost use Rattle.fdb_sim.specs.script.Lines.{left, line_text, line_number};
@@ -100,11 +100,11 @@ fn play_on<R: Source + Drop, W: Sink>(
 ) -> Result<u8, Stop>
     ensures bound { IfOk result (λ status. status < 2) }
     ensures printed { IfOk result (λ status. Printed (W.contents writer.old) (W.contents writer.new) (λ printed.
-        Knows (left R.remaining lines.old) (λ all. PlaysOn (line_number lines.old) world.machine all printed status))) }
+        Knows (left R.remaining lines.old) (λ all. PlaysOn (line_number lines.old) world.state all printed status))) }
     ensures stops { IfErr result (λ stop. Says stop (λ last.
         Printed (W.contents writer.old) (W.contents writer.new) (λ printed.
         Knows (left R.remaining lines.old) (λ all.
-        PlaysOn (line_number lines.old) world.machine all (printed ++ last) 2)))) }
+        PlaysOn (line_number lines.old) world.state all (printed ++ last) 2)))) }
     ensures errors { IfErr result (FailsWith (IsStreamError R.errors W.errors)) }
 {
     let mut world = world;
@@ -148,7 +148,7 @@ fn config_of<R: Source + Drop>(alloc: Global, lines: &Lines<R>) -> Result<Config
 }
 
 fn make_world(alloc: Global, config: Config) -> Result<World, Stop>
-    ensures ok { IfOk result (λ world. (config_fault config ≡ None) × (world.machine ≡ Some (start config))) }
+    ensures ok { IfOk result (λ world. (config_fault config ≡ None) × (world.state ≡ first_state config)) }
     ensures stops { IfErr result
         (λ stop. Says stop (λ last. (number : ℕ) (lines : List (List ℕ)) → PlaysFrom number config lines last 2)) }
     ensures errors { IfErr result (FailsWith (λ _. ⊥)) }
@@ -169,11 +169,11 @@ fn take_steps<R: Source + Drop, W: Sink>(
     ensures bound { IfOk result (λ status. status < 2) }
     ensures printed { IfOk result (λ status. Printed (W.contents writer.old) (W.contents writer.new) (λ printed.
         Knows (left R.remaining lines.old) (λ all.
-        PlaysOn (line_number lines.old) world.old.machine all printed status))) }
+        PlaysOn (line_number lines.old) world.old.state all printed status))) }
     ensures stops { IfErr result (λ stop. Says stop (λ last.
         Printed (W.contents writer.old) (W.contents writer.new) (λ printed.
         Knows (left R.remaining lines.old) (λ all.
-        PlaysOn (line_number lines.old) world.old.machine all (printed ++ last) 2)))) }
+        PlaysOn (line_number lines.old) world.old.state all (printed ++ last) 2)))) }
     ensures errors { IfErr result (FailsWith (IsStreamError R.errors W.errors)) }
 {
     let mut text = String::new(alloc);
@@ -210,7 +210,7 @@ fn take_line<R: Source + Drop>(
 ) -> Result<(), Stop>
     ensures ok { OnOk result
         ((said : List ℕ) × (string_bytes text.new ≡ string_bytes text.old ++ said)
-        × AnswersLine (line_text lines.now) world.old.machine said world.new.machine) }
+        × AnswersLine (line_text lines.now) world.old.state said world.new.state) }
     ensures stops { IfErr result (λ stop. Says stop (λ last.
         StopsAt (line_number lines.now) (line_text lines.now) last 2)) }
     ensures errors { IfErr result (FailsWith (λ _. ⊥)) }

@@ -14,7 +14,7 @@ use std::alloc::AllocError;
 /// Appends the read set and the write set of the session's open transaction, or why there is none, as a line.
 pub fn push_shown(text: &mut String, world: &World, session: u32) -> Result<(), AllocError>
     ensures { OnOk result (string_bytes text.new ≡ string_bytes text.old
-        ++ printed_line (shown_text (lent world.now.machine session))) }
+        ++ printed_line (shown_text (lent world.now.state session))) }
 {
     match open_transaction(world, session) {
         Ok(txn) => {
@@ -25,15 +25,13 @@ pub fn push_shown(text: &mut String, world: &World, session: u32) -> Result<(), 
     }
 }
 
-// The session's open transaction. Refused as `Failed` once the world has failed, as every step is then, and
-// else as `NoTransaction` where the session has none open.
+// The session's open transaction. Refused as `NoTransaction` where the session has none open.
 fn open_transaction(world: &World, session: u32) -> Result<&Txn, Refusal>
-    ensures { MatchResult result (λ txn. lent world.now.machine session ≡ Ok txn.now)
-        (λ why. lent world.now.machine session ≡ Err why) }
+    ensures { MatchResult result (λ txn. lent world.now.state session ≡ Ok txn.now)
+        (λ why. lent world.now.state session ≡ Err why) }
 {
     match world.txn(session) {
         Some(txn) => Ok(txn),
-        None if world.has_failed() => Err(Refusal::Failed),
         None => Err(Refusal::NoTransaction),
     }
 }

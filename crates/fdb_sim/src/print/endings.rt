@@ -28,11 +28,11 @@ pub fn print_check<W: Sink>(world: &World, writer: &mut W) -> Result<u8, Stop>
     ensures bound { IfOk result (λ status. status < 2) }
     ensures printed { IfOk result
         (λ status. Printed (W.contents writer.old) (W.contents writer.new)
-        (λ printed. IsChecked world.now.machine printed status)) }
+        (λ printed. IsChecked world.now.state printed status)) }
     ensures stops { IfErr result
         (λ stop. Says stop
         (λ last. Printed (W.contents writer.old) (W.contents writer.new)
-        (λ printed. IsChecked world.now.machine (printed ++ last) 2))) }
+        (λ printed. IsChecked world.now.state (printed ++ last) 2))) }
     ensures errors { IfErr result (FailsWith W.errors) }
 {
     match world.check() {

@@ -1,5 +1,4 @@
 // Steps as plain numbers. A step holds its keys, and is made in the call that takes it.
-ghost use Rattle.fdb_sim.specs.Random.{GoesOn};
 
 use crate::script::operation::Operation;
 use bytes::Bytes;
@@ -209,9 +208,7 @@ fn write(
     alloc: Global,
     session: u32,
     change: Change,
-) -> Result<Answered, Refusal>
-    ensures { GoesOn world.old.machine result world.new.machine }
-{
+) -> Result<Answered, Refusal> {
     match mutation_of(alloc, change) {
         Ok(mutation) => world.step(Step::Write { session, mutation }),
         Err(why) => Err(why),
@@ -224,9 +221,7 @@ fn get(
     session: u32,
     key: u32,
     snapshot: bool,
-) -> Result<Answered, Refusal>
-    ensures { GoesOn world.old.machine result world.new.machine }
-{
+) -> Result<Answered, Refusal> {
     let key = key_of(alloc, key)?;
     world.step(Step::Get {
         session,
@@ -235,9 +230,12 @@ fn get(
     })
 }
 
-fn add_read(world: &mut World, alloc: Global, session: u32, span: Span) -> Result<Answered, Refusal>
-    ensures { GoesOn world.old.machine result world.new.machine }
-{
+fn add_read(
+    world: &mut World,
+    alloc: Global,
+    session: u32,
+    span: Span,
+) -> Result<Answered, Refusal> {
     let range = range_of(alloc, span)?;
     world.step(Step::AddRead { session, range })
 }
@@ -247,24 +245,18 @@ fn add_write(
     alloc: Global,
     session: u32,
     span: Span,
-) -> Result<Answered, Refusal>
-    ensures { GoesOn world.old.machine result world.new.machine }
-{
+) -> Result<Answered, Refusal> {
     let range = range_of(alloc, span)?;
     world.step(Step::AddWrite { session, range })
 }
 
-fn move_to(world: &mut World, alloc: Global, span: Span, to: u32) -> Result<Answered, Refusal>
-    ensures { GoesOn world.old.machine result world.new.machine }
-{
+fn move_to(world: &mut World, alloc: Global, span: Span, to: u32) -> Result<Answered, Refusal> {
     let range = range_of(alloc, span)?;
     world.step(Step::Move { range, to })
 }
 
 // A step that has keys.
-fn take_keyed(world: &mut World, alloc: Global, act: Act) -> Result<Answered, Refusal>
-    ensures { GoesOn world.old.machine result world.new.machine }
-{
+fn take_keyed(world: &mut World, alloc: Global, act: Act) -> Result<Answered, Refusal> {
     match act {
         Act::Get {
             session,
@@ -296,9 +288,7 @@ fn take_keyed(world: &mut World, alloc: Global, act: Act) -> Result<Answered, Re
 }
 
 /// Takes the step in the world. Refused also as its key or its range is.
-pub fn take(world: &mut World, alloc: Global, act: Act) -> Result<Answered, Refusal>
-    ensures { GoesOn world.old.machine result world.new.machine }
-{
+pub fn take(world: &mut World, alloc: Global, act: Act) -> Result<Answered, Refusal> {
     match act {
         Act::Ask { session, proxy } => world.step(Step::Ask { session, proxy }),
         Act::Grant { proxy } => world.step(Step::Grant { proxy }),

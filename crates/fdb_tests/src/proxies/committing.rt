@@ -47,6 +47,8 @@ enum Act {
     Decide(Placed),
     // How many mutations each log is sent, each of which gives a the value 1.
     Messages([usize; 2]),
+    // Both in one.
+    DecideWithMessages(Placed, [usize; 2]),
     // The log has its message of the first entry.
     Acknowledge(u32),
     AllLogged,
@@ -153,6 +155,15 @@ const ASKING: &[&[(Act, Told)]] = &[
         (Act::Decide(Ok((100, 0))), YES),
         (Act::Messages([0, 1]), YES),
     ],
+    // So it is where the messages come with the decision, which is made once.
+    &[
+        (Act::DecideWithMessages(Err(0), [0, 0]), Err((9002, 0))),
+        (Act::Say(0, 0, Verdict::Yes), YES),
+        (Act::Say(1, 0, Verdict::Yes), YES),
+        (Act::DecideWithMessages(Ok((100, 0)), [0, 1]), YES),
+        (Act::DecideWithMessages(Err(0), [0, 0]), Err((9014, 0))),
+        (Act::Messages([0, 1]), YES),
+    ],
 ];
 
 fn new_core(alloc: Global) -> Result<CommitCore, Refusal>
@@ -202,8 +213,8 @@ fn seal_one(core: &mut CommitCore) -> Result<(), Refusal>
     Ok(())
 }
 
-// What is learnt of the first entry, at version 100.
-fn ticket(alloc: Global) -> Ticket
+/// What is learnt of the first entry, at version 100.
+pub fn ticket(alloc: Global) -> Ticket
     ensures { (p : CommitProxy) → AllByRecursion (λ (t : Transaction). t.read < 100) p.batch → IsTicketFor p result }
 {
     Ticket {
@@ -216,21 +227,59 @@ fn ticket(alloc: Global) -> Ticket
     }
 }
 
-// The transaction of session 4 alone is the batch, which waits for verdicts then.
-fn learn_one(core: &mut CommitCore, alloc: Global) -> Result<(), Refusal>
+// The transaction of session 4 alone is the batch.
+fn seal_four(core: &mut CommitCore, alloc: Global) -> Result<(), Refusal>
     requires { core.old.proxy.waiting ≡ [] }
+    ensures { IfOk result (λ _. AllByRecursion (λ (t : Transaction). t.read < 100) core.new.proxy.batch) }
 {
     submit(core, alloc, 4)?;
     seal_one(core)?;
+    Ok(())
+}
+
+// It waits for verdicts then.
+fn learn_one(core: &mut CommitCore, alloc: Global) -> Result<(), Refusal>
+    requires { core.old.proxy.waiting ≡ [] }
+{
+    seal_four(core, alloc)?;
     core.learn(&ticket(alloc))
 }
 
-fn asking(alloc: Global) -> Result<CommitCore, Refusal> {
+// Whether the parts are those that are asked for then.
+fn learns_with_parts(core: &mut CommitCore, alloc: Global) -> Result<bool, Refusal>
+    requires { core.old.proxy.waiting ≡ [] }
+{
+    seal_four(core, alloc)?;
+    are_write_and_read(core.learn_with_parts(&ticket(alloc)))
+}
+
+/// A proxy whose batch, of the transaction of session 4 alone, waits for its ticket.
+pub fn sealed_core(alloc: Global) -> Result<CommitCore, Refusal>
+    ensures { IfOk result (λ core. AllByRecursion (λ (t : Transaction). t.read < 100) core.proxy.batch) }
+{
+    match new_core(alloc) {
+        Ok(mut core) => match seal_four(&mut core, alloc) {
+            Ok(()) => Ok(core),
+            Err(why) => Err(why),
+        },
+        Err(why) => Err(why),
+    }
+}
+
+/// The same, but it waits for verdicts.
+pub fn asking(alloc: Global) -> Result<CommitCore, Refusal> {
     match new_core(alloc) {
         Ok(mut core) => match learn_one(&mut core, alloc) {
             Ok(()) => Ok(core),
             Err(why) => Err(why),
         },
+        Err(why) => Err(why),
+    }
+}
+
+fn asks_at_once(alloc: Global) -> Result<bool, Refusal> {
+    match new_core(alloc) {
+        Ok(mut core) => learns_with_parts(&mut core, alloc),
         Err(why) => Err(why),
     }
 }
@@ -276,7 +325,22 @@ fn are_write_and_read(parts: Result<Items<Part>, Refusal>) -> Result<bool, Refus
     }
 }
 
-// Takes the resolver's verdict on place 0 of the entry.
+/// The resolver's verdict on place 0 of the entry.
+pub fn verdicts_of(
+    alloc: Global,
+    resolver: u32,
+    index: u32,
+    verdict: Verdict,
+) -> Result<Verdicts, Refusal> {
+    let answers = Items::from_vec(Vec::from_slice(alloc, &[(0, verdict)])?);
+    Ok(Verdicts {
+        resolver,
+        index,
+        answers,
+    })
+}
+
+// Takes that verdict.
 fn say(
     core: &mut CommitCore,
     alloc: Global,
@@ -284,12 +348,8 @@ fn say(
     index: u32,
     verdict: Verdict,
 ) -> Result<(), Refusal> {
-    let answers = Items::from_vec(Vec::from_slice(alloc, &[(0, verdict)])?);
-    core.verdict(Verdicts {
-        resolver,
-        index,
-        answers,
-    })
+    let verdicts = verdicts_of(alloc, resolver, index, verdict)?;
+    core.verdict(verdicts)
 }
 
 fn is_outcome(outcomes: Result<Items<Outcome>, Refusal>, wanted: Placed) -> Result<bool, Refusal> {
@@ -330,6 +390,16 @@ fn are_messages(
         [first, second] => Ok(is_message(first, counts[0]) && is_message(second, counts[1])),
         _ => Ok(false),
     }
+}
+
+fn is_decided(
+    decided: Result<(Items<Outcome>, Items<LogMsg>), Refusal>,
+    wanted: Placed,
+    counts: [usize; 2],
+) -> Result<bool, Refusal> {
+    let (outcomes, messages) = decided?;
+    let is_sent = are_messages(Ok(messages), counts)?;
+    Ok(is_sent && is_outcome(Ok(outcomes), wanted)?)
 }
 
 fn is_answer(
@@ -377,18 +447,24 @@ fn act_on(core: &mut CommitCore, alloc: Global, act: &Act) -> Result<bool, Refus
         Act::Parts => are_write_and_read(core.parts()),
         Act::Decide(wanted) => is_outcome(core.decide(), wanted),
         Act::Messages(counts) => are_messages(core.messages(), counts),
+        Act::DecideWithMessages(wanted, counts) => {
+            is_decided(core.decide_with_messages(), wanted, counts)
+        }
         Act::Done(session, wanted) => is_answer(core.done(), session, wanted),
         _ => is_done(change(core, alloc, act)),
     }
 }
 
+fn told(gives: Result<bool, Refusal>) -> Told {
+    match gives {
+        Ok(gives) => Ok(gives),
+        Err(why) => Err(numbers_of(why)),
+    }
+}
+
 fn go_through(rt: &impl Abort, alloc: Global, core: &mut CommitCore, acts: &[(Act, Told)]) {
     for (act, wanted) in acts {
-        let told = match act_on(core, alloc, act) {
-            Ok(gives) => Ok(gives),
-            Err(why) => Err(numbers_of(why)),
-        };
-        same(rt, told, *wanted);
+        same(rt, told(act_on(core, alloc, act)), *wanted);
     }
 }
 
@@ -406,4 +482,9 @@ fn a_proxy_commits(rt: HostRuntime) {
     for acts in ASKING {
         play(&rt, alloc, asking(alloc), acts);
     }
+}
+
+#[test]
+fn a_proxy_learns_with_its_parts(rt: HostRuntime) {
+    same(&rt, told(asks_at_once(rt.alloc())), YES);
 }

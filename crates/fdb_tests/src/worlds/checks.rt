@@ -50,10 +50,7 @@ type Found = Result<u64, CheckFault>;
 
 // What the check finds of the transcripts beside the world's book.
 fn found(alloc: Global, world: &World, placed: &[Placed]) -> Found {
-    match world.config() {
-        Some(config) => serial_check(alloc, config, world.book(), placed),
-        None => Err(CheckFault::NoMemory),
-    }
+    serial_check(alloc, world.config(), world.book(), placed)
 }
 
 // What is changed of a transcript.
@@ -214,11 +211,11 @@ fn transcripts_are_compared_with_the_book(rt: HostRuntime) {
     );
 }
 
-// Whether a new world lends a configuration, and how many entries and transcripts.
-fn lent(alloc: Global) -> Result<(bool, usize, usize), Refusal> {
+// How many logs a new world's configuration says, and how many entries and transcripts it has.
+fn lent(alloc: Global) -> Result<(u32, usize, usize), Refusal> {
     let world = new_world(alloc, TWO_LOGS)?;
     Ok((
-        world.config().is_some(),
+        world.config().logs,
         world.book().len(),
         world.acknowledged().len(),
     ))
@@ -226,5 +223,5 @@ fn lent(alloc: Global) -> Result<(bool, usize, usize), Refusal> {
 
 #[test]
 fn new_world_lends_no_entry(rt: HostRuntime) {
-    same(&rt, lent(rt.alloc()), Ok((true, 0, 0)));
+    same(&rt, lent(rt.alloc()), Ok((2, 0, 0)));
 }

@@ -4,6 +4,8 @@ use Rattle.fdb_core.proofs.headline.ExamplesLemmas.{only_ordinary_reads_count, b
 use Rattle.fdb_core.proofs.headline.ExamplesLemmas.{forgetful_roles_do_not_keep, read_off_the_trace, traced}
 use Rattle.fdb_core.proofs.headline.ExamplesLemmas.{shards_go_on_and_forget, each_served_version_counts}
 use Rattle.fdb_core.proofs.headline.ExamplesLemmas.{each_operation_is_noted, read_at_two_proxies, read_off_the_roles}
+use Rattle.fdb_core.proofs.headline.FailureExamplesLemmas.{failed_roles_refuse, reads_ask_their_shards}
+use Rattle.fdb_core.proofs.headline.FailureExamplesLemmas.{readers_use_no_proxy, the_steps_own_role_fails}
 use Rattle.fdb_core.proofs.headline.MoveExamplesLemmas.{moves_take_effect_with_the_next_entry}
 use Rattle.fdb_core.proofs.headline.MoveExamplesLemmas.{the_span_begins_at_the_window, the_later_move_counts}
 use Rattle.fdb_core.proofs.headline.AnswerExamplesLemmas.{other_versions_are_no_answers, other_verdicts_are_no_answers}
@@ -38,4 +40,8 @@ returns c = record {
   messages = early_messages_are_no_answers;
   outcomes = other_outcomes_are_no_answers;
   due = messages_are_due;
+  refused = failed_roles_refuse;
+  asked = reads_ask_their_shards;
+  readers = readers_use_no_proxy;
+  own = the_steps_own_role_fails;
 }

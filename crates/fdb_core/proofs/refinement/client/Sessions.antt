@@ -1,7 +1,6 @@
 -- The ties between the machine and the roles' own lists, kept through the steps of sessions.
-use Rattle.std.proofs.Common.{◌≡◌, ◌∙◌, refl, sym, ap, ap₂, subst, ℕ, List, map, None, Some, Result, Ok, Vec, Global}
+use Rattle.std.proofs.Common.{◌≡◌, ◌∙◌, refl, sym, ap, ap₂, subst, ℕ, List, map, None, Some, Ok, Vec, Global}
 use Rattle.std.proofs.Common.{slice_get, slice_set}
-use Rattle.fdb_keys.specs.declared.refusal.Refusal.{Refusal}
 use Rattle.fdb_keys.specs.Ranges.{Range}
 use Rattle.fdb_mutations.specs.declared.mutation.Mutation.{Mutation}
 use Rattle.fdb_mutations.specs.Mutations.{mutation_fault}
@@ -13,17 +12,20 @@ use Rattle.fdb_client.specs.declared.program.Reply.TheVariants as reply
 use Rattle.fdb_client.specs.declared.program.Transcript.{Transcript}
 use Rattle.fdb_proxy.specs.Askers.{Asker}
 use Rattle.fdb_core.specs.machine.ClientSteps.{notes, writes, adds_read, adds_write}
-use Rattle.fdb_core.specs.machine.Machine.{Transition}
 use Rattle.fdb_core.specs.machine.Sessions.{Sessions, EachOpen, Open, open_at, with_state}
 use Rattle.fdb_core.specs.refinement.Cluster.{machine_of, sessions_of, GrvProxiesRefine, Refines}
 use Rattle.fdb_core.specs.refinement.commit_proxy.Ties.{ReadsWithin}
-use Rattle.fdb_core.specs.refinement.Steps.{LeftAsBefore, TakesOrLeaves}
+use Rattle.fdb_core.specs.refinement.Restoring.{Tied}
+use Rattle.fdb_core.specs.refinement.Steps.{Takes, transition_of}
 use Rattle.fdb_core.proofs.machine.SessionLemmas.{open-has, open-put}
 use Rattle.fdb_core.proofs.refinement.log.Ties.{set-same}
-use Rattle.fdb_core.proofs.refinement.StepLemmas.{accepted}
+use Rattle.fdb_core.proofs.refinement.RestoringLemmas.{keeps-roles, restored}
+use Rattle.fdb_core.proofs.refinement.StepLemmas.{IsKept, accepted, kept}
 use Rattle.fdb_core.specs.declared.cluster.Cluster.{Cluster}
 use Rattle.fdb_core.specs.declared.roles.client.Placed.{Placed}
 use Rattle.fdb_core.specs.declared.step.Answered.TheVariants as answered
+use Rattle.fdb_core.specs.declared.step.Step.{Step}
+use Rattle.fdb_core.specs.declared.step.Step.TheVariants as step
 
 -- an open transaction with one more operation reads within the same version
 pub opened-with_op : (committed : ℕ) (sessions : Sessions) (session : ℕ) (transcript : Transcript) (op : Op)
@@ -54,58 +56,63 @@ refines-sessions k grv_proxies sessions acknowledged before asked all = record {
 }
 
 -- sessions that are what they were leave the world as it was
-pub sessions-same : (k : Cluster) (sessions : Sessions) → Refines k → sessions ≡ k.sessions
-    → (machine_of (record k { sessions = sessions }) ≡ machine_of k) × Refines (record k { sessions = sessions })
+pub sessions-same : (k : Cluster) (sessions : Sessions) → Tied k → sessions ≡ k.sessions
+    → IsKept k (record k { sessions = sessions })
 sessions-same k sessions before same =
-    subst (λ (others : Sessions). (machine_of (record k { sessions = others }) ≡ machine_of k)
-    × Refines (record k { sessions = others })) (sym same) (refl, before)
+    subst (λ (others : Sessions). IsKept k (record k { sessions = others })) (sym same) (kept k before)
 
 -- and so do those who ask at a proxy as before
-pub asks-nobody : (k : Cluster) → Refines k → (proxy : ℕ) (there : List Asker)
+pub asks-nobody : (k : Cluster) → Tied k → (proxy : ℕ) (there : List Asker)
     → slice_get k.grv_proxies.items proxy ≡ Some there
     → (grv_proxies : Vec (List Asker) Global) (sessions : Sessions) (askers : List Asker)
     → grv_proxies.items ≡ slice_set k.grv_proxies.items proxy askers → sessions ≡ k.sessions → askers ≡ there
-    → LeftAsBefore k (record k { grv_proxies = grv_proxies; sessions = sessions })
+    → IsKept k (record k { grv_proxies = grv_proxies; sessions = sessions })
 asks-nobody k before proxy there at grv_proxies sessions askers is same nobody =
     let asked : grv_proxies.items ≡ k.grv_proxies.items =
-    is ∙ ap (slice_set k.grv_proxies.items proxy) nobody ∙ set-same k.grv_proxies.items proxy there at in (
-      ap₂ (λ (others : Sessions) (all : List (List Asker)).
-          record (machine_of k) { sessions = others; grv_proxies = map sessions_of all }) same asked,
-      refines-sessions k grv_proxies sessions k.acknowledged before
-          (subst (GrvProxiesRefine k.config) (sym asked) before.grv_proxies)
-          (subst (EachOpen (ReadsWithin k.sequencer.committed)) (sym same) before.opened),
-    )
+    is ∙ ap (slice_set k.grv_proxies.items proxy) nobody ∙ set-same k.grv_proxies.items proxy there at in
+    record {
+      machine = ap₂ (λ (others : Sessions) (all : List (List Asker)).
+          record (machine_of k) { sessions = others; grv_proxies = map sessions_of all }) same asked;
+      failed = refl;
+      tied = keeps-roles k before _ refl refl refl refl
+          (refines-sessions (restored k before) grv_proxies sessions k.acknowledged before.refines
+          (subst (GrvProxiesRefine k.config) (sym asked) before.refines.grv_proxies)
+          (subst (EachOpen (ReadsWithin k.sequencer.committed)) (sym same) before.refines.opened));
+    }
 
 -- A step notes an operation at the session's open transaction, and so does the machine's.
-module _ (k : Cluster) (before : Refines k) (session : ℕ) (sessions : Sessions) where
+module _ (k : Cluster) (before : Tied k) (session : ℕ) (sessions : Sessions) where
   -- there is one, and it has one more operation
   abbrev Noted : Op → Type 0
   Noted operation = (transcript : Transcript) × (open_at k.sessions session ≡ Some transcript)
       × (sessions ≡ with_state k.sessions session (Open (with_op transcript operation reply.Done)))
 
-  noted : (operation : Op) (transition : Result Transition Refusal) (there : Noted operation)
-      → transition ≡ notes (machine_of k) session there.0 operation
-      → TakesOrLeaves k (Ok answered.Done) (record k { sessions = sessions }) transition
-  noted operation transition there is =
-      accepted is refl (ap (λ (others : Sessions). record (machine_of k) { sessions = others }) there.2)
-      (refines-sessions k k.grv_proxies sessions k.acknowledged before before.grv_proxies
+  noted : (operation : Op) (taken : Step) (there : Noted operation)
+      → transition_of k taken ≡ notes (machine_of k) session there.0 operation
+      → Takes k taken (Ok answered.Done) (record k { sessions = sessions })
+  noted operation taken there is =
+      accepted taken is refl (ap (λ (others : Sessions). record (machine_of k) { sessions = others }) there.2) refl
+      (keeps-roles k before _ refl refl refl refl
+      (refines-sessions (restored k before) k.grv_proxies sessions k.acknowledged before.refines
+      before.refines.grv_proxies
       (subst (EachOpen (ReadsWithin k.sequencer.committed)) (sym there.2)
-      (opened-with_op k.sequencer.committed k.sessions session there.0 operation reply.Done before.opened there.1)))
+      (opened-with_op k.sequencer.committed k.sessions session there.0 operation reply.Done before.refines.opened
+      there.1))))
 
   pub read-added : (range : Range) → Noted (op.AddRead range)
-      → TakesOrLeaves k (Ok answered.Done) (record k { sessions = sessions }) (adds_read (machine_of k) session range)
+      → Takes k (step.AddRead session range) (Ok answered.Done) (record k { sessions = sessions })
   unfolding adds_read
   read-added range there =
-      noted (op.AddRead range) (adds_read (machine_of k) session range) there (rw there.1 refl)
+      noted (op.AddRead range) (step.AddRead session range) there (rw there.1 refl)
 
   pub write-added : (range : Range) → Noted (op.AddWrite range)
-      → TakesOrLeaves k (Ok answered.Done) (record k { sessions = sessions }) (adds_write (machine_of k) session range)
+      → Takes k (step.AddWrite session range) (Ok answered.Done) (record k { sessions = sessions })
   unfolding adds_write
   write-added range there =
-      noted (op.AddWrite range) (adds_write (machine_of k) session range) there (rw there.1 refl)
+      noted (op.AddWrite range) (step.AddWrite session range) there (rw there.1 refl)
 
   pub written : (mutation : Mutation) → mutation_fault mutation ≡ None → Noted (op.Write mutation)
-      → TakesOrLeaves k (Ok answered.Done) (record k { sessions = sessions }) (writes (machine_of k) session mutation)
+      → Takes k (step.Write session mutation) (Ok answered.Done) (record k { sessions = sessions })
   unfolding writes
   written mutation faultless there =
-      noted (op.Write mutation) (writes (machine_of k) session mutation) there (rw (there.1, faultless) refl)
+      noted (op.Write mutation) (step.Write session mutation) there (rw (there.1, faultless) refl)

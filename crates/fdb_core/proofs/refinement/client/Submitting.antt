@@ -1,6 +1,6 @@
 -- A session submits its open transaction: one that wrote nothing is acknowledged, any other waits at a proxy.
 use Rattle.std.proofs.Common.{◌≡◌, ◌∙◌, refl, sym, ap, ap₂, subst, ℕ, ◌≤◌, true, false, List, [], ◌∷◌, ◌++◌, map}
-use Rattle.std.proofs.Common.{Option, Some, None, Ok, Vec, Global, slice_get, slice_set}
+use Rattle.std.proofs.Common.{Option, Some, None, Ok, Vec, Global, slice_get, slice_set, Bool, not, ◌&&◌}
 use Rattle.std.specs.Prelude.{IfSome}
 use Rattle.std.specs.List.{AllByRecursion}
 use Rattle.std.specs.Vec.{with_item}
@@ -11,14 +11,13 @@ use Rattle.fdb_proxy.specs.CommitProxies.{CommitProxy as Core, submitting}
 use Rattle.fdb_core.specs.declared.roles.client.Placed.{Placed}
 use Rattle.fdb_core.specs.headline.ProxyStages.{IsCommitProxyAt}
 use Rattle.fdb_core.specs.refinement.commit_proxy.Ties.{Known, StageRefines, stage_of, received_at, acknowledged_at}
-use Rattle.fdb_core.specs.refinement.Steps.{LeftAsBefore}
 use Rattle.fdb_core.proofs.common.AllLemmas.{all-push}
 use Rattle.fdb_core.proofs.headline.ProxyLaws.{stays}
 use Rattle.fdb_core.proofs.refinement.log.Ties.{set-same}
 use Rattle.fdb_txn.specs.book.Transactions.{Transaction}
 use Rattle.fdb_txn.specs.declared.spot.Spot.TheVariants as spot
 use Rattle.fdb_client.specs.declared.finished.Finished.{Finished}
-use Rattle.fdb_client.specs.declared.finished.Finished.TheVariants.{ToCommit}
+use Rattle.fdb_client.specs.declared.finished.Finished.TheVariants.{ReadOnly, ToCommit}
 use Rattle.fdb_client.specs.declared.program.Transcript.{Transcript}
 use Rattle.fdb_client.specs.Finishing.{IsFinished}
 use Rattle.fdb_client.specs.Programs.{commit_request_of, is_read_only}
@@ -28,18 +27,25 @@ use Rattle.fdb_core.specs.declared.roles.commit_proxy.CommitProxyRole.{CommitPro
 use Rattle.fdb_core.specs.declared.step.Answered.TheVariants as answered
 use Rattle.fdb_core.specs.invariant.Invariant.{Invariant}
 use Rattle.fdb_core.specs.machine.ClientSteps.{submits, submit_fault}
-use Rattle.fdb_core.specs.machine.Machine.{Machine}
+use Rattle.fdb_core.specs.declared.step.Step.TheVariants as step
+use Rattle.fdb_core.specs.machine.Failures.{Failures, submits_failed, uses_failed}
+use Rattle.fdb_core.specs.machine.Machine.{Machine, is_set}
 use Rattle.fdb_core.specs.machine.Roles.{CommitProxy}
 use Rattle.fdb_core.specs.machine.Sessions.{EachOpen, Idle, Sessions, Waiting, open_at, with_state}
 use Rattle.fdb_core.specs.refinement.Cluster.{machine_of, CommitProxiesRefine, Refines}
+use Rattle.fdb_core.specs.refinement.Restoring.{Tied, failures_of, proxy_failed}
 use Rattle.fdb_core.specs.refinement.commit_proxy.Ties.{CommitProxyRefines, known_to, ReadsWithin, seen_as}
 use Rattle.fdb_core.specs.refinement.client.Sessions.{OfOpen, Finishes}
 use Rattle.fdb_core.proofs.common.ListLemmas.{map-at, map-set}
 use Rattle.fdb_core.proofs.invariant.IdLemmas.{submits-unrepeated}
-use Rattle.fdb_core.proofs.machine.FinishLemmas.{finished-to_commit}
+use Rattle.fdb_core.proofs.machine.FinishLemmas.{finished-read_only, finished-to_commit}
 use Rattle.fdb_core.proofs.machine.OpenLemmas.{open-given}
 use Rattle.fdb_core.proofs.machine.SessionLemmas.{open-has}
 use Rattle.fdb_core.proofs.machine.Transitions.{submits-to_commit}
+use Rattle.fdb_core.proofs.refinement.RestoringLemmas.{flags-same, keeps-roles, restored}
+use Rattle.fdb_core.proofs.refinement.StepLemmas.{IsKept}
+use Rattle.fdb_core.proofs.refinement.client.Sessions.{refines-sessions}
+use Rattle.fdb_core.proofs.refinement.commit_proxy.Failing.{proxy-flags, proxy-tied, proxy-was}
 use Rattle.fdb_core.proofs.refinement.commit_proxy.Ties.{commit_proxies-put}
 
 -- a finished transaction was the open one of its session
@@ -60,6 +66,34 @@ module _ (sessions : Sessions) (session : ℕ) (finished : Finished)
         ap submit_fault parts.2 ∙ was-open.2.1,
         parts.1 ∙ ap commit_request_of (sym parts.2),
       )
+
+  -- which wrote nothing, where it is handed out
+  pub finished-none : (shown : Transcript) → finished ≡ ReadOnly shown
+      → (open_at sessions session ≡ Some shown) × (is_read_only shown ≡ true)
+  finished-none shown shows =
+      let parts = finished-read_only was-open.0 shown finished was-open.2.0 shows in (
+        was-open.1 ∙ ap (λ (it : Transcript). Some it) (sym parts.1),
+        ap is_read_only parts.1 ∙ parts.0,
+      )
+
+-- a transaction that wrote nothing uses no proxy
+pub uses-none : (m : Machine) (failed : Failures) (session proxy : ℕ) (transcript : Transcript)
+    → open_at m.sessions session ≡ Some transcript → is_read_only transcript ≡ true
+    → uses_failed m failed (step.Submit session proxy) ≡ false
+uses-none m failed session proxy transcript opened none = rw (opened, none) refl
+
+-- and any other one uses none that has failed, where the proxy works
+pub uses-working : (m : Machine) (failed : Failures) (session proxy : ℕ) → is_set failed.commit_proxies proxy ≡ false
+    → uses_failed m failed (step.Submit session proxy) ≡ false
+uses-working m failed session proxy works = by (open_at m.sessions session)
+  where
+    by_test : (none : Bool) → (not none && is_set failed.commit_proxies proxy) ≡ false
+    by_test true = refl
+    by_test false = works
+
+    by : (opened : Option Transcript) → submits_failed m failed opened proxy ≡ false
+    by None = refl
+    by (Some transcript) = by_test (is_read_only transcript)
 
 -- a transaction that wrote nothing is acknowledged
 pub submits-read_only : (m : Machine) (session proxy : ℕ) (commit_proxy : CommitProxy) (transcript : Transcript)
@@ -155,7 +189,7 @@ module _ (config : Config) (book : List Entry) (known : Known) (role : CommitPro
       })
 
   -- nobody more waits
-  nobody-more : later.core.proxy ≡ role.core.proxy → later.waiting ≡ role.waiting
+  pub nobody-more : later.core.proxy ≡ role.core.proxy → later.waiting ≡ role.waiting
       → (seen_as later ≡ seen_as role) × CommitProxyRefines config book known later
   nobody-more core waits = (
     seen-waiting role.core.proxy role.waiting core waits,
@@ -227,21 +261,64 @@ module _ (k : Cluster) (before : Refines k) (proxy : ℕ) (role : CommitProxyRol
         })
     refines-room opened = refines-submitted its-later.1 opened
 
-    -- where nobody comes, the world is as before
-    pub nobody-comes : sessions ≡ k.sessions → acknowledged.items ≡ k.acknowledged.items
-        → LeftAsBefore k (record k {
-          commit_proxies = with_item k.commit_proxies proxy later;
-          sessions = sessions;
-          acknowledged = acknowledged;
-        })
-    nobody-comes same told = (
-      λ i. record (machine_of k) {
-        commit_proxies = proxies-same i;
-        sessions = same i;
-        acknowledged = told i;
-      },
-      refines-room (subst (EachOpen (ReadsWithin k.sequencer.committed)) (sym same) before.opened),
-    )
+-- the same of a proxy that works, where others may have failed
+module _ (k : Cluster) (tied : Tied k) (proxy : ℕ) (role : CommitProxyRole)
+    (there : slice_get k.commit_proxies.items proxy ≡ Some role) (works : proxy_failed role ≡ false)
+    (later : CommitProxyRole) (sessions : Sessions) (acknowledged : Vec Placed Global)
+    (others : later ≡ record role { core = later.core; waiting = later.waiting })
+    (core : later.core.proxy ≡ role.core.proxy) (waits : later.waiting ≡ role.waiting) where
+  was : slice_get tied.roles.commit_proxies.items proxy ≡ Some role
+  was = proxy-was k tied proxy role there works
+
+  abbrev has_room : Cluster
+  has_room = record k {
+    commit_proxies = with_item k.commit_proxies proxy later;
+    sessions = sessions;
+    acknowledged = acknowledged;
+  }
+
+  pub room-seen : map seen_as (slice_set k.commit_proxies.items proxy later) ≡ map seen_as k.commit_proxies.items
+  room-seen = flags-same seen_as k.commit_proxies.items proxy role later there
+      (its-later (restored k tied) tied.refines proxy role was later sessions acknowledged others core waits).0
+
+  pub room-failed : failures_of has_room ≡ failures_of k
+  room-failed = proxy-flags k has_room proxy role later there refl refl refl refl
+      (ap (λ (p : Core). p.is_failed) core)
+
+  pub room-tied : EachOpen (ReadsWithin k.sequencer.committed) sessions → Tied has_room
+  room-tied opened = proxy-tied k tied proxy later has_room refl refl refl refl
+      (refines-room (restored k tied) tied.refines proxy role was later sessions acknowledged others core waits opened)
+
+  -- where nobody comes, the world is as before
+  pub nobody-comes : sessions ≡ k.sessions → acknowledged.items ≡ k.acknowledged.items → IsKept k has_room
+  nobody-comes same told = record {
+    machine = λ i. record (machine_of k) {
+      commit_proxies = room-seen i;
+      sessions = same i;
+      acknowledged = told i;
+    };
+    failed = room-failed;
+    tied = room-tied (subst (EachOpen (ReadsWithin k.sequencer.committed)) (sym same) tied.refines.opened);
+  }
+
+-- where sessions change, and who is acknowledged, the open transactions alone matter
+pub acknowledged-tied : (k : Cluster) (tied : Tied k) (sessions : Sessions) (acknowledged : Vec Placed Global)
+    → EachOpen (ReadsWithin k.sequencer.committed) sessions
+    → Tied (record k { sessions = sessions; acknowledged = acknowledged })
+acknowledged-tied k tied sessions acknowledged opened = keeps-roles k tied _ refl refl refl refl
+    (refines-sessions (restored k tied) k.grv_proxies sessions acknowledged tied.refines tied.refines.grv_proxies
+    opened)
+
+-- room that is made for one more leaves the world as it was
+pub room-kept : (k : Cluster) → Tied k → (sessions : Sessions) (acknowledged : Vec Placed Global)
+    → sessions ≡ k.sessions → acknowledged.items ≡ k.acknowledged.items
+    → IsKept k (record k { sessions = sessions; acknowledged = acknowledged })
+room-kept k tied sessions acknowledged same told = record {
+  machine = λ i. record (machine_of k) { sessions = same i; acknowledged = told i };
+  failed = refl;
+  tied = acknowledged-tied k tied sessions acknowledged
+      (subst (EachOpen (ReadsWithin k.sequencer.committed)) (sym same) tied.refines.opened);
+}
 
 -- none of the session's id is at the core, if it has an open transaction
 pub none-repeated : (k : Cluster) → Refines k → Invariant (machine_of k) → (session proxy : ℕ) (role : CommitProxyRole)

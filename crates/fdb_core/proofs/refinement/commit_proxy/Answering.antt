@@ -1,11 +1,17 @@
 -- A commit proxy answers the clients of its batch, once the batch's version is reported.
-use Rattle.std.proofs.Common.{◌≡◌, ◌∙◌, refl, sym, ap, ap₂, subst, ℕ, get_or, ◌<◌, true, false, List, []}
-use Rattle.std.proofs.Common.{◌∷◌, ◌++◌, length, map, Some, None, Result, Ok, Err, slice_get, slice_set}
+use Rattle.std.proofs.Common.{◌≡◌, ◌≢◌, ◌∙◌, refl, sym, ap, ap₂, subst, ⊎_elim, ℕ, get_or, ◌<◌, ◌≤◌, ◌==◌, true, false}
+use Rattle.std.proofs.Common.{List, [], ◌∷◌, ◌++◌, length, map, Option, Some, None, unwrap_or, Result, Ok, Err}
+use Rattle.std.proofs.Common.{slice_get, slice_set, arith}
+use Rattle.std.specs.FinMap.{get}
+use Rattle.std.specs.List.{count_by}
+use Rattle.std.specs.Option.{is_some}
+use Rattle.std.proofs.lemmas.Bool.{eq-eqb}
+use Rattle.std.proofs.lemmas.Bool.Decides.{eqb_tells}
 use Rattle.std.proofs.lemmas.List.{length-map}
 use Rattle.std.proofs.lemmas.Option.{slice_get_read, slice_get_within}
 use Rattle.fdb_keys.specs.Answers.{AnswersExactly}
 use Rattle.fdb_keys.specs.declared.refusal.Refusal.{Refusal}
-use Rattle.fdb_keys.specs.declared.refusal.Refusal.TheVariants.{NotYet}
+use Rattle.fdb_keys.specs.declared.refusal.Refusal.TheVariants.{NotYet, WrongState}
 use Rattle.fdb_txn.specs.declared.entry.Entry.{Entry}
 use Rattle.fdb_txn.specs.declared.spot.Spot.TheVariants as spot
 use Rattle.fdb_txn.specs.declared.txn_id.TxnId.{TxnId}
@@ -21,14 +27,20 @@ use Rattle.fdb_core.specs.declared.cluster.Cluster.{Cluster}
 use Rattle.fdb_core.specs.declared.roles.client.Placed.{Placed}
 use Rattle.fdb_core.specs.declared.roles.commit_proxy.CommitProxyRole.{CommitProxyRole}
 use Rattle.fdb_core.specs.declared.step.Answered.TheVariants as answered
+use Rattle.fdb_core.specs.headline.Sessions.{is_of, times_waiting_at}
+use Rattle.fdb_core.specs.invariant.Invariant.{Invariant}
+use Rattle.fdb_core.specs.invariant.Places.{waits_as}
 use Rattle.fdb_core.specs.machine.CommitProxySteps.{answers, is_idle, is_reported, placed_from, replies_from}
 use Rattle.fdb_core.specs.machine.Machine.{Machine}
 use Rattle.fdb_core.specs.machine.Roles.{CommitProxy, Idle}
-use Rattle.fdb_core.specs.machine.Sessions.{tell_all}
+use Rattle.fdb_core.specs.machine.Sessions.{Session, new_session, tell_all}
 use Rattle.fdb_core.specs.refinement.Cluster.{machine_of, CommitProxiesRefine, Refines}
+use Rattle.fdb_core.specs.refinement.client.Sessions.{HaveActed}
 use Rattle.fdb_core.specs.refinement.commit_proxy.Ties.{CommitProxyRefines, Known, known_to, IsDone, seen_as}
 use Rattle.fdb_core.proofs.checking.BodyLemmas.{length-answers, length-outcomes_on}
 use Rattle.fdb_core.proofs.common.ListLemmas.{map-at, map-set}
+use Rattle.fdb_core.proofs.common.SumLemmas.{counted, sum-at}
+use Rattle.fdb_core.proofs.invariant.SoundLemmas.{sessions-stand}
 use Rattle.fdb_core.proofs.refinement.commit_proxy.Ties.{busy-entry, commit_proxies-put, reported-is}
 use Rattle.fdb_core.proofs.refinement.commit_proxy.CoreStages.{exactly-map}
 
@@ -60,6 +72,50 @@ placed-is index (transcript ∷ transcripts) (outcome.Commit version place ∷ o
 placed-is index (transcript ∷ transcripts) (outcome.Conflict ∷ outcomes) = placed-is index transcripts outcomes
 placed-is index (transcript ∷ transcripts) (outcome.Old ∷ outcomes) = placed-is index transcripts outcomes
 
+-- a proxy without a batch has nothing to answer
+pub answers-idle : (m : Machine) (proxy : ℕ) (commit_proxy : CommitProxy)
+    → slice_get m.commit_proxies proxy ≡ Some commit_proxy → is_idle commit_proxy.stage ≡ true
+    → answers m proxy ≡ Err WrongState
+unfolding answers
+answers-idle m proxy commit_proxy there idle = rw (there, idle) refl
+
+-- Whose transaction is in flight at a proxy of a sound machine has done something: the machine has the session.
+module _ (m : Machine) (sound : Invariant m) (proxy : ℕ) (commit_proxy : CommitProxy)
+    (at : slice_get m.commit_proxies proxy ≡ Some commit_proxy) where
+  one-acted : (session : ℕ) → 0 < times_waiting_at session commit_proxy → is_some (get m.sessions session) ≡ true
+  one-acted session waits = by (get m.sessions session) (omega (
+    arith,
+    waits,
+    ((sessions-stand m sound).0 session).waits,
+    sum-at (times_waiting_at session) m.commit_proxies proxy commit_proxy at,
+  ))
+    where
+      by : (there : Option Session) → 0 < waits_as (unwrap_or there new_session).state → is_some there ≡ true
+      by None some = absurd (omega (arith, some))
+      by (Some known) some = refl
+
+  some-acted : (transcripts : List Transcript)
+      → ((session : ℕ) → count_by (is_of session) transcripts ≤ count_by (is_of session) commit_proxy.in_flight)
+      → HaveActed m.sessions transcripts
+  some-acted [] among = tt
+  some-acted (t ∷ ts) among = (
+    one-acted t.id.session (let here = among t.id.session in
+        let own = (counted (is_of t.id.session) t ts).0 (eq-eqb t.id.session t.id.session refl) in
+        omega (arith, here, own)),
+    some-acted ts (λ session. let here = among session in let more = fewer session in omega (arith, here, more)),
+  )
+    where
+      fewer : (session : ℕ) → count_by (is_of session) ts ≤ count_by (is_of session) (t ∷ ts)
+      fewer session =
+          let parts = counted (is_of session) t ts in
+          ⊎_elim
+          (λ (is : (t.id.session == session ≡ true) × (t.id.session ≡ session)). omega (arith, parts.0 is.0))
+          (λ (is : (t.id.session == session ≡ false) × (t.id.session ≢ session)). omega (arith, parts.1 is.0))
+          (eqb_tells t.id.session session)
+
+  pub have-acted : HaveActed m.sessions commit_proxy.in_flight
+  have-acted = some-acted commit_proxy.in_flight (λ session. omega arith)
+
 -- what the machine does, once it knows the proxy and its entry
 module _ (m : Machine) (proxy : ℕ) (commit_proxy : CommitProxy) (entry : Entry)
     (there : slice_get m.commit_proxies proxy ≡ Some commit_proxy)
@@ -88,6 +144,7 @@ module _ (m : Machine) (proxy : ℕ) (commit_proxy : CommitProxy) (entry : Entry
 pub record IsAnswered (k : Cluster) (proxy : ℕ) (old : CommitProxyRole) (transcripts : List Transcript)
     (given : List (TxnId × Outcome)) (new : CommitProxyRole) : Type 0 where
   pub each : length transcripts ≡ length given
+  pub own : transcripts ≡ old.in_flight
   pub goes_on : answers (machine_of k) proxy ≡ Ok (record {
     answer = answered.Answers (map told_of given);
     next = record (machine_of k) {
@@ -139,6 +196,7 @@ module _ (k : Cluster) (before : Refines k) (proxy : ℕ) (role : CommitProxyRol
             (length-outcomes_on k.config.resolver_splits (seen_before k.book.items role.entry) own.0
             ∙ ap length own.2)
             ∙ length-map role.in_flight commit_request_of);
+        own = done.transcripts_are;
         goes_on = answers-transition (machine_of k) proxy (seen_as role) own.0
             (map-at seen_as k.commit_proxies.items proxy role there) busy own.1 is-reported
             ∙ (λ i. Ok (record {

@@ -25,7 +25,7 @@ use Rattle.fdb_proxy.specs.declared.resolving.Resolving.{Resolving as Unheard}
 use Rattle.fdb_proxy.specs.declared.stage.Stage.{Stage as CoreStage}
 use Rattle.fdb_proxy.specs.declared.stage.Stage.TheVariants as core
 use Rattle.fdb_proxy.specs.CommitProxies.{ProxyWithRoom, waiting_for, verdict_fault, with_verdict, decide_fault}
-use Rattle.fdb_proxy.specs.CommitProxies.{outcomes_in, deciding, messages_fault, messages_of}
+use Rattle.fdb_proxy.specs.CommitProxies.{outcomes_in, deciding, messages_of}
 use Rattle.fdb_proxy.specs.Deciding.{Said}
 use Rattle.fdb_proxy.specs.Logging.{answers_by}
 use Rattle.fdb_proxy.specs.Parting.{AreItems}
@@ -35,7 +35,7 @@ use Rattle.fdb_proxy.specs.Verdicts.{verdicts_from, verdicts_on, moves_through, 
 use Rattle.fdb_core.specs.declared.roles.commit_proxy.CommitProxyRole.{CommitProxyRole}
 use Rattle.fdb_core.specs.machine.CommitProxySteps.{awaits, with_received, is_resolving, is_logging}
 use Rattle.fdb_core.specs.machine.Machine.{is_set, first_missing}
-use Rattle.fdb_core.specs.machine.Roles.{FromResolver, Resolving, Logging}
+use Rattle.fdb_core.specs.machine.Roles.{CommitProxy, FromResolver, Resolving, Logging}
 use Rattle.fdb_core.specs.headline.ProxyStages.{IsCommitProxyAt, IsBatchOf, IsResolving, IsSaid}
 use Rattle.fdb_core.specs.refinement.commit_proxy.Ties.{CommitProxyRefines, Known}
 use Rattle.fdb_core.specs.refinement.commit_proxy.Ties.{Decides, stage_of, received_at, seen_as}
@@ -217,6 +217,35 @@ missing-same needed n (part ∷ parts) (Some said ∷ verdicts) count asked =
     both true = refl
     both false = refl
 
+-- the messages of a decided batch are those of its entry
+messages-are : (config : Config) (book : List Entry) (known : Known) (role : CommitProxyRole)
+    → CommitProxyRefines config book known role → is_logging (stage_of role.is_reported role.core.proxy.stage) ≡ true
+    → (entry : Entry) → slice_get book role.entry ≡ Some entry
+    → messages_of role.core.proxy ≡ log_messages config.resolver_splits config.shard_splits config.logs role.entry
+    (seen_before book role.entry) entry
+messages-are config book known role ok logging entry there =
+    by_stage role.core.proxy.stage refl (stage-told config book known role ok)
+  where
+    sent : List LogMsg
+    sent = log_messages config.resolver_splits config.shard_splits config.logs role.entry
+        (seen_before book role.entry) entry
+
+    by_stage : (stage : CoreStage) → role.core.proxy.stage ≡ stage
+        → StageTold config book role.is_reported role.entry role.core.proxy.batch stage
+        → messages_of role.core.proxy ≡ sent
+    by_stage core.Idle is refines = absurd (true≢false (sym (rw is at logging)))
+    by_stage core.Sealed is refines = absurd refines
+    by_stage core.Entered is refines = absurd refines
+    by_stage (core.Resolving batch) is refines = absurd (true≢false (sym (rw is at logging)))
+    by_stage (core.Logging decided) is refines =
+        let its = refines.1 in
+        let same : refines.0 ≡ entry = same_Some refines.0 entry (sym its.there ∙ there) in
+        rw is
+        (messages-decided config book role.entry refines.0 decided refines.2 role.core.proxy.shard_splits
+        role.core.proxy.logs role.core.proxy.batch ok.core.shard_splits ok.core.logs its
+        ∙ ap (log_messages config.resolver_splits config.shard_splits config.logs role.entry
+        (seen_before book role.entry)) same)
+
 -- what is decided of a batch that waits for verdicts
 module _ (config : Config) (book : List Entry) (known : Known) (role : CommitProxyRole)
     (ok : CommitProxyRefines config book known role) (entry : Entry)
@@ -312,53 +341,27 @@ module _ (config : Config) (book : List Entry) (known : Known) (role : CommitPro
             by_flag true flag = absurd (true≢false (sym (rw (is, flag) at resolving_now)))
             by_flag false flag = absurd (true≢false (sym (rw (is, flag) at resolving_now)))
 
-    -- what the call answers by which it is decided
+    -- what the call answers by which it is decided, with the messages
     pub decides-answers : is_resolving (stage_of role.is_reported role.core.proxy.stage) ≡ true
-        → (result : Result (List Outcome) Refusal) (later : ProxyWithRoom)
+        → (result : Result (List Outcome × List LogMsg) Refusal) (later : ProxyWithRoom)
         → Answers result (decide_fault role.core.proxy)
-        (λ outcomes. (outcomes ≡ outcomes_in role.core.proxy) × (later.proxy ≡ deciding role.core.proxy))
+        (λ given. (given.0 ≡ outcomes_in role.core.proxy) × (later.proxy ≡ deciding role.core.proxy)
+        × (given.1 ≡ messages_of later.proxy))
         → Answers result (waiting_for (first_missing
         (λ resolver. is_needed config.resolver_splits resolver before entry) 0 (received_at role.core.proxy.stage)))
-        (λ outcomes. Decides config book known entry role outcomes (record role { core = later }))
+        (λ given. Decides config book known entry role given.0 (record role { core = later })
+        × (given.1 ≡ log_messages config.resolver_splits config.shard_splits config.logs role.entry before entry))
     decides-answers resolving_now result later answers =
         let found = decides-resolving resolving_now in
         let fault = fault-decided found.0 found.1 found.2 found.3 found.4 in
         answers-by result (decide_fault role.core.proxy) _
-        (λ outcomes. (outcomes ≡ outcomes_in role.core.proxy) × (later.proxy ≡ deciding role.core.proxy))
-        (λ outcomes. Decides config book known entry role outcomes (record role { core = later })) fault
-        (λ none outcomes given. decides found.0 found.1 found.2 found.3 found.4 later outcomes (fault ∙ none) given.0
-        given.1) answers
-
--- what the call answers that gives the messages of a decided batch
-pub messages-answers : (config : Config) (book : List Entry) (known : Known) (role : CommitProxyRole)
-    → CommitProxyRefines config book known role → is_logging (stage_of role.is_reported role.core.proxy.stage) ≡ true
-    → (entry : Entry) → slice_get book role.entry ≡ Some entry → (result : Result (List LogMsg) Refusal)
-    → Answers result (messages_fault role.core.proxy) (λ messages. messages ≡ messages_of role.core.proxy)
-    → Answers result None (λ messages. messages ≡ log_messages config.resolver_splits config.shard_splits config.logs
-    role.entry (seen_before book role.entry) entry)
-messages-answers config book known role ok logging entry there result answers =
-    by_stage role.core.proxy.stage refl (stage-told config book known role ok)
-  where
-    sent : List LogMsg
-    sent = log_messages config.resolver_splits config.shard_splits config.logs role.entry
-        (seen_before book role.entry) entry
-
-    by_stage : (stage : CoreStage) → role.core.proxy.stage ≡ stage
-        → StageTold config book role.is_reported role.entry role.core.proxy.batch stage
-        → Answers result None (λ messages. messages ≡ sent)
-    by_stage core.Idle is refines = absurd (true≢false (sym (rw is at logging)))
-    by_stage core.Sealed is refines = absurd refines
-    by_stage core.Entered is refines = absurd refines
-    by_stage (core.Resolving batch) is refines = absurd (true≢false (sym (rw is at logging)))
-    by_stage (core.Logging decided) is refines =
-        let its = refines.1 in
-        let same : refines.0 ≡ entry = same_Some refines.0 entry (sym its.there ∙ there) in
-        let fault : messages_fault role.core.proxy ≡ None = rw (ok.core.works, is) refl in
-        let messages : messages_of role.core.proxy ≡ sent = rw is
-        (messages-decided config book role.entry refines.0 decided refines.2 role.core.proxy.shard_splits
-        role.core.proxy.logs role.core.proxy.batch ok.core.shard_splits ok.core.logs its
-        ∙ ap (log_messages config.resolver_splits config.shard_splits config.logs role.entry
-        (seen_before book role.entry)) same) in
-        answers-by result (messages_fault role.core.proxy) None
-        (λ (given : List LogMsg). given ≡ messages_of role.core.proxy) (λ (given : List LogMsg). given ≡ sent) fault
-        (λ none given is_given. is_given ∙ messages) answers
+        (λ given. (given.0 ≡ outcomes_in role.core.proxy) × (later.proxy ≡ deciding role.core.proxy)
+        × (given.1 ≡ messages_of later.proxy))
+        (λ given. Decides config book known entry role given.0 (record role { core = later })
+        × (given.1 ≡ log_messages config.resolver_splits config.shard_splits config.logs role.entry before entry)) fault
+        (λ none given is.
+        let decided = decides found.0 found.1 found.2 found.3 found.4 later given.0 (fault ∙ none) is.0 is.1 in (
+          decided,
+          is.2 ∙ messages-are config book known (record role { core = later }) decided.refines
+              (ap (λ (p : CommitProxy). is_logging p.stage) decided.machine) entry there,
+        )) answers

@@ -1,13 +1,10 @@
 -- A commit proxy whose first requests become a batch.
 use Rattle.std.proofs.Common.{◌≡◌, ◌∙◌, refl, sym, ap, subst, ℕ, zero, suc, ◌<◌, Bool, true, false, List, [], ◌∷◌, ◌++◌}
-use Rattle.std.proofs.Common.{length, map, take, drop, replicate, Option, None, Ok, Err}
+use Rattle.std.proofs.Common.{length, map, take, drop, replicate, Option, None}
 use Rattle.std.specs.List.{AllByRecursion}
 use Rattle.std.specs.Option.{is_some}
 use Rattle.std.proofs.lemmas.Bool.{true≢false}
 use Rattle.std.proofs.lemmas.List.{append-nil, append_assoc}
-use Rattle.fdb_keys.specs.Answers.{Answers}
-use Rattle.fdb_keys.specs.declared.refusal.Refusal.{Refusal}
-use Rattle.fdb_keys.specs.declared.refusal.Refusal.TheVariants.{NoMemory}
 use Rattle.fdb_txn.specs.Limits.{place_limit}
 use Rattle.fdb_txn.specs.declared.entry.Entry.{Entry}
 use Rattle.fdb_txn.specs.book.Book.{seen_of, last_version}
@@ -23,7 +20,7 @@ use Rattle.fdb_proxy.specs.declared.config.Config.{Config}
 use Rattle.fdb_proxy.specs.declared.resolving.Resolving.{Resolving as Unheard}
 use Rattle.fdb_proxy.specs.declared.stage.Stage.{Stage as CoreStage}
 use Rattle.fdb_proxy.specs.declared.stage.Stage.TheVariants as core
-use Rattle.fdb_proxy.specs.CommitProxies.{CommitProxy as Core, ProxyWithRoom, seal_fault, learn_fault, parts_fault}
+use Rattle.fdb_proxy.specs.CommitProxies.{CommitProxy as Core, seal_fault, learn_fault}
 use Rattle.fdb_proxy.specs.CommitProxies.{IsTicketFor, HasLearntTicket, position_of, sealing, parts_in}
 use Rattle.fdb_proxy.specs.Deciding.{Said}
 use Rattle.fdb_proxy.specs.Parting.{AreParts}
@@ -33,10 +30,10 @@ use Rattle.fdb_core.specs.machine.CommitProxySteps.{is_idle, with_batch}
 use Rattle.fdb_core.specs.machine.Roles.{Resolving}
 use Rattle.fdb_core.specs.machine.SequencerSteps.{dated_moves}
 use Rattle.fdb_core.specs.refinement.commit_proxy.Ties.{CommitProxyRefines, Known, StageRefines, IsNextTicket}
-use Rattle.fdb_core.specs.refinement.commit_proxy.Ties.{Seals, ReadsWithin, entry_of, stage_of, seen_as}
+use Rattle.fdb_core.specs.refinement.commit_proxy.Ties.{HasBatch, Seals, ReadsWithin, entry_of, stage_of, seen_as}
 use Rattle.fdb_core.proofs.common.AllLemmas.{all-take, all-drop}
-use Rattle.fdb_core.proofs.common.FaultLemmas.{answers-fault}
 use Rattle.fdb_core.proofs.refinement.commit_proxy.BatchStages.{IsLearnt, is-learnt, ticket-fits, ticket-learns}
+use Rattle.fdb_core.proofs.refinement.commit_proxy.Ties.{idle-seen}
 use Rattle.fdb_core.proofs.headline.ProxyLaws.{requests_come_and_go}
 use Rattle.fdb_core.proofs.refinement.sequencer.Moves.{dated_moves-append, dated_moves-push, entries-behind, ticket-after}
 
@@ -52,18 +49,6 @@ map-drop f zero [] = refl
 map-drop f (suc n) [] = refl
 map-drop f zero (x ∷ xs) = refl
 map-drop f (suc n) (x ∷ xs) = map-drop f n xs
-
--- what a core that sealed a batch gave and left
-abbrev pub HasSealed : Core → Core → List Transaction → Type 0
-HasSealed old new batch = (batch ≡ take place_limit old.waiting) × (new ≡ sealing old)
-
--- it may learn a ticket that the core may that sealed it
-pub sealed-ticket : (p sealed : Core) (ticket : Ticket) (batch : List Transaction)
-    → Answers (Ok batch) (seal_fault p) (HasSealed p sealed) → IsTicketFor (sealing p) ticket
-    → IsTicketFor sealed ticket
-sealed-ticket p sealed ticket batch answers may =
-    subst (λ (q : Core). IsTicketFor q ticket)
-    (sym (answers-fault (seal_fault p) batch (HasSealed p sealed) answers).1.1) may
 
 flags-unset : (n : ℕ) → map (λ (of : Option Said). is_some of) (replicate n None) ≡ replicate n false
 flags-unset zero = refl
@@ -98,19 +83,12 @@ module _ (config : Config) (book : List Entry) (known : Known) (role : CommitPro
       (all-take (λ (t : Transaction). t.read < ticket.version) place_limit role.core.proxy.waiting later)
 
   -- and isn't refused
-  learns : learn_fault (sealing role.core.proxy) ticket ≡ None
+  pub learns : learn_fault (sealing role.core.proxy) ticket ≡ None
   learns = ticket-learns config.resolver_splits (sealing role.core.proxy) ticket ok.core.splits may ok.core.works refl
 
-  -- so only memory may be lacking
-  pub learn-lacks : (T : Type 0) (sealed : Core) (learnt : ProxyWithRoom) (batch : List Transaction) (why : Refusal)
-      → Answers (Ok batch) (seal_fault role.core.proxy) (HasSealed role.core.proxy sealed)
-      → Answers {T = T} (Err why) (learn_fault sealed ticket) (λ _. HasLearntTicket sealed ticket learnt.proxy)
-      → why ≡ NoMemory
-  learn-lacks T sealed learnt batch why sealed_it refused =
-      let its = answers-fault (seal_fault role.core.proxy) batch (HasSealed role.core.proxy sealed) sealed_it in
-      subst (λ (fault : Option Refusal).
-      Answers {T = T} (Err why) fault (λ _. HasLearntTicket sealed ticket learnt.proxy))
-      (ap (λ (p : Core). learn_fault p ticket) its.1.1 ∙ learns) refused
+  -- nor is the batch
+  pub seals-unrefused : seal_fault role.core.proxy ≡ None
+  seals-unrefused = rw (ok.core.works, idle-seen config book known role ok ∙ idle) refl
 
   -- the proxy was idle, and nothing is reported of it
   unreported : role.is_reported ≡ false
@@ -206,35 +184,16 @@ module _ (config : Config) (book : List Entry) (known : Known) (role : CommitPro
       };
     }
 
-  -- by what the calls of the core gave, one after another
-  pub seals-by : {T : Type 0} (sealed : Core) (learnt : ProxyWithRoom) (later : CommitProxyRole)
-      (batch : List Transaction) (parts : List Part) (done : T)
-      → Answers (Ok batch) (seal_fault role.core.proxy) (HasSealed role.core.proxy sealed)
-      → Answers (Ok done) (learn_fault sealed ticket) (λ _. HasLearntTicket sealed ticket learnt.proxy)
-      → Answers (Ok parts) (parts_fault learnt.proxy) (λ given. given ≡ parts_in learnt.proxy.stage)
+  -- by what the core gave
+  pub seals-by : (later : CommitProxyRole) (given : List Transaction) (parts : List Part)
+      → HasBatch role.core.proxy ticket given parts later.core.proxy
       → later ≡ record role {
-        core = learnt;
+        core = later.core;
         waiting = drop place_limit role.waiting;
         in_flight = take place_limit role.waiting;
-      }
-      → Seals config book known ticket role batch parts (record later { entry = ticket.index })
-  seals-by {T} sealed learnt later batch parts done sealed_it learnt_it parted same =
-      let its = answers-fault (seal_fault role.core.proxy) batch (HasSealed role.core.proxy sealed) sealed_it in
-      let has = answers-fault (learn_fault sealed ticket) done (λ (_ : T). HasLearntTicket sealed ticket learnt.proxy)
-      learnt_it in
-      let given = answers-fault (parts_fault learnt.proxy) parts (λ (ps : List Part). ps ≡ parts_in learnt.proxy.stage)
-      parted in
-      let core_is : later.core ≡ learnt = ap (λ (r : CommitProxyRole). r.core) same in
-      subst (λ (ts : List Transaction). Seals config book known ticket role ts parts
-      (record later { entry = ticket.index })) (sym its.1.0)
-      (seals (record later { entry = ticket.index })
-      (subst (λ (at : ProxyWithRoom). HasLearntTicket (sealing role.core.proxy) ticket at.proxy) (sym core_is)
-      (subst (λ (p : Core). HasLearntTicket p ticket learnt.proxy) its.1.1 has.1)) parts
-      (given.1 ∙ ap (λ (at : ProxyWithRoom). parts_in at.proxy.stage) (sym core_is))
-      (λ i. record role {
-        core = later.core;
-        waiting = (same i).waiting;
-        in_flight = (same i).in_flight;
         entry = ticket.index;
-        is_reported = (same i).is_reported;
-      }))
+      }
+      → Seals config book known ticket role given parts later
+  seals-by later given parts has same =
+      subst (λ (ts : List Transaction). Seals config book known ticket role ts parts later) (sym has.batch_is)
+      (seals later has.learnt parts has.parts_are same)

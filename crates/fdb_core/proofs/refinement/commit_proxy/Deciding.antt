@@ -8,7 +8,7 @@ use Rattle.std.proofs.lemmas.List.{length-set, length-map}
 use Rattle.std.proofs.lemmas.Option.{same_Some, slice_get_within}
 use Rattle.fdb_keys.specs.Answers.{Answers}
 use Rattle.fdb_keys.specs.declared.refusal.Refusal.{Refusal}
-use Rattle.fdb_keys.specs.declared.refusal.Refusal.TheVariants.{NoMemory, NotYet, WrongState}
+use Rattle.fdb_keys.specs.declared.refusal.Refusal.TheVariants.{NotYet, WrongState}
 use Rattle.fdb_txn.specs.declared.entry.Entry.{Entry}
 use Rattle.fdb_txn.specs.book.Book.{seen_before}
 use Rattle.fdb_txn.specs.book.History.{AreEntries}
@@ -22,9 +22,9 @@ use Rattle.fdb_core.specs.declared.cluster.Cluster.{Cluster}
 use Rattle.fdb_core.specs.declared.roles.commit_proxy.CommitProxyRole.{CommitProxyRole}
 use Rattle.fdb_core.specs.declared.roles.log.LogRole.{LogRole}
 use Rattle.fdb_core.specs.declared.step.Answered.TheVariants as answered
-use Rattle.fdb_core.specs.machine.CommitProxySteps.{decides, is_idle, is_resolving, is_logging}
+use Rattle.fdb_core.specs.machine.CommitProxySteps.{decides, is_idle, is_resolving}
 use Rattle.fdb_core.specs.machine.Machine.{is_set, first_missing}
-use Rattle.fdb_core.specs.machine.Roles.{CommitProxy, Stage, Idle, Resolving, Logging, Reported}
+use Rattle.fdb_core.specs.machine.Roles.{Stage, Idle, Resolving, Logging, Reported}
 use Rattle.fdb_core.specs.refinement.Cluster.{machine_of, messages_on, Refines}
 use Rattle.fdb_core.specs.refinement.commit_proxy.Ties.{CommitProxyRefines, Known, known_to, Decides, seen_as}
 use Rattle.fdb_core.specs.refinement.log.Ties.{logs_taken}
@@ -76,6 +76,10 @@ none-waits : (missing : Option ℕ) → waiting_for missing ≡ None → missing
 none-waits None is = refl
 none-waits (Some n) is = cc
 
+-- what deciding gives: what becomes of each place, and the messages for the logs
+abbrev pub Given : Type 0
+Given = List Outcome × List LogMsg
+
 -- The proxy that is told to decide.
 module _ (k : Cluster) (refines : Refines k) (proxy : ℕ) (role : CommitProxyRole)
     (there : slice_get k.commit_proxies.items proxy ≡ Some role) where
@@ -126,24 +130,25 @@ module _ (k : Cluster) (refines : Refines k) (proxy : ℕ) (role : CommitProxyRo
     unfolding decides
     decides-transition none = rw (seen-there, waits_now, entry-there, none) refl
 
+    -- the batch is decided by the rule, and the messages are its own
+    abbrev pub IsDecidedAs : CommitProxyRole → Given → Type 0
+    IsDecidedAs later given =
+        Decides k.config k.book.items (known_to k.sequencer proxy) entry role given.0 later
+        × (given.1 ≡ messages_on k.config role.entry (seen_before k.book.items role.entry) entry)
+
     -- why it is refused
     pub decides-refused : (why : Refusal) (later : CommitProxyRole)
-        → Answers {T = List Outcome} (Err why) (waiting_for missing)
-        (λ outcomes. Decides k.config k.book.items (known_to k.sequencer proxy) entry role outcomes later)
+        → Answers {T = Given} (Err why) (waiting_for missing) (IsDecidedAs later)
         → (P : Type 0) → ((n : ℕ) → why ≡ NotYet n → decides (machine_of k) proxy ≡ Err (NotYet n) → P)
         → Unless (ran_out (Err why)) P
     decides-refused why later answers P follows =
-        unless-fault (waiting_for missing) why
-        (λ (outcomes : List Outcome). Decides k.config k.book.items (known_to k.sequencer proxy) entry role outcomes
-        later) P answers
+        unless-fault (waiting_for missing) why (IsDecidedAs later) P answers
         (λ faulty. let waits = waits-fault missing why faulty in
         follows waits.0 waits.2 (decides-waits waits.0 waits.1))
 
     -- what stands once it decided, and its messages are in the pool
     pub decided : (outcomes : List Outcome) (messages : List LogMsg) (later : CommitProxyRole)
-        → Answers (Ok outcomes) (waiting_for missing)
-        (λ given. Decides k.config k.book.items (known_to k.sequencer proxy) entry role given later)
-        → messages ≡ messages_on k.config role.entry (seen_before k.book.items role.entry) entry →
+        → Answers (Ok (outcomes, messages)) (waiting_for missing) (IsDecidedAs later) →
         let next = record k {
           decided = with_item k.decided role.entry true;
           commit_proxies = with_item k.commit_proxies proxy later;
@@ -151,11 +156,10 @@ module _ (k : Cluster) (refines : Refines k) (proxy : ℕ) (role : CommitProxyRo
         } in
         (decides (machine_of k) proxy ≡ Ok (record { answer = answered.Decided outcomes; next = machine_of next }))
         × Refines next
-    decided outcomes messages later answers sent =
-        let given = answers-fault (waiting_for missing) outcomes
-        (λ (of : List Outcome). Decides k.config k.book.items (known_to k.sequencer proxy) entry role of later)
-        answers in
-        let is = given.1 in
+    decided outcomes messages later answers =
+        let given = answers-fault (waiting_for missing) (outcomes, messages) (IsDecidedAs later) answers in
+        let is = given.1.0 in
+        let sent = given.1.1 in
         let book = refines.book in
         let inside = slice_get_within k.book.items role.entry entry entry-there in
         let within : role.entry < length k.messages.items = omega (arith, book.each_pooled, inside) in
@@ -200,24 +204,6 @@ module _ (k : Cluster) (refines : Refines k) (proxy : ℕ) (role : CommitProxyRo
           },
         )
 
-    -- the proxy that decided is decided
-    pub decided-role : (outcomes : List Outcome) (later : CommitProxyRole)
-        → Answers (Ok outcomes) (waiting_for missing)
-        (λ given. Decides k.config k.book.items (known_to k.sequencer proxy) entry role given later)
-        → CommitProxyRefines k.config k.book.items (known_to k.sequencer proxy) later
-        × (is_logging (seen_as later).stage ≡ true) × (slice_get k.book.items later.entry ≡ Some entry)
-        × (later.entry ≡ role.entry)
-    decided-role outcomes later answers =
-        let is = (answers-fault (waiting_for missing) outcomes
-        (λ (of : List Outcome). Decides k.config k.book.items (known_to k.sequencer proxy) entry role of later)
-        answers).1 in
-        let same : later.entry ≡ role.entry = ap (λ (p : CommitProxy). p.entry) is.machine in (
-          is.refines,
-          ap (λ (p : CommitProxy). is_logging p.stage) is.machine,
-          ap (slice_get k.book.items) same ∙ entry-there,
-          same,
-        )
-
 -- By what the calls of the proxy say.
 module _ (k : Cluster) (refines : Refines k) (proxy : ℕ) (role later : CommitProxyRole)
     (there : slice_get k.commit_proxies.items proxy ≡ Some role) where
@@ -225,12 +211,12 @@ module _ (k : Cluster) (refines : Refines k) (proxy : ℕ) (role later : CommitP
   waiting = is_resolving (seen_as role).stage ≡ true
 
   -- what deciding answers
-  abbrev pub SaysWrong : Result (List Outcome) Refusal → Type 0
+  abbrev pub SaysWrong : Result Given Refusal → Type 0
   SaysWrong result =
       (config : Config) (book : List Entry) (known : Known) → CommitProxyRefines config book known role
       → is_resolving (seen_as role).stage ≡ false → result ≡ Err WrongState
 
-  abbrev pub SaysDecided : Result (List Outcome) Refusal → Type 0
+  abbrev pub SaysDecided : Result Given Refusal → Type 0
   SaysDecided result =
       (config : Config) (book : List Entry) (known : Known) (entry : Entry)
       → CommitProxyRefines config book known role → is_resolving (seen_as role).stage ≡ true
@@ -238,12 +224,13 @@ module _ (k : Cluster) (refines : Refines k) (proxy : ℕ) (role later : CommitP
       → Answers result (waiting_for (first_missing
       (λ resolver. is_needed config.resolver_splits resolver (seen_before book role.entry) entry) 0
       (seen_as role).verdicts_received))
-      (λ outcomes. Decides config book known entry role outcomes later)
+      (λ given. Decides config book known entry role given.0 later
+      × (given.1 ≡ log_messages config.resolver_splits config.shard_splits config.logs role.entry
+      (seen_before book role.entry) entry))
 
-  at-world : (result : Result (List Outcome) Refusal) → SaysDecided result → (now : waiting)
+  at-world : (result : Result Given Refusal) → SaysDecided result → (now : waiting)
       → Answers result (waiting_for (missing k refines proxy role there now))
-      (λ outcomes. Decides k.config k.book.items (known_to k.sequencer proxy) (entry k refines proxy role there now)
-      role outcomes later)
+      (IsDecidedAs k refines proxy role there now later)
   at-world result says now =
       says k.config k.book.items (known_to k.sequencer proxy) (entry k refines proxy role there now)
       (its-tie k refines proxy role there) now (entry-there k refines proxy role there now) refines.book.entries
@@ -263,49 +250,25 @@ module _ (k : Cluster) (refines : Refines k) (proxy : ℕ) (role later : CommitP
       (decides-wrong k refines proxy role there never ∙ ap (λ (w : Refusal). Err w) (sym is)))
       (cases_Bool (is_resolving (seen_as role).stage))
     where
-      same-why : (a b : Refusal) → ◌≡◌ {A = Result (List Outcome) Refusal} (Err a) (Err b) → a ≡ b
+      same-why : (a b : Refusal) → ◌≡◌ {A = Result Given Refusal} (Err a) (Err b) → a ≡ b
       same-why a b is = cc
 
   -- who decided waited for verdicts
-  waited : (outcomes : List Outcome) → SaysWrong (Ok outcomes) → waiting
-  waited outcomes wrong = ⊎_elim
+  waited : (given : Given) → SaysWrong (Ok given) → waiting
+  waited given wrong = ⊎_elim
       (λ (now : waiting). now)
       (λ (never : is_resolving (seen_as role).stage ≡ false).
       absurd (given-refused (wrong k.config k.book.items (known_to k.sequencer proxy)
       (its-tie k refines proxy role there) never))) (cases_Bool (is_resolving (seen_as role).stage))
     where
-      given-refused : ◌≡◌ {A = Result (List Outcome) Refusal} (Ok outcomes) (Err WrongState) → ⊥
+      given-refused : ◌≡◌ {A = Result Given Refusal} (Ok given) (Err WrongState) → ⊥
       given-refused is = cc
 
-  -- what the messages of the proxy that decided are
-  module _ (outcomes : List Outcome) (wrong : SaysWrong (Ok outcomes)) (says : SaysDecided (Ok outcomes))
-      (after : CommitProxyRole) (same : after ≡ later) (i : ℕ) (number : i ≡ role.entry) where
+  -- where it decided: what it decided is its entry, by number
+  module _ (outcomes : List Outcome) (messages : List LogMsg) (wrong : SaysWrong (Ok (outcomes, messages)))
+      (says : SaysDecided (Ok (outcomes, messages))) (i : ℕ) (number : i ≡ role.entry) where
     now : waiting
-    now = waited outcomes wrong
-
-    abbrev pub SaysMessages : Result (List LogMsg) Refusal → Type 0
-    SaysMessages result =
-        (config : Config) (book : List Entry) (known : Known) (entry : Entry)
-        → CommitProxyRefines config book known after → is_logging (seen_as after).stage ≡ true
-        → slice_get book after.entry ≡ Some entry
-        → Answers result None (λ messages. messages ≡ log_messages config.resolver_splits config.shard_splits
-        config.logs after.entry (seen_before book after.entry) entry)
-
-    messages-here : (result : Result (List LogMsg) Refusal) → SaysMessages result
-        → Answers result None (λ messages. messages ≡ messages_on k.config role.entry
-        (seen_before k.book.items role.entry) (entry k refines proxy role there now))
-    messages-here result sends =
-        let role_is = decided-role k refines proxy role there now outcomes later (at-world (Ok outcomes) says now) in
-        let number_is : after.entry ≡ role.entry = ap (λ (r : CommitProxyRole). r.entry) same ∙ role_is.3 in
-        subst (λ (n : ℕ). Answers result None (λ messages. messages ≡ messages_on k.config n
-        (seen_before k.book.items n) (entry k refines proxy role there now))) number_is
-        (sends k.config k.book.items (known_to k.sequencer proxy) (entry k refines proxy role there now)
-        (subst (CommitProxyRefines k.config k.book.items (known_to k.sequencer proxy)) (sym same) role_is.0)
-        (ap (λ (r : CommitProxyRole). is_logging (seen_as r).stage) same ∙ role_is.1)
-        (ap (λ (r : CommitProxyRole). slice_get k.book.items r.entry) same ∙ role_is.2))
-
-    pub messages-lack : (why : Refusal) → SaysMessages (Err why) → why ≡ NoMemory
-    messages-lack why sends = messages-here (Err why) sends
+    now = waited (outcomes, messages) wrong
 
     pub in-pool : (i < length k.messages.items) × (i < length k.decided.items)
     in-pool =
@@ -315,7 +278,7 @@ module _ (k : Cluster) (refines : Refines k) (proxy : ℕ) (role later : CommitP
         let flagged = refines.book.each_flagged in
         (omega (arith, inside, pooled, number), omega (arith, inside, flagged, number))
 
-    pub is-decided : (messages : List LogMsg) → SaysMessages (Ok messages) →
+    pub is-decided :
         let next = record k {
           decided = with_item k.decided i true;
           commit_proxies = with_item k.commit_proxies proxy later;
@@ -323,7 +286,7 @@ module _ (k : Cluster) (refines : Refines k) (proxy : ℕ) (role later : CommitP
         } in
         (decides (machine_of k) proxy ≡ Ok (record { answer = answered.Decided outcomes; next = machine_of next }))
         × Refines next
-    is-decided messages sends =
+    is-decided =
         subst (λ (n : ℕ).
         (decides (machine_of k) proxy ≡ Ok (record {
           answer = answered.Decided outcomes;
@@ -338,5 +301,5 @@ module _ (k : Cluster) (refines : Refines k) (proxy : ℕ) (role later : CommitP
           commit_proxies = with_item k.commit_proxies proxy later;
           messages = with_item k.messages n (Some messages);
         })) (sym number)
-        (decided k refines proxy role there now outcomes messages later (at-world (Ok outcomes) says now)
-        (messages-here (Ok messages) sends))
+        (decided k refines proxy role there now outcomes messages later
+        (at-world (Ok (outcomes, messages)) says now))

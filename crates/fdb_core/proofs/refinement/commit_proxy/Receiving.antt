@@ -27,15 +27,15 @@ use Rattle.fdb_core.specs.refinement.commit_proxy.Ties.{CommitProxyRefines, know
 use Rattle.fdb_core.specs.refinement.log.Ties.{logs_taken}
 use Rattle.fdb_core.specs.refinement.commit_proxy.Receiving.{IsReceiver, IsUnknown}
 use Rattle.fdb_core.specs.refinement.resolver.Resolving.{ResolverRefines, taken_by}
-use Rattle.fdb_core.specs.refinement.Steps.{Stepped}
 use Rattle.fdb_core.proofs.common.AllLemmas.{within-item}
 use Rattle.fdb_core.proofs.common.FaultLemmas.{given-fault, refused-fault}
 use Rattle.fdb_core.proofs.common.ListLemmas.{map-at, map-set}
 use Rattle.fdb_core.proofs.refinement.commit_proxy.Ties.{commit_proxies-put}
-use Rattle.fdb_core.proofs.refinement.StepLemmas.{refuses}
+use Rattle.fdb_core.proofs.refinement.StepLemmas.{NamesWhatIsThere}
+use Rattle.fdb_core.specs.machine.Failures.{unless_failed}
 
 -- nothing stands past the end of a list
-past-end : {A : Type 0} (xs : List A) (i : ℕ) → length xs ≤ i → slice_get xs i ≡ None
+pub past-end : {A : Type 0} (xs : List A) (i : ℕ) → length xs ≤ i → slice_get xs i ≡ None
 past-end [] i past = refl
 past-end (x ∷ xs) zero past = absurd (omega (arith, past))
 past-end (x ∷ xs) (suc i) past = past-end xs i (omega (arith, past))
@@ -184,16 +184,15 @@ module _ (k : Cluster) (refines : Refines k) (entry : ℕ) (sender : Sender) (pr
   seen-there : slice_get (map seen_as k.commit_proxies.items) proxy ≡ Some (seen_as role)
   seen-there = map-at seen_as k.commit_proxies.items proxy role there
 
-  -- it was refused, and nothing changes
+  -- it was refused
   pub comes-stale : (T : Type 0) (why : Refusal)
-      → AnswersExactly {T = T} (Err why) (if waits then None else Some Stale) (λ _. Took) → later ≡ role
-      → Stepped k (Err why) (record k { commit_proxies = with_item k.commit_proxies proxy later })
-      (receives (machine_of k) entry sender)
-  comes-stale T why answers same =
+      → AnswersExactly {T = T} (Err why) (if waits then None else Some Stale) (λ _. Took)
+      → receives (machine_of k) entry sender ≡ Err why
+  comes-stale T why answers =
       let stale = stale-why waits why
       (refused-fault {T = T} (if waits then None else Some Stale) why (λ _. Took) answers) in
-      refuses (receives-stale (machine_of k) entry sender proxy found (seen_as role) seen-there stale.0
-      ∙ ap (λ (refusal : Refusal). Err refusal) (sym stale.1)) (proxy-same k refines proxy role later there same)
+      receives-stale (machine_of k) entry sender proxy found (seen_as role) seen-there stale.0
+      ∙ ap (λ (refusal : Refusal). Err refusal) (sym stale.1)
 
   pub comes-awaited : (T : Type 0) (given : T)
       → AnswersExactly (Ok given) (if waits then None else Some Stale) (λ _. Took)
@@ -214,6 +213,21 @@ module _ (k : Cluster) (refines : Refines k) (entry : ℕ) (sender : Sender) (pr
             ∙ ap (λ (next : Machine). Ok (record { answer = answered.Done; next = next })) (sym set.0),
         set.1,
       )
+
+-- what is told by who took the entry comes to a proxy that is there
+pub receives-there : (m : Machine) (entry : ℕ) (sender : Sender) (proxy : ℕ) (commit_proxy : CommitProxy)
+    → IsReceiver m entry sender proxy → slice_get m.commit_proxies proxy ≡ Some commit_proxy
+    → NamesWhatIsThere (receives m entry sender)
+receives-there m entry sender proxy commit_proxy found there =
+    by_test (awaits commit_proxy entry sender) refl
+  where
+    by_test : (waits : Bool) → awaits commit_proxy entry sender ≡ waits → NamesWhatIsThere (receives m entry sender)
+    by_test true is = record {
+      refused = ap (unless_failed true) (receives-transition m entry sender proxy found commit_proxy there is);
+    }
+    by_test false is = record {
+      refused = ap (unless_failed true) (receives-stale m entry sender proxy found commit_proxy there is);
+    }
 
 -- a log that took something is one of as many as the configuration says
 pub log-exists : (k : Cluster) → Refines k → (entry log proxy : ℕ)
@@ -303,12 +317,10 @@ module _ (k : Cluster) (refines : Refines k) (entry resolver proxy : ℕ)
       → ((e : Entry) → CommitProxyRefines k.config k.book.items (known_to k.sequencer proxy) role
       → IsSaid k.config.resolver_splits k.book.items verdicts e
       → AnswersOf T (Err why) verdicts.index verdicts.resolver)
-      → later ≡ role
-      → Stepped k (Err why) (record k { commit_proxies = with_item k.commit_proxies proxy later })
-      (receives (machine_of k) entry (FromResolver resolver))
-  verdicts-stale T why answers same =
+      → receives (machine_of k) entry (FromResolver resolver) ≡ Err why
+  verdicts-stale T why answers =
       comes-stale k refines entry (FromResolver resolver) proxy found role later there T why
-      (answers-of T (Err why) answers) same
+      (answers-of T (Err why) answers)
 
   pub verdicts-awaited : (T : Type 0) (given : T)
       → ((e : Entry) → CommitProxyRefines k.config k.book.items (known_to k.sequencer proxy) role

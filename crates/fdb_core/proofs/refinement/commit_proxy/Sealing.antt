@@ -1,9 +1,11 @@
 -- A commit proxy of a world seals a batch by the sequencer's ticket.
 use Rattle.std.proofs.Common.{◌≡◌, ◌≢◌, ◌∙◌, refl, sym, ap, subst, ℕ, suc, ◌<◌, ◌≤◌, List, [], ◌∷◌, ◌++◌, length, take}
-use Rattle.std.proofs.Common.{Some, slice_get, slice_set, arith}
+use Rattle.std.proofs.Common.{map, false, Some, Err, slice_get, slice_set}
+use Rattle.std.proofs.Common.{arith}
 use Rattle.std.specs.List.{AllByRecursion}
 use Rattle.std.proofs.lemmas.List.{length-append, length-map}
 use Rattle.std.proofs.lemmas.Option.{slice_get_within}
+use Rattle.fdb_keys.specs.declared.refusal.Refusal.TheVariants.{Unknown, WrongState}
 use Rattle.fdb_txn.specs.Limits.{place_limit}
 use Rattle.fdb_txn.specs.declared.entry.Entry.{Entry}
 use Rattle.fdb_txn.specs.declared.entry.Move.{Move}
@@ -21,7 +23,7 @@ use Rattle.fdb_proxy.specs.Verdicts.{moves_through}
 use Rattle.fdb_core.specs.declared.cluster.Cluster.{Cluster}
 use Rattle.fdb_core.specs.declared.roles.commit_proxy.CommitProxyRole.{CommitProxyRole}
 use Rattle.fdb_core.specs.declared.roles.resolver.ResolverRole.{ResolverRole}
-use Rattle.fdb_core.specs.machine.CommitProxySteps.{with_batch}
+use Rattle.fdb_core.specs.machine.CommitProxySteps.{seals, is_idle, with_batch}
 use Rattle.fdb_core.specs.refinement.Cluster.{machine_of, CommitProxiesRefine, Refines, SequencerRefines}
 use Rattle.fdb_core.specs.refinement.commit_proxy.Ties.{CommitProxyRefines, Known, known_to, IsNextTicket, Seals}
 use Rattle.fdb_core.specs.headline.ProxyStages.{ArePartsOf}
@@ -29,6 +31,8 @@ use Rattle.fdb_core.specs.refinement.commit_proxy.Ties.{ReadsWithin, entry_of, s
 use Rattle.fdb_core.specs.refinement.resolver.Resolving.{taken_by}
 use Rattle.fdb_core.proofs.common.AllLemmas.{all-map, all-take}
 use Rattle.fdb_core.proofs.refinement.BookLemmas.{last-push, seen-before-last}
+use Rattle.fdb_core.proofs.common.ListLemmas.{map-at}
+use Rattle.fdb_core.proofs.refinement.commit_proxy.Receiving.{past-end}
 use Rattle.fdb_core.proofs.refinement.commit_proxy.Ties.{commit_proxies-set}
 use Rattle.fdb_core.proofs.refinement.sequencer.Moves.{handed-own, handed-other, handed-count, moves_in-push}
 use Rattle.fdb_core.proofs.refinement.commit_proxy.Pushes.{commit_proxy-push}
@@ -46,6 +50,21 @@ ticket_for k proxy advance =
       moves = unlearnt_by k.sequencer proxy ++ dated version k.sequencer.pending;
       pending = k.sequencer.pending;
     }
+
+-- no proxy with the number seals, nor does one with a batch in flight
+pub seals-unknown : (k : Cluster) (proxy advance : ℕ) → length k.commit_proxies.items ≤ proxy
+    → seals (machine_of k) proxy advance ≡ Err Unknown
+unfolding seals
+seals-unknown k proxy advance past =
+    rw (past-end (map seen_as k.commit_proxies.items) proxy
+    (omega (arith, past, length-map k.commit_proxies.items seen_as))) refl
+
+pub seals-busy : (k : Cluster) (proxy advance : ℕ) (role : CommitProxyRole)
+    → slice_get k.commit_proxies.items proxy ≡ Some role → is_idle (seen_as role).stage ≡ false
+    → seals (machine_of k) proxy advance ≡ Err WrongState
+unfolding seals
+seals-busy k proxy advance role there busy =
+    rw (map-at seen_as k.commit_proxies.items proxy role there, busy) refl
 
 module _ (k : Cluster) (refines : Refines k) (proxy advance : ℕ) (role : CommitProxyRole)
     (there : slice_get k.commit_proxies.items proxy ≡ Some role) (ticket : Ticket)

@@ -8,17 +8,19 @@ use Rattle.std.proofs.lemmas.List.{length-set}
 use Rattle.fdb_txn.specs.declared.entry.Entry.{Entry}
 use Rattle.fdb_txn.proofs.book.HistoryLemmas.{all-weaken}
 use Rattle.fdb_client.specs.Programs.{commit_request_of}
+use Rattle.fdb_sequencer.specs.declared.ticket.Ticket.{Ticket}
 use Rattle.fdb_proxy.specs.declared.config.Config.{Config}
 use Rattle.fdb_proxy.specs.declared.stage.Stage.{Stage as CoreStage}
 use Rattle.fdb_proxy.specs.declared.stage.Stage.TheVariants as core
+use Rattle.fdb_proxy.specs.CommitProxies.{CommitProxy as Core, HasFailed, sealing, is_idle as has_no_batch}
 use Rattle.fdb_proxy.specs.Flags.{first_unset}
 use Rattle.fdb_core.specs.declared.roles.commit_proxy.CommitProxyRole.{CommitProxyRole}
 use Rattle.fdb_core.specs.machine.CommitProxySteps.{is_idle, is_logging, is_reported}
 use Rattle.fdb_core.specs.machine.Machine.{first_missing}
-use Rattle.fdb_core.specs.machine.Roles.{Logging, Reported}
+use Rattle.fdb_core.specs.machine.Roles.{Stage, Idle, Logging, Reported}
 use Rattle.fdb_core.specs.refinement.Cluster.{CommitProxiesRefine}
 use Rattle.fdb_core.specs.refinement.commit_proxy.Ties.{CommitProxyRefines, Known, StageRefines, ReadsWithin}
-use Rattle.fdb_core.specs.refinement.commit_proxy.Ties.{acknowledged_at, seen_as}
+use Rattle.fdb_core.specs.refinement.commit_proxy.Ties.{IsLeftUnsealed, acknowledged_at, received_at, seen_as, stage_of}
 use Rattle.fdb_core.proofs.readings.SessionLists.{item-after-set}
 use Rattle.fdb_core.proofs.refinement.commit_proxy.Fronts.{StageTold, stage-told}
 
@@ -49,6 +51,23 @@ commit_proxies-put config book known roles i next ok tied =
 
 module _ (config : Config) (book : List Entry) (known : Known) (role : CommitProxyRole)
     (ok : CommitProxyRefines config book known role) where
+  -- it is idle where its core has no batch
+  pub idle-seen : has_no_batch role.core.proxy.stage ≡ is_idle (seen_as role).stage
+  idle-seen = by_stage role.core.proxy.stage refl ok.stage
+    where
+      by_flag : (flag : Bool) → false ≡ is_idle (if flag then Reported else Logging)
+      by_flag true = refl
+      by_flag false = refl
+
+      by_stage : (stage : CoreStage) → role.core.proxy.stage ≡ stage
+          → StageRefines role.is_reported role.entry stage
+          → has_no_batch role.core.proxy.stage ≡ is_idle (seen_as role).stage
+      by_stage core.Idle is refines = rw is refl
+      by_stage core.Sealed is refines = absurd refines
+      by_stage core.Entered is refines = absurd refines
+      by_stage (core.Resolving batch) is refines = rw is refl
+      by_stage (core.Logging decided) is refines = rw is (by_flag role.is_reported)
+
   -- a busy proxy's entry is in the book, with the batch that is in flight
   pub busy-entry : is_idle (seen_as role).stage ≡ false
       → (entry : Entry) × (slice_get book role.entry ≡ Some entry)
@@ -149,3 +168,33 @@ seen-reported role logging = by_stage role.core.proxy.stage refl
     by_stage core.Entered is = absurd (true≢false (sym (rw is at logging)))
     by_stage (core.Resolving batch) is = absurd (true≢false (sym (rw is at logging)))
     by_stage (core.Logging decided) is = rw is refl
+
+-- what the machine sees of a core's stage where the batch isn't reported or is
+abbrev Staged : Type 0
+Staged = Stage × List Bool × List Bool
+
+abbrev staged : Bool → CoreStage → Staged
+staged is_reported stage = (stage_of is_reported stage, received_at stage, acknowledged_at stage)
+
+-- a proxy whose batch wasn't sealed is seen as it was, also where its core failed while it learnt the ticket
+pub seen-unsealed : (role later : CommitProxyRole) (ticket : Ticket) → has_no_batch role.core.proxy.stage ≡ true
+    → IsLeftUnsealed ticket role later → seen_as later ≡ seen_as role
+seen-unsealed role later ticket idle left =
+    ap seen_as left.rest
+    ∙ ap (λ (at : Staged). record (seen_as role) {
+      stage = at.0;
+      verdicts_received = at.1;
+      acknowledgements_received = at.2;
+    })
+    (⊎_elim
+    (λ (same : later.core.proxy ≡ role.core.proxy). ap (λ (p : Core). staged role.is_reported p.stage) same)
+    (λ (failed : HasFailed (sealing role.core.proxy) ticket later.core.proxy).
+    ap (λ (p : Core). staged role.is_reported p.stage) failed.rest ∙ sym (by_stage role.core.proxy.stage idle))
+    left.core)
+  where
+    by_stage : (stage : CoreStage) → has_no_batch stage ≡ true → staged role.is_reported stage ≡ (Idle, [], [])
+    by_stage core.Idle none = refl
+    by_stage core.Sealed none = cc
+    by_stage core.Entered none = cc
+    by_stage (core.Resolving batch) none = cc
+    by_stage (core.Logging decided) none = cc

@@ -18,13 +18,14 @@ use Rattle.fdb_storage.specs.LogMessages.{log_message}
 use Rattle.fdb_core.specs.declared.cluster.Cluster.{Cluster}
 use Rattle.fdb_core.specs.declared.roles.log.LogRole.{LogRole}
 use Rattle.fdb_core.specs.declared.step.Answered.TheVariants as answered
-use Rattle.fdb_core.specs.machine.Machine.{is_set}
+use Rattle.fdb_core.specs.machine.Machine.{Machine, is_set}
 use Rattle.fdb_core.specs.machine.RoleSteps.{pushes}
+use Rattle.fdb_core.proofs.refinement.StepLemmas.{NamesWhatIsThere, in-turn}
 use Rattle.fdb_core.specs.refinement.Cluster.{machine_of, messages_on, Refines}
 use Rattle.fdb_core.specs.refinement.log.Ties.{LogRefines, LogsRefine, logs_taken}
 use Rattle.fdb_core.proofs.common.AllLemmas.{within-item}
 use Rattle.fdb_core.proofs.machine.Transitions.{pushes-transition}
-use Rattle.fdb_core.proofs.common.ListLemmas.{each-set}
+use Rattle.fdb_core.proofs.common.ListLemmas.{set-here, each-set}
 use Rattle.fdb_core.proofs.refinement.log.Ties.{kept-tag, log-next, made-at, push_fault-turn, turn_fault, in_turn-now}
 use Rattle.fdb_core.proofs.refinement.log.Ties.{push-refused, push-undecided, set-same, tags-taken, prev-is}
 use Rattle.fdb_core.proofs.refinement.RunLaws.{entries-rising, versions-ordered}
@@ -197,6 +198,26 @@ module _ (k : Cluster) (before : Refines k) (i l : ℕ) (entry : Entry) (role : 
       },
     )
 
+-- an entry whose messages are in the pool is decided
+pub is-decided : (k : Cluster) → Refines k → (i : ℕ) (entry : Entry) → slice_get k.book.items i ≡ Some entry
+    → (messages : List LogMsg) → slice_get k.messages.items i ≡ Some (Some messages)
+    → is_set k.decided.items i ≡ true
+is-decided k before i entry there messages pooled =
+    by_test (is_set k.decided.items i) (sym pooled ∙ before.book.made i entry there)
+  where
+    by_test : (made : Bool)
+        → Some (Some messages)
+        ≡ Some (if made then Some (messages_on k.config i (seen_before k.book.items i) entry) else None)
+        → made ≡ true
+    by_test true is = refl
+    by_test false is = cc
+
+-- an entry that is decided and a log that is there
+pub pushes-there : (m : Machine) (i l : ℕ) (entry : Entry) (taken : ℕ) → slice_get m.book i ≡ Some entry
+    → slice_get m.logs l ≡ Some taken → is_set m.decided i ≡ true → NamesWhatIsThere (pushes m i l)
+unfolding pushes
+pushes-there m i l entry taken there at made = record { refused = rw (there, at, made) (in-turn taken i entry _) }
+
 -- The entry, the log and the message that a push looks up.
 pub record Pushing (k : Cluster) (i l : ℕ) (role : LogRole) (message : LogMsg) : Type 0 where
   pub entry : Entry
@@ -207,13 +228,10 @@ pub record Pushing (k : Cluster) (i l : ℕ) (role : LogRole) (message : LogMsg)
   pub message_there : slice_get messages l ≡ Some message
 
 module _ (k : Cluster) (before : Refines k) (i l : ℕ) (inside : i < length k.messages.items)
-    (within : l < length k.logs.items) (read : Option (List LogMsg)) (role : LogRole)
-    (is : read ≡ get_or k.messages.items i read) (role_is : role ≡ get_or k.logs.items l role) where
+    (read : Option (List LogMsg)) (role : LogRole)
+    (is : read ≡ get_or k.messages.items i read) (role-at : slice_get k.logs.items l ≡ Some role) where
   pub entry-there : (entry : Entry) × (slice_get k.book.items i ≡ Some entry)
   entry-there = within-item k.book.items i (subst (λ (n : ℕ). i < n) before.book.each_pooled inside)
-
-  pub role-at : slice_get k.logs.items l ≡ Some role
-  role-at = slice_get_read k.logs.items (length k.logs.items) l role refl within role_is
 
   -- what was read is in the pool
   pub pooled-read : slice_get k.messages.items i ≡ Some read
@@ -225,7 +243,8 @@ module _ (k : Cluster) (before : Refines k) (i l : ℕ) (inside : i < length k.m
 
     pub enough : l < length messages
     enough = subst (λ (n : ℕ). l < n)
-        (sym (one-each k before i l entry-there.0 role entry-there.1 role-at messages pooled-messages)) within
+        (sym (one-each k before i l entry-there.0 role entry-there.1 role-at messages pooled-messages))
+        (slice_get_within k.logs.items l role role-at)
 
     pub pushing : (message : LogMsg) → message ≡ get_or messages l message → Pushing k i l role message
     pushing message message_is = record {
@@ -236,3 +255,9 @@ module _ (k : Cluster) (before : Refines k) (i l : ℕ) (inside : i < length k.m
       pooled = pooled-messages;
       message_there = slice_get_read messages (length messages) l message refl enough message_is;
     }
+
+-- a log that took its message works
+pub log-works : (k : Cluster) (l : ℕ) (role later : LogRole) → slice_get k.logs.items l ≡ Some role
+    → Refines (record k { logs = with_item k.logs l later }) → later.core.is_failed ≡ false
+log-works k l role later at refines =
+    (refines.logs.each_log l later (set-here k.logs.items l later (slice_get_within k.logs.items l role at))).works

@@ -1,7 +1,8 @@
 -- What the shards answer, at a version that they serve, is what stands on the serial map.
-use Rattle.std.proofs.Common.{◌≡◌, ◌∙◌, refl, sym, ap, ◌<◌, ◌≤◌, ℕ, zero, suc, Bool, true, false, ◌&&◌, ◌||◌}
+use Rattle.std.proofs.Common.{◌≡◌, ◌∙◌, refl, sym, ap, ap₂, ◌<◌, ◌≤◌, ℕ, zero, suc, Bool, true, false, ◌&&◌, ◌||◌}
 use Rattle.std.proofs.Common.{List, [], ◌∷◌, length, map, Option, Some, None, ⊎_elim, slice_get, arith}
-use Rattle.std.specs.Prelude.{nat_lt, ◌==◌, if◌then◌else◌}
+use Rattle.std.specs.Prelude.{nat_lt, ◌==◌, unwrap_or, if◌then◌else◌}
+use Rattle.std.specs.Cmp.{both_ways as same_test}
 use Rattle.std.specs.List.{list_any}
 use Rattle.std.specs.FinMap.{get}
 use Rattle.std.specs.Option.{option_map}
@@ -13,7 +14,7 @@ use Rattle.fdb_keys.specs.Clipping.{clipped_range, in_clipped}
 use Rattle.fdb_keys.specs.Ranges.{Range, in_range, is_within, ranges_meet}
 use Rattle.fdb_keys.specs.Texts.{is_bound}
 use Rattle.fdb_keys.specs.declared.refusal.Refusal.{Refusal}
-use Rattle.fdb_keys.specs.declared.refusal.Refusal.TheVariants.{FutureVersion, TransactionTooOld}
+use Rattle.fdb_keys.specs.declared.refusal.Refusal.TheVariants.{Failed, FutureVersion, TransactionTooOld}
 use Rattle.fdb_keys.proofs.ClippingLemmas.{in_clipped-points}
 use Rattle.fdb_keys.proofs.PointOrder.{lt_le_chain}
 use Rattle.fdb_keys.proofs.RangesLemmas.{in_range_parts, common_from_meet, meet_from_common}
@@ -29,11 +30,13 @@ use Rattle.fdb_txn.proofs.rules.SplitsLemmas.{pieces_part_the_keys}
 use Rattle.fdb_storage.specs.Shards.{serving_fault, value_at, HasValuesOf}
 use Rattle.fdb_storage.specs.Shards as storage
 use Rattle.fdb_core.specs.declared.roles.shard.ShardRole.{ShardRole}
+use Rattle.fdb_core.specs.machine.ClientSteps.{fault_among, shard_begins}
 use Rattle.fdb_core.specs.machine.RoleSteps.{shard_fault}
 use Rattle.fdb_core.specs.refinement.log.Ties.{progress_of}
 use Rattle.fdb_core.specs.refinement.shard.RangeFaults.{of-range, too-old-range, served-range, held_by_one}
-use Rattle.fdb_core.specs.refinement.shard.Reads.{ShardReads, AreReadable, key_fault, range_fault, run_map}
-use Rattle.fdb_core.specs.refinement.shard.Reads.{pairs_held}
+use Rattle.fdb_core.specs.refinement.shard.RangeFaults.{begin-point, point-begin, failed_by_one, unrefused}
+use Rattle.fdb_core.specs.refinement.shard.Reads.{ShardReads, AreReadable, has_failed_at, point_fault, range_fault}
+use Rattle.fdb_core.specs.refinement.shard.Reads.{run_map, pairs_held}
 use Rattle.fdb_core.proofs.common.AllLemmas.{within-item}
 
 -- an item that passes a test, with its number, where the list has one
@@ -83,7 +86,15 @@ not-old version floor greatest why refused young =
     by_test true is = let same : FutureVersion ≡ why = cc in (refl, sym same)
     by_test false is = cc
 
--- the shard holds some of the range, and no longer serves the version
+-- the shard has failed
+abbrev is_failed_role : ShardRole → Bool
+is_failed_role role = role.core.is_failed
+
+-- the shard holds some of the range, and has failed
+abbrev pub is_failed_in : Range → ShardRole → Bool
+is_failed_in range role = ranges_meet role.core.range range && role.core.is_failed
+
+-- or no longer serves the version
 abbrev pub is_behind_floor : ℕ → Range → ShardRole → Bool
 is_behind_floor version range role = ranges_meet role.core.range range && nat_lt version role.core.floor
 
@@ -110,60 +121,84 @@ module _ (reads : ShardReads) (readable : AreReadable reads) where
       ∙ pieces_part_the_keys reads.config.shard_splits i x readable.splits (omega (arith, inside, readable.as_many))
       below
 
-  -- and is who refuses them
+  -- and is who fails,
+  failed-of : (i : ℕ) (role : ShardRole) (x : Point) → slice_get reads.shards i ≡ Some role → owner x ≡ i
+      → has_failed_at reads x ≡ role.core.is_failed
+  failed-of i role x there owns =
+      ap (λ (flag : Option Bool). unwrap_or flag false)
+      (ap (slice_get (map is_failed_role reads.shards)) owns ∙ slice_get-map is_failed_role reads.shards i
+      ∙ ap (option_map is_failed_role) there)
+
+  -- or doesn't serve them
   fault-of : (i : ℕ) (role : ShardRole) (x : Point) → slice_get reads.shards i ≡ Some role → owner x ≡ i
-      → key_fault reads x ≡ serving_fault reads.version role.core.floor role.core.version
+      → point_fault reads x ≡ serving_fault reads.version role.core.floor role.core.version
   fault-of i role x there owns =
       ap (shard_fault reads.book reads.version)
       (ap (slice_get (map progress_of reads.shards)) owns ∙ slice_get-map progress_of reads.shards i
       ∙ ap (option_map progress_of) there)
       ∙ ap (serving_fault reads.version role.core.floor) (sym (readable.each i role there).version)
 
-  -- at a key that it owns and serves it has what the run has
+  -- at a key that it owns and serves it has what the run has, if it works
   value-of : (i : ℕ) (role : ShardRole) (x : Point) → slice_get reads.shards i ≡ Some role
-      → in_range role.core.range x ≡ true → serving_fault reads.version role.core.floor role.core.version ≡ None
+      → in_range role.core.range x ≡ true → role.core.is_failed ≡ false
+      → serving_fault reads.version role.core.floor role.core.version ≡ None
       → value_at role.core reads.version x ≡ get (run_map reads) x
-  value-of i role x there inside served =
+  value-of i role x there inside works served =
       let bounds = serving reads.version role.core.floor role.core.version served in
       let it = readable.each i role there in
-      it.serves x bounds.0 bounds.1 (ap (λ (range : Range). in_range range x) (sym it.range) ∙ inside)
+      it.serves works x bounds.0 bounds.1 (ap (λ (range : Range). in_range range x) (sym it.range) ∙ inside)
 
   module _ (range : Range) (legal : is_bound range.end ≡ true) where
-    -- a shard that holds some of the range is who refuses a point of it
+    -- the points from which on a shard holds some of the range, and why one of them isn't served
+    abbrev begins : List Point
+    begins = shard_begins reads.config.shard_splits range
+
+    abbrev served_fault : Option Refusal
+    served_fault = fault_among (point_fault reads) begins
+
+    -- a shard that holds some of the range holds a point of it, and is who refuses that
     met : (i : ℕ) (role : ShardRole) → slice_get reads.shards i ≡ Some role
         → ranges_meet role.core.range range ≡ true
-        → (x : Point) × (in_range range x ≡ true)
-        × (key_fault reads x ≡ serving_fault reads.version role.core.floor role.core.version)
+        → (x : Point) × (in_range range x ≡ true) × (owner x ≡ i)
     met i role there meets =
         let common = common_from_meet role.core.range range meets in
         let owns = sym (held-by i role common.0 there (below-end range common.0 legal common.2)) ∙ common.1 in
-        (common.0, common.2, fault-of i role common.0 there (eqb-true (owner common.0) i owns))
+        (common.0, common.2, eqb-true (owner common.0) i owns)
 
-    -- and each point of the range is refused by a shard that holds some of it
+    -- and each point of the range is held by a shard that holds some of it
     asked : (x : Point) → in_range range x ≡ true
-        → (i : ℕ) × (role : ShardRole) × (slice_get reads.shards i ≡ Some role)
+        → (role : ShardRole) × (slice_get reads.shards (owner x) ≡ Some role)
         × (ranges_meet role.core.range range ≡ true)
-        × (key_fault reads x ≡ serving_fault reads.version role.core.floor role.core.version)
     asked x inside =
         let one = within-item reads.shards (owner x) (owner-within x) in
         let held : in_range one.0.core.range x ≡ true =
-        held-by (owner x) one.0 x one.1 (below-end range x legal inside) ∙ eq-eqb (owner x) (owner x) refl in (
-          owner x,
-          one.0,
-          one.1,
-          meet_from_common one.0.core.range range x held inside,
-          fault-of (owner x) one.0 x one.1 refl,
-        )
+        held-by (owner x) one.0 x one.1 (below-end range x legal inside) ∙ eq-eqb (owner x) (owner x) refl in
+        (one.0, one.1, meet_from_common one.0.core.range range x held inside)
+
+    -- a shard has failed that holds some of the range where one has that begins in it
+    some_failed : list_any (has_failed_at reads) begins ≡ list_any (is_failed_in range) reads.shards
+    some_failed = same_test _ _
+        (λ failed.
+        let point = begin-point reads.config.shard_splits range (has_failed_at reads) failed in
+        let one = asked point.0 point.1 in
+        any-at (is_failed_in range) reads.shards (owner point.0) one.0 one.1
+        (and_from _ _ one.2 (sym (failed-of (owner point.0) one.0 point.0 one.1 refl) ∙ point.2)))
+        (λ failed.
+        let one = some-at (is_failed_in range) reads.shards failed in
+        let parts = and_parts _ _ one.3 in
+        let point = met one.0 one.1 one.2 parts.0 in
+        point-begin reads.config.shard_splits range (has_failed_at reads) (failed_by_one reads) point.0 point.1
+        (failed-of one.0 one.1 point.0 one.2 point.2 ∙ parts.1))
 
     -- the range is too old for the shards where one of them forgot the version
     too-old : list_any (is_behind_floor reads.version range) reads.shards ≡ true
-        → range_fault reads range ≡ Some TransactionTooOld
+        → served_fault ≡ Some TransactionTooOld
     too-old is =
         let one = some-at (is_behind_floor reads.version range) reads.shards is in
         let parts = and_parts _ _ one.3 in
         let point = met one.0 one.1 one.2 parts.0 in
-        too-old-range reads.config.shard_splits range (key_fault reads) (held_by_one reads) point.0 point.1
-        (point.2 ∙ cond-true (nat_lt reads.version one.1.core.floor) _ _ parts.1)
+        too-old-range reads.config.shard_splits range (point_fault reads) (held_by_one reads) point.0 point.1
+        (fault-of one.0 one.1 point.0 one.2 point.2 ∙ cond-true (nat_lt reads.version one.1.core.floor) _ _ parts.1)
 
     module _ (young : list_any (is_behind_floor reads.version range) reads.shards ≡ false) where
       still : (i : ℕ) (role : ShardRole) → slice_get reads.shards i ≡ Some role
@@ -174,45 +209,50 @@ module _ (reads : ShardReads) (readable : AreReadable reads) where
           (λ no. no)
           (cases_Bool (nat_lt reads.version role.core.floor))
 
-      -- otherwise it is refused as not served yet, by a shard that isn't so far
-      later : (why : Refusal) → range_fault reads range ≡ Some why
+      -- otherwise it is not served yet, by a shard that isn't so far
+      later : (why : Refusal) → served_fault ≡ Some why
           → (list_any (is_ahead_of reads.version range) reads.shards ≡ true) × (why ≡ FutureVersion)
       later why refused =
-          let point = of-range reads.config.shard_splits range (key_fault reads) (held_by_one reads) why refused in
+          let point = of-range reads.config.shard_splits range (point_fault reads) (held_by_one reads) why refused in
           let one = asked point.0 point.1 in
-          let is = not-old reads.version one.1.core.floor one.1.core.version why (sym one.4 ∙ point.2)
-          (still one.0 one.1 one.2 one.3) in
-          (any-at (is_ahead_of reads.version range) reads.shards one.0 one.1 one.2 (and_from _ _ one.3 is.0), is.1)
+          let is = not-old reads.version one.0.core.floor one.0.core.version why
+          (sym (fault-of (owner point.0) one.0 point.0 one.1 refl) ∙ point.2)
+          (still (owner point.0) one.0 one.1 one.2) in (
+            any-at (is_ahead_of reads.version range) reads.shards (owner point.0) one.0 one.1
+                (and_from _ _ one.2 is.0),
+            is.1,
+          )
 
       -- and where there is such a shard
       not-yet : list_any (is_ahead_of reads.version range) reads.shards ≡ true
-          → range_fault reads range ≡ Some FutureVersion
-      not-yet is = by_fault (range_fault reads range) refl
+          → served_fault ≡ Some FutureVersion
+      not-yet is = by_fault served_fault refl
         where
-          by_fault : (fault : Option Refusal) → range_fault reads range ≡ fault → fault ≡ Some FutureVersion
+          by_fault : (fault : Option Refusal) → served_fault ≡ fault → fault ≡ Some FutureVersion
           by_fault None served =
               let one = some-at (is_ahead_of reads.version range) reads.shards is in
               let parts = and_parts _ _ one.3 in
               let point = met one.0 one.1 one.2 parts.0 in
-              let bounds = serving reads.version one.1.core.floor one.1.core.version (sym point.2
-              ∙ served-range reads.config.shard_splits range (key_fault reads) (held_by_one reads) point.0 point.1
+              let bounds = serving reads.version one.1.core.floor one.1.core.version
+              (sym (fault-of one.0 one.1 point.0 one.2 point.2)
+              ∙ served-range reads.config.shard_splits range (point_fault reads) (held_by_one reads) point.0 point.1
               served) in
               absurd (omega (arith, bounds.1, ltb-true one.1.core.version reads.version parts.1))
           by_fault (Some why) refused = ap (λ (refusal : Refusal). Some refusal) (later why refused).1
 
       -- so where there is none it is served
-      all-serve : list_any (is_ahead_of reads.version range) reads.shards ≡ false → range_fault reads range ≡ None
-      all-serve none = by_fault (range_fault reads range) refl
+      all-serve : list_any (is_ahead_of reads.version range) reads.shards ≡ false → served_fault ≡ None
+      all-serve none = by_fault served_fault refl
         where
-          by_fault : (fault : Option Refusal) → range_fault reads range ≡ fault → fault ≡ None
+          by_fault : (fault : Option Refusal) → served_fault ≡ fault → fault ≡ None
           by_fault None served = refl
           by_fault (Some why) refused = absurd (both_ways _ none (later why refused).0)
 
-    -- why a range is refused, by the shards that hold some of it
-    pub range_fault-is : range_fault reads range
+    -- why a range is not served, by the shards that hold some of it
+    served_fault-is : served_fault
         ≡ (if list_any (is_behind_floor reads.version range) reads.shards then Some TransactionTooOld
         else (if list_any (is_ahead_of reads.version range) reads.shards then Some FutureVersion else None))
-    range_fault-is = ⊎_elim
+    served_fault-is = ⊎_elim
         (λ old. too-old old ∙ sym (cond-true _ _ _ old))
         (λ young. ⊎_elim
         (λ ahead. not-yet young ahead ∙ sym (cond-true _ _ _ ahead) ∙ sym (cond-false _ _ _ young))
@@ -220,18 +260,31 @@ module _ (reads : ShardReads) (readable : AreReadable reads) where
         (cases_Bool (list_any (is_ahead_of reads.version range) reads.shards)))
         (cases_Bool (list_any (is_behind_floor reads.version range) reads.shards))
 
-    module _ (served : range_fault reads range ≡ None) where
-      point-served : (x : Point) → in_range range x ≡ true → key_fault reads x ≡ None
-      point-served x inside =
-          served-range reads.config.shard_splits range (key_fault reads) (held_by_one reads) x inside served
+    -- and why it is refused
+    pub range_fault-is : range_fault reads range
+        ≡ (if list_any (is_failed_in range) reads.shards then Some Failed
+        else (if list_any (is_behind_floor reads.version range) reads.shards then Some TransactionTooOld
+        else (if list_any (is_ahead_of reads.version range) reads.shards then Some FutureVersion else None)))
+    range_fault-is =
+        ap₂ (λ (failed : Bool) (fault : Option Refusal). if failed then Some Failed else fault) some_failed served_fault-is
 
-      -- a shard that holds some of a range that is served serves the version
+    module _ (served : range_fault reads range ≡ None) where
+      -- a shard that holds some of a range that isn't refused works,
+      shard-works : (i : ℕ) (role : ShardRole) → slice_get reads.shards i ≡ Some role
+          → ranges_meet role.core.range range ≡ true → role.core.is_failed ≡ false
+      shard-works i role there meets = false_from_ne_true _ (λ failed.
+          both_ways _ (sym some_failed ∙ (unrefused (list_any (has_failed_at reads) begins) served_fault served).0)
+          (any-at (is_failed_in range) reads.shards i role there (and_from _ _ meets failed)))
+
+      -- and serves the version
       shard-served : (i : ℕ) (role : ShardRole) → slice_get reads.shards i ≡ Some role
           → ranges_meet role.core.range range ≡ true
           → serving_fault reads.version role.core.floor role.core.version ≡ None
       shard-served i role there meets =
           let point = met i role there meets in
-          sym point.2 ∙ point-served point.0 point.1
+          sym (fault-of i role point.0 there point.2)
+          ∙ served-range reads.config.shard_splits range (point_fault reads) (held_by_one reads) point.0 point.1
+          (unrefused (list_any (has_failed_at reads) begins) served_fault served).1
 
       module _ (i : ℕ) (role : ShardRole) (there : slice_get reads.shards i ≡ Some role) (part : Range)
           (clipped : clipped_range range role.core.range ≡ Some part) where
@@ -256,13 +309,13 @@ module _ (reads : ShardReads) (readable : AreReadable reads) where
             let within : is_within part role.core.range ≡ true =
             (within-points part role.core.range).1
             (λ x inside. (and_parts (in_range range x) _ (sym (part-of x) ∙ inside)).1) in
-            rw ((readable.each i role there).works, within) (shard-served i role there meets-part)
+            rw (shard-works i role there meets-part, within) (shard-served i role there meets-part)
 
         -- which is one of the serial map
         pub has-values : HasValuesOf role.core reads.version part (run_map reads)
         has-values x inside = sym
             (value-of i role x there (and_parts (in_range range x) _ (sym (part-of x) ∙ inside)).1
-            (shard-served i role there meets-part))
+            (shard-works i role there meets-part) (shard-served i role there meets-part))
 
         -- with the pairs whose keys it holds
         pub pairs-of-part : (is_reverse : Bool)

@@ -1,9 +1,9 @@
-use Rattle.std.proofs.Common.{◌≡◌, ◌∙◌, sym, ap, ◌+◌, ◌<◌, ◌≤◌, length, [], ◌∷◌, ◌++◌, take, Some, List, subst, rules}
+use Rattle.std.proofs.Common.{◌≡◌, ◌∙◌, sym, ap, ◌+◌, ◌<◌, ◌≤◌, length, [], ◌∷◌, ◌++◌, take, List, subst, rules}
 use Rattle.std.proofs.lemmas.List.{take_all, take_more}
 use Rattle.fdb_core.specs.declared.step.Step.{Step}
 use Rattle.fdb_core.specs.headline.Traces.{IsTraceOf}
 use Rattle.fdb_proxy.specs.Configs.{config_fault}
-use Rattle.fdb_core.specs.machine.Worlds.{start}
+use Rattle.fdb_core.specs.machine.Worlds.{first_state}
 use Rattle.fdb_core.proofs.common.FaultLemmas.{answers-fault}
 use Rattle.fdb_core.proofs.headline.HeadlineLaws.{strictly_serializable}
 use Rattle.fdb_core.proofs.headline.RunsLemmas.{run-push}
@@ -29,7 +29,7 @@ loop-step-preserved c =
     record {
       legal = c.loop-step.invariant.legal;
       stands = rw (front, c.in_ok-push.ensures.ok)
-          (run-push (Some (start c.args.config)) c.loop-step.world.machine c.take-answer.new.self.machine
+          (run-push (first_state c.args.config) c.loop-step.world.state c.take-answer.new.self.state
           (take c.loop-step.step-index steps) c.loop-step.answers step c.take-answer.result
           c.loop-step.invariant.stands c.take-answer.ensures.step);
       keep = c.take-answer.ensures.roles;
@@ -42,7 +42,7 @@ returns c =
     let whole : take c.loop-step.step-index steps ≡ steps = take_all c.loop-step.step-index steps after in
     rw c.loop-step.invariant.legal (
       strictly_serializable c.args.config steps c.loop-step.answers c.loop-step.world
-          (subst (λ (taken : List Step). IsTraceOf c.args.config taken c.loop-step.answers c.loop-step.world.machine)
+          (subst (λ (taken : List Step). IsTraceOf c.args.config taken c.loop-step.answers c.loop-step.world.state)
           whole c.loop-step.invariant.stands)
           c.loop-step.invariant.keep,
       c.loop-step.invariant.keep,

@@ -25,3 +25,8 @@ Finishes (Err why) transcript = (why ≡ NoMemory) ⊎ (submit_fault transcript 
 -- each of those who ask did something before
 abbrev pub AreKnown : Sessions → List Asker → Type 0
 AreKnown sessions askers = AllByRecursion (λ (asker : Asker). is_some (get sessions asker.0) ≡ true) askers
+
+-- and so did the session of each of these transactions
+abbrev pub HaveActed : Sessions → List Transcript → Type 0
+HaveActed sessions transcripts =
+    AllByRecursion (λ (transcript : Transcript). is_some (get sessions transcript.id.session) ≡ true) transcripts

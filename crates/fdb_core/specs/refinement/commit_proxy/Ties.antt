@@ -1,6 +1,6 @@
 -- What ties a commit proxy of the world to the machine's and to the book.
 use Rattle.std.specs.Prelude.{◌≡◌, ◌≤◌, ◌<◌, ℕ, suc, Bool, true, false, List, [], ◌∷◌, ◌++◌, take, map, length}
-use Rattle.std.specs.Prelude.{replicate, Option, None, if◌then◌else◌}
+use Rattle.std.specs.Prelude.{replicate, Option, None, ◌⊎◌, if◌then◌else◌}
 use Rattle.std.specs.List.{AllByRecursion}
 use Rattle.std.specs.Option.{is_some}
 use Rattle.fdb_txn.specs.declared.entry.Entry.{Entry}
@@ -17,7 +17,8 @@ use Rattle.fdb_proxy.specs.declared.config.Config.{Config}
 use Rattle.fdb_proxy.specs.declared.outcome.Outcome.{Outcome}
 use Rattle.fdb_proxy.specs.declared.stage.Stage.{Stage as CoreStage}
 use Rattle.fdb_proxy.specs.declared.stage.Stage.TheVariants as core
-use Rattle.fdb_proxy.specs.CommitProxies.{position_of}
+use Rattle.fdb_proxy.specs.CommitProxies.{CommitProxy as Core, position_of, sealing, parts_in, HasLearntTicket}
+use Rattle.fdb_proxy.specs.CommitProxies.{HasFailed}
 use Rattle.fdb_proxy.specs.Deciding.{Said}
 use Rattle.fdb_proxy.specs.Flags.{first_unset}
 use Rattle.fdb_proxy.specs.Logging.{answers_by}
@@ -33,11 +34,12 @@ use Rattle.fdb_core.specs.machine.SequencerSteps.{dated_moves}
 use Rattle.fdb_core.specs.machine.Worlds.{idle_proxy}
 
 -- How far the machine's commit proxy is, by the core's stage and whether the batch's version is reported. Between two
--- steps no batch is without an entry, and none has a ticket that its proxy failed to learn.
+-- steps no batch of a proxy that works is without an entry, and none has a ticket that it didn't learn. One that failed
+-- while it learnt a ticket is as it was before: the machine's book has no entry of that ticket.
 abbrev pub stage_of : Bool → CoreStage → Stage
 stage_of is_reported core.Idle = Idle
-stage_of is_reported core.Sealed = Resolving
-stage_of is_reported core.Entered = Resolving
+stage_of is_reported core.Sealed = Idle
+stage_of is_reported core.Entered = Idle
 stage_of is_reported (core.Resolving batch) = Resolving
 stage_of is_reported (core.Logging decided) = if is_reported then Reported else Logging
 
@@ -127,6 +129,22 @@ pub record Seals (config : Config) (book : List Entry) (known : Known) (ticket :
       (position_of ticket) batch parts
   pub machine : seen_as new ≡ with_batch (seen_as old) ticket.index (suc (length config.resolver_splits))
   pub refines : CommitProxyRefines config (book ++ entry_of ticket batch ∷ []) (record known { unlearnt = [] }) new
+
+-- The core's first requests became the batch of the ticket's entry, which is given, with the part of each resolver.
+pub record HasBatch (old : Core) (ticket : Ticket) (batch : List Transaction) (parts : List Part) (new : Core) : Type 0
+  where
+    pub batch_is : batch ≡ take place_limit old.waiting
+    pub learnt : HasLearntTicket (sealing old) ticket new
+    pub parts_are : parts ≡ parts_in new.stage
+
+-- The core is as before, or it failed while it learnt the ticket.
+abbrev pub HasNoBatch : Core → Ticket → Core → Type 0
+HasNoBatch old ticket new = (new ≡ old) ⊎ HasFailed (sealing old) ticket new
+
+-- What a seal leaves in which memory ran out.
+pub record IsLeftUnsealed (ticket : Ticket) (old new : CommitProxyRole) : Type 0 where
+  pub core : HasNoBatch old.core.proxy ticket new.core.proxy
+  pub rest : new ≡ record old { core = new.core }
 
 -- The batch of the entry is decided by the rule.
 pub record Decides (config : Config) (book : List Entry) (known : Known) (entry : Entry) (old : CommitProxyRole)

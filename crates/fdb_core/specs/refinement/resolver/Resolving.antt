@@ -1,5 +1,5 @@
 -- What ties the resolvers, and what they are sent, to the book.
-use Rattle.std.specs.Prelude.{◌≡◌, ◌-◌, ◌+◌, ◌≤◌, ℕ, false, List, [], ◌∷◌, ◌++◌, take, map, length, Some, slice_get}
+use Rattle.std.specs.Prelude.{◌≡◌, ◌⊎◌, ◌-◌, ◌+◌, ◌≤◌, ℕ, false, List, [], ◌∷◌, ◌++◌, take, map, length, Some, slice_get}
 use Rattle.fdb_keys.specs.Points.{Point}
 use Rattle.fdb_interval.specs.Versions.{version_at}
 use Rattle.fdb_txn.specs.declared.entry.Entry.{Entry}
@@ -9,7 +9,7 @@ use Rattle.fdb_txn.specs.rules.Resolvers.{IsStateOf}
 use Rattle.fdb_resolver.specs.declared.part.Part.{Part}
 use Rattle.fdb_resolver.specs.declared.verdict.Verdict.{Verdict}
 use Rattle.fdb_resolver.specs.declared.verdict.Verdicts.{Verdicts}
-use Rattle.fdb_resolver.specs.Resolvers.{Resolver}
+use Rattle.fdb_resolver.specs.Resolvers.{Resolver, HasFailed}
 use Rattle.fdb_proxy.specs.Verdicts.{verdicts_on}
 use Rattle.fdb_core.specs.declared.roles.resolver.ResolverRole.{ResolverRole}
 use Rattle.fdb_core.specs.headline.ProxyStages.{ArePartsOf}
@@ -39,6 +39,12 @@ pub record ResolverRefines (splits : List Point) (book : List Entry) (i : ℕ) (
   pub state : IsResolverAt splits (take role.taken book) i role.core
   pub count : length role.sent.items ≡ role.taken
   pub sent : HaveBeenSent splits book i role.sent.items
+
+-- What a resolver leaves that lacked memory: it took and sent nothing more, and its core is as it was or has failed.
+pub record IsLeftBy (old new : ResolverRole) : Type 0 where
+  pub taken : new.taken ≡ old.taken
+  pub sent : new.sent.items ≡ old.sent.items
+  pub core : (new.core ≡ old.core) ⊎ HasFailed old.core new.core
 
 -- there is one more than splits
 pub record ResolversRefine (splits : List Point) (book : List Entry) (resolvers : List ResolverRole) : Type 0 where

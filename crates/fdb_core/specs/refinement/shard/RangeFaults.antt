@@ -1,24 +1,26 @@
 -- The points from which on a shard holds some of a range stand for all points of the range, whatever the splits. So a
--- part of a range that the shards serve is served.
+-- part of a range that isn't refused isn't refused.
 use Rattle.std.proofs.Common.{◌≡◌, ◌∙◌, sym, ap, refl, ℕ, Bool, true, false, ◌&&◌, ◌||◌, List, [], ◌∷◌, map, Option}
 use Rattle.std.proofs.Common.{Some, None, slice_get, if◌then◌else◌}
 use Rattle.std.specs.Prelude.{◌↔◌}
 use Rattle.std.specs.List.{filter, list_any}
 use Rattle.std.specs.Option.{is_some, option_or}
-use Rattle.std.proofs.lemmas.Bool.{both_ways, and_parts, and_from, cond-true}
+use Rattle.std.proofs.lemmas.Bool.{both_ways, and_parts, and_from, cond-true, cond-false, false_from_ne_true}
 use Rattle.fdb_keys.specs.Points.{Point, point_lt}
 use Rattle.fdb_keys.specs.Ranges.{Range, in_range}
 use Rattle.fdb_keys.specs.declared.refusal.Refusal.{Refusal}
-use Rattle.fdb_keys.specs.declared.refusal.Refusal.TheVariants.{TransactionTooOld}
+use Rattle.fdb_keys.specs.declared.refusal.Refusal.TheVariants.{TransactionTooOld, Failed}
 use Rattle.fdb_keys.proofs.PointOrder.{point_order, le_lt_chain}
 use Rattle.fdb_keys.proofs.RangesLemmas.{in_range_parts, in_range_from}
 use Rattle.fdb_txn.specs.rules.Owners.{first_owner}
 use Rattle.fdb_txn.proofs.rules.CornersLemmas.{some_of-any, nearest, alike-first_owner}
 use Rattle.fdb_client.specs.Merging.{IsPartOf}
+use Rattle.fdb_core.specs.declared.roles.shard.ShardRole.{ShardRole}
 use Rattle.fdb_core.specs.machine.ClientSteps.{first_fault, is_too_old, fault_among, shard_begins}
+use Rattle.fdb_core.specs.machine.Machine.{is_set}
 use Rattle.fdb_core.specs.machine.RoleSteps.{shard_fault}
 use Rattle.fdb_core.specs.refinement.log.Ties.{progress_of}
-use Rattle.fdb_core.specs.refinement.shard.Reads.{ShardReads, key_fault, range_fault}
+use Rattle.fdb_core.specs.refinement.shard.Reads.{ShardReads, has_failed_at, point_fault, range_fault}
 
 -- an item that passes one test is among those that pass another exactly where one passes both
 any-filter : {A : Type 0} (inside test : A → Bool) (xs : List A)
@@ -32,6 +34,30 @@ any-filter inside test (x ∷ xs) = by_test (inside x) (any-filter inside test x
         ≡ ((here && test x) || list_any (λ x. inside x && test x) xs)
     by_test true others = ap (λ (later : Bool). test x || later) others
     by_test false others = others
+
+-- What a test finds where a shard begins in a range, and what it finds at a point of the range.
+module _ (splits : List Point) (range : Range) (found : Point → Bool) where
+  -- where a shard begins in the range is a point of it
+  pub begin-point : list_any found (shard_begins splits range) ≡ true
+      → (x : Point) × (in_range range x ≡ true) × (found x ≡ true)
+  begin-point any =
+      let one = some_of-any (λ y. in_range range y && found y) (range.begin ∷ splits)
+      (sym (any-filter (in_range range) found (range.begin ∷ splits)) ∙ any) in
+      let parts = and_parts (in_range range one.0) (found one.0) one.1 in
+      (one.0, parts.0, parts.1)
+
+  -- What it finds at a point it finds at the greatest of the range's begin and the splits that isn't above the point,
+  -- where it is the same for all points that one shard holds: the shard that holds the one holds the other.
+  pub point-begin : ((x y : Point) → first_owner splits x ≡ first_owner splits y → found x ≡ found y)
+      → (x : Point) → in_range range x ≡ true → found x ≡ true → list_any found (shard_begins splits range) ≡ true
+  point-begin held x inside passes =
+      let bounds = in_range_parts range x inside in
+      let near = nearest point_lt point_order x range.begin splits bounds.0 in
+      any-filter (in_range range) found (range.begin ∷ splits)
+      ∙ near.1 (λ y. in_range range y && found y)
+      (and_from (in_range range near.0) (found near.0)
+      (in_range_from range near.0 near.3 (le_lt_chain near.0 x range.end near.2 bounds.1))
+      (sym (held x near.0 (alike-first_owner splits x near.0 near.4)) ∙ passes))
 
 -- a fault is that the version is too old exactly where the test says so
 too-old-is : (fault : Option Refusal) → (is_too_old fault ≡ true) ↔ (fault ≡ Some TransactionTooOld)
@@ -80,18 +106,10 @@ module _ (fault : Point → Option Refusal) where
 -- Why a range is refused, where a point's fault depends on the shard that holds it alone.
 module _ (splits : List Point) (range : Range) (fault : Point → Option Refusal)
     (held : (x y : Point) → first_owner splits x ≡ first_owner splits y → fault x ≡ fault y) where
-  -- What a test finds at a point of the range it finds where a shard begins in it: at the greatest of the range's begin
-  -- and the splits that isn't above the point, since the shard that holds the one holds the other.
+  -- what a test finds of a point's fault it finds where a shard begins in the range
   found-begin : (test : Option Refusal → Bool) (x : Point) → in_range range x ≡ true → test (fault x) ≡ true
       → list_any (λ y. test (fault y)) (shard_begins splits range) ≡ true
-  found-begin test x inside passes =
-      let bounds = in_range_parts range x inside in
-      let near = nearest point_lt point_order x range.begin splits bounds.0 in
-      any-filter (in_range range) (λ y. test (fault y)) (range.begin ∷ splits)
-      ∙ near.1 (λ y. in_range range y && test (fault y))
-      (and_from (in_range range near.0) (test (fault near.0))
-      (in_range_from range near.0 near.3 (le_lt_chain near.0 x range.end near.2 bounds.1))
-      (sym (ap test (held x near.0 (alike-first_owner splits x near.0 near.4))) ∙ passes))
+  found-begin test = point-begin splits range (λ y. test (fault y)) (λ y z same. ap test (held y z same))
 
   -- what the range is refused as, one of its points is
   pub of-range : (why : Refusal) → fault_among fault (shard_begins splits range) ≡ Some why
@@ -102,10 +120,8 @@ module _ (splits : List Point) (range : Range) (fault : Point → Option Refusal
           → (if test then Some TransactionTooOld else first_fault fault (shard_begins splits range)) ≡ Some why
           → (x : Point) × (in_range range x ≡ true) × (fault x ≡ Some why)
       by_test true is refused =
-          let one = some_of-any (λ y. in_range range y && is_too_old (fault y)) (range.begin ∷ splits)
-          (sym (any-filter (in_range range) (λ y. is_too_old (fault y)) (range.begin ∷ splits)) ∙ is) in
-          let parts = and_parts (in_range range one.0) (is_too_old (fault one.0)) one.1 in
-          (one.0, parts.0, (too-old-is (fault one.0)).0 parts.1 ∙ refused)
+          let one = begin-point splits range (λ y. is_too_old (fault y)) is in
+          (one.0, one.1, (too-old-is (fault one.0)).0 one.2 ∙ refused)
       by_test false is refused = of-first fault (in_range range) why (range.begin ∷ splits) refused
 
   -- the version is too old for the range where it is for one of its points
@@ -130,22 +146,52 @@ module _ (splits : List Point) (range : Range) (fault : Point → Option Refusal
           (first-none fault (shard_begins splits range) (not_first _ faultless))
           (found-begin is_some x inside (ap is_some is)))
 
--- points that one shard holds are refused alike
+-- the shard that holds two points has failed or works
+pub failed_by_one : (reads : ShardReads) (x y : Point)
+    → first_owner reads.config.shard_splits x ≡ first_owner reads.config.shard_splits y
+    → has_failed_at reads x ≡ has_failed_at reads y
+failed_by_one reads x y same = ap (is_set (map (λ (role : ShardRole). role.core.is_failed) reads.shards)) same
+
+-- and it serves both or neither
 pub held_by_one : (reads : ShardReads) (x y : Point)
     → first_owner reads.config.shard_splits x ≡ first_owner reads.config.shard_splits y
-    → key_fault reads x ≡ key_fault reads y
+    → point_fault reads x ≡ point_fault reads y
 held_by_one reads x y same =
     ap (λ (n : ℕ). shard_fault reads.book reads.version (slice_get (map progress_of reads.shards) n)) same
+
+-- what isn't refused has no shard that failed, and none that doesn't serve it
+pub unrefused : (failed : Bool) (fault : Option Refusal) → (if failed then Some Failed else fault) ≡ None
+    → (failed ≡ false) × (fault ≡ None)
+unrefused true fault none = cc
+unrefused false fault none = (refl, none)
+
+module _ (reads : ShardReads) (part range : Range) (inside : IsPartOf part range) where
+  abbrev begins_in : Range → List Point
+  begins_in = shard_begins reads.config.shard_splits
+
+  part_works : list_any (has_failed_at reads) (begins_in range) ≡ false
+      → list_any (has_failed_at reads) (begins_in part) ≡ false
+  part_works works = false_from_ne_true _ (λ failed.
+      let point = begin-point reads.config.shard_splits part (has_failed_at reads) failed in
+      both_ways _ works
+      (point-begin reads.config.shard_splits range (has_failed_at reads) (failed_by_one reads) point.0
+      (inside point.0 point.1) point.2))
+
+  no_fault : fault_among (point_fault reads) (begins_in range) ≡ None
+      → fault_among (point_fault reads) (begins_in part) ≡ None
+  no_fault served = by_fault (fault_among (point_fault reads) (begins_in part)) refl
+    where
+      by_fault : (fault : Option Refusal) → fault_among (point_fault reads) (begins_in part) ≡ fault → fault ≡ None
+      by_fault None is = refl
+      by_fault (Some why) is =
+          let point = of-range reads.config.shard_splits part (point_fault reads) (held_by_one reads) why is in
+          sym point.2
+          ∙ served-range reads.config.shard_splits range (point_fault reads) (held_by_one reads) point.0
+          (inside point.0 point.1) served
 
 -- a part of a range that isn't refused isn't refused
 pub part_served : (reads : ShardReads) (part range : Range) → IsPartOf part range → range_fault reads range ≡ None
     → range_fault reads part ≡ None
-part_served reads part range inside served = by_fault (range_fault reads part) refl
-  where
-    by_fault : (fault : Option Refusal) → range_fault reads part ≡ fault → fault ≡ None
-    by_fault None is = refl
-    by_fault (Some why) is =
-        let point = of-range reads.config.shard_splits part (key_fault reads) (held_by_one reads) why is in
-        sym point.2
-        ∙ served-range reads.config.shard_splits range (key_fault reads) (held_by_one reads) point.0
-        (inside point.0 point.1) served
+part_served reads part range inside served =
+    let whole = unrefused _ _ served in
+    cond-false _ _ _ (part_works reads part range inside whole.0) ∙ no_fault reads part range inside whole.1

@@ -2,7 +2,9 @@
 use Rattle.std.specs.Prelude.{◌≡◌, ◌≤◌, ℕ, suc, ◌-◌, Bool, true, false, nat_eq, nat_lt, List, filter, map, take, length}
 use Rattle.std.specs.Prelude.{Option, Some, None, slice_get, if◌then◌else◌}
 use Rattle.std.specs.FinMap.{get}
+use Rattle.std.specs.List.{list_any}
 use Rattle.fdb_keys.specs.declared.refusal.Refusal.{Refusal}
+use Rattle.fdb_keys.specs.declared.refusal.Refusal.TheVariants.{Failed}
 use Rattle.fdb_keys.specs.Points.{Point}
 use Rattle.fdb_keys.specs.Ranges.{Range, in_range}
 use Rattle.fdb_mutations.specs.Maps.{Map}
@@ -16,6 +18,7 @@ use Rattle.fdb_storage.specs.Shards.{value_at}
 use Rattle.fdb_proxy.specs.declared.config.Config.{Config}
 use Rattle.fdb_core.specs.declared.roles.shard.ShardRole.{ShardRole}
 use Rattle.fdb_core.specs.machine.ClientSteps.{fault_among, shard_begins}
+use Rattle.fdb_core.specs.machine.Machine.{is_set}
 use Rattle.fdb_core.specs.machine.RoleSteps.{shard_fault}
 use Rattle.fdb_core.specs.refinement.log.Ties.{progress_of, Each}
 
@@ -29,15 +32,26 @@ pub record ShardReads : Type 0 where
 abbrev pub run_map : ShardReads → Map
 run_map reads = serial_map_at reads.config.resolver_splits reads.version (seen_of reads.book).places
 
--- why a point is not read, as the machine says it
-abbrev pub key_fault : ShardReads → Point → Option Refusal
-key_fault reads x =
+-- the shard that holds the point has failed
+abbrev pub has_failed_at : ShardReads → Point → Bool
+has_failed_at reads x =
+    is_set (map (λ (role : ShardRole). role.core.is_failed) reads.shards) (first_owner reads.config.shard_splits x)
+
+-- why a point is not served, as the machine says it
+abbrev pub point_fault : ShardReads → Point → Option Refusal
+point_fault reads x =
     shard_fault reads.book reads.version
     (slice_get (map progress_of reads.shards) (first_owner reads.config.shard_splits x))
 
--- and why a range is not read
+-- why a point is not read: its shard has failed, or doesn't serve it
+abbrev pub key_fault : ShardReads → Point → Option Refusal
+key_fault reads x = if has_failed_at reads x then Some Failed else point_fault reads x
+
+-- and why a range is not read: a shard that holds some of it has failed, or doesn't serve it
 abbrev pub range_fault : ShardReads → Range → Option Refusal
-range_fault reads range = fault_among (key_fault reads) (shard_begins reads.config.shard_splits range)
+range_fault reads range =
+    let points = shard_begins reads.config.shard_splits range in
+    if list_any (has_failed_at reads) points then Some Failed else fault_among (point_fault reads) points
 
 -- of the pairs of a range on the serial map those whose keys shard i holds
 abbrev pub pairs_held : ShardReads → ℕ → Range → Bool → List (Point × List ℕ)
@@ -53,12 +67,11 @@ abbrev pub left_of : ℕ → ℕ → Option ℕ
 left_of wanted count =
     if nat_eq wanted 0 then Some 0 else (if nat_lt count wanted then Some (wanted - count) else None)
 
--- A shard holds its piece of the keys, and answers from the run where it serves the version.
+-- A shard holds its piece of the keys, and answers from the run where it hasn't failed and serves the version.
 pub record IsReadable (reads : ShardReads) (i : ℕ) (role : ShardRole) : Type 0 where
   pub range : role.core.range ≡ piece reads.config.shard_splits i
-  pub works : role.core.is_failed ≡ false
   pub version : role.core.version ≡ last_version (take role.applied reads.book)
-  pub serves : (x : Point) → role.core.floor ≤ reads.version → reads.version ≤ role.core.version
+  pub serves : role.core.is_failed ≡ false → (x : Point) → role.core.floor ≤ reads.version → reads.version ≤ role.core.version
       → in_range (piece reads.config.shard_splits i) x ≡ true → value_at role.core reads.version x
       ≡ get (run_map reads) x
 

@@ -156,6 +156,13 @@ impl Session {
         }
     }
 
+    /// It has no transaction any more.
+    pub(crate) fn end(&mut self)
+        ensures { self.new ≡ at_state self.old Idle }
+    {
+        self.state = SessionState::Idle;
+    }
+
     // Finishes the transaction, which is open again where that is refused.
     fn finish_open(&mut self, txn: Txn) -> Result<Finished, Refusal>
         ensures answers { Finishes result txn }

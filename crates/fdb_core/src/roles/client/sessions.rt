@@ -34,9 +34,9 @@ impl Model for Sessions {
 }
 
 impl Sessions {
-    ghost use Rattle.std.specs.Prelude.{◌≡◌, [], ◌∷◌, ◌++◌, None, Some, IfSome, OnOk, OnErr, if◌then◌else◌};
+    ghost use Rattle.std.specs.Prelude.{◌≡◌, true, [], ◌∷◌, ◌++◌, None, Some, IfSome, OnOk, OnErr, if◌then◌else◌};
     ghost use Rattle.std.specs.FinMap.{empty, get};
-    ghost use Rattle.std.specs.Option.{option_copied};
+    ghost use Rattle.std.specs.Option.{option_copied, is_some};
     ghost use Rattle.fdb_keys.specs.Answers.{Answers};
     ghost use Rattle.fdb_mutations.specs.Mutations.{mutation_fault};
     ghost use Rattle.fdb_client.specs.TxnState.{with_op};
@@ -253,11 +253,16 @@ impl Sessions {
         known.finish()
     }
 
-    /// The transaction's session is told what became of it, and has none any more.
-    pub(crate) fn tell(&mut self, transcript: &Transcript) -> Result<(), AllocError>
-        ensures { OnOk result (self.new ≡ tell self.old transcript.now) }
+    /// The transaction's session, which did something before, is told what became of it, and has none any more. It takes
+    /// no memory.
+    pub(crate) fn tell(&mut self, transcript: &Transcript)
+        requires { is_some (get self.old transcript.now.id.session) ≡ true }
+        ensures { self.new ≡ tell self.old transcript.now }
     {
-        self.set_state(transcript.id.session, SessionState::Idle)
+        let Some(known) = self.by_number.get_mut(&transcript.id.session) else {
+            return;
+        };
+        known.end();
     }
 }
 

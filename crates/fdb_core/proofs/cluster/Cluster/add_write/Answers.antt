@@ -1,7 +1,7 @@
 use Rattle.std.proofs.Common.{rules}
 use Rattle.fdb_core.specs.machine.ClientSteps.{adds_write}
+use Rattle.fdb_core.specs.declared.step.Step.TheVariants as step
 use Rattle.fdb_core.specs.machine.Sessions.{open_at}
-use Rattle.fdb_core.specs.refinement.Cluster.{machine_of}
 use Rattle.fdb_core.proofs.common.FaultLemmas.{unless-lacked}
 use Rattle.fdb_core.proofs.machine.OpenLemmas.{open-given, open-refused}
 use Rattle.fdb_core.proofs.refinement.StepLemmas.{left}
@@ -13,7 +13,7 @@ unfolding adds_write
 returns-in_err-add_write c =
     let k = c.args.self.now in
     let why = c.in_err-add_write.field-0.0 in
-    left k c.from_residual.result _ (adds_write (machine_of k) c.args.session c.args.range.now) why (search rules)
+    left k (step.AddWrite c.args.session c.args.range.now) c.from_residual.result _ why (search rules)
     (open-refused (Unit {0}) (open_at k.sessions c.args.session) why _ _ c.in_err-add_write.ensures.answers
     (λ transcript lacks. unless-lacked why _ lacks))
     (sessions-same k c.add_write.new.self c.requires c.in_err-add_write.ensures.err)

@@ -1,68 +1,99 @@
-use Rattle.std.proofs.Common.{◌≡◌, ap, ◌<◌, length, Some, slice_get, rules}
+use Rattle.std.proofs.Common.{◌≡◌, ◌∙◌, refl, sym, ap, ◌<◌, length, false, Some, Err, slice_get, rules}
 use Rattle.fdb_core.specs.declared.roles.commit_proxy.CommitProxyRole.{CommitProxyRole}
-use Rattle.fdb_core.proofs.common.ListLemmas.{one-item, read-back, read-there}
-use Rattle.fdb_core.proofs.refinement.commit_proxy.Deciding.{is-refused, messages-lack, in-pool, is-decided}
-use Rattle.fdb_core.proofs.refinement.commit_proxy.Receiving.{proxy-same}
-use Rattle.fdb_core.proofs.refinement.StepLemmas.{goes_on, lacked, refused}
+use Rattle.fdb_core.specs.declared.step.Step.TheVariants as step
+use Rattle.fdb_core.specs.machine.Machine.{is_set}
+use Rattle.fdb_core.specs.machine.Steps.{ran_out}
+use Rattle.fdb_core.specs.refinement.Restoring.{failures_of, proxy_failed}
+use Rattle.fdb_core.proofs.common.FaultLemmas.{unless-map}
+use Rattle.fdb_core.proofs.common.ListLemmas.{one-item, read-there}
+use Rattle.fdb_core.proofs.refinement.commit_proxy.Deciding.{is-refused, in-pool, is-decided}
+use Rattle.fdb_core.proofs.refinement.commit_proxy.Failing.{decides-there, proxy-goes_on, proxy-kept, proxy-was}
+use Rattle.fdb_core.proofs.refinement.RestoringLemmas.{flag-at, restored}
+use Rattle.fdb_core.proofs.refinement.StepLemmas.{fails, kept, left, refused-restored, refuses}
 use Rattle.fdb_core.proofs.cluster.Cluster.decide.Goals as goal
-use Rattle.fdb_core.proofs.cluster.Cluster.decide.Goals.{After-index-2}
+use Rattle.fdb_core.proofs.cluster.Cluster.decide.Goals.{After-decide, In_ok-outcomes}
+
+-- a proxy that has failed decides nothing
+pub returns-then-is_failed : goal.returns-then-is_failed
+returns-then-is_failed c =
+    let k = c.args.self.now in
+    let role = c.index.result.now in
+    let at : slice_get k.commit_proxies.items c.args.proxy ≡ Some role =
+    read-there k.commit_proxies.items c.args.proxy role (search rules) c.index.ensures in
+    let decide = step.Decide c.args.proxy in
+    refuses decide
+    (fails k decide (flag-at proxy_failed k.commit_proxies.items c.args.proxy role at ∙ sym c.if-is_failed.ensures)
+    (decides-there k c.requires c.args.proxy role at))
+    (kept k c.requires)
+
+-- the proxy, which works
+module _ (c : After-decide) where
+  here : slice_get c.args.self.now.commit_proxies.items c.args.proxy ≡ Some c.index_mut.result.now
+  here = read-there c.args.self.now.commit_proxies.items c.args.proxy c.index_mut.result.now (search rules)
+      c.index_mut.ensures.value
+
+  working : proxy_failed c.index_mut.result.now ≡ false
+  working =
+      ap proxy_failed (sym (one-item c.args.self.now.commit_proxies.items c.args.proxy c.index.result.now
+      c.index_mut.result.now (search rules) c.index.ensures here)) ∙ sym c.if-is_failed.ensures
+
+  unused : is_set (failures_of c.args.self.now).commit_proxies c.args.proxy ≡ false
+  unused = flag-at proxy_failed c.args.self.now.commit_proxies.items c.args.proxy c.index_mut.result.now here ∙ working
+
+  was : slice_get c.requires.roles.commit_proxies.items c.args.proxy ≡ Some c.index_mut.result.now
+  was = proxy-was c.args.self.now c.requires c.args.proxy c.index_mut.result.now here working
 
 pub returns-in_err-outcomes : goal.returns-in_err-outcomes
 returns-in_err-outcomes c =
     let k = c.args.self.now in
+    let tied = c.requires in
+    let decide = step.Decide c.args.proxy in
     let role = c.index_mut.result.now in
     let why = c.in_err-outcomes.field-0.0 in
-    let at : slice_get k.commit_proxies.items c.args.proxy ≡ Some role =
-    read-there k.commit_proxies.items c.args.proxy role (search rules) c.index_mut.ensures.value in
-    refused k c.from_residual.result _ _ why (search rules)
-    (is-refused k c.requires c.args.proxy role c.decide.new.self at why c.in_err-outcomes.ensures.wrong
-    c.in_err-outcomes.ensures.decides)
-    (proxy-same k c.requires c.args.proxy role c.decide.new.self at c.in_err-outcomes.ensures.refused) tt
+    let at = (goal.at.returns-in_err-outcomes c).After-decide in
+    left k decide c.from_residual.result _ why (search rules)
+    (unless-map (ran_out (Err why)) _ _
+    (λ same. refused-restored k decide tied why (unused at) same)
+    (is-refused (restored k tied) tied.refines c.args.proxy role c.decide.new.self (was at) why
+    c.in_err-outcomes.ensures.wrong c.in_err-outcomes.ensures.decides))
+    (proxy-kept k tied c.args.proxy role c.decide.new.self (here at) (working at) c.in_err-outcomes.ensures.refused)
 
--- the proxy that decided, which is read again, and its entry
-module _ (c : After-index-2) where
-  there : slice_get c.args.self.now.commit_proxies.items c.args.proxy ≡ Some c.index_mut.result.now
-  there = read-there c.args.self.now.commit_proxies.items c.args.proxy c.index_mut.result.now (search rules)
-      c.index_mut.ensures.value
-
-  number : c.index.result.now.entry ≡ c.index_mut.result.now.entry
+-- the number of the entry that it decided, and what stands in the pool for it
+module _ (c : In_ok-outcomes)
+    (at : slice_get c.args.self.now.commit_proxies.items c.args.proxy ≡ Some c.index_mut.result.now)
+    (before : slice_get c.requires.roles.commit_proxies.items c.args.proxy ≡ Some c.index_mut.result.now) where
+  number : c.index-2.result.now.entry ≡ c.index_mut.result.now.entry
   number = ap (λ (r : CommitProxyRole). r.entry)
-      (one-item c.args.self.now.commit_proxies.items c.args.proxy c.index.result.now c.index_mut.result.now
-      (search rules) c.index.ensures there)
+      (one-item c.args.self.now.commit_proxies.items c.args.proxy c.index-2.result.now c.index_mut.result.now
+      (search rules) c.index-2.ensures at)
 
-  again : c.index-2.result.now ≡ c.decide.new.self
-  again = read-back c.args.self.now.commit_proxies.items c.args.proxy c.index-2.result.now c.decide.new.self
-      (search rules) c.index-2.ensures
-
-  pooled : (c.index.result.now.entry < length c.args.self.now.messages.items)
-      × (c.index.result.now.entry < length c.args.self.now.decided.items)
-  pooled = in-pool c.args.self.now c.requires c.args.proxy c.index_mut.result.now c.decide.new.self there
-      c.in_ok-outcomes.outcomes c.in_ok-outcomes.ensures.wrong c.in_ok-outcomes.ensures.decides c.index-2.result.now
-      again c.index.result.now.entry number
-
-pub returns-in_err-messages : goal.returns-in_err-messages
-returns-in_err-messages c =
-    let k = c.args.self.now in
-    let found = (goal.at.returns-in_err-messages c).After-index-2 in
-    lacked k c.from_residual-in_err-messages.result _ _ c.in_err-messages.field-0.0 (search rules)
-    (messages-lack k c.requires c.args.proxy c.index_mut.result.now c.decide.new.self (there found)
-    c.in_ok-outcomes.outcomes c.in_ok-outcomes.ensures.wrong c.in_ok-outcomes.ensures.decides c.index-2.result.now
-    (again found) c.index.result.now.entry (number found) c.in_err-messages.field-0.0 c.in_err-messages.ensures) tt
+  pooled : (c.index-2.result.now.entry < length c.args.self.now.messages.items)
+      × (c.index-2.result.now.entry < length c.args.self.now.decided.items)
+  pooled = in-pool (restored c.args.self.now c.requires) c.requires.refines c.args.proxy c.index_mut.result.now
+      c.decide.new.self before
+      c.in_ok-outcomes.outcomes c.in_ok-outcomes.messages c.in_ok-outcomes.ensures.wrong
+      c.in_ok-outcomes.ensures.decides c.index-2.result.now.entry number
 
 pub index_mut-requires-2 : goal.index_mut-requires-2
 index_mut-requires-2 c =
-    let inside = (pooled (goal.at.index_mut-requires-2 c).After-index-2).0 in
+    let found = goal.at.index_mut-requires-2 c in
+    let inside = (pooled found.In_ok-outcomes (here found.After-decide) (was found.After-decide)).0 in
     search rules
 
 pub index_mut-requires-3 : goal.index_mut-requires-3
 index_mut-requires-3 c =
-    let inside = (pooled (goal.at.index_mut-requires-3 c).After-index-2).1 in
+    let found = goal.at.index_mut-requires-3 c in
+    let inside = (pooled found.In_ok-outcomes (here found.After-decide) (was found.After-decide)).1 in
     search rules
 
 -- the batch is decided, and its messages are in the pool
 pub returns : goal.returns
 returns c =
-    let found = (goal.at.returns c).After-index-2 in
-    goes_on (is-decided c.args.self.now c.requires c.args.proxy c.index_mut.result.now c.decide.new.self (there found)
-    c.in_ok-outcomes.outcomes c.in_ok-outcomes.ensures.wrong c.in_ok-outcomes.ensures.decides c.index-2.result.now
-    (again found) c.index.result.now.entry (number found) c.in_ok-messages.messages c.in_ok-messages.ensures)
+    let k = c.args.self.now in
+    let found = (goal.at.returns c).In_ok-outcomes in
+    let at = (goal.at.returns c).After-decide in
+    proxy-goes_on k c.requires (step.Decide c.args.proxy) c.args.proxy c.index_mut.result.now c.decide.new.self _ _
+    (here at) (working at) refl refl refl refl (unused at)
+    (is-decided (restored k c.requires) c.requires.refines c.args.proxy c.index_mut.result.now c.decide.new.self (was at)
+    c.in_ok-outcomes.outcomes c.in_ok-outcomes.messages c.in_ok-outcomes.ensures.wrong c.in_ok-outcomes.ensures.decides
+    c.index-2.result.now.entry (number found (here at) (was at)))

@@ -1,8 +1,10 @@
 use Rattle.std.proofs.Common.{◌≡◌, ◌∙◌, refl, sym, ap, ap₂, subst, ℕ, List, map, fold, true, false, Some, slice_get, slice_set}
 use Rattle.std.proofs.Common.{arith, rules}
 use Rattle.std.specs.List.{AllByRecursion, list_any}
+use Rattle.std.specs.Vec.{with_item}
 use Rattle.fdb_proxy.specs.Askers.{Asker, granted}
 use Rattle.fdb_core.specs.declared.step.Answered.TheVariants as answered
+use Rattle.fdb_core.specs.declared.step.Step.TheVariants as step
 use Rattle.fdb_core.specs.machine.GrvProxySteps.{has_no_number}
 use Rattle.fdb_core.specs.machine.Sessions.{Sessions, serve}
 use Rattle.fdb_core.specs.refinement.Cluster.{machine_of, HasSeenNone, sessions_of}
@@ -12,7 +14,8 @@ use Rattle.fdb_core.proofs.common.ListLemmas.{map-at, map-set, one-item, read-th
 use Rattle.fdb_core.proofs.machine.SessionLemmas.{open-served}
 use Rattle.fdb_core.proofs.refinement.grv_proxy.Granting.{grv_proxies-set, used_up-is, granted-is, served-is}
 use Rattle.fdb_core.proofs.refinement.grv_proxy.Granting.{askers-known, granted-known, grants-exhausted, grants-transition}
-use Rattle.fdb_core.proofs.refinement.StepLemmas.{accepted, refuses}
+use Rattle.fdb_core.proofs.refinement.RestoringLemmas.{keeps-roles, restored}
+use Rattle.fdb_core.proofs.refinement.StepLemmas.{accepted, kept, refuses}
 use Rattle.fdb_core.proofs.refinement.client.Sessions.{refines-sessions}
 use Rattle.fdb_core.proofs.cluster.Cluster.grant.Goals as goal
 use Rattle.fdb_core.proofs.cluster.Cluster.grant.Goals.{After-are_used_up}
@@ -28,12 +31,12 @@ returns-then-are_used_up c =
     let old = c.index.result.now in
     let used_up : list_any (λ (asker : Asker). has_no_number k.sessions asker.0) c.askers.result.now ≡ true =
     sym c.if-are_used_up.ensures in
-    refuses (grants-exhausted (machine_of k) c.args.proxy (sessions_of old)
+    refuses (step.Grant c.args.proxy) (grants-exhausted (machine_of k) c.args.proxy (sessions_of old)
     (map-at sessions_of k.grv_proxies.items c.args.proxy old
     (there (goal.at.returns-then-are_used_up c).After-are_used_up))
     (sym (used_up-is k.sessions old)
     ∙ ap (list_any (λ (asker : Asker). has_no_number k.sessions asker.0)) (sym c.askers.ensures) ∙ used_up))
-    (refl, c.requires.refines)
+    (kept k c.requires.tied)
 
 never : false ≡ true → ⊥
 never wrong = cc
@@ -58,7 +61,7 @@ returns-in_err-serve_all c =
 pub returns : goal.returns
 returns c =
     let k = c.args.self.now in
-    let before = c.requires.refines in
+    let before = c.requires.tied.refines in
     let committed = k.sequencer.committed in
     let old = c.index.result.now in
     let at = there (goal.at.returns c).After-are_used_up in
@@ -77,7 +80,7 @@ returns c =
     c.in_ok-serve_all.ensures.ok
     ∙ ap (fold (λ (served : Sessions) (asker : Asker). serve asker.1 served asker.0) k.sessions)
     (c.as_slice.ensures ∙ given) ∙ served-is committed old k.sessions none_seen in
-    accepted (grants-transition (machine_of k) c.args.proxy (sessions_of old)
+    accepted (step.Grant c.args.proxy) (grants-transition (machine_of k) c.args.proxy (sessions_of old)
     (map-at sessions_of k.grv_proxies.items c.args.proxy old at)
     (sym (used_up-is k.sessions old)
     ∙ ap (list_any (λ (asker : Asker). has_no_number k.sessions asker.0)) (sym c.askers.ensures) ∙ left))
@@ -88,9 +91,11 @@ returns c =
     }) served
     (map-set sessions_of k.grv_proxies.items c.args.proxy c.grant-granted.new.self
     ∙ ap (λ (askers : List Asker). slice_set (map sessions_of k.grv_proxies.items) c.args.proxy (sessions_of askers))
-    c.grant-granted.ensures.left))
-    (refines-sessions k _ _ _ before
+    c.grant-granted.ensures.left)) refl
+    (keeps-roles k c.requires.tied _ refl refl refl refl
+    (refines-sessions (restored k c.requires.tied) (with_item k.grv_proxies c.args.proxy c.grant-granted.new.self)
+    c.serve_all.new.sessions k.acknowledged before
     (grv_proxies-set k.config k.grv_proxies.items c.args.proxy c.grant-granted.new.self before.grv_proxies
     (rw c.grant-granted.ensures.left tt))
     (rw served
-    (open-served (ReadsWithin committed) committed (λ id. omega arith) (sessions_of old) k.sessions before.opened)))
+    (open-served (ReadsWithin committed) committed (λ id. omega arith) (sessions_of old) k.sessions before.opened))))

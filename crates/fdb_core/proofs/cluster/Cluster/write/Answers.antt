@@ -1,8 +1,8 @@
 use Rattle.std.proofs.Common.{refl, rules}
 use Rattle.fdb_mutations.specs.Mutations.{mutation_fault}
 use Rattle.fdb_core.specs.machine.ClientSteps.{writes}
+use Rattle.fdb_core.specs.declared.step.Step.TheVariants as step
 use Rattle.fdb_core.specs.machine.Sessions.{open_at}
-use Rattle.fdb_core.specs.refinement.Cluster.{machine_of}
 use Rattle.fdb_core.proofs.common.FaultLemmas.{answers-fault, unless-fault}
 use Rattle.fdb_core.proofs.machine.OpenLemmas.{open-given, open-refused}
 use Rattle.fdb_core.proofs.refinement.StepLemmas.{left}
@@ -14,7 +14,7 @@ unfolding writes
 returns-in_err-write c =
     let k = c.args.self.now in
     let why = c.in_err-write.field-0.0 in
-    left k c.from_residual.result _ (writes (machine_of k) c.args.session c.args.mutation.now) why (search rules)
+    left k (step.Write c.args.session c.args.mutation.now) c.from_residual.result _ why (search rules)
     (open-refused (Unit {0}) (open_at k.sessions c.args.session) why _ _ c.in_err-write.ensures.answers
     (λ transcript is. unless-fault (mutation_fault c.args.mutation.now) why _ _ is (λ faulty. rw faulty refl)))
     (sessions-same k c.write.new.self c.requires c.in_err-write.ensures.err)

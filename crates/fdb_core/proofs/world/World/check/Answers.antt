@@ -1,16 +1,16 @@
-use Rattle.std.proofs.Common.{ap}
+use Rattle.std.proofs.Common.{◌≡◌, subst, length, MatchResult}
+use Rattle.fdb_core.specs.declared.world.CheckFault.TheVariants.{NoMemory}
 use Rattle.fdb_core.specs.headline.Serving.{System}
-use Rattle.fdb_core.proofs.checking.SoundChecks.{few-compared, world-finds, failed-finds}
+use Rattle.fdb_core.proofs.checking.SoundChecks.{few-shards, sound-finds}
 use Rattle.fdb_core.proofs.world.World.check.Goals as goal
 
 pub check_all-requires : goal.check_all-requires
-check_all-requires c = few-compared c.self.inside.cluster c.self.inside.failed c.self.invariant
+check_all-requires c = few-shards c.self.inside.cluster c.self.invariant.0
 
-pub returns-clause-sound : goal.returns-clause-sound
-returns-clause-sound c = world-finds c.self.inside.cluster c.self.inside.failed c.args.self.now.machine
-    c.check_all.result
-    (ap (λ (system : System). system.machine) c.self.view_is) c.self.invariant c.check_all.ensures.finds
-
-pub returns-clause-failed : goal.returns-clause-failed
-returns-clause-failed c = failed-finds c.self.inside.cluster c.self.inside.failed c.args.self.now c.check_all.result
-    c.self.view_is c.check_all.ensures.finds
+pub returns : goal.returns
+returns c =
+    let k = c.self.inside.cluster in
+    let is = c.self.invariant in
+    subst (λ (system : System). MatchResult c.check_all.result
+    (λ count. count ≡ length system.state.machine.acknowledged) (λ fault. fault ≡ NoMemory)) c.self.view_is
+    (sound-finds k is.0 is.1 c.check_all.result (c.check_all.ensures.finds is.0.refines.book.entries))

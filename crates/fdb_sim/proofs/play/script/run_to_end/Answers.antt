@@ -30,9 +30,9 @@ pub returns-clause-printed : goal.returns-clause-printed
 returns-clause-printed g c =
     let made = c.in_ok-lines.ensures in
     let world = c.in_ok-make_world.ensures.ok in
-    let same = ap (λ (of : System). of.machine) c.in_ok-world.ensures.ok in
+    let same = ap (λ (of : System). of.state) c.in_ok-world.ensures.ok in
     if_ok_map c.play_on.result _ _
-    (λ status played. run_played _ _ _ _ _ _ _ _ status c.in_ok-config.config c.in_ok-world.world.machine made.left
+    (λ status played. run_played _ _ _ _ _ _ _ _ status c.in_ok-config.config c.in_ok-world.world.state made.left
     made.number c.in_ok-config.ensures.ok (world.0, same ∙ world.1) c.in_ok-world.ensures.printed played)
     c.play_on.ensures.printed
 
@@ -40,8 +40,8 @@ pub returns-clause-stops : goal.returns-clause-stops
 returns-clause-stops g c =
     let made = c.in_ok-lines.ensures in
     let world = c.in_ok-make_world.ensures.ok in
-    let same = ap (λ (of : System). of.machine) c.in_ok-world.ensures.ok in
+    let same = ap (λ (of : System). of.state) c.in_ok-world.ensures.ok in
     if_err_map c.play_on.result _ _
-    (λ stopped played. run_stopped _ _ _ _ _ _ _ _ c.in_ok-config.config c.in_ok-world.world.machine stopped made.left
+    (λ stopped played. run_stopped _ _ _ _ _ _ _ _ c.in_ok-config.config c.in_ok-world.world.state stopped made.left
     made.number c.in_ok-config.ensures.ok (world.0, same ∙ world.1) c.in_ok-world.ensures.printed played)
     c.play_on.ensures.stops

@@ -7,4 +7,4 @@ abbrev pub invariant-loop : goal.invariant-loop
 invariant-loop g l =
     Printed (g.W.Sink.contents l.initial.writer) (g.W.Sink.contents l.writer) (λ said.
     Reaches (left g.R.Source.remaining l.initial.lines) (left g.R.Source.remaining l.lines) said
-    (PlaysOn (line_number l.initial.lines) l.initial.world.machine) (PlaysOn (line_number l.lines) l.world.machine))
+    (PlaysOn (line_number l.initial.lines) l.initial.world.state) (PlaysOn (line_number l.lines) l.world.state))

@@ -3,5 +3,5 @@ use Rattle.fdb_core.proofs.roles.commit_proxy.CommitProxyRole.decide.Goals as go
 
 pub returns-clause-decides : goal.returns-clause-decides
 returns-clause-decides c config book known entry ok resolving_now there entries =
-    decides-answers config book known c.args.self.now ok entry there entries resolving_now c.decide.result
-    c.decide.new.self c.decide.ensures.answers
+    decides-answers config book known c.args.self.now ok entry there entries resolving_now c.decide_with_messages.result
+    c.decide_with_messages.new.self c.decide_with_messages.ensures.answers

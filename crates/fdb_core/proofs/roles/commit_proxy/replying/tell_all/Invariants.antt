@@ -1,7 +1,9 @@
 use Rattle.std.proofs.Common.{◌≡◌, take}
 use Rattle.fdb_core.specs.machine.Sessions.{tell_all}
+use Rattle.fdb_core.specs.refinement.client.Sessions.{HaveActed}
 use Rattle.fdb_core.proofs.roles.commit_proxy.replying.tell_all.Given as goal
 
 abbrev pub invariant-loop-transcript : goal.invariant-loop-transcript
 invariant-loop-transcript l =
-    l.sessions ≡ tell_all (take l.transcript-index l.transcripts) l.initial.sessions
+    (l.sessions ≡ tell_all (take l.transcript-index l.transcripts) l.initial.sessions)
+    × HaveActed l.sessions l.transcripts

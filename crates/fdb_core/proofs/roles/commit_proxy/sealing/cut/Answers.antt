@@ -1,6 +1,6 @@
 use Rattle.std.proofs.Common.{◌≤◌, ◌∙◌, sym, length, rules}
 use Rattle.std.proofs.lemmas.List.{take_all, drop_all}
-use Rattle.fdb_core.proofs.roles.commit_proxy.cut.Goals as goal
+use Rattle.fdb_core.proofs.roles.commit_proxy.sealing.cut.Goals as goal
 
 pub returns-then-len-le-PLACE_LIMIT-clause-rest : goal.returns-then-len-le-PLACE_LIMIT-clause-rest
 returns-then-len-le-PLACE_LIMIT-clause-rest c =
