@@ -1,6 +1,7 @@
 mod answers;
 mod configs;
 mod failing;
+mod growths;
 mod large;
 mod limits;
 mod lines;

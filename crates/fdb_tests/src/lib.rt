@@ -6,6 +6,8 @@ mod books;
 #[cfg(test)]
 mod clients;
 #[cfg(test)]
+mod growths;
+#[cfg(test)]
 mod intervals;
 #[cfg(test)]
 mod keys;

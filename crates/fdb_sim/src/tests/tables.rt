@@ -1,14 +1,14 @@
 // Scripts as tables: each line stands beside what it prints, as `grant 0 > grant 0=0`. A line without ` > ` prints
 // `ok`, and an empty one and a comment print nothing. What is printed at the end of the input stands after `end > `; a
 // table without it is of a script that ends at its last line, with status 2.
-mod batches;
+pub mod batches;
 mod drives;
-mod moves;
-mod ranges;
-mod resolvers;
+pub mod moves;
+pub mod ranges;
+pub mod resolvers;
 mod sessions;
 mod sets;
-mod shards;
+pub mod shards;
 mod writes;
 
 use crate::tests::playing::check_script;
@@ -18,10 +18,10 @@ use std::test::Fail;
 
 /// What a table says of its script.
 #[derive(Drop)]
-struct Played {
-    script: String,
-    output: String,
-    status: u8,
+pub struct Played {
+    pub script: String,
+    pub output: String,
+    pub status: u8,
 }
 
 impl Played {
@@ -64,11 +64,17 @@ fn push_line(text: &mut String, line: &str) -> Result<(), AllocError> {
     text.push_str("\n")
 }
 
-fn check_table(rt: &impl Abort, alloc: Global, table: &str) -> Result<(), Fail> {
+/// What the table says.
+pub fn read_table(alloc: Global, table: &str) -> Result<Played, AllocError> {
     let mut played = Played::new(alloc);
     for line in table.lines() {
         played.push(line.trim_start())?;
     }
+    Ok(played)
+}
+
+fn check_table(rt: &impl Abort, alloc: Global, table: &str) -> Result<(), Fail> {
+    let played = read_table(alloc, table)?;
     check_script(
         rt,
         alloc,

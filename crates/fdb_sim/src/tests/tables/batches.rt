@@ -18,7 +18,7 @@ const EMPTY: &str = "\
 ";
 
 // The lines of the stored run, less its comments.
-const FRESHNESS: &str = "\
+pub const FRESHNESS: &str = "\
     config proxies 1 logs 1 resolvers m shards - book 100
     ask 0 0
     grant 0 > grant 0=0

@@ -36,7 +36,7 @@ const FORMER_OWNER: &str = "\
 ";
 
 // A read is asked of each owner of the span, also of one between two others.
-const THERE_AND_BACK: &str = "\
+pub const THERE_AND_BACK: &str = "\
     config proxies 1 logs 1 resolvers m shards - book 100
     seal 0 100 > entry 0 version 100 prev 0 places 0
     drive 0 > answer

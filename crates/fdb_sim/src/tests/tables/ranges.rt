@@ -7,7 +7,7 @@ pub const TABLES: [&str; 5] = [
     RANGES_REFUSED,
 ];
 
-const GAP_FILLED: &str = "\
+pub const GAP_FILLED: &str = "\
     config proxies 1 logs 1 resolvers m shards - book 100
     ask 0 0
     grant 0 > grant 0=0
@@ -35,7 +35,7 @@ const GAP_FILLED: &str = "\
     end > checked 2
 ";
 
-const GAP_UNTOUCHED: &str = "\
+pub const GAP_UNTOUCHED: &str = "\
     config proxies 1 logs 1 resolvers m shards - book 100
     ask 0 0
     grant 0 > grant 0=0

@@ -1,7 +1,7 @@
 // Two resolvers, of which the second owns the keys from m on.
 pub const TABLES: [&str; 3] = [WRITE_SKEW, FALSE_CONFLICT, ORDER_AND_REPEATS];
 
-const WRITE_SKEW: &str = "\
+pub const WRITE_SKEW: &str = "\
     config proxies 1 logs 1 resolvers m shards - book 100
     ask 0 0
     ask 1 0

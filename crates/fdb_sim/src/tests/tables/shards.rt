@@ -29,7 +29,7 @@ const FORGETTING: &str = "\
     end > checked 2
 ";
 
-const TWO_LOGS_AND_SHARDS: &str = "\
+pub const TWO_LOGS_AND_SHARDS: &str = "\
     config proxies 1 logs 2 resolvers m shards m book 100
     ask 0 0
     grant 0 > grant 0=0
