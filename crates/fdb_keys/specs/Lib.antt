@@ -13,5 +13,6 @@ pub mod RangeMaps
 pub mod Ranges
 pub mod Refusals
 pub mod Removal
+pub mod SharedItems
 pub mod Texts
 pub mod Touching

@@ -12,6 +12,7 @@ mod range_map;
 mod range_set;
 mod refusal;
 mod removal;
+mod shared_items;
 mod tree_joining;
 mod tree_range_set;
 

@@ -1,17 +1,20 @@
+ghost use Rattle.std.specs.Prelude.{◌≡◌, ◌≤◌, ◌++◌, ◌∷◌, take, drop, length, IfOk, OnOk, OnErr};
+
 use crate::gathering::join_all;
 use crate::insertion::{Joined, join};
 use crate::items::Items;
 use crate::key_range::KeyRange;
 use crate::refusal::Refusal;
 use crate::removal::without;
-use std::alloc::Global;
+use crate::shared_items::SharedItems;
+use std::alloc::{AllocError, Global};
 use std::marker::Model;
 use std::slice;
 
-/// A set of keys, as the shortest sorted list of ranges that hold it.
+/// A set of keys, as the shortest sorted list of ranges that hold it. Once it is shared, its copies take O(1) time.
 #[derive(Clone, Drop, PartialEq, Eq)]
 pub struct RangeSet {
-    ranges: Items<KeyRange>,
+    ranges: SharedItems<KeyRange>,
 }
 
 impl Model for RangeSet {
@@ -40,9 +43,7 @@ impl RangeSet {
     pub fn new(alloc: Global) -> Self
         ensures { result ≡ [] }
     {
-        RangeSet {
-            ranges: Items::new(alloc),
-        }
+        RangeSet::from_items(Items::new(alloc))
     }
 
     // The set of the ranges, which are sorted, apart and none empty.
@@ -50,8 +51,15 @@ impl RangeSet {
         requires { IsTrue (is_apart ranges.items) }
         ensures { result ≡ ranges.items }
     {
+        RangeSet::from_items(Items::from_vec(ranges))
+    }
+
+    fn from_items(ranges: Items<KeyRange>) -> Self
+        requires { IsTrue (is_apart ranges) }
+        ensures { result ≡ ranges }
+    {
         RangeSet {
-            ranges: Items::from_vec(ranges),
+            ranges: SharedItems::from_items(ranges),
         }
     }
 
@@ -59,12 +67,20 @@ impl RangeSet {
     pub fn is_empty(&self) -> bool
         ensures { result ≡ (length self.now == 0) }
     {
-        self.ranges.is_empty()
+        self.ranges.as_slice().is_empty()
+    }
+
+    /// From now on copies share the ranges. Where memory runs out they go on being copies of each range; so it is never
+    /// refused. It takes O(1) time.
+    pub fn share(&mut self)
+        ensures { self.new ≡ self.old }
+    {
+        self.ranges.share();
     }
 
     /// Adds the keys of the range. An empty range adds nothing. For n ranges of the set it takes O(log n) comparisons
-    /// of bounds, O(1) more for each range that it touches, and O(n) to move the ranges behind it; `add_all` takes many
-    /// ranges at once. Refused only as `NoMemory`, and then nothing changes.
+    /// of bounds, O(1) more for each range that it touches, and O(n) to move the ranges behind it, or to copy all where
+    /// the set is shared; `add_all` takes many ranges at once. Refused only as `NoMemory`, and then nothing changes.
     pub fn add(&mut self, range: &KeyRange) -> Result<(), Refusal>
         ensures answers { Answers result None (λ _. (x : Point) → in_set self.new x
             ≡ (in_range range.now x || in_set self.old x)) }
@@ -75,7 +91,7 @@ impl RangeSet {
             return Ok(());
         }
         let Joined { start, end, range } = join(self.ranges.as_slice(), range)?;
-        self.ranges.replace(start, end, range)?;
+        put(&mut self.ranges, start, end, range)?;
         Ok(())
     }
 
@@ -89,7 +105,7 @@ impl RangeSet {
         ensures err { OnErr result (self.new ≡ self.old) }
     {
         let joined = join_all(self.ranges.allocator(), self.ranges.as_slice(), ranges)?;
-        self.ranges = Items::from_vec(joined);
+        self.ranges = SharedItems::from_items(Items::from_vec(joined));
         Ok(())
     }
 
@@ -101,7 +117,7 @@ impl RangeSet {
         ensures err { OnErr result (self.new ≡ self.old) }
     {
         let left = without(self.ranges.allocator(), self.ranges.as_slice(), range)?;
-        self.ranges = Items::from_vec(left);
+        self.ranges = SharedItems::from_items(Items::from_vec(left));
         Ok(())
     }
 
@@ -112,4 +128,51 @@ impl RangeSet {
     {
         self.ranges.as_slice().iter()
     }
+}
+
+// Puts the range in the place of those from `start` up to but not including `end`. Ranges that are shared are copied
+// first. Where memory runs out, nothing changes.
+fn put(
+    ranges: &mut SharedItems<KeyRange>,
+    start: usize,
+    end: usize,
+    range: KeyRange,
+) -> Result<(), AllocError>
+    requires order { start ≤ end }
+    requires within { end ≤ length ranges.old }
+    ensures ok { OnOk result (ranges.new ≡ take start ranges.old ++ range ∷ drop end ranges.old) }
+    ensures err { OnErr result (ranges.new ≡ ranges.old) }
+{
+    if let Some(range) = ranges.replace(start, end, range)? {
+        let alloc = ranges.allocator();
+        *ranges = replaced(alloc, ranges.as_slice(), start, end, range)?;
+    }
+    Ok(())
+}
+
+// Copies of the ranges, with the range in the place of those from `start` up to but not including `end`.
+fn replaced(
+    alloc: Global,
+    ranges: &[KeyRange],
+    start: usize,
+    end: usize,
+    range: KeyRange,
+) -> Result<SharedItems<KeyRange>, AllocError>
+    requires order { start ≤ end }
+    requires within { end ≤ length ranges.now }
+    ensures { IfOk result (λ made. made ≡ take start ranges.now ++ range ∷ drop end ranges.now) }
+{
+    let mut made = copies(alloc, ranges)?;
+    made.replace(start, end, range)?;
+    Ok(SharedItems::from_items(made))
+}
+
+fn copies(alloc: Global, ranges: &[KeyRange]) -> Result<Items<KeyRange>, AllocError>
+    ensures { IfOk result (λ made. made ≡ ranges.now) }
+{
+    let mut made = Items::new(alloc);
+    for range in ranges {
+        made.push(range.clone()?)?;
+    }
+    Ok(made)
 }

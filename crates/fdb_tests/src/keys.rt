@@ -376,6 +376,29 @@ fn copies_are_equal_and_items_come_in_order(rt: HostRuntime) {
     same(&rt, have_items(alloc), Ok([true, true]));
 }
 
+// A set whose ranges are shared, and a copy of it with one range more.
+fn shared_and_grown(alloc: Global) -> Result<(RangeSet, RangeSet), Refusal> {
+    let (mut set, range) = both(a_to_d(alloc), KeyRange::new(alloc, b"f", b"g"))?;
+    set.share();
+    let mut copy = set.clone()?;
+    copy.add(&range)?;
+    Ok((set, copy))
+}
+
+// Whether the shared set stays as it was, and the copy has the range more.
+fn grow_apart(alloc: Global) -> Result<[bool; 2], Refusal> {
+    let (set, copy) = shared_and_grown(alloc)?;
+    Ok([
+        are_ranges(set.iter().as_slice(), &[(b"a", b"d")]),
+        are_ranges(copy.iter().as_slice(), &[(b"a", b"d"), (b"f", b"g")]),
+    ])
+}
+
+#[test]
+fn a_copy_of_a_shared_set_grows_alone(rt: HostRuntime) {
+    same(&rt, grow_apart(rt.alloc()), Ok([true, true]));
+}
+
 // Whether a refusal is written as the text, alone and with what is handed back.
 fn is_written(alloc: Global, why: Refusal, text: &str) -> bool {
     let refused = Refused { why, back: 7u8 };

@@ -9,7 +9,8 @@ use fdb_mutations::Mutation;
 use std::alloc::Global;
 use std::marker::Model;
 
-/// A transaction that is ready to be judged: what it read and what it will write.
+/// A transaction that is ready to be judged: what it read and what it will write. Its copies share its sets, if there was
+/// memory for that when it was sealed; then a copy takes O(n) time for n mutations.
 #[derive(Clone, Drop, PartialEq, Eq)]
 pub struct Sealed {
     id: TxnId,
@@ -140,8 +141,9 @@ impl Sealed {
         }
     }
 
-    /// The same of a write set that has all that the mutations name. It takes no memory, and is refused only as
-    /// `TransactionTooLarge`.
+    /// The same of a write set that has all that the mutations name. It is refused only as `TransactionTooLarge`: what
+    /// memory it takes is for copies to share, and it does without where there is none. It takes O(n) time for n ranges
+    /// and mutations.
     pub fn from_joined(
         id: TxnId,
         read_version: u64,
@@ -161,13 +163,23 @@ impl Sealed {
         if size_of(&reads, &writes, mutations.as_slice()) > SIZE_LIMIT {
             return Err(refused(Refusal::TransactionTooLarge, reads, writes, mutations));
         }
-        Ok(Sealed {
+        let mut sealed = Sealed {
             id,
             read_version,
             reads,
             writes,
             mutations,
-        })
+        };
+        sealed.share();
+        Ok(sealed)
+    }
+
+    // From now on copies share the sets, as far as there is memory.
+    fn share(&mut self)
+        ensures { self.new ≡ self.old }
+    {
+        self.reads.share();
+        self.writes.share();
     }
 
     /// How many bytes the transaction has: those of both bounds of each range of its read set and of its write set,

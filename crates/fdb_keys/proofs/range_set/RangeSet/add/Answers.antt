@@ -13,14 +13,14 @@ returns-then-is_empty-clause-answers c = λ x.
 
 pub invariant_of-self-2 : goal.invariant_of-self-2
 invariant_of-self-2 c =
-    let ranges : c.replace.new.self ≡ inserted c.args.range.now c.self.inside.ranges =
-    c.in_ok-replace.ensures.ok ∙ rw (c.as_slice.ensures) at c.in_ok-start.ensures.list in
+    let ranges : c.put.new.ranges ≡ inserted c.args.range.now c.self.inside.ranges =
+    c.in_ok-put.ensures.ok ∙ rw (c.as_slice.ensures) at c.in_ok-start.ensures.list in
     let some : point_lt c.args.range.now.begin c.args.range.now.end ≡ true = not-false _ (search rules) in
     ap is_apart ranges ∙ apart-inserted c.args.range.now c.self.inside.ranges some c.self.invariant
 
 pub returns-clause-answers : goal.returns-clause-answers
 returns-clause-answers c = λ x.
-    let ranges : c.replace.new.self ≡ inserted c.args.range.now c.args.self.now =
-    c.in_ok-replace.ensures.ok ∙ rw (c.as_slice.ensures) at c.in_ok-start.ensures.list
+    let ranges : c.put.new.ranges ≡ inserted c.args.range.now c.args.self.now =
+    c.in_ok-put.ensures.ok ∙ rw (c.as_slice.ensures) at c.in_ok-start.ensures.list
     ∙ ap (inserted c.args.range.now) c.self.view_is in
     ap (λ (l : List Range). in_set l x) ranges ∙ in_inserted c.args.range.now c.args.self.now x

@@ -9,7 +9,7 @@ pub returns-clause-list : goal.returns-clause-list
 returns-clause-list c =
     let held = c.args.self.now in
     let joined = c.in_ok-joined.joined.items in
-    let made : c.from_vec.result ≡ joined = search rules in
+    let made : c.from_items.result ≡ joined = search rules in
     let apart : is_apart joined ≡ true = search rules in
     let held_apart : is_apart held ≡ true = ap is_apart (sym c.self.view_is) ∙ c.self.invariant in
     let points : (x : Point) → in_set joined x ≡ (in_set c.args.ranges.items x || in_set held x) = search rules in

@@ -6,10 +6,10 @@ use Rattle.fdb_keys.proofs.range_set.RangeSet.remove.Goals as goal
 
 pub invariant_of-self : goal.invariant_of-self
 invariant_of-self c =
-    let left : c.from_vec.result ≡ without_range c.args.range.now c.self.inside.ranges = search rules in
+    let left : c.from_items.result ≡ without_range c.args.range.now c.self.inside.ranges = search rules in
     ap is_apart left ∙ apart-without c.args.range.now c.self.inside.ranges c.self.invariant
 
 pub returns-clause-answers : goal.returns-clause-answers
 returns-clause-answers c = λ x.
-    let left : c.from_vec.result ≡ without_range c.args.range.now c.args.self.now = search rules in
+    let left : c.from_items.result ≡ without_range c.args.range.now c.args.self.now = search rules in
     ap (λ (l : List Range). in_set l x) left ∙ in_without c.args.range.now c.args.self.now x
