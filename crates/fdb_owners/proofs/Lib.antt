@@ -16,6 +16,7 @@ pub mod PlaceLemmas
 pub mod SameHistoryLemmas
 pub mod SoleLemmas
 pub mod SplitLemmas
+pub mod SpreadLemmas
 pub mod SweepingLemmas
 pub mod TouchedLemmas
 pub mod WalkLemmas

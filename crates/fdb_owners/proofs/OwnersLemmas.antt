@@ -1,12 +1,13 @@
 -- What owners say, by the pieces inside them.
 use Rattle.std.proofs.Common.{◌≡◌, ◌∙◌, sym, ap, subst, refl, ℕ, suc, ◌+◌, ◌<◌, ◌≤◌, Bool, ◌&&◌, ◌==◌, nat_le, List}
 use Rattle.std.proofs.Common.{length}
-use Rattle.std.proofs.Common.{[], ◌∷◌, max, true, Option, Some, None, Result, Ok, if◌then◌else◌, arith}
+use Rattle.std.proofs.Common.{[], ◌∷◌, max, true, Option, Some, None, Result, Ok, IfOk, if◌then◌else◌, arith}
 use Rattle.std.specs.List.{AllByRecursion}
-use Rattle.std.proofs.lemmas.Bool.{cond-true, cond-false, le-leb, lt-leb, eq-eqb, eqb-true}
+use Rattle.std.proofs.lemmas.Bool.{cond-true, cond-false, le-leb, lt-leb, eq-eqb}
+use Rattle.std.proofs.lemmas.Result.{IfOk-weaker}
 use Rattle.fdb_keys.specs.Answers.{Answers}
 use Rattle.fdb_keys.specs.Points.{Point}
-use Rattle.fdb_keys.specs.Ranges.{Range, in_range}
+use Rattle.fdb_keys.specs.Ranges.{Range, in_range, in_set}
 use Rattle.fdb_keys.specs.declared.refusal.Refusal.{Refusal}
 use Rattle.fdb_keys.specs.declared.refusal.Refusal.TheVariants.{BadConfig}
 use Rattle.fdb_txn.specs.declared.entry.Move.{Move}
@@ -23,6 +24,7 @@ use Rattle.fdb_owners.specs.Ownership.{Ownership, owner_at, resolvers_of, owned_
 use Rattle.fdb_owners.specs.Ownership.{owners_fault, learn_fault, IsNew, HasLearnt, HasExpired}
 use Rattle.fdb_owners.specs.Parts.{ArePartsOf, owned_from}
 use Rattle.fdb_owners.specs.Pieces.{history_at, joined, IsPieces, AgreeFrom}
+use Rattle.fdb_owners.specs.Spreads.{is_held, AreOwned}
 use Rattle.fdb_owners.proofs.AnswersLemmas.{answers-also}
 use Rattle.fdb_owners.proofs.ChangesLemmas.{owner-below}
 use Rattle.fdb_owners.proofs.HistoryLemmas.{owner-through, up_to-weaken}
@@ -156,29 +158,6 @@ module _ (splits : List Point) (pieces : Pieces) (last floor : ℕ) (are : IsPie
       ∙ ap (λ (one : History). any_between (λ v. owner_in one v == i) from version)
       (sym (value-joined pieces.front pieces.breaks.entries x rising))
 
-  pub sole-within : (self : Ownership) → seen_as splits pieces last floor ≡ self → (sole : ℕ)
-      → ((resolvers known : ℕ) → IsPieces resolvers known pieces → sole < resolvers) → sole < resolvers_of self
-  sole-within self seen sole within =
-      subst (λ (owners : Ownership). sole < resolvers_of owners) seen (within (suc (length splits)) last are)
-
-  pub sole-writer : (self : Ownership) → seen_as splits pieces last floor ≡ self → (x : Point) (sole : ℕ)
-      → ((i : ℕ) → owned_from (history_at pieces x) i last last ≡ (sole == i)) → (v : ℕ) → self.last ≤ v
-      → owner_at self x v ≡ sole
-  sole-writer self seen x sole alone v from =
-      settled-seen self seen x v from
-      ∙ subst (λ (owners : Ownership). owner_at owners x owners.last ≡ sole) seen
-      (owner-seen x last
-      ∙ eqb-true (owner_in (history_at pieces x) last) sole
-      (sym (owned_from-one (history_at pieces x) sole last) ∙ alone sole ∙ eq-eqb sole sole refl))
-
-  pub sole-reader : (self : Ownership) → seen_as splits pieces last floor ≡ self → (x : Point)
-      (from since version : ℕ) → since ≡ suc from → from < version → (sole i : ℕ)
-      → owned_from (history_at pieces x) i since version ≡ (sole == i)
-      → owned_between self i x from version ≡ (sole == i)
-  sole-reader self seen x from since version is order sole i alone =
-      subst (λ (owners : Ownership). owned_between owners i x from version ≡ (sole == i)) seen
-      (sym (owned-seen i from since version x is order) ∙ alone)
-
   pub readers-answers : (self : Ownership) → seen_as splits pieces last floor ≡ self → (range : Range)
       (from since version : ℕ) → since ≡ suc from → from < version → (result : Result (List Owned) Refusal)
       → Answers result None (λ parts. (resolvers known : ℕ) → IsPieces resolvers known pieces
@@ -194,6 +173,48 @@ module _ (splits : List Point) (pieces : Pieces) (last floor : ℕ) (are : IsPie
       parts-alike (suc (length splits)) _ _ parts (are_parts (suc (length splits)) last are)
       (λ i x. ap (λ (owned : Bool). in_range range x && owned)
       (owned-seen i from since version x is order)))
+      answered)
+
+  pub owned-answers : (self : Ownership) → seen_as splits pieces last floor ≡ self
+      → (result : Result (List Owned) Refusal)
+      → IfOk result (λ parts. (resolvers known : ℕ) → IsPieces resolvers known pieces → AreOwned resolvers parts)
+      → IfOk result (AreOwned (resolvers_of self))
+  owned-answers self seen result owned =
+      subst (λ (owners : Ownership). IfOk result (AreOwned (resolvers_of owners))) seen
+      (IfOk-weaker result _ (AreOwned (suc (length splits)))
+      (λ parts are_owned. are_owned (suc (length splits)) last are) owned)
+
+  pub writers-held : (self : Ownership) → seen_as splits pieces last floor ≡ self → (set : List Range)
+      (result : Result (List Owned) Refusal)
+      → Answers result None (λ parts. (i : ℕ) (x : Point)
+      → is_held parts i x ≡ (in_set set x && owned_from (history_at pieces x) i last last))
+      → Answers result None (λ parts. (version : ℕ) → self.last ≤ version → (i : ℕ) (x : Point)
+      → is_held parts i x ≡ (in_set set x && (owner_at self x version == i)))
+  writers-held self seen set result answered =
+      answers-also result None _ _
+      (λ parts held version from i x.
+      held i x
+      ∙ ap (λ (owned : Bool). in_set set x && owned)
+      (owned_from-one (history_at pieces x) i last
+      ∙ ap (λ (owner : ℕ). owner == i)
+      (subst (λ (owners : Ownership). owner_in (history_at pieces x) last ≡ owner_at owners x owners.last) seen
+      (sym (owner-seen x last))
+      ∙ sym (settled-seen self seen x version from))))
+      answered
+
+  pub readers-held : (self : Ownership) → seen_as splits pieces last floor ≡ self → (set : List Range)
+      (from since version : ℕ) → since ≡ suc from → from < version → (result : Result (List Owned) Refusal)
+      → Answers result None (λ parts. (i : ℕ) (x : Point)
+      → is_held parts i x ≡ (in_set set x && owned_from (history_at pieces x) i since version))
+      → Answers result None (λ parts. (i : ℕ) (x : Point)
+      → is_held parts i x ≡ (in_set set x && owned_between self i x from version))
+  readers-held self seen set from since version is order result answered =
+      subst
+      (λ (owners : Ownership). Answers result None (λ parts. (i : ℕ) (x : Point)
+      → is_held parts i x ≡ (in_set set x && owned_between owners i x from version))) seen
+      (answers-also result None _ _
+      (λ parts held i x.
+      held i x ∙ ap (λ (owned : Bool). in_set set x && owned) (owned-seen i from since version x is order))
       answered)
 
 -- ---- what calls leave

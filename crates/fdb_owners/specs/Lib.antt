@@ -5,3 +5,4 @@ pub mod Ownership
 pub mod OwnersLaws
 pub mod Parts
 pub mod Pieces
+pub mod Spreads

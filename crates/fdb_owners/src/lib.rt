@@ -8,6 +8,7 @@ mod owners;
 mod parts;
 mod pieces;
 mod sole;
+mod spreading;
 mod sweeping;
 
 pub use owners::Owners;

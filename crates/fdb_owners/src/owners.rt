@@ -2,7 +2,7 @@ use crate::history::History;
 use crate::learning::learn_moves;
 use crate::parts::{Owned, Span, parts_of};
 use crate::pieces::{Pieces, first_pieces};
-use crate::sole::sole_owner;
+use crate::spreading::spread;
 use crate::sweeping::sweep;
 use bytes::Bytes;
 use fdb_keys::{Items, Key, KeyRange, RangeSet, Refusal};
@@ -58,14 +58,14 @@ impl Model for Owners {
 }
 
 impl Owners {
-    ghost use Rattle.std.specs.Prelude.{◌≡◌, ◌<◌, ◌≤◌, ◌&&◌, ◌==◌, ℕ, true, None, All, OnErr, IfSome};
+    ghost use Rattle.std.specs.Prelude.{◌≡◌, ◌<◌, ◌≤◌, ◌&&◌, ◌==◌, ℕ, None, All, OnErr, IfOk};
     ghost use Rattle.fdb_keys.specs.Answers.{Answers};
     ghost use Rattle.fdb_keys.specs.Points.{Point};
     ghost use Rattle.fdb_keys.specs.Ranges.{in_range, in_set};
-    ghost use Rattle.fdb_txn.specs.rules.Admission.{has_points};
     ghost use Rattle.fdb_owners.specs.Ownership.{owner_at, resolvers_of, owned_between, changes_of, owners_fault};
     ghost use Rattle.fdb_owners.specs.Ownership.{learn_fault, IsNew, HasLearnt, HasExpired};
     ghost use Rattle.fdb_owners.specs.Parts.{ArePartsOf};
+    ghost use Rattle.fdb_owners.specs.Spreads.{is_held, AreOwned};
 
     /// The owners at first, of so many resolvers: the first one owns the keys before the first split, and each
     /// further one those from a split on. Refused as `BadConfig` unless there is one split less than there are
@@ -166,39 +166,46 @@ impl Owners {
         parts_of(self.alloc, &self.pieces, range, span)
     }
 
-    /// The resolver that alone owns all keys of the set at the last version learnt, and so from that version on, if one
-    /// look finds it: no breakpoint lies between the set's first begin and its last end. `None` also where the set is
-    /// empty. It takes O(log n) for the n breakpoints, and no memory.
-    pub fn sole_writer(&self, set: &RangeSet) -> Option<u32>
-        ensures some { IfSome result (λ _. has_points set.now ≡ true) }
-        ensures within { IfSome result (λ sole. sole < resolvers_of self.now) }
-        ensures alone { IfSome result (λ sole. (v : ℕ) → self.now.last ≤ v → (x : Point)
-            → in_set set.now x ≡ true → owner_at self.now x v ≡ sole) }
+    /// The parts of the set, by who owns each key at the last version learnt, and so from that version on. A resolver
+    /// may have several of them, in no promised order, and each has a key; an empty set has none. Mostly one look finds
+    /// one owner of all keys: no breakpoint lies between the set's first begin and its last end. Then there is one
+    /// part, a copy of the whole set, which is O(1) where the set is shared. Refused only as `NoMemory`. It takes
+    /// O(log n) for the n breakpoints where one look finds the owner, else what `writers` takes for each range.
+    pub fn writers_of(&self, set: &RangeSet) -> Result<Items<Owned>, Refusal>
+        ensures owned { IfOk result (AreOwned (resolvers_of self.now)) }
+        ensures held { Answers result None (λ parts. (version : ℕ) → self.now.last ≤ version → (i : ℕ) (x : Point)
+            → is_held parts i x ≡ (in_set set.now x && (owner_at self.now x version == i))) }
     {
         let span = Span {
             since: self.last,
             through: self.last,
         };
-        sole_owner(&self.pieces, set, span)
+        spread(self.alloc, &self.pieces, set, span)
     }
 
-    /// The resolver that alone owned all keys of the set at each version above `from` and at most `version`, if one look
-    /// finds it: no breakpoint lies between the set's first begin and its last end, and no change there at those
-    /// versions. `None` also where the set is empty. `from` lies below `version`, and not below a version that expired.
-    /// It takes O(log n) for the n breakpoints, and no memory.
-    pub fn sole_reader(&self, set: &RangeSet, from: u64, version: u64) -> Option<u32>
+    /// The parts of the set, by who owned each key at some version above `from` and at most `version`. `from` lies
+    /// below `version`, and not below a version that expired. A resolver may have several of them, in no promised
+    /// order, and each has a key; an empty set has none. Mostly one look finds one owner of all keys, as for
+    /// `writers_of`: besides, nothing changed there at those versions. Then there is one part, a copy of the whole set,
+    /// which is O(1) where the set is shared. Refused only as `NoMemory`. It takes O(log n) for the n breakpoints where
+    /// one look finds the owner, else what `readers` takes for each range.
+    pub fn readers_of(
+        &self,
+        set: &RangeSet,
+        from: u64,
+        version: u64,
+    ) -> Result<Items<Owned>, Refusal>
         requires order { from < version }
         requires floor { self.now.floor ≤ from }
-        ensures some { IfSome result (λ _. has_points set.now ≡ true) }
-        ensures within { IfSome result (λ sole. sole < resolvers_of self.now) }
-        ensures alone { IfSome result (λ sole. (i : ℕ) (x : Point) → in_set set.now x ≡ true
-            → owned_between self.now i x from version ≡ (sole == i)) }
+        ensures owned { IfOk result (AreOwned (resolvers_of self.now)) }
+        ensures held { Answers result None (λ parts. (i : ℕ) (x : Point)
+            → is_held parts i x ≡ (in_set set.now x && owned_between self.now i x from version)) }
     {
         let span = Span {
             since: from + 1,
             through: version,
         };
-        sole_owner(&self.pieces, set, span)
+        spread(self.alloc, &self.pieces, set, span)
     }
 
     /// Says that no reader will ask for a span that begins below the version. What is answered of the last version

@@ -19,12 +19,13 @@ use Rattle.fdb_txn.specs.rules.Admission.{has_points}
 use Rattle.fdb_txn.proofs.rules.AskedLemmas.{points_from-in_set, point_of-set}
 use Rattle.fdb_txn.proofs.book.HistoryLemmas.{all-append, all-weaken}
 use Rattle.fdb_owners.specs.declared.parts.Owned.{Owned}
+use Rattle.fdb_owners.specs.Spreads.{is_held}
 use Rattle.fdb_resolver.specs.declared.part.Item.{Item}
 use Rattle.fdb_proxy.specs.declared.parting.Kind.{Kind}
 use Rattle.fdb_proxy.specs.declared.parting.Kind.TheVariants.{Reads, Writes}
 use Rattle.fdb_proxy.specs.declared.parting.Head.{Head}
 use Rattle.fdb_proxy.specs.declared.parting.Spread.{Spread}
-use Rattle.fdb_proxy.specs.Spreads.{is_held, IsSpreadOf, IsItemIfAsked}
+use Rattle.fdb_proxy.specs.Spreads.{IsSpreadOf, IsItemIfAsked}
 use Rattle.fdb_proxy.specs.Held.{Held, is_kind, with_ranges, with_parts, IsItemWith, IsItemSoFar}
 use Rattle.fdb_proxy.specs.Held.{EndsWithItem, IsBelow, is_at, items_at}
 use Rattle.fdb_proxy.proofs.PartingLemmas.{unasked, asked}

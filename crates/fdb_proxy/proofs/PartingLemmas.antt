@@ -13,12 +13,13 @@ use Rattle.fdb_txn.specs.rules.Owners.{is_asked}
 use Rattle.fdb_txn.specs.rules.Resolvers.{part_reads, part_writes}
 use Rattle.fdb_txn.proofs.rules.AskedLemmas.{points_from-in_set, point_of-set}
 use Rattle.fdb_txn.proofs.rules.CornersLemmas.{asked_at_some_point}
+use Rattle.fdb_owners.specs.Spreads.{is_held}
 use Rattle.fdb_resolver.specs.declared.part.Item.{Item}
 use Rattle.fdb_resolver.specs.declared.part.Part.{Part}
 use Rattle.fdb_resolver.specs.RuleLaws.{IsItemOf}
 use Rattle.fdb_proxy.specs.declared.parting.Spread.{Spread}
 use Rattle.fdb_proxy.specs.Parting.{AreItems}
-use Rattle.fdb_proxy.specs.Spreads.{is_held, IsSpreadOf, AreSpreadsOf, IsItemIfAsked}
+use Rattle.fdb_proxy.specs.Spreads.{IsSpreadOf, AreSpreadsOf, IsItemIfAsked}
 
 -- two sets of what resolver i holds of a place's reads and writes
 module _ (splits : List Point) (i : ℕ) (place : Place) (spread : Spread) (reads writes : List Range)

@@ -6,13 +6,13 @@ use Rattle.std.specs.declared.alloc.Global.{Global}
 use Rattle.fdb_keys.specs.Points.{Point}
 use Rattle.fdb_keys.specs.Ranges.{Range, in_set}
 use Rattle.fdb_owners.specs.declared.parts.Owned.{Owned}
+use Rattle.fdb_owners.specs.Spreads.{is_held}
 use Rattle.fdb_resolver.specs.declared.part.Item.{Item}
 use Rattle.fdb_resolver.specs.declared.part.Part.{Part}
 use Rattle.fdb_proxy.specs.declared.parting.Kind.{Kind}
 use Rattle.fdb_proxy.specs.declared.parting.Kind.TheVariants.{Reads, Writes}
 use Rattle.fdb_proxy.specs.declared.parting.Head.{Head}
 use Rattle.fdb_proxy.specs.declared.position.Position.{Position}
-use Rattle.fdb_proxy.specs.Spreads.{is_held}
 
 -- which points of the reads, and which of the writes, a resolver holds
 abbrev pub Held : Type 0

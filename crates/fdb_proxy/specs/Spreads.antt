@@ -1,27 +1,18 @@
 -- A transaction of a batch, spread over the resolvers that are asked about it.
-use Rattle.std.specs.Prelude.{◌≡◌, ◌<◌, ℕ, Bool, true, false, ◌&&◌, ◌==◌, List, All, Option, MatchOption}
-use Rattle.std.specs.List.{list_any, AllZip}
+use Rattle.std.specs.Prelude.{◌≡◌, ℕ, true, false, List, Option, MatchOption}
+use Rattle.std.specs.List.{AllZip}
 use Rattle.fdb_keys.specs.Points.{Point}
-use Rattle.fdb_keys.specs.Ranges.{in_set}
 use Rattle.fdb_txn.specs.book.Book.{Stamped, Place, placed}
 use Rattle.fdb_txn.specs.book.Transactions.{Transaction}
 use Rattle.fdb_txn.specs.rules.Admission.{has_points}
 use Rattle.fdb_txn.specs.rules.Owners.{is_asked}
 use Rattle.fdb_txn.specs.rules.Resolvers.{part_reads, part_writes}
-use Rattle.fdb_owners.specs.declared.parts.Owned.{Owned}
+use Rattle.fdb_owners.specs.Spreads.{is_held, AreOwned}
 use Rattle.fdb_resolver.specs.declared.part.Item.{Item}
 use Rattle.fdb_resolver.specs.RuleLaws.{IsItemOf}
 use Rattle.fdb_proxy.specs.declared.parting.Spread.{Spread}
 
--- the point lies in a part of resolver i
-abbrev pub is_held : List Owned → ℕ → Point → Bool
-is_held parts i x = list_any (λ (part : Owned). (part.resolver == i) && in_set part.ranges x) parts
-
--- each part is of one of so many resolvers, and has a point
-abbrev pub AreOwned : ℕ → List Owned → Type 0
-AreOwned resolvers = All (λ (part : Owned). (part.resolver < resolvers) × (has_points part.ranges ≡ true))
-
--- so is each part of the spread
+-- each part of the spread is of one of so many resolvers, and has a point
 pub record IsOwned (resolvers : ℕ) (spread : Spread) : Type 0 where
   pub reads : AreOwned resolvers spread.reads
   pub writes : AreOwned resolvers spread.writes

@@ -1,5 +1,5 @@
 // What each resolver is sent of a batch.
-ghost use Rattle.std.specs.Prelude.{◌≡◌, ◌<◌, ◌≤◌, ◌-◌, ◌^◌, ◌&&◌, ◌||◌, ◌==◌, ◌++◌, ℕ, All, List, length, None, Option};
+ghost use Rattle.std.specs.Prelude.{◌≡◌, ◌<◌, ◌≤◌, ◌-◌, ◌^◌, ◌||◌, ◌++◌, ℕ, All, List, length, None, Option};
 ghost use Rattle.std.specs.Prelude.{◌∷◌, [], true, suc, slice_get, Some, IfOk};
 ghost use Rattle.std.specs.Option.{option_to_list};
 ghost use Rattle.std.specs.List.{AllByRecursion};
@@ -10,10 +10,11 @@ ghost use Rattle.fdb_txn.specs.book.Book.{Stamped, Place, placed};
 ghost use Rattle.fdb_txn.specs.book.Transactions.{Transaction};
 ghost use Rattle.fdb_txn.specs.rules.Admission.{has_points};
 ghost use Rattle.fdb_txn.specs.rules.Owners.{window};
-ghost use Rattle.fdb_owners.specs.Ownership.{owner_at, owned_between, resolvers_of};
+ghost use Rattle.fdb_owners.specs.Ownership.{resolvers_of};
 ghost use Rattle.fdb_owners.specs.OwnersLaws.{AgreesWith};
+ghost use Rattle.fdb_owners.specs.Spreads.{AreOwned};
 ghost use Rattle.fdb_proxy.specs.Parting.{AreItems, AreParts};
-ghost use Rattle.fdb_proxy.specs.Spreads.{is_held, AreOwned, IsOwned, IsSpreadOf, AreSpreadsOf, IsItemIfAsked};
+ghost use Rattle.fdb_proxy.specs.Spreads.{IsOwned, IsSpreadOf, AreSpreadsOf, IsItemIfAsked};
 ghost use Rattle.fdb_proxy.specs.Held.{Held, with_ranges, with_parts, is_at, IsBelow, IsItemWith, EndsWithItem};
 ghost use Rattle.fdb_proxy.specs.Held.{items_at, IsPartWith};
 
@@ -52,62 +53,8 @@ fn has_points(set: &RangeSet) -> bool
     set.iter().any(|range| !range.is_empty())
 }
 
-// The whole set as the part of one resolver.
-fn sole_part(alloc: Global, resolver: u32, set: &RangeSet) -> Result<Items<Owned>, Refusal>
-    ensures { Answers result None (λ parts. parts ≡ record { resolver = resolver; ranges = set.now } ∷ []) }
-{
-    let ranges = set.clone()?;
-    let mut parts = Items::new(alloc);
-    parts.push(Owned { resolver, ranges })?;
-    Ok(parts)
-}
-
-// The parts of the reads, by who owned them at some version above `from` and at most `version`. Mostly one resolver did.
-fn spread_reads(
-    alloc: Global,
-    owners: &Owners,
-    reads: &RangeSet,
-    from: u64,
-    version: u64,
-) -> Result<Items<Owned>, Refusal>
-    requires order { from < version }
-    requires kept { owners.now.floor ≤ from }
-    ensures owned { IfOk result (AreOwned (resolvers_of owners.now)) }
-    ensures held { Answers result None (λ parts. (i : ℕ) (x : Point)
-        → is_held parts i x ≡ (in_set reads.now x && owned_between owners.now i x from version)) }
-{
-    if let Some(resolver) = owners.sole_reader(reads, from, version) {
-        let parts = sole_part(alloc, resolver, reads)?;
-        return Ok(parts);
-    }
-    let mut parts = Vec::new(alloc);
-    for range in reads.iter() {
-        let mut more = owners.readers(range, from, version)?.into_vec();
-        parts.append(&mut more)?;
-    }
-    Ok(Items::from_vec(parts))
-}
-
-// The parts of the writes, by who owns them from the last version learnt on. Mostly one resolver does.
-fn spread_writes(alloc: Global, owners: &Owners, writes: &RangeSet) -> Result<Items<Owned>, Refusal>
-    ensures owned { IfOk result (AreOwned (resolvers_of owners.now)) }
-    ensures held { Answers result None (λ parts. (version : ℕ) → owners.now.last ≤ version → (i : ℕ) (x : Point)
-        → is_held parts i x ≡ (in_set writes.now x && (owner_at owners.now x version == i))) }
-{
-    if let Some(resolver) = owners.sole_writer(writes) {
-        let parts = sole_part(alloc, resolver, writes)?;
-        return Ok(parts);
-    }
-    let mut parts = Vec::new(alloc);
-    for range in writes.iter() {
-        let mut more = owners.writers(range)?.into_vec();
-        parts.append(&mut more)?;
-    }
-    Ok(Items::from_vec(parts))
-}
-
 // A transaction of the entry with the version, spread by owners that have learnt the moves through it.
-fn spread_txn(alloc: Global, owners: &Owners, version: u64, txn: &Sealed) -> Result<Spread, Refusal>
+fn spread_txn(owners: &Owners, version: u64, txn: &Sealed) -> Result<Spread, Refusal>
     requires later { txn.now.read < version }
     requires learnt { owners.now.last ≤ version }
     requires kept { owners.now.floor ≤ version - window }
@@ -117,8 +64,8 @@ fn spread_txn(alloc: Global, owners: &Owners, version: u64, txn: &Sealed) -> Res
 {
     let read_version = txn.read_version();
     let from = read_version.max(version.saturating_sub(WINDOW));
-    let reads = spread_reads(alloc, owners, txn.reads(), from, version)?;
-    let writes = spread_writes(alloc, owners, txn.writes())?;
+    let reads = owners.readers_of(txn.reads(), from, version)?;
+    let writes = owners.writers_of(txn.writes())?;
     let head = Head {
         read_version,
         has_reads: has_points(txn.reads()),
@@ -147,7 +94,7 @@ fn spread_batch(
 {
     let mut spreads = Items::new(alloc);
     for txn in batch {
-        spreads.push(spread_txn(alloc, owners, version, txn)?)?;
+        spreads.push(spread_txn(owners, version, txn)?)?;
     }
     Ok(spreads)
 }

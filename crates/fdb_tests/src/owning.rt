@@ -137,40 +137,123 @@ fn moved_keys_belong_to_the_target(rt: HostRuntime) {
     }
 }
 
+// Ranges, by their bounds.
+type Bounds = &'static [(&'static [u8], &'static [u8])];
+
+// A part of a resolver, of some ranges.
+type SetPartOf = (u32, Bounds);
+
 // Whether the keys from m to t went over at version 300, a set, the version above which and the one up to which it was
-// read, who alone owned all its keys then, and who alone owns them now.
+// read, its parts by who owned the keys then, and those by who owns them now.
 type Asked = (
     bool,
-    &'static [(&'static [u8], &'static [u8])],
+    Bounds,
     u64,
     u64,
-    Option<u32>,
-    Option<u32>,
+    &'static [SetPartOf],
+    &'static [SetPartOf],
 );
 
-const SOLE_OWNERS: &[Asked] = &[
-    (false, &[(b"a", b"c")], 0, 100, Some(0), Some(0)),
-    (false, &[(b"n", b"p")], 0, 100, Some(1), Some(1)),
+const SETS: &[Asked] = &[
+    (
+        false,
+        &[(b"a", b"c")],
+        0,
+        100,
+        &[(0, &[(b"a", b"c")])],
+        &[(0, &[(b"a", b"c")])],
+    ),
+    (
+        false,
+        &[(b"n", b"p")],
+        0,
+        100,
+        &[(1, &[(b"n", b"p")])],
+        &[(1, &[(b"n", b"p")])],
+    ),
     // The ranges of a set lie on one side of the split, or on both.
     (
         false,
         &[(b"a", b"b"), (b"c", b"m")],
         0,
         100,
-        Some(0),
-        Some(0),
+        &[(0, &[(b"a", b"b"), (b"c", b"m")])],
+        &[(0, &[(b"a", b"b"), (b"c", b"m")])],
     ),
-    (false, &[(b"a", b"b"), (b"n", b"p")], 0, 100, None, None),
-    (false, &[(b"a", b"z")], 0, 100, None, None),
-    (false, &[], 0, 100, None, None),
+    (
+        false,
+        &[(b"a", b"b"), (b"n", b"p")],
+        0,
+        100,
+        &[(0, &[(b"a", b"b")]), (1, &[(b"n", b"p")])],
+        &[(0, &[(b"a", b"b")]), (1, &[(b"n", b"p")])],
+    ),
+    (
+        false,
+        &[(b"a", b"z")],
+        0,
+        100,
+        &[(0, &[(b"a", b"m")]), (1, &[(b"m", b"z")])],
+        &[(0, &[(b"a", b"m")]), (1, &[(b"m", b"z")])],
+    ),
+    (false, &[], 0, 100, &[], &[]),
     // Keys that went over had one owner up to the version before, two in a span over it, and one from it on.
-    (true, &[(b"n", b"p")], 100, 299, Some(1), Some(0)),
-    (true, &[(b"n", b"p")], 100, 300, None, Some(0)),
-    (true, &[(b"n", b"p")], 299, 300, Some(0), Some(0)),
-    (true, &[(b"m", b"t")], 300, 400, Some(0), Some(0)),
-    (true, &[(b"s", b"u")], 300, 400, None, None),
-    (true, &[(b"t", b"z")], 100, 400, Some(1), Some(1)),
-    (true, &[(b"a", b"c")], 100, 400, Some(0), Some(0)),
+    (
+        true,
+        &[(b"n", b"p")],
+        100,
+        299,
+        &[(1, &[(b"n", b"p")])],
+        &[(0, &[(b"n", b"p")])],
+    ),
+    (
+        true,
+        &[(b"n", b"p")],
+        100,
+        300,
+        &[(0, &[(b"n", b"p")]), (1, &[(b"n", b"p")])],
+        &[(0, &[(b"n", b"p")])],
+    ),
+    (
+        true,
+        &[(b"n", b"p")],
+        299,
+        300,
+        &[(0, &[(b"n", b"p")])],
+        &[(0, &[(b"n", b"p")])],
+    ),
+    (
+        true,
+        &[(b"m", b"t")],
+        300,
+        400,
+        &[(0, &[(b"m", b"t")])],
+        &[(0, &[(b"m", b"t")])],
+    ),
+    (
+        true,
+        &[(b"s", b"u")],
+        300,
+        400,
+        &[(0, &[(b"s", b"t")]), (1, &[(b"t", b"u")])],
+        &[(0, &[(b"s", b"t")]), (1, &[(b"t", b"u")])],
+    ),
+    (
+        true,
+        &[(b"t", b"z")],
+        100,
+        400,
+        &[(1, &[(b"t", b"z")])],
+        &[(1, &[(b"t", b"z")])],
+    ),
+    (
+        true,
+        &[(b"a", b"c")],
+        100,
+        400,
+        &[(0, &[(b"a", b"c")])],
+        &[(0, &[(b"a", b"c")])],
+    ),
 ];
 
 // The owners before the move, or those that learnt it.
@@ -183,42 +266,73 @@ fn before_or_after(alloc: Global, is_moved: bool) -> Result<Owners, Refusal>
     two_resolvers(alloc)
 }
 
-// Who alone owned all keys of the set at the versions above `from` and at most `version`, and who does now.
-fn alone(
-    owners: &Owners,
-    set: Result<RangeSet, Refusal>,
-    from: u64,
-    version: u64,
-) -> Result<(Option<u32>, Option<u32>), u32>
-    requires order { from < version }
-    requires floor { owners.now.floor ≤ from }
-{
-    match set {
-        Ok(set) => Ok((
-            owners.sole_reader(&set, from, version),
-            owners.sole_writer(&set),
-        )),
+// Whether one of the parts is that one.
+fn is_among(parts: &[Owned], wanted: &SetPartOf) -> bool {
+    for part in parts {
+        if part.resolver == wanted.0 && are_ranges(part.ranges.iter().as_slice(), wanted.1) {
+            return true;
+        }
+    }
+    false
+}
+
+// Whether these are just those parts, no two of which are the same, in any order.
+fn are_set_parts(parts: &[Owned], wanted: &[SetPartOf]) -> bool {
+    for one in wanted {
+        if !is_among(parts, one) {
+            return false;
+        }
+    }
+    parts.len() == wanted.len()
+}
+
+// Whether the call gave just those parts.
+fn gave_set(answer: Result<Items<Owned>, Refusal>, wanted: &[SetPartOf]) -> Result<bool, u32> {
+    match answer {
+        Ok(parts) => Ok(are_set_parts(parts.as_slice(), wanted)),
         Err(why) => Err(why.code()),
     }
 }
 
+// Whether the parts of the set are just those: by who owned its keys at some version above `from` and at most
+// `version`, and by who owns them now.
+fn are_parted(
+    owners: &Owners,
+    set: &RangeSet,
+    from: u64,
+    version: u64,
+    readers: &[SetPartOf],
+    writers: &[SetPartOf],
+) -> (Result<bool, u32>, Result<bool, u32>)
+    requires order { from < version }
+    requires floor { owners.now.floor ≤ from }
+{
+    (
+        gave_set(owners.readers_of(set, from, version), readers),
+        gave_set(owners.writers_of(set), writers),
+    )
+}
+
 // The same as a row asks it.
-fn alone_by(alloc: Global, row: &Asked) -> Result<(Option<u32>, Option<u32>), u32> {
-    let (is_moved, bounds, from, version, _, _) = *row;
+fn are_parted_by(
+    alloc: Global,
+    row: &Asked,
+) -> Result<(Result<bool, u32>, Result<bool, u32>), u32> {
+    let (is_moved, bounds, from, version, readers, writers) = *row;
     if version <= from {
         return Err(0);
     }
-    match before_or_after(alloc, is_moved) {
-        Ok(owners) => alone(&owners, set_of(alloc, bounds), from, version),
-        Err(why) => Err(why.code()),
+    match (before_or_after(alloc, is_moved), set_of(alloc, bounds)) {
+        (Ok(owners), Ok(set)) => Ok(are_parted(&owners, &set, from, version, readers, writers)),
+        (Err(why), _) | (_, Err(why)) => Err(why.code()),
     }
 }
 
 #[test]
-fn a_set_on_one_side_has_one_owner(rt: HostRuntime) {
+fn a_set_is_parted_by_its_owners(rt: HostRuntime) {
     let alloc = rt.alloc();
-    for row in SOLE_OWNERS {
-        same(&rt, alone_by(alloc, row), Ok((row.4, row.5)));
+    for row in SETS {
+        same(&rt, are_parted_by(alloc, row), Ok((Ok(true), Ok(true))));
     }
 }
 

@@ -5,8 +5,8 @@ use Rattle.std.proofs.lemmas.List.{length-set, nil_from_length}
 use Rattle.std.proofs.lemmas.List.Elements.{All-head, All-tail}
 use Rattle.fdb_txn.specs.rules.Admission.{has_points}
 use Rattle.fdb_owners.specs.declared.parts.Owned.{Owned}
+use Rattle.fdb_owners.specs.Spreads.{AreOwned}
 use Rattle.fdb_proxy.specs.Held.{EndsWithItem, with_parts, items_at}
-use Rattle.fdb_proxy.specs.Spreads.{AreOwned}
 use Rattle.fdb_proxy.proofs.HeldLemmas.{held-next, items_at-is}
 use Rattle.fdb_proxy.proofs.parting.hold_all.Goals as goal
 

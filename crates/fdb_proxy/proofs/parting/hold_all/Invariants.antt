@@ -1,9 +1,9 @@
 use Rattle.std.proofs.Common.{◌≡◌, ◌<◌, ℕ, List, ◌++◌, length}
 use Rattle.std.specs.List.{AllByRecursion}
 use Rattle.std.specs.Vec.Iter.{into_iter_items}
+use Rattle.fdb_owners.specs.Spreads.{AreOwned}
 use Rattle.fdb_resolver.specs.declared.part.Item.{Item}
 use Rattle.fdb_proxy.specs.Held.{Held, with_parts, EndsWithItem, IsBelow, items_at}
-use Rattle.fdb_proxy.specs.Spreads.{AreOwned}
 use Rattle.fdb_proxy.proofs.parting.hold_all.Given as goal
 
 abbrev pub invariant-loop-part : goal.invariant-loop-part

@@ -2,7 +2,7 @@ use Rattle.std.proofs.Common.{◌∙◌, ap, [], ◌∷◌, ◌++◌, List}
 use Rattle.fdb_keys.specs.Ranges.{Range}
 use Rattle.fdb_txn.proofs.CloneLemmas.{same_set}
 use Rattle.fdb_owners.specs.declared.parts.Owned.{Owned}
-use Rattle.fdb_proxy.proofs.parting.sole_part.Goals as goal
+use Rattle.fdb_owners.proofs.spreading.sole_part.Goals as goal
 
 pub returns : goal.returns
 returns c =
