@@ -13,7 +13,7 @@ use std::marker::Model;
 // How many breakpoints an expiry looks at for each one that was touched since the last expiry, and how many more.
 const LOOKS_FOR_A_CHANGE: u64 = 4;
 
-const LOOKS: u64 = 32;
+const LOOKS: u64 = 4;
 
 // How often the last breakpoint is come to once all that was learnt has expired: since the first time may end a round
 // that began before, nothing is left to be taken out after the second one.
