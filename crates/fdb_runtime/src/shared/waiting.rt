@@ -1,4 +1,5 @@
 // How a thread waits for what comes under a lock.
+use crossbeam_channel::Receiver;
 use std::sync::{Mutex, Wait};
 use std::thread::yield_now;
 
@@ -13,6 +14,16 @@ pub(crate) fn give_way<R: Wait, T, F: Fn(&T) -> bool>(rt: &R, lock: &Mutex<T>, i
 {
     for _turn in 0..TURNS {
         if !is_awaited(&*lock.lock(rt)) {
+            return;
+        }
+        yield_now();
+    }
+}
+
+/// The same for a message that is to be received.
+pub(crate) fn give_way_to_senders<T: Drop>(from: &Receiver<T>) {
+    for _turn in 0..TURNS {
+        if !from.is_empty() {
             return;
         }
         yield_now();

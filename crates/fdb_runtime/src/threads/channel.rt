@@ -2,6 +2,7 @@
 ghost use Rattle.std.specs.Prelude.{◌≡◌, IfErr};
 ghost use Rattle.fdb_keys.specs.declared.refusal.Refusal.TheVariants.{NoMemory};
 
+use crate::shared::waiting::give_way_to_senders;
 use crossbeam_channel::{Receiver, Sender, unbounded};
 use fdb_keys::Refusal;
 use std::alloc::Global;
@@ -44,4 +45,10 @@ pub(crate) fn send_to<T: Drop, R: Wait>(
         Ok(()) => Ok(()),
         Err(_) => Err(Refusal::Failed),
     }
+}
+
+/// Waits for the next message. There is none where its sender failed, or where nobody sends any more.
+pub(crate) fn receive<T: Drop, R: Wait>(rt: &R, from: &Receiver<Option<T>>) -> Option<T> {
+    give_way_to_senders(from);
+    from.recv(rt).unwrap_or(None)
 }

@@ -11,7 +11,7 @@ use crate::sealed_front::SealedFront;
 use crate::shared::Shared;
 use crate::shared::inbox::SharedInbox;
 use crate::shared::slot::Slot;
-use crate::threads::channel::send_to;
+use crate::threads::channel::{receive, send_to};
 use crate::threads::gated::Gated;
 use crate::threads::reply::CommitReply;
 use crate::threads::request::CommitRequest;
@@ -231,7 +231,7 @@ impl<B: ClusterName> CommitWorker<B> {
     // Waits for each resolver's verdicts.
     fn hear<R: Wait>(&mut self, rt: &R) -> Result<(), Refusal> {
         for resolver in &self.verdicts {
-            let Ok(Some(message)) = resolver.recv(rt) else {
+            let Some(message) = receive(rt, resolver) else {
                 return Err(Refusal::Failed);
             };
             self.at.hear(message)?;

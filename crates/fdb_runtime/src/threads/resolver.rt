@@ -6,7 +6,7 @@ use crate::messages::part_message::PartMessage;
 use crate::messages::verdict_message::VerdictMessage;
 use crate::name::ClusterName;
 use crate::roles::resolver::ResolverAt;
-use crate::threads::channel::send_to;
+use crate::threads::channel::{receive, send_to};
 use crate::threads::gated::Gated;
 use crate::threads::worker::Worker;
 use crossbeam_channel::{Receiver, Sender};
@@ -39,7 +39,7 @@ impl<B: ClusterName + Send + Sync + 'static, G: Pass + Send + Sync + 'static> Wo
     // Answers parts until all commit proxies have ended, one of them has failed, or the resolver itself fails.
     fn work<R: Wait>(&mut self, rt: &R, lent: &Gated<B, G>) {
         for _ in rt.forever() {
-            let Ok(Some(sent)) = self.parts.recv(rt) else {
+            let Some(sent) = receive(rt, &self.parts) else {
                 return;
             };
             if self.turn(rt, &*lent.gate, sent).is_err() {
