@@ -222,28 +222,16 @@ const NO: Answer = Ok(Some(0));
 
 fn answer(shard: &mut Shard, alloc: Global, line: Line) -> Answer {
     match line {
-        Line::ApplyTwo => {
-            apply_two(shard, alloc)?;
-            DONE
-        }
-        Line::ApplySets => {
-            apply_sets(shard, alloc)?;
-            DONE
-        }
-        Line::ApplyNone(tag, version) => {
-            apply_none(shard, alloc, tag, version)?;
-            DONE
-        }
-        Line::Forget(version) => {
-            shard.forget(version)?;
-            DONE
-        }
+        Line::ApplyTwo => done(apply_two(shard, alloc)),
+        Line::ApplySets => done(apply_sets(shard, alloc)),
+        Line::ApplyNone(tag, version) => done(apply_none(shard, alloc, tag, version)),
+        Line::Forget(version) => done(shard.forget(version)),
         Line::Version => Ok(Some(shard.version())),
         Line::Floor => Ok(Some(shard.floor())),
         Line::HasFailed => Ok(Some(u64::from(shard.is_failed()))),
         Line::Bounds(begin, end) => Ok(Some(u64::from(has_bounds(shard.range(), begin, end)))),
-        Line::Kept(key) => Ok(Some(kept(shard, alloc, key)?)),
-        Line::Get(key, version) => Ok(get(shard, alloc, key, version)?.map(u64::from)),
+        Line::Kept(key) => kept(shard, alloc, key).map(Some),
+        Line::Get(key, version) => value(get(shard, alloc, key, version)),
         Line::Page(end, version, limit, reverse, pairs) => {
             let asked = Asked {
                 end,
@@ -251,9 +239,23 @@ fn answer(shard: &mut Shard, alloc: Global, line: Line) -> Answer {
                 limit,
                 reverse,
             };
-            Ok(has_more(shard, alloc, asked, pairs)?.map(u64::from))
+            flag(has_more(shard, alloc, asked, pairs))
         }
     }
+}
+
+// What a call answers that only does something.
+fn done(answer: Result<(), Refusal>) -> Answer {
+    answer?;
+    DONE
+}
+
+fn value(answer: Result<Option<u8>, Refusal>) -> Answer {
+    Ok(answer?.map(u64::from))
+}
+
+fn flag(answer: Result<Option<bool>, Refusal>) -> Answer {
+    Ok(answer?.map(u64::from))
 }
 
 // What a new shard of the keys from the begin up to the end answers.

@@ -1,4 +1,4 @@
-ghost use Rattle.std.specs.Prelude.{◌≡◌, ℕ, cond};
+ghost use Rattle.std.specs.Prelude.{◌≡◌, ℕ, Some, None, cond};
 ghost use Rattle.std.specs.BTreeMap.{get as get_in, is_at};
 ghost use Rattle.std.specs.Option.{IsSome};
 ghost use Rattle.std.specs.Ordering.{nat_cmp};
@@ -273,11 +273,24 @@ fn put_back(by_number: &mut BTreeMap<u32, Session>, session: u32, was: Option<Se
         ≡ cond (is_at (nat_cmp session) other) was (get_in nat_cmp by_number.old other) }
 {
     match was {
-        Some(known) => {
-            let _put = by_number.insert(session, known);
-        }
-        None => {
-            let _gone = by_number.remove(&session);
-        }
+        Some(known) => put_again(by_number, session, known),
+        None => take_out(by_number, session),
     }
+}
+
+// The session, which has an entry, is what is known of it. It takes no memory.
+fn put_again(by_number: &mut BTreeMap<u32, Session>, session: u32, known: Session)
+    requires { IsSome (get_in nat_cmp by_number.old session) }
+    ensures { (other : ℕ) → get_in nat_cmp by_number.new other
+        ≡ cond (is_at (nat_cmp session) other) (Some known) (get_in nat_cmp by_number.old other) }
+{
+    let _put = by_number.insert(session, known);
+}
+
+// The session has no entry.
+fn take_out(by_number: &mut BTreeMap<u32, Session>, session: u32)
+    ensures { (other : ℕ) → get_in nat_cmp by_number.new other
+        ≡ cond (is_at (nat_cmp session) other) None (get_in nat_cmp by_number.old other) }
+{
+    let _gone = by_number.remove(&session);
 }
