@@ -1,6 +1,6 @@
 // Keys of which each has the name of the next one.
 use crate::threads::halt::Halt;
-use crate::threads::names::{name_in, name_of};
+use crate::threads::names::{Name, name_in, name_of};
 use crate::threads::values::{put, read_name, value_of};
 use bytes::Bytes;
 use fdb_keys::{Key, Refusal};
@@ -35,13 +35,35 @@ pub(crate) fn fill<B: ClusterName, R: Wait>(
     random: &mut Pcg32,
 ) -> Result<(), Halt> {
     let first = name_of(LETTER, (random.next_u32() % u32::from(KEYS)) as u8);
-    let second = read_name(rt, alloc, session, &first)?;
+    let behind = read_on(rt, alloc, session, &first)?;
+    change_places(alloc, session, &first, behind)?;
+    Ok(())
+}
+
+// The names of the three keys behind the first one.
+fn read_on<B: ClusterName, R: Wait>(
+    rt: &R,
+    alloc: Global,
+    session: &mut Session<B>,
+    first: &Name,
+) -> Result<[Name; 3], Halt> {
+    let second = read_name(rt, alloc, session, first)?;
     let third = read_name(rt, alloc, session, &second)?;
     let fourth = read_name(rt, alloc, session, &third)?;
-    put(alloc, session, &first, &third)?;
+    Ok([second, third, fourth])
+}
+
+// Of the three keys behind the first one, the first two change places.
+fn change_places<B: ClusterName>(
+    alloc: Global,
+    session: &mut Session<B>,
+    first: &Name,
+    behind: [Name; 3],
+) -> Result<(), Refusal> {
+    let [second, third, fourth] = behind;
+    put(alloc, session, first, &third)?;
     put(alloc, session, &third, &second)?;
-    put(alloc, session, &second, &fourth)?;
-    Ok(())
+    put(alloc, session, &second, &fourth)
 }
 
 /// Whether the pairs are those of one cycle of all keys.
