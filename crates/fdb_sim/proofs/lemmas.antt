@@ -1,16 +1,3 @@
 pub mod Commands
-pub mod Configs
-pub mod Driving
-pub mod Faults
-pub mod Grammar
-pub mod Kinds
-pub mod Lines
-pub mod Numbers
 pub mod Obeying
 pub mod Options
-pub mod Pairs
-pub mod ReadBack
-pub mod Script
-pub mod Texts
-pub mod Words
-pub mod WriteLines

@@ -6,14 +6,14 @@ use Rattle.clap.specs.Words.{App, IsAmong, Text, fault_of, subcommand_of}
 use Rattle.clap.specs.declared.builder.value_parser.ValueParser.{ValueParser}
 use Rattle.clap.specs.declared.error.kind.ErrorKind.{ErrorKind}
 use Rattle.clap.specs.declared.error.kind.ErrorKind.TheVariants as kind
+use Rattle.fdb_play.specs.Random.{RunPrints}
+use Rattle.fdb_play.specs.play.Scripts.{Knows, Plays, Printed, printed_line}
+use Rattle.fdb_load.specs.declared.load.Load.{Load}
+use Rattle.fdb_load.specs.Reports.{PrintsEnd}
 use Rattle.fdb_sim.specs.command.Options.{IsWorkloadParser, commands}
 use Rattle.fdb_sim.specs.command.Tasks.{IsAsked}
 use Rattle.fdb_sim.specs.declared.command.task.Task.TheVariants.{Random, Run, Threads}
 use Rattle.fdb_sim.specs.declared.command.task.Schedule.{Schedule}
-use Rattle.fdb_sim.specs.declared.threads.Load.{Load}
-use Rattle.fdb_sim.specs.Random.{RunPrints}
-use Rattle.fdb_sim.specs.play.Scripts.{Knows, Plays, Printed, printed_line}
-use Rattle.fdb_sim.specs.threads.Reports.{PrintsEnd}
 
 -- what an error of the kind leads to: help goes to the output with status 0, and of any other kind nothing does
 abbrev pub EndsBy : ErrorKind → Option (List ℕ) → Option (List ℕ) → ℕ → Type 0

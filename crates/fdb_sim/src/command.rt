@@ -1,21 +1,19 @@
 ghost use Rattle.std.specs.Prelude.{◌≡◌, ◌≤◌, IfOk, IfErr, OnOk, map};
 ghost use Rattle.std.specs.Io.KnownBytes.{Appends};
 ghost use Rattle.clap.specs.Words.{kind_of};
-ghost use Rattle.fdb_sim.specs.Streams.{IsLimitedError, IsStreamError};
-ghost use Rattle.fdb_sim.specs.Random.{RunPrints};
-ghost use Rattle.fdb_sim.specs.play.Scripts.{Printed};
+ghost use Rattle.fdb_play.specs.Streams.{IsLimitedError, IsStreamError};
+ghost use Rattle.fdb_play.specs.Random.{RunPrints};
+ghost use Rattle.fdb_play.specs.play.Scripts.{Printed};
 ghost use Rattle.fdb_sim.specs.Commands.{EndsBy, LackMemory, Obeys, out_of_memory};
 
 mod options;
 mod task;
 
 use self::task::{Schedule, Task, read_task};
-use crate::play::script::run_script;
-use crate::random::run_random;
-use crate::streams::{Sink, Source};
-use crate::threads::run_threads;
 use clap::Error;
 use clap::error::ErrorKind;
+use fdb_load::run_threads;
+use fdb_play::{Sink, Source, run_random, run_script};
 use std::alloc::Global;
 use std::io;
 use std::sync::Wait;

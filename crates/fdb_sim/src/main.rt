@@ -7,14 +7,8 @@ ghost use Rattle.std.specs.Process.{exit_status};
 ghost use Rattle.fdb_sim.specs.Commands.{status_of};
 
 mod command;
-mod play;
-mod print;
-mod random;
-mod script;
-mod streams;
 #[cfg(test)]
 mod tests;
-mod threads;
 
 use crate::command::run_words;
 use std::alloc::Global;

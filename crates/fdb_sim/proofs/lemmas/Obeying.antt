@@ -3,14 +3,14 @@ use Rattle.std.proofs.Common.{inl, inr, ℕ, List, Option, Ok, Err, ◌≡◌}
 use Rattle.clap.specs.Words.{Text, kind_of}
 use Rattle.clap.specs.declared.error.Error.{Error}
 use Rattle.clap.specs.declared.error.kind.ErrorKind.TheVariants.{OutOfMemory}
+use Rattle.fdb_play.specs.Random.{RunPrints}
+use Rattle.fdb_play.specs.play.Scripts.{Knows, Plays, Printed}
+use Rattle.fdb_load.specs.declared.load.Load.{Load}
+use Rattle.fdb_load.specs.Reports.{PrintsEnd}
 use Rattle.fdb_sim.specs.Commands.{EndsBy, LackMemory, Obeys}
-use Rattle.fdb_sim.specs.Random.{RunPrints}
 use Rattle.fdb_sim.specs.command.Tasks.{Asks}
 use Rattle.fdb_sim.specs.declared.command.task.Schedule.{Schedule}
 use Rattle.fdb_sim.specs.declared.command.task.Task.TheVariants.{Random, Run, Threads}
-use Rattle.fdb_sim.specs.declared.threads.Load.{Load}
-use Rattle.fdb_sim.specs.play.Scripts.{Knows, Plays, Printed}
-use Rattle.fdb_sim.specs.threads.Reports.{PrintsEnd}
 
 module _ (words : List Text) (input old new err_old err_new : Option (List ℕ)) (status : ℕ) where
   pub plays : Asks words (Ok Run) → Printed old new (λ printed. Knows input (λ lines. Plays 0 lines printed status))

@@ -7,13 +7,13 @@ use Rattle.clap.specs.Words.{App, FailsBy, Row, Text, fault_of, first_of, kind_o
 use Rattle.clap.specs.declared.builder.value_parser.ValueParser.{ValueParser}
 use Rattle.clap.specs.declared.error.Error.{Error}
 use Rattle.clap.specs.declared.error.kind.ErrorKind.TheVariants.{OutOfMemory}
+use Rattle.fdb_load.specs.declared.load.Load.{Load}
+use Rattle.fdb_load.specs.declared.workload.Workload.{Workload}
+use Rattle.fdb_load.specs.declared.workload.Workload.TheVariants.{Counters, Ring, Transfers}
 use Rattle.fdb_sim.specs.command.Options.{IsWorkloadParser, commands}
 use Rattle.fdb_sim.specs.declared.command.task.Task.{Task}
 use Rattle.fdb_sim.specs.declared.command.task.Task.TheVariants.{Random, Run, Threads}
 use Rattle.fdb_sim.specs.declared.command.task.Schedule.{Schedule}
-use Rattle.fdb_sim.specs.declared.threads.Load.{Load}
-use Rattle.fdb_sim.specs.declared.threads.workload.Workload.{Workload}
-use Rattle.fdb_sim.specs.declared.threads.workload.Workload.TheVariants.{Counters, Ring, Transfers}
 
 -- n is the number of so many bits that the option has, where that is one
 abbrev pub ReadsBits : ℕ → Text → List Row → ℕ → Type 0

@@ -2,12 +2,12 @@
 ghost use Rattle.std.specs.Prelude.{◌≡◌, codes, map};
 ghost use Rattle.std.specs.Option.{option_map_or};
 ghost use Rattle.clap.specs.Words.{first_value, found_of, rows_of, subcommand_rows_of};
+ghost use Rattle.fdb_load.specs.declared.workload.Workload.TheVariants.{Ring};
 ghost use Rattle.fdb_sim.specs.command.Tasks.{Asks, HasLoad, HasSchedule, IsAsked, ReadsNumber, workload_called};
-ghost use Rattle.fdb_sim.specs.declared.threads.workload.Workload.TheVariants.{Ring};
 
 use super::options::commands;
-use crate::threads::{Load, Workload};
 use clap::{ArgMatches, Error};
+use fdb_load::{Load, Workload};
 use std::alloc::Global;
 
 /// Which steps are drawn.

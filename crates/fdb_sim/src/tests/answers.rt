@@ -1,10 +1,8 @@
 // What each answer is printed as.
-use crate::print::answers::push_answer;
-use crate::print::refusals::RefusalLine;
-use crate::script::step_line::Kind;
 use bytes::Bytes;
 use fdb_core::{Answered, Outcome, Verdict};
 use fdb_keys::{Items, Refusal};
+use fdb_play::{Kind, RefusalLine, push_answer};
 use std::alloc::Global;
 use std::process::Abort;
 use std::test::Fail;

@@ -1,6 +1,5 @@
 // Readers and writers over memory, of which one call fails.
-use crate::play::script::run_script;
-use crate::streams::{Sink, Source};
+use fdb_play::{Sink, Source, run_script};
 use std::alloc::Global;
 use std::fmt::Display;
 use std::io;

@@ -1,7 +1,7 @@
 // Six scripts, of each of which memory may run out at any growth. `examples/refused_growths` runs this with
 // each growth refused in turn.
-use crate::play::script::run_script;
 use crate::tests::tables::{Played, batches, moves, ranges, read_table, resolvers, shards};
+use fdb_play::run_script;
 use std::alloc::{AllocError, Global};
 use std::str;
 use std::test::Fail;

@@ -1,5 +1,5 @@
 // Scripts with more requests than a batch has places, and with more bytes than a transaction has.
-use crate::play::script::run_script;
+use fdb_play::run_script;
 use std::alloc::{AllocError, Global};
 use std::test::Fail;
 

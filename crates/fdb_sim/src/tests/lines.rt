@@ -1,7 +1,5 @@
 // The lines of readers that give few bytes a call, and many.
-use crate::play::stop::Stop;
-use crate::script::lines::Lines;
-use crate::streams::Source;
+use fdb_play::{Lines, Source, Stop};
 use std::alloc::{AllocError, Global};
 use std::io;
 use std::test::Fail;

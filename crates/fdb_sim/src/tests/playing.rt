@@ -1,5 +1,5 @@
 // Scripts are played over memory.
-use crate::play::script::run_script;
+use fdb_play::run_script;
 use std::alloc::Global;
 use std::process::Abort;
 use std::test::Fail;

@@ -1,21 +1,25 @@
 // Runs of drawn steps.
-use crate::random::acts::KINDS;
-use crate::random::report::Report;
-use crate::random::tally::Tally;
-use crate::random::watch::Nobody;
-use crate::random::{run_random, run_steps};
+use fdb_play::{CODES, Nobody, Report, Tally, run_random, run_steps};
 use std::alloc::Global;
 use std::test::Fail;
 
 /// How many steps a run has.
 const STEPS: u32 = 4_000;
 
+// Whether a step was refused with the code.
+fn has_refused(tally: &Tally, code: u32) -> bool {
+    CODES
+        .iter()
+        .zip(tally.refusals.iter())
+        .any(|(known, count)| *known == code && *count > 0)
+}
+
 // How often this or that came that each run should have: steps of each kind that were accepted, refusals of the usual
 // codes, and each outcome of a transaction.
 fn has_all(tally: &Tally) -> bool {
     let codes = [1009, 9002, 9003, 9014, 9016];
-    (0..KINDS).all(|kind| tally.accepted_of(kind) > 0)
-        && codes.iter().all(|code| tally.refused_with(*code) > 0)
+    tally.accepted.iter().all(|count| *count > 0)
+        && codes.iter().all(|code| has_refused(tally, *code))
         && tally.committed > 20
         && tally.read_only > 0
         && tally.conflicting > 0

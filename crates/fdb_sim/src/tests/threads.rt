@@ -3,17 +3,14 @@ ghost use Rattle.std.specs.Prelude.{◌≡◌, suc, length, None};
 ghost use Rattle.fdb_txn.specs.book.History.{IsBook};
 ghost use Rattle.fdb_proxy.specs.Configs.{config_fault};
 
-use crate::play::stop::Stop;
-use crate::threads::judging::{Asked, Kept, is_all, judge};
-use crate::threads::played::Played;
-use crate::threads::report::{Report, print_report};
-use crate::threads::running::{config_of, run_clients, run_load};
-use crate::threads::watch::Pace;
-use crate::threads::workload::Workload;
-use crate::threads::{Load, run_threads};
 use bytes::Bytes;
 use fdb_core::Placed;
 use fdb_keys::{Key, Refusal};
+use fdb_load::{
+    Asked, Kept, Load, Pace, Played, Report, Workload, config_of, is_all, judge, name_of,
+    print_report, run_clients, run_load, run_threads,
+};
+use fdb_play::Stop;
 use fdb_runtime::{Blank, ClusterName, Config, Database, NoGate, Record, Spot};
 use std::alloc::Global;
 use std::fmt::Debug;
@@ -134,7 +131,7 @@ fn a_report_is_a_line_of_json(rt: HostRuntime) -> Result<(), Fail> {
 fn pairs_of(alloc: Global, letter: u8, numbers: &[u64]) -> Result<Vec<(Key, Bytes)>, Refusal> {
     let mut pairs = Vec::new(alloc);
     for (number, value) in numbers.iter().enumerate() {
-        let name = crate::threads::names::name_of(letter, (number % 100) as u8);
+        let name = name_of(letter, (number % 100) as u8);
         let key = Key::new(alloc, &name)?;
         pairs.push((key, Bytes::copy_from_slice(alloc, &value.to_le_bytes())?))?;
     }

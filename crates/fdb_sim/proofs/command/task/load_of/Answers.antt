@@ -2,8 +2,8 @@ use Rattle.std.proofs.Common.{ap, codes, ◌∙◌}
 use Rattle.std.specs.Option.{option_map_or}
 use Rattle.clap.proofs.WalkLemmas.{first_value-rows, one_text-rows}
 use Rattle.clap.specs.Words.{found_of}
+use Rattle.fdb_load.specs.declared.workload.Workload.TheVariants.{Ring}
 use Rattle.fdb_sim.specs.command.Tasks.{workload_called}
-use Rattle.fdb_sim.specs.declared.threads.workload.Workload.TheVariants.{Ring}
 use Rattle.fdb_sim.proofs.command.task.load_of.Goals as goal
 
 pub returns : goal.returns

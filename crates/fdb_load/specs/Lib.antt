@@ -1,0 +1,5 @@
+pub mod Judging
+pub mod Reports
+pub mod Runs
+pub mod Sums
+pub mod Workloads

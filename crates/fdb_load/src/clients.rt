@@ -1,0 +1,75 @@
+// The threads of all clients.
+use crate::client::{Part, play};
+use crate::played::Played;
+use crate::tally::Tally;
+use fdb_keys::Refusal;
+use fdb_runtime::{ClusterName, Database, Session};
+use std::alloc::Global;
+use std::sync::{Arc, Wait};
+use std::thread;
+use std::thread::{JoinHandle, Threads};
+
+/// A client that runs.
+pub(crate) type Client = JoinHandle<Played>;
+
+/// Starts so many clients of the kind, each with a session and a number of its own. Where it is refused, those are
+/// left that were started.
+pub(crate) fn start<
+    B: ClusterName + Send + Sync + 'static,
+    R: Threads + Wait + Copy + Send + Sync + 'static,
+>(
+    rt: &R,
+    alloc: Global,
+    database: &mut Database<B>,
+    count: u32,
+    part: Part,
+    tally: &Arc<Tally>,
+    clients: &mut Vec<Client>,
+) -> Result<(), Refusal> {
+    clients.reserve(count as usize)?;
+    for number in 0..count {
+        let session = database.session(alloc)?;
+        let client = start_one(rt, alloc, session, Part { number, ..part }, tally)?;
+        clients.push(client)?;
+    }
+    Ok(())
+}
+
+fn start_one<
+    B: ClusterName + Send + Sync + 'static,
+    R: Threads + Wait + Copy + Send + Sync + 'static,
+>(
+    rt: &R,
+    alloc: Global,
+    session: Session<B>,
+    part: Part,
+    tally: &Arc<Tally>,
+) -> Result<Client, Refusal> {
+    match Arc::try_clone(tally) {
+        Ok(tally) => spawn(rt, alloc, session, part, tally),
+        Err(_) => Err(Refusal::NoMemory),
+    }
+}
+
+fn spawn<B: ClusterName + Send + Sync + 'static, R: Threads + Wait + Copy + Send + Sync + 'static>(
+    rt: &R,
+    alloc: Global,
+    session: Session<B>,
+    part: Part,
+    tally: Arc<Tally>,
+) -> Result<Client, Refusal> {
+    let handle = *rt;
+    match thread::spawn(rt, move || play(&handle, alloc, session, part, &*tally)) {
+        Ok(client) => Ok(client),
+        Err(_) => Err(Refusal::NoMemory),
+    }
+}
+
+/// What came of the tries of all clients, once each has ended.
+pub(crate) fn join<R: Threads>(rt: &R, alloc: Global, clients: Vec<Client>) -> Played {
+    let mut all = Played::new(alloc);
+    for client in clients {
+        all.join(client.join(rt));
+    }
+    all
+}

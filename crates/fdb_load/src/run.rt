@@ -1,0 +1,127 @@
+// The run of committed transactions, one at a time, over a plain map.
+ghost use Rattle.std.specs.Prelude.{◌≡◌, ◌↔◌, IsTrue, None, false};
+ghost use Rattle.std.specs.Option.{option_copied};
+ghost use Rattle.fdb_keys.specs.Answers.{Answers};
+ghost use Rattle.fdb_mutations.specs.Mutations.{effects};
+ghost use Rattle.fdb_mutations.specs.Pairs.{pairs_in};
+ghost use Rattle.fdb_load.specs.Runs.{txn_at, mutations_of, run_from, run_of, have_places, every_key};
+
+use bytes::Bytes;
+use fdb_keys::{Key, KeyRange, Refusal};
+use fdb_mutations::{Mutation, PlainMap};
+use fdb_runtime::TxnId;
+use fdb_txn::{Entry, Sealed};
+use std::alloc::Global;
+
+/// A place of an entry, both counted from 0. Places are in the order in which their transactions run.
+#[derive(Clone, Copy, PartialEq, Eq, PartialOrd, Ord)]
+pub(crate) struct Place {
+    pub(crate) index: u32,
+    pub(crate) place: u32,
+}
+
+/// Whether each place is behind the one before it.
+pub(crate) fn rising(places: &[Place]) -> bool {
+    places
+        .iter()
+        .zip(places.iter().skip(1))
+        .all(|(one, next)| one < next)
+}
+
+/// The place of the transaction with the id, and the version of its entry. It takes O(n) time for n transactions.
+pub(crate) fn place_of(entries: &[Entry], id: TxnId) -> Option<(Place, u64)> {
+    for (entry, index) in entries.iter().zip(0..) {
+        if let Some(place) = place_in(entry.batch.as_slice(), id) {
+            return Some((Place { index, place }, entry.version));
+        }
+    }
+    None
+}
+
+fn place_in(batch: &[Sealed], id: TxnId) -> Option<u32> {
+    for (txn, place) in batch.iter().zip(0..) {
+        if txn.id() == id {
+            return Some(place);
+        }
+    }
+    None
+}
+
+/// Whether the pairs are those of the map that the transactions at the places leave, run in that order from the empty
+/// map. They aren't where there is no such place. Refused only as `NoMemory`.
+pub(crate) fn are_pairs_of(
+    alloc: Global,
+    entries: &[Entry],
+    places: &[Place],
+    pairs: &[(Key, Bytes)],
+) -> Result<bool, Refusal>
+    ensures { Answers result None (λ are. IsTrue are ↔ (IsTrue (have_places entries.now places.now)
+        × (pairs.now ≡ pairs_in (run_of entries.now places.now) every_key false))) }
+{
+    if !have_places(entries, places) {
+        return Ok(false);
+    }
+    let mut map = PlainMap::new(alloc);
+    run_all(&mut map, entries, places)?;
+    has_pairs(alloc, &map, pairs)
+}
+
+// The range that has every key.
+#[tactic(auto, unfolding(fdb_keys::specs::Points::point_lt))]
+fn every_key(alloc: Global) -> Result<KeyRange, Refusal>
+    ensures { Answers result None (λ range. range ≡ every_key) }
+{
+    KeyRange::new(alloc, &[], &[0xff])
+}
+
+// Whether the pairs are all of the map's.
+fn has_pairs(alloc: Global, map: &PlainMap, pairs: &[(Key, Bytes)]) -> Result<bool, Refusal>
+    ensures { Answers result None (λ has. IsTrue has ↔ (pairs.now ≡ pairs_in map.now every_key false)) }
+{
+    let range = every_key(alloc)?;
+    let left = map.range(&range, 0, false)?;
+    Ok(pairs == left.as_slice())
+}
+
+fn have_places(entries: &[Entry], places: &[Place]) -> bool
+    ensures { result ≡ have_places entries.now places.now }
+{
+    places.iter().all(|place| txn_at(entries, *place).is_some())
+}
+
+// Runs the transactions at the places.
+fn run_all(map: &mut PlainMap, entries: &[Entry], places: &[Place]) -> Result<(), Refusal>
+    ensures { Answers result None (λ _. map.new ≡ run_from map.old entries.now places.now) }
+{
+    for place in places {
+        run(map, mutations_at(entries, *place))?;
+    }
+    Ok(())
+}
+
+// The transaction at the place, if there is one.
+fn txn_at(entries: &[Entry], place: Place) -> Option<&Sealed>
+    ensures { option_copied result ≡ txn_at entries.now place }
+{
+    let entry = entries.get(place.index as usize)?;
+    entry.batch.as_slice().get(place.place as usize)
+}
+
+// Its mutations.
+fn mutations_at(entries: &[Entry], place: Place) -> &[Mutation]
+    ensures { result.now ≡ mutations_of (txn_at entries.now place) }
+{
+    match txn_at(entries, place) {
+        Some(txn) => txn.mutations(),
+        None => &[],
+    }
+}
+
+fn run(map: &mut PlainMap, mutations: &[Mutation]) -> Result<(), Refusal>
+    ensures { Answers result None (λ _. map.new ≡ effects map.old mutations.now) }
+{
+    for mutation in mutations {
+        map.apply(mutation)?;
+    }
+    Ok(())
+}

@@ -1,0 +1,12 @@
+pub mod Configs
+pub mod Driving
+pub mod Faults
+pub mod Grammar
+pub mod Kinds
+pub mod Lines
+pub mod Numbers
+pub mod ReadBack
+pub mod Script
+pub mod Texts
+pub mod Words
+pub mod WriteLines

@@ -1,0 +1,9 @@
+use Rattle.std.proofs.Common.{◌≡◌, ◌^◌, ◌<◌, take}
+use Rattle.std.specs.Str.Parse.{AllDigits, digits_value}
+use Rattle.fdb_play.proofs.script.numbers.number.Given as goal
+
+-- the digits so far write the value
+abbrev pub invariant-loop-byte : goal.invariant-loop-byte
+invariant-loop-byte l =
+    AllDigits 10 (take l.byte-index l.word) × (l.value ≡ digits_value 10 (take l.byte-index l.word))
+    × (l.value < 2 ^ 64)

@@ -1,0 +1,15 @@
+use Rattle.std.proofs.Common.{refl}
+use Rattle.std.proofs.lemmas.Result.{err_from_is_err_and}
+use Rattle.fdb_core.specs.declared.step.Step.TheVariants as made
+use Rattle.fdb_play.specs.declared.script.keys.RangeRead.{RangeRead}
+use Rattle.fdb_play.specs.script.Grammar.{WritesRangeRead, bounds_fault, step_fault}
+use Rattle.fdb_play.proofs.lemmas.Grammar.{number_fault}
+use Rattle.fdb_play.proofs.script.step_line.read_range.Goals as goal
+
+pub returns-in_err-range : goal.returns-in_err-range
+returns-in_err-range c =
+    let p = err_from_is_err_and c.from_residual-in_err-range.result c.from_residual-in_err-range.ensures.1 in
+    rw (p.1, p.2)
+    (number_fault (λ (read : RangeRead) rest. WritesRangeRead rest read) (λ (read : RangeRead). bounds_fault read.range)
+    (λ session (read : RangeRead). made.GetRange session read.range read.limit read.reverse c.args.snapshot)
+    step_fault _ _ _ _ c.in_ok-session.ensures.ok (λ read. refl) c.in_err-range.ensures)

@@ -1,0 +1,5 @@
+pub mod Random
+pub mod Streams
+pub mod play
+pub mod print
+pub mod script

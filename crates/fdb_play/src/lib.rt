@@ -1,0 +1,22 @@
+//! Worlds that are played, by a script or by steps that are drawn from a seed, and what is printed of them.
+#![tactic(auto)]
+
+mod play;
+mod print;
+mod random;
+mod script;
+mod streams;
+
+pub use play::script::run_script;
+pub use play::stop::Stop;
+pub use print::answers::push_answer;
+pub use print::endings::print_stop;
+pub use print::refusals::RefusalLine;
+pub use random::ended::Ended;
+pub use random::report::Report;
+pub use random::tally::{CODES, Tally};
+pub use random::watch::{Nobody, Watch};
+pub use random::{run_random, run_steps};
+pub use script::lines::Lines;
+pub use script::step_line::Kind;
+pub use streams::{Sink, Source};

@@ -1,0 +1,227 @@
+ghost use Rattle.std.specs.Prelude.{◌≡◌, ◌<◌, ◌≤◌, ◌++◌, ℕ, List, [], Some, None, true, false, IfOk, IfErr, OnOk};
+ghost use Rattle.std.specs.Prelude.{string_bytes, codes};
+ghost use Rattle.std.specs.Io.KnownBytes.{Appends};
+ghost use Rattle.fdb_proxy.specs.Configs.{config_fault};
+ghost use Rattle.fdb_core.specs.machine.Worlds.{first_state};
+ghost use Rattle.fdb_play.specs.Streams.{FailsWith, IsLimitedError, IsStreamError};
+ghost use Rattle.fdb_play.specs.script.Configs.{WritesConfig, line_fault};
+ghost use Rattle.fdb_play.specs.script.Lines.{left, line_text, line_number};
+ghost use Rattle.fdb_play.specs.play.Scripts.{is_silent, printed_line, AnswersLine, PlaysOn, PlaysFrom, Plays};
+ghost use Rattle.fdb_play.specs.play.Scripts.{Unconfigured, StopsAt, Printed, Knows, Says, Reaches};
+
+use crate::play::driving::drive;
+use crate::play::showing::push_shown;
+use crate::play::stop::Stop;
+use crate::print::answers::{push_refusal, push_result};
+use crate::print::endings::{print_check, print_stop};
+use crate::script::config_line::read_config;
+use crate::script::fault::Fault;
+use crate::script::line::{Line, read_line};
+use crate::script::lines::Lines;
+use crate::script::step_line::Kind;
+use crate::streams::{Limited, Sink, Source};
+use fdb_core::{Config, World};
+use std::alloc::Global;
+use std::io;
+
+/// Runs the script that the reader gives, and writes what it prints to the writer, which isn't flushed.
+/// Answers the status: 0 where the check at the end held, 1 where it failed, and 2 where the script ended
+/// before, by a bad line, by a refused configuration or since memory ran out. What is printed and the status
+/// are said of a reader whose bytes and a writer whose contents are known, as those over memory.
+///
+/// A read or a write that fails is answered as that error, and what was written then is a prefix of what the script
+/// prints. A read that was interrupted did not fail, and is made again. A reader that does not end is given up after
+/// 2^32 reads, with an error of `ErrorKind::Other`. No other error is answered. Beside the steps and the check it
+/// takes O(n) time for n bytes that are read and written.
+pub fn run_script<R: Source, W: Sink>(
+    alloc: Global,
+    reader: &mut R,
+    writer: &mut W,
+) -> Result<u8, io::Error>
+    ensures bound { IfOk result (λ status. status ≤ 2) }
+    ensures printed { IfOk result (λ status. Printed (W.contents writer.old) (W.contents writer.new) (λ printed.
+        Knows (R.remaining reader.old) (λ lines. Plays 0 lines printed status))) }
+    ensures errors { IfErr result (IsStreamError (IsLimitedError R.errors) W.errors) }
+{
+    let mut limited = Limited::new(reader);
+    play(alloc, &mut limited, writer)
+}
+
+// The same of a reader that gives itself up. It answers no error but of its reader and its writer, whatever they are.
+fn play<R: Source, W: Sink>(alloc: Global, reader: &mut R, writer: &mut W) -> Result<u8, io::Error>
+    ensures bound { IfOk result (λ status. status ≤ 2) }
+    ensures printed { IfOk result (λ status. Printed (W.contents writer.old) (W.contents writer.new) (λ printed.
+        Knows (R.remaining reader.old) (λ lines. Plays 0 lines printed status))) }
+    ensures errors { IfErr result (IsStreamError R.errors W.errors) }
+{
+    match run_to_end(alloc, reader, writer) {
+        Ok(status) => Ok(status),
+        Err(stop) => print_stop(stop, writer),
+    }
+}
+
+fn run_to_end<R: Source, W: Sink>(alloc: Global, reader: &mut R, writer: &mut W) -> Result<u8, Stop>
+    ensures bound { IfOk result (λ status. status < 2) }
+    ensures printed { IfOk result (λ status. Printed (W.contents writer.old) (W.contents writer.new) (λ printed.
+        Knows (R.remaining reader.old) (λ lines. Plays 0 lines printed status))) }
+    ensures stops { IfErr result (λ stop. Says stop (λ last.
+        Printed (W.contents writer.old) (W.contents writer.new) (λ printed.
+        Knows (R.remaining reader.old) (λ lines. Plays 0 lines (printed ++ last) 2)))) }
+    ensures errors { IfErr result (FailsWith (IsStreamError R.errors W.errors)) }
+{
+    let mut lines = Lines::new(alloc, reader)?;
+    let config = first_config(alloc, &mut lines)?;
+    let world = greet(make_world(alloc, config)?, writer)?;
+    play_on(alloc, &mut lines, world, writer)
+}
+
+// Prints that the configuration was taken, and gives the world back.
+fn greet<W: Sink>(world: World, writer: &mut W) -> Result<World, Stop>
+    ensures ok { IfOk result (λ same. same ≡ world) }
+    ensures printed { OnOk result (Appends (W.contents writer.old) (W.contents writer.new)
+        (printed_line (codes "ok"))) }
+    ensures stops { IfErr result (λ stop. Says stop (λ _. ⊥)) }
+    ensures errors { IfErr result (FailsWith W.errors) }
+{
+    match writer.write_all(b"ok\n") {
+        Ok(()) => Ok(world),
+        Err(error) => {
+            drop(world);
+            Err(Stop::Io(error))
+        }
+    }
+}
+
+// Takes the steps of the lines that are left, and lets the world go.
+fn play_on<R: Source + Drop, W: Sink>(
+    alloc: Global,
+    lines: &mut Lines<R>,
+    world: World,
+    writer: &mut W,
+) -> Result<u8, Stop>
+    ensures bound { IfOk result (λ status. status < 2) }
+    ensures printed { IfOk result (λ status. Printed (W.contents writer.old) (W.contents writer.new) (λ printed.
+        Knows (left R.remaining lines.old) (λ all. PlaysOn (line_number lines.old) world.state all printed status))) }
+    ensures stops { IfErr result (λ stop. Says stop (λ last.
+        Printed (W.contents writer.old) (W.contents writer.new) (λ printed.
+        Knows (left R.remaining lines.old) (λ all.
+        PlaysOn (line_number lines.old) world.state all (printed ++ last) 2)))) }
+    ensures errors { IfErr result (FailsWith (IsStreamError R.errors W.errors)) }
+{
+    let mut world = world;
+    let ended = take_steps(alloc, lines, &mut world, writer);
+    drop(world);
+    ended
+}
+
+// The configuration, which stands in the first line that says anything.
+fn first_config<R: Source + Drop>(alloc: Global, lines: &mut Lines<R>) -> Result<Config, Stop>
+    ensures ok { IfOk result (λ config. Reaches (left R.remaining lines.old) (left R.remaining lines.new) []
+        (Plays (line_number lines.old)) (PlaysFrom (line_number lines.new) config)) }
+    ensures stops { IfErr result (λ stop. Says stop (λ last.
+        Knows (left R.remaining lines.old) (λ all. Plays (line_number lines.old) all last 2))) }
+    ensures errors { IfErr result (FailsWith R.errors) }
+{
+    for _ in 0..u64::MAX {
+        if !lines.advance()? {
+            return Err(Stop::BadLine(0));
+        }
+        if !is_silent(lines.text()) {
+            return config_of(alloc, lines);
+        }
+    }
+    // No input has so many lines.
+    Err(Stop::NoMemory)
+}
+
+fn config_of<R: Source + Drop>(alloc: Global, lines: &Lines<R>) -> Result<Config, Stop>
+    ensures ok { IfOk result (λ config. WritesConfig (line_text lines.now) config × (line_fault config ≡ None)) }
+    ensures stops { IfErr result (λ stop. Says stop (λ last.
+        Unconfigured (line_number lines.now) (line_text lines.now) last 2)) }
+    ensures errors { IfErr result (FailsWith (λ _. ⊥)) }
+{
+    match read_config(alloc, lines.text()) {
+        Ok(config) => Ok(config),
+        Err(Fault::Bad) => Err(Stop::BadLine(lines.number())),
+        Err(Fault::Refused(refusal)) => Err(Stop::Refused(refusal)),
+        Err(Fault::NoMemory) => Err(Stop::NoMemory),
+    }
+}
+
+fn make_world(alloc: Global, config: Config) -> Result<World, Stop>
+    ensures ok { IfOk result (λ world. (config_fault config ≡ None) × (world.state ≡ first_state config)) }
+    ensures stops { IfErr result
+        (λ stop. Says stop (λ last. (number : ℕ) (lines : List (List ℕ)) → PlaysFrom number config lines last 2)) }
+    ensures errors { IfErr result (FailsWith (λ _. ⊥)) }
+{
+    match World::new(alloc, config) {
+        Ok(world) => Ok(world),
+        Err(refusal) => Err(Stop::Refused(refusal)),
+    }
+}
+
+// Takes the steps of the lines that are left, and prints what each answers and what the check found.
+fn take_steps<R: Source + Drop, W: Sink>(
+    alloc: Global,
+    lines: &mut Lines<R>,
+    world: &mut World,
+    writer: &mut W,
+) -> Result<u8, Stop>
+    ensures bound { IfOk result (λ status. status < 2) }
+    ensures printed { IfOk result (λ status. Printed (W.contents writer.old) (W.contents writer.new) (λ printed.
+        Knows (left R.remaining lines.old) (λ all.
+        PlaysOn (line_number lines.old) world.old.state all printed status))) }
+    ensures stops { IfErr result (λ stop. Says stop (λ last.
+        Printed (W.contents writer.old) (W.contents writer.new) (λ printed.
+        Knows (left R.remaining lines.old) (λ all.
+        PlaysOn (line_number lines.old) world.old.state all (printed ++ last) 2)))) }
+    ensures errors { IfErr result (FailsWith (IsStreamError R.errors W.errors)) }
+{
+    let mut text = String::new(alloc);
+    for _ in 0..u64::MAX {
+        if !lines.advance()? {
+            return print_check(world, writer);
+        }
+        if !is_silent(lines.text()) {
+            text.clear();
+            take_line(alloc, lines, world, &mut text)?;
+            writer.write_all(text.as_bytes())?;
+        }
+    }
+    // No input has so many lines.
+    Err(Stop::NoMemory)
+}
+
+// A line that prints nothing.
+fn is_silent(line: &[u8]) -> bool
+    ensures { result ≡ is_silent line.now }
+{
+    match line {
+        [] | [b'#', ..] => true,
+        _ => false,
+    }
+}
+
+// Takes the step or the steps that the current line gives, if any, and appends what the line prints to the text.
+fn take_line<R: Source + Drop>(
+    alloc: Global,
+    lines: &Lines<R>,
+    world: &mut World,
+    text: &mut String,
+) -> Result<(), Stop>
+    ensures ok { OnOk result
+        ((said : List ℕ) × (string_bytes text.new ≡ string_bytes text.old ++ said)
+        × AnswersLine (line_text lines.now) world.old.state said world.new.state) }
+    ensures stops { IfErr result (λ stop. Says stop (λ last.
+        StopsAt (line_number lines.now) (line_text lines.now) last 2)) }
+    ensures errors { IfErr result (FailsWith (λ _. ⊥)) }
+{
+    match read_line(alloc, lines.text()) {
+        Ok(Line::Step { kind, step }) => Ok(push_result(text, kind, world.step(step))?),
+        Ok(Line::Drive { proxy }) => Ok(push_result(text, Kind::Answer, drive(world, proxy))?),
+        Ok(Line::Show { session }) => Ok(push_shown(text, world, session)?),
+        Err(Fault::Refused(refusal)) => Ok(push_refusal(text, refusal)?),
+        Err(Fault::Bad) => Err(Stop::BadLine(lines.number())),
+        Err(Fault::NoMemory) => Err(Stop::NoMemory),
+    }
+}

@@ -1,0 +1,104 @@
+// What the steps of a run were answered, in numbers. No count of a run is above the number of its steps.
+use crate::random::acts::{Act, KINDS};
+use fdb_core::{Answered, Outcome};
+use fdb_keys::Refusal;
+
+/// How many refusals there are.
+const REFUSALS: usize = 25;
+
+/// The codes of all refusals.
+pub const CODES: [u32; REFUSALS] = [
+    1007, 1009, 1020, 1021, 2004, 2005, 2101, 2102, 2103, 9001, 9002, 9003, 9004, 9005, 9006, 9007,
+    9008, 9009, 9010, 9011, 9012, 9013, 9014, 9015, 9016,
+];
+
+/// How often steps were answered this or that.
+#[derive(Clone, Copy)]
+pub struct Tally {
+    /// How many steps were refused.
+    pub refused: u32,
+    /// How many transactions were answered with their spot in a batch.
+    pub committed: u32,
+    /// How many transactions wrote nothing, and were answered with their read version.
+    pub read_only: u32,
+    /// How many were answered that something which they read was written since.
+    pub conflicting: u32,
+    /// How many were answered that they are too old.
+    pub old: u32,
+    /// How many steps of each kind were accepted, where `Act::kind` gives the kinds.
+    pub accepted: [u32; KINDS],
+    /// How many steps were refused with each code, in the order of `CODES`.
+    pub refusals: [u32; REFUSALS],
+}
+
+impl Tally {
+    /// Of no step.
+    pub(crate) fn new() -> Self {
+        Tally {
+            refused: 0,
+            committed: 0,
+            read_only: 0,
+            conflicting: 0,
+            old: 0,
+            accepted: [0; KINDS],
+            refusals: [0; REFUSALS],
+        }
+    }
+
+    /// A step was answered so. It takes no memory.
+    pub(crate) fn note(&mut self, act: Act, answer: &Result<Answered, Refusal>) {
+        match answer {
+            Ok(answered) => {
+                raise_at(self.accepted.as_mut_slice(), act.kind());
+                self.note_answered(answered);
+            }
+            Err(why) => self.note_refusal(*why),
+        }
+    }
+
+    fn note_refusal(&mut self, why: Refusal) {
+        raise(&mut self.refused);
+        raise_at(self.refusals.as_mut_slice(), place_of(why.code()));
+    }
+
+    fn note_answered(&mut self, answered: &Answered) {
+        match answered {
+            Answered::ReadOnly(_) => raise(&mut self.read_only),
+            Answered::Answers(answers) => {
+                for (_session, outcome) in answers.as_slice() {
+                    self.note_outcome(*outcome);
+                }
+            }
+            _ => (),
+        }
+    }
+
+    fn note_outcome(&mut self, outcome: Outcome) {
+        match outcome {
+            Outcome::Commit { .. } => raise(&mut self.committed),
+            Outcome::Conflict => raise(&mut self.conflicting),
+            Outcome::Old => raise(&mut self.old),
+        }
+    }
+}
+
+// The place of the code among all codes, and behind them where it is none.
+fn place_of(code: u32) -> usize {
+    for (place, known) in CODES.iter().enumerate() {
+        if *known == code {
+            return place;
+        }
+    }
+    REFUSALS
+}
+
+fn raise(count: &mut u32) {
+    *count = count.saturating_add(1);
+}
+
+// The count at the place, if there is one, goes up by 1.
+fn raise_at(counts: &mut [u32], place: usize) {
+    if let Some(count) = counts.get_mut(place) {
+        raise(count);
+    }
+}

@@ -1,8 +1,0 @@
-use Rattle.std.proofs.lemmas.Result.{err_from_is_err_and}
-use Rattle.fdb_sim.proofs.script.step_line.read_ask.Goals as goal
-
-pub returns-in_err-session : goal.returns-in_err-session
-returns-in_err-session c =
-    let p = err_from_is_err_and c.from_residual.result c.from_residual.ensures.1 in
-    let bad = c.in_err-session.ensures.bad in
-    rw (p.1, p.2, bad.0) (λ step rest. bad.1 rest.0 rest.1 rest.2)

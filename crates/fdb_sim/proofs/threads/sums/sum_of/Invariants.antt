@@ -1,6 +1,0 @@
-use Rattle.std.proofs.Common.{◌≡◌, take}
-use Rattle.fdb_sim.specs.threads.Sums.{sum_of}
-use Rattle.fdb_sim.proofs.threads.sums.sum_of.Given as goal
-
-abbrev pub invariant-loop-pair : goal.invariant-loop-pair
-invariant-loop-pair l = l.sum ≡ sum_of (take l.pair-index l.pairs)

@@ -1,4 +1,0 @@
-pub mod Judging
-pub mod Reports
-pub mod Runs
-pub mod Sums
