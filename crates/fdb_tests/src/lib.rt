@@ -1,4 +1,4 @@
-//! Tests of the other crates by their public calls alone. It is no part of the product.
+//! Tests of the crates up to the world of all roles by their public calls alone. It is no part of the product.
 #![tactic(auto)]
 
 #[cfg(test)]
@@ -25,8 +25,6 @@ mod proxies;
 mod random;
 #[cfg(test)]
 mod resolving;
-#[cfg(test)]
-mod running;
 #[cfg(test)]
 mod sequencing;
 #[cfg(test)]

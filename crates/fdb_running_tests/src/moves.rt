@@ -1,0 +1,109 @@
+// Moves of keys between resolvers, which stand in the book with the next entry.
+ghost use Rattle.std.specs.Prelude.{◌≡◌};
+
+use crate::making::{coded, count_config, keys_of, same};
+use crate::running::{Done, Host, Named, move_keys, put};
+use fdb_book::Blank;
+use fdb_keys::Refusal;
+use fdb_runtime::{ClusterName, Config, Database, NoGate, Record, Session};
+use fdb_txn::{Entry, Move};
+use std::alloc::Global;
+use std::marker::Brand;
+use std::sync::Arc;
+use std::test::Fail;
+
+// The bounds of the keys that go over, and the resolver that they go to.
+type Wanted = (&'static [u8], &'static [u8], u32);
+
+// The moves of each of four entries: none is asked for before the first one, one before the second one, none before the
+// third one, and two before the last one.
+const MOVES: &[&[Wanted]] = &[
+    &[],
+    &[(b"c", b"q", 1)],
+    &[],
+    &[(b"a", b"d", 2), (b"c", b"d", 0)],
+];
+
+// Asks for the moves of each entry, and commits a transaction in it.
+fn move_and_put<B: Named, R: Host>(
+    rt: &R,
+    alloc: Global,
+    database: &Database<B>,
+    session: &mut Session<B>,
+) -> Result<(), Refusal> {
+    for moves in MOVES {
+        for (begin, end, to) in *moves {
+            move_keys(rt, alloc, database, begin, end, *to)?;
+        }
+        put(rt, alloc, session, b"c", 1)?;
+    }
+    Ok(())
+}
+
+// The same in a session of its own.
+fn move_in_one<B: Named, R: Host>(
+    rt: &R,
+    alloc: Global,
+    database: &mut Database<B>,
+) -> Result<(), Refusal> {
+    let mut session = database.session(alloc)?;
+    let moved = move_and_put(rt, alloc, database, &mut session);
+    drop(session);
+    moved
+}
+
+fn is_wanted(given: &Move, wanted: &Wanted) -> bool {
+    let (begin, end, to) = *wanted;
+    given.to == to && given.range.begin() == begin && given.range.end() == end
+}
+
+// Whether the entry has just these moves.
+fn has_moves(entry: &Entry, wanted: &[Wanted]) -> bool {
+    let moves = entry.moves.as_slice();
+    moves.len() == wanted.len()
+        && moves
+            .iter()
+            .zip(wanted)
+            .all(|(given, wanted)| is_wanted(given, wanted))
+}
+
+// How many of the entries have the moves that they should.
+fn count_right(entries: &[Entry]) -> usize {
+    let mut count: usize = 0;
+    for (number, wanted) in MOVES.iter().enumerate() {
+        if let Some(entry) = entries.get(number) {
+            count = count.saturating_add(usize::from(has_moves(entry, wanted)));
+        }
+    }
+    count
+}
+
+// How many entries the record has, and how many of them have the moves that they should.
+fn told_of<B: ClusterName>(record: Result<Record<B>, Refusal>) -> Result<(usize, usize), Refusal> {
+    let record = record?;
+    let entries = record.front().entries()?;
+    Ok((entries.len(), count_right(entries.as_slice())))
+}
+
+fn run_moves<B: Named, R: Host>(rt: &R, alloc: Global, blank: Blank, config: &Config) -> Done
+    requires cells { blank ≡ B.cells }
+    requires config { config.now ≡ B.config }
+{
+    let gate = Arc::new(alloc, NoGate)?;
+    let mut database: Database<B> = Database::start(rt, alloc, blank, config, 100, &gate)?;
+    let moved = move_in_one(rt, alloc, &mut database);
+    let record = database.close(rt);
+    same(rt, coded(moved), Ok(()));
+    same(rt, coded(told_of(record)), Ok((4, 4)));
+    Ok(())
+}
+
+#[test]
+fn moves_stand_in_the_book_with_the_next_entry(rt: HostRuntime) -> Result<(), Fail> {
+    let alloc = rt.alloc();
+    let mut config = count_config(alloc, 2, 1, 10);
+    config.resolver_splits = keys_of(alloc, &[b"f", b"p"])?;
+    let blank = Blank::new(alloc, 10)?;
+    run_moves::<Brand, HostRuntime>(&rt, alloc, blank, &config)?;
+    Ok(())
+}

@@ -1,0 +1,206 @@
+// What the tests of databases that run in threads share.
+ghost use Rattle.std.specs.Prelude.{◌≡◌};
+
+use crate::making::{are_pairs, both, made_of};
+use fdb_core::{CheckFault, serial_check};
+use fdb_keys::{Key, KeyRange, Refusal, Refused};
+use fdb_mutations::Mutation;
+use fdb_runtime::{ClusterName, Config, Database, Receipt, Record, Session, Spot};
+use std::alloc::Global;
+use std::marker::Brand;
+use std::process::Abort;
+use std::sync::Wait;
+use std::thread::Threads;
+use std::time::Clock;
+
+/// What runs a database in threads, tells the time, and stops a test that fails.
+pub(crate) trait Host: Threads + Wait + Abort + Clock + Copy + Send + Sync + Drop + 'static {}
+
+impl<R: Threads + Wait + Abort + Clock + Copy + Send + Sync + Drop + 'static> Host for R {}
+
+/// Names a database that runs.
+pub(crate) trait Named: ClusterName + Send + Sync + 'static {}
+
+impl Named for Brand {}
+
+/// Why a test couldn't go on, if so.
+pub(crate) type Done = Result<(), Refusal>;
+
+/// The next two sessions. What is told to both has them lent, so that no exit on the way drops any. No closure takes
+/// them: the prover doesn't state a bound that names what runs over a database's name.
+pub(crate) fn two_sessions<B: Named>(
+    alloc: Global,
+    database: &mut Database<B>,
+) -> Result<(Session<B>, Session<B>), Refusal> {
+    both(database.session(alloc), database.session(alloc))
+}
+
+/// Hands the keys from `begin` up to but not including `end` over to the resolver.
+pub(crate) fn move_keys<B: Named, R: Wait>(
+    rt: &R,
+    alloc: Global,
+    database: &Database<B>,
+    begin: &[u8],
+    end: &[u8],
+    to: u32,
+) -> Result<(), Refusal> {
+    let range = KeyRange::new(alloc, begin, end)?;
+    database.move_range(rt, &range, to)
+}
+
+/// How many entries the record has.
+pub(crate) fn length_of<B: ClusterName>(
+    record: Result<Record<B>, Refusal>,
+) -> Result<usize, Refusal> {
+    Ok(record?.front().len())
+}
+
+/// Commits the write of one byte to the key, and gives its spot.
+pub(crate) fn put<B: ClusterName, R: Wait>(
+    rt: &R,
+    alloc: Global,
+    session: &mut Session<B>,
+    key: &[u8],
+    value: u8,
+) -> Result<Spot, Refusal> {
+    session.begin(rt, alloc)?;
+    write(session, Mutation::set(alloc, key, &[value]))?;
+    let receipt = receipt_of(session.commit(rt, alloc))?;
+    let spot = receipt.spot();
+    drop(receipt);
+    Ok(spot)
+}
+
+/// The session writes the key, to the mutation that is made.
+pub(crate) fn write<B: ClusterName>(
+    session: &mut Session<B>,
+    mutation: Result<Mutation, Refusal>,
+) -> Result<(), Refusal> {
+    made_of(mutation, |mutation| session.write(mutation))
+}
+
+/// The code of the session's commit, 0 where there is a receipt, and whether its transcript is handed back.
+pub(crate) fn commit_code<B: ClusterName, R: Wait>(
+    rt: &R,
+    alloc: Global,
+    session: &mut Session<B>,
+) -> (u32, bool) {
+    refusal_code(session.commit(rt, alloc))
+}
+
+// The code of the refusal, 0 where there is none, and whether something is handed back.
+fn refusal_code<T: Drop, U: Drop>(answer: Result<T, Refused<Option<U>>>) -> (u32, bool) {
+    match answer {
+        Ok(_given) => (0, false),
+        Err(refused) => (refused.why.code(), refused.back.is_some()),
+    }
+}
+
+/// The receipt, or why there is none.
+pub(crate) fn receipt_of<T, U: Drop>(answer: Result<T, Refused<U>>) -> Result<T, Refusal> {
+    match answer {
+        Ok(given) => Ok(given),
+        Err(refused) => Err(refused.why),
+    }
+}
+
+/// The thread, unless it couldn't be started. What it was to run is dropped then, where its type is a parameter.
+pub(crate) fn thread_of<T, F: Drop>(started: Result<T, F>) -> Result<T, Refusal> {
+    match started {
+        Ok(thread) => Ok(thread),
+        Err(_not_run) => Err(Refusal::NoMemory),
+    }
+}
+
+/// The value of a key as one byte, in a transaction.
+pub(crate) fn byte_of<B: ClusterName, R: Wait>(
+    rt: &R,
+    alloc: Global,
+    session: &mut Session<B>,
+    key: &[u8],
+) -> Result<Option<u8>, Refusal> {
+    byte_by(rt, alloc, session, key, false)
+}
+
+/// The same by a snapshot read.
+pub(crate) fn snapshot_of<B: ClusterName, R: Wait>(
+    rt: &R,
+    alloc: Global,
+    session: &mut Session<B>,
+    key: &[u8],
+) -> Result<Option<u8>, Refusal> {
+    byte_by(rt, alloc, session, key, true)
+}
+
+fn byte_by<B: ClusterName, R: Wait>(
+    rt: &R,
+    alloc: Global,
+    session: &mut Session<B>,
+    key: &[u8],
+    is_snapshot: bool,
+) -> Result<Option<u8>, Refusal> {
+    let key = Key::new(alloc, key)?;
+    match session.get(rt, alloc, &key, is_snapshot)? {
+        Some(value) => Ok(value.as_slice().first().copied()),
+        None => Ok(None),
+    }
+}
+
+/// Where a range begins and ends, how many pairs are asked for, whether from its end; its pairs then.
+pub(crate) type Asked = (&'static [u8], &'static [u8], u32, bool, &'static [(u8, u8)]);
+
+/// Whether the session reads just these pairs.
+pub(crate) fn reads_just<B: ClusterName, R: Wait>(
+    rt: &R,
+    alloc: Global,
+    session: &mut Session<B>,
+    asked: &Asked,
+    is_snapshot: bool,
+) -> Result<bool, Refusal> {
+    let (begin, end, limit, reverse, wanted) = *asked;
+    let range = KeyRange::new(alloc, begin, end)?;
+    match session.get_range(rt, alloc, &range, limit, reverse, is_snapshot) {
+        Ok(pairs) => Ok(are_pairs(pairs.as_slice(), wanted)),
+        Err(why) => Err(why),
+    }
+}
+
+/// The session adds the keys from a to y to what its transaction reads.
+pub(crate) fn add_read<B: ClusterName>(
+    alloc: Global,
+    session: &mut Session<B>,
+) -> Result<(), Refusal> {
+    made_of(
+        KeyRange::new(alloc, b"a", b"z"),
+        |range| session.add_read(range),
+    )
+}
+
+/// The same of what it writes.
+pub(crate) fn add_write<B: ClusterName>(
+    alloc: Global,
+    session: &mut Session<B>,
+) -> Result<(), Refusal> {
+    made_of(
+        KeyRange::new(alloc, b"a", b"z"),
+        |range| session.add_write(range),
+    )
+}
+
+/// Whether the receipt's transaction is serialized where it says on the receipt's front.
+pub(crate) fn is_serial<B: ClusterName>(
+    alloc: Global,
+    config: &Config,
+    receipt: Receipt<B>,
+) -> Result<bool, Refusal>
+    requires { config.now ≡ B.config }
+{
+    config.check()?;
+    let entries = receipt.front().entries()?;
+    let placed = [receipt.into_placed()];
+    match serial_check(alloc, config, entries.as_slice(), &placed) {
+        Ok(count) => Ok(count == 1),
+        Err(CheckFault::NoMemory) => Err(Refusal::NoMemory),
+        Err(_fault) => Ok(false),
+    }
+}

@@ -1,7 +1,0 @@
-use Rattle.fdb_tests.proofs.running.commits.start_on.Given as goal
-
-abbrev pub ghosts-start_code-B-BookName : goal.ghosts-start_code-B-BookName
-ghosts-start_code-B-BookName g a = record { cells = a.blank }
-
-abbrev pub ghosts-start_code-B-ClusterName : goal.ghosts-start_code-B-ClusterName
-ghosts-start_code-B-ClusterName g a = record { config = a.config.now }
