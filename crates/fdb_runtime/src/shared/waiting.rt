@@ -5,7 +5,7 @@ use std::thread::yield_now;
 
 // How often a thread lets others run before it sleeps. To be woken costs far more than that, and what it waits for has
 // mostly come by then.
-const TURNS: u32 = 16;
+const TURNS: u32 = 64;
 
 /// Lets other threads run, some turns long, as long as what stands under the lock is still to be waited for. Who calls
 /// it sleeps then, if it still is.
