@@ -1,1 +1,3 @@
 mod PairsLemmas
+mod RingsLemmas
+mod SumsLemmas

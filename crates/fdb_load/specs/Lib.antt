@@ -1,5 +1,7 @@
+pub mod Examples
 pub mod Judging
 pub mod Reports
+pub mod Rings
 pub mod Runs
 pub mod Sums
 pub mod Workloads

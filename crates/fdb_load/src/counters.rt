@@ -1,6 +1,7 @@
 // Numbers to which all clients add, without reading them.
-ghost use Rattle.std.specs.Prelude.{◌≡◌, IsTrue, length};
-ghost use Rattle.fdb_load.specs.Sums.{sum_of};
+ghost use Rattle.std.specs.Prelude.{◌≡◌, Some, length};
+ghost use Rattle.std.specs.Bool.{Decides};
+ghost use Rattle.fdb_load.specs.Sums.{told_sum};
 
 use crate::halt::Halt;
 use crate::names::name_of;
@@ -47,7 +48,7 @@ pub(crate) fn fill<B: ClusterName>(
 
 /// Whether the pairs are those of all numbers, and their sum is how many transactions were committed.
 pub(crate) fn is_sum(pairs: &[(Key, Bytes)], committed: u64) -> bool
-    ensures { IsTrue result → (length pairs.now ≡ 4) × (sum_of pairs.now ≡ committed) }
+    ensures { Decides result ((length pairs.now ≡ 4) × (told_sum pairs.now ≡ Some committed)) }
 {
     pairs.len() == usize::from(KEYS) && sum_of(pairs) == Some(committed)
 }

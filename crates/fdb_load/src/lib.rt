@@ -6,6 +6,7 @@ mod clients;
 mod counters;
 mod halt;
 mod judging;
+pub mod laws;
 mod load;
 mod names;
 mod played;

@@ -1,5 +1,6 @@
 // The names of a workload's keys: a letter, `/` and two digits. So their order is that of their numbers.
-ghost use Rattle.std.specs.Prelude.{◌≡◌, ◌<◌, ◌+◌, ◌/◌, ◌%◌, ◌∷◌, [], IfSome};
+ghost use Rattle.std.specs.Prelude.{◌≡◌, ◌<◌, ◌+◌, ◌/◌, ◌%◌, ◌∷◌, []};
+ghost use Rattle.fdb_load.specs.Rings.{name_in};
 
 use crate::workload::Workload;
 use fdb_keys::{Items, Key, KeyRange, Refusal};
@@ -17,7 +18,7 @@ pub fn name_of(letter: u8, number: u8) -> Name
 
 /// The name that the value is, if it has the length of one.
 pub(crate) fn name_in(value: &[u8]) -> Option<Name>
-    ensures { IfSome result (λ name. name ≡ value.now) }
+    ensures { result ≡ name_in value.now }
 {
     match value {
         [letter, slash, ten, one] => Some([*letter, *slash, *ten, *one]),

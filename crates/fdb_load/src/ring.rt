@@ -1,5 +1,7 @@
 // Keys of which each has the name of the next one.
-ghost use Rattle.std.specs.Prelude.{◌≡◌, IsTrue, length};
+ghost use Rattle.std.specs.Prelude.{◌≢◌, ◌<◌, ◌≤◌, ℕ, Some, IfSome, IfNone};
+ghost use Rattle.std.specs.Bool.{Decides};
+ghost use Rattle.fdb_load.specs.Rings.{first_name, name_after, IsBackAfter, IsOneCycle};
 
 use crate::halt::Halt;
 use crate::names::{Name, name_in, name_of};
@@ -70,13 +72,17 @@ fn change_places<B: ClusterName>(
 
 /// Whether the pairs are those of one cycle of all keys.
 pub(crate) fn is_whole(pairs: &[(Key, Bytes)]) -> bool
-    ensures { IsTrue result → length pairs.now ≡ 32 }
+    ensures { Decides result (IsOneCycle pairs.now) }
 {
     pairs.len() == usize::from(KEYS) && cycle_length(pairs) == Some(KEYS)
 }
 
 /// After how many steps the way from the first key comes back to it, if it does so within as many as there are keys.
-pub(crate) fn cycle_length(pairs: &[(Key, Bytes)]) -> Option<u8> {
+pub(crate) fn cycle_length(pairs: &[(Key, Bytes)]) -> Option<u8>
+    ensures some { IfSome result (λ steps. (steps ≤ 32) × IsBackAfter pairs.now steps) }
+    ensures none { IfNone result
+        ((steps : ℕ) → 0 < steps → steps ≤ 32 → name_after pairs.now steps ≢ Some first_name) }
+{
     let first = name_of(LETTER, 0);
     let mut at = first;
     for steps in 1..=KEYS {

@@ -1,6 +1,6 @@
 // The numbers that keys have.
 ghost use Rattle.std.specs.Prelude.{◌≡◌, ◌≢◌, IfSome, IfNone, length};
-ghost use Rattle.fdb_load.specs.Sums.{number_of, sum_of};
+ghost use Rattle.fdb_load.specs.Sums.{number_of, told_sum};
 
 use bytes::Bytes;
 use fdb_keys::Key;
@@ -16,9 +16,9 @@ pub(crate) fn number_in(value: &[u8]) -> Option<u64>
     }
 }
 
-/// The sum of the numbers that the values are, if each is one.
+/// The sum of the numbers that the values are, if each is one and the sum fits.
 pub(crate) fn sum_of(pairs: &[(Key, Bytes)]) -> Option<u64>
-    ensures { IfSome result (λ sum. sum ≡ sum_of pairs.now) }
+    ensures { result ≡ told_sum pairs.now }
 {
     let mut sum: u64 = 0;
     for pair in pairs {

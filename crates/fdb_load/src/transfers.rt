@@ -1,6 +1,7 @@
 // Accounts between which amounts are moved.
-ghost use Rattle.std.specs.Prelude.{◌≡◌, IsTrue, length};
-ghost use Rattle.fdb_load.specs.Sums.{sum_of};
+ghost use Rattle.std.specs.Prelude.{◌≡◌, Some, length};
+ghost use Rattle.std.specs.Bool.{Decides};
+ghost use Rattle.fdb_load.specs.Sums.{told_sum};
 
 use crate::halt::Halt;
 use crate::names::name_of;
@@ -78,7 +79,7 @@ fn two_accounts(random: &mut Pcg32) -> (u8, u8) {
 
 /// Whether the pairs are those of all accounts, and have together what they had at first.
 pub(crate) fn is_whole(pairs: &[(Key, Bytes)]) -> bool
-    ensures { IsTrue result → (length pairs.now ≡ 32) × (sum_of pairs.now ≡ 32000) }
+    ensures { Decides result ((length pairs.now ≡ 32) × (told_sum pairs.now ≡ Some 32000)) }
 {
     pairs.len() == usize::from(KEYS) && sum_of(pairs) == Some(SUM)
 }

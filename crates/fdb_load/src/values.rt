@@ -1,4 +1,8 @@
 // What a transaction reads at a key, and what it writes there.
+ghost use Rattle.std.specs.Prelude.{◌≡◌};
+ghost use Rattle.std.specs.Option.{option_copied};
+ghost use Rattle.fdb_load.specs.Rings.{value_at};
+
 use crate::halt::Halt;
 use crate::names::{Name, name_in};
 use crate::sums::number_in;
@@ -10,7 +14,9 @@ use std::alloc::Global;
 use std::sync::Wait;
 
 /// The value that the pairs have for the key.
-pub(crate) fn value_of<'a>(pairs: &'a [(Key, Bytes)], key: &[u8]) -> Option<&'a [u8]> {
+pub(crate) fn value_of<'a>(pairs: &'a [(Key, Bytes)], key: &[u8]) -> Option<&'a [u8]>
+    ensures { option_copied result ≡ value_at pairs.now key.now }
+{
     for (at, value) in pairs {
         if at.bytes() == key {
             return Some(value.as_slice());

@@ -1,7 +1,8 @@
 // What clients do, and what has to hold of it in the end.
-ghost use Rattle.std.specs.Prelude.{◌≡◌, ◌<◌, ◌≤◌, IsTrue, length};
+ghost use Rattle.std.specs.Prelude.{◌≡◌, ◌<◌, ◌≤◌};
+ghost use Rattle.std.specs.Bool.{Decides};
 ghost use Rattle.fdb_load.specs.Reports.{workload_name};
-ghost use Rattle.fdb_load.specs.Workloads.{HasSum, keys_of, letter_of};
+ghost use Rattle.fdb_load.specs.Workloads.{AreLeft, keys_of, letter_of};
 
 use crate::halt::Halt;
 use crate::{counters, ring, transfers};
@@ -91,7 +92,7 @@ impl Workload {
     /// Whether the pairs are such as so many committed transactions leave, in whatever order they ran: one cycle of all
     /// keys of the ring, and of the others the sum of all numbers. It takes O(n) time for n pairs.
     pub fn holds(self, pairs: &[(Key, Bytes)], committed: u64) -> bool
-        ensures { IsTrue result → (length pairs.now ≡ keys_of self) × HasSum self pairs.now committed }
+        ensures { Decides result (AreLeft self pairs.now committed) }
     {
         match self {
             Workload::Ring => ring::is_whole(pairs),
