@@ -1,5 +1,6 @@
 // The names of a workload's keys: a letter, `/` and two digits. So their order is that of their numbers.
-ghost use Rattle.std.specs.Prelude.{◌≡◌, ◌<◌, ◌+◌, ◌/◌, ◌%◌, ◌∷◌, []};
+ghost use Rattle.std.specs.Prelude.{◌≡◌, ◌<◌, ◌+◌, ◌/◌, ◌%◌, ◌∷◌, [], IfErr};
+ghost use Rattle.fdb_keys.specs.declared.refusal.Refusal.TheVariants.{NoMemory};
 ghost use Rattle.fdb_load.specs.Rings.{name_in};
 
 use crate::workload::Workload;
@@ -28,11 +29,14 @@ pub(crate) fn name_in(value: &[u8]) -> Option<Name>
 
 /// The keys that divide those of the workload into so many pieces, at most 64. They rise, and each piece has a key of
 /// the workload where there are enough of them; where there are more pieces than keys, some lie between two keys.
+/// Refused only as `NoMemory`.
 pub(crate) fn even_splits(
     alloc: Global,
     workload: Workload,
     pieces: u32,
-) -> Result<Items<Key>, Refusal> {
+) -> Result<Items<Key>, Refusal>
+    ensures { IfErr result (λ why. why ≡ NoMemory) }
+{
     let mut splits = Items::new(alloc);
     for piece in 1..pieces {
         splits.push(split_of(alloc, workload, piece, pieces)?)?;
@@ -43,17 +47,21 @@ pub(crate) fn even_splits(
 // Where the piece begins: at a key, or a part in 256 of the way from a key to the next one.
 fn split_of(alloc: Global, workload: Workload, piece: u32, pieces: u32) -> Result<Key, Refusal>
     requires { 0 < pieces }
+    ensures { IfErr result (λ why. why ≡ NoMemory) }
 {
     let parts = u64::from(workload.keys()) * 256;
     let at = u64::from(piece).saturating_mul(parts) / u64::from(pieces);
-    let name = name_of(workload.letter(), (at / 256 % 100) as u8);
-    between(alloc, &name, (at % 256) as u8)
+    let number = (at / 256 % 100) as u8;
+    between(alloc, workload.letter(), number, (at % 256) as u8)
 }
 
-// The key of the name, or one behind it and before the next name.
-fn between(alloc: Global, name: &[u8], part: u8) -> Result<Key, Refusal> {
+// The key of the letter and the number, or one behind it and before the next name.
+fn between(alloc: Global, letter: u8, number: u8, part: u8) -> Result<Key, Refusal>
+    requires { letter < 255 }
+    ensures { IfErr result (λ why. why ≡ NoMemory) }
+{
     let mut text = Vec::new(alloc);
-    text.extend_from_slice(name)?;
+    text.extend_from_slice(&name_of(letter, number))?;
     if part > 0 {
         text.push(part)?;
     }

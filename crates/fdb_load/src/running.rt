@@ -1,7 +1,8 @@
 // A database of its own for a load, from its start to its end.
 ghost use Rattle.std.specs.Prelude.{◌≡◌, ◌*◌, IfOk, IfErr};
-ghost use Rattle.fdb_play.specs.Streams.{FailsWith};
+ghost use Rattle.fdb_keys.specs.declared.refusal.Refusal.TheVariants.{NoMemory};
 ghost use Rattle.fdb_load.specs.Reports.{IsReportOf};
+ghost use Rattle.fdb_load.specs.Stops.{StopsWith};
 
 use crate::client::Part;
 use crate::clients::{Client, join, start};
@@ -43,7 +44,7 @@ pub fn run_load<R: Threads + Wait + Clock + Copy + Send + Sync + 'static, E: Sin
     err: &mut E,
 ) -> Result<Report, Stop>
     ensures report { IfOk result (IsReportOf load.now.workload (load.now.clients * load.now.txns)) }
-    ensures errors { IfErr result (FailsWith E.errors) }
+    ensures errors { IfErr result (StopsWith E.errors) }
 {
     match config_of(alloc, load) {
         Ok(config) => run_on(rt, alloc, &config, load, pace, err),
@@ -52,9 +53,10 @@ pub fn run_load<R: Threads + Wait + Clock + Copy + Send + Sync + 'static, E: Sin
 }
 
 /// The configuration of the load's database, whose resolvers and shards have about as many keys of the workload each.
-/// Refused where memory runs out. It takes O(n) time for n resolvers.
+/// Refused only as `NoMemory`. It takes O(n) time for n resolvers.
 pub fn config_of(alloc: Global, load: &Load) -> Result<Config, Refusal>
-    ensures { IfOk result
+    ensures refused { IfErr result (λ why. why ≡ NoMemory) }
+    ensures config { IfOk result
         (λ config. (config.proxies ≡ load.now.proxies) × (config.logs ≡ 2) × (config.book ≡ 1048576)) }
 {
     let resolver_splits = even_splits(alloc, load.workload, load.resolvers)?;
@@ -77,7 +79,7 @@ fn run_on<R: Threads + Wait + Clock + Copy + Send + Sync + 'static, E: Sink>(
     err: &mut E,
 ) -> Result<Report, Stop>
     ensures report { IfOk result (IsReportOf load.now.workload (load.now.clients * load.now.txns)) }
-    ensures errors { IfErr result (FailsWith E.errors) }
+    ensures errors { IfErr result (StopsWith E.errors) }
 {
     match Blank::new(alloc, BOOK) {
         Ok(blank) => run_named::<Brand, R, E>(rt, alloc, blank, config, load, pace, err),
@@ -102,7 +104,7 @@ fn run_named<
     requires cells { blank ≡ B.cells }
     requires config { config.now ≡ B.config }
     ensures report { IfOk result (IsReportOf load.now.workload (load.now.clients * load.now.txns)) }
-    ensures errors { IfErr result (FailsWith E.errors) }
+    ensures errors { IfErr result (StopsWith E.errors) }
 {
     let gate = Arc::new(alloc, NoGate)?;
     match Database::start(rt, alloc, blank, config, ADVANCE, &gate) {
@@ -127,7 +129,7 @@ fn run_in<
 ) -> Result<Report, Stop>
     requires config { config.now ≡ B.config }
     ensures report { IfOk result (IsReportOf load.now.workload (load.now.clients * load.now.txns)) }
-    ensures errors { IfErr result (FailsWith E.errors) }
+    ensures errors { IfErr result (StopsWith E.errors) }
 {
     let mut database = database;
     let ran = run_clients(rt, alloc, &mut database, load, pace, err);
@@ -148,7 +150,7 @@ fn judge_closed<B: ClusterName>(
 ) -> Result<Report, Stop>
     requires config { config.now ≡ B.config }
     ensures report { IfOk result (IsReportOf load.now.workload (load.now.clients * load.now.txns)) }
-    ensures errors { IfErr result (FailsWith (λ _. ⊥)) }
+    ensures errors { IfErr result (StopsWith (λ _. ⊥)) }
 {
     match record {
         Ok(record) => judge_record(alloc, config, load, ran.0, &ran.1, &record),
@@ -173,7 +175,7 @@ pub fn run_clients<
     pace: Pace,
     err: &mut E,
 ) -> Result<(Spot, Played), Stop>
-    ensures errors { IfErr result (FailsWith E.errors) }
+    ensures errors { IfErr result (StopsWith E.errors) }
 {
     match set_up(rt, alloc, database, load.workload) {
         Ok(first) => {
@@ -225,7 +227,7 @@ fn play_all<
     pace: Pace,
     err: &mut E,
 ) -> Result<Played, Stop>
-    ensures errors { IfErr result (FailsWith E.errors) }
+    ensures errors { IfErr result (StopsWith E.errors) }
 {
     let tally = Arc::new(alloc, Tally::new())?;
     let mut clients: Vec<Client> = Vec::new(alloc);
@@ -280,7 +282,7 @@ fn judge_record<B: ClusterName>(
 ) -> Result<Report, Stop>
     requires config { config.now ≡ B.config }
     ensures report { IfOk result (IsReportOf load.now.workload (load.now.clients * load.now.txns)) }
-    ensures errors { IfErr result (FailsWith (λ _. ⊥)) }
+    ensures errors { IfErr result (StopsWith (λ _. ⊥)) }
 {
     if let Some(why) = played.refused {
         return Err(Stop::Refused(why));

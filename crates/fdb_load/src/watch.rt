@@ -1,6 +1,6 @@
 // What the main thread does while clients run: it moves keys between resolvers, and tells how far the clients are.
 ghost use Rattle.std.specs.Prelude.{◌<◌, IfErr};
-ghost use Rattle.fdb_play.specs.Streams.{FailsWith};
+ghost use Rattle.fdb_load.specs.Stops.{StopsWith};
 
 use crate::names::range_of;
 use crate::tally::Tally;
@@ -52,7 +52,7 @@ pub(crate) fn watch<B: ClusterName + Send + Sync + 'static, R: Wait + Clock, E: 
     tally: &Tally,
     err: &mut E,
 ) -> Result<(), Stop>
-    ensures { IfErr result (FailsWith E.errors) }
+    ensures { IfErr result (StopsWith E.errors) }
 {
     let mut random = Pcg32::new(u64::MAX, 0);
     let mut next = run.pace.tries;
@@ -81,7 +81,7 @@ fn move_some<B: ClusterName + Send + Sync + 'static, R: Wait>(
     run: &Run,
     random: &mut Pcg32,
 ) -> Result<(), Stop>
-    ensures { IfErr result (FailsWith (λ _. ⊥)) }
+    ensures { IfErr result (StopsWith (λ _. ⊥)) }
 {
     if run.resolvers < 2 {
         return Ok(());
@@ -97,7 +97,7 @@ fn move_some<B: ClusterName + Send + Sync + 'static, R: Wait>(
 }
 
 fn refused(answer: Result<(), Refusal>) -> Result<(), Stop>
-    ensures { IfErr result (FailsWith (λ _. ⊥)) }
+    ensures { IfErr result (StopsWith (λ _. ⊥)) }
 {
     match answer {
         Ok(()) => Ok(()),

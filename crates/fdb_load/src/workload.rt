@@ -39,7 +39,8 @@ impl Workload {
 
     /// The letter that its keys begin with. It takes O(1) time.
     pub fn letter(self) -> u8
-        ensures { result ≡ letter_of self }
+        ensures letter { result ≡ letter_of self }
+        ensures bound { result < 255 }
     {
         match self {
             Workload::Ring => ring::LETTER,
