@@ -30,6 +30,6 @@ IsBackAfter pairs steps =
     (0 < steps) × (name_after pairs steps ≡ Some first_name)
     × ((fewer : ℕ) → 0 < fewer → fewer < steps → name_after pairs fewer ≢ Some first_name)
 
--- The pairs are one cycle: there are 32, and just 32 steps lead from the first key to it again, so through all keys.
+-- The pairs are one cycle: there are 32, and just 32 steps lead from the first key to it again.
 abbrev pub IsOneCycle : List (Point × List ℕ) → Type 0
 IsOneCycle pairs = (length pairs ≡ 32) × IsBackAfter pairs 32

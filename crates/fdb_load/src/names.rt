@@ -1,5 +1,5 @@
 // The names of a workload's keys: a letter, `/` and two digits. So their order is that of their numbers.
-ghost use Rattle.std.specs.Prelude.{◌≡◌, ◌<◌, ◌+◌, ◌/◌, ◌%◌, ◌∷◌, [], IfErr};
+ghost use Rattle.std.specs.Prelude.{◌≡◌, ◌<◌, ◌+◌, ◌/◌, ◌%◌, ◌∷◌, ◌-◌, [], length, IfOk, IfErr};
 ghost use Rattle.fdb_keys.specs.declared.refusal.Refusal.TheVariants.{NoMemory};
 ghost use Rattle.fdb_load.specs.Rings.{name_in};
 
@@ -35,7 +35,8 @@ pub(crate) fn even_splits(
     workload: Workload,
     pieces: u32,
 ) -> Result<Items<Key>, Refusal>
-    ensures { IfErr result (λ why. why ≡ NoMemory) }
+    ensures count { IfOk result (λ splits. length splits ≡ pieces - 1) }
+    ensures refused { IfErr result (λ why. why ≡ NoMemory) }
 {
     let mut splits = Items::new(alloc);
     for piece in 1..pieces {

@@ -1,5 +1,5 @@
 // A database of its own for a load, from its start to its end.
-ghost use Rattle.std.specs.Prelude.{◌≡◌, ◌*◌, IfOk, IfErr};
+ghost use Rattle.std.specs.Prelude.{◌≡◌, ◌*◌, ◌-◌, length, IfOk, IfErr};
 ghost use Rattle.fdb_keys.specs.declared.refusal.Refusal.TheVariants.{NoMemory};
 ghost use Rattle.fdb_load.specs.Reports.{IsReportOf};
 ghost use Rattle.fdb_load.specs.Stops.{StopsWith};
@@ -57,7 +57,8 @@ pub fn run_load<R: Threads + Wait + Clock + Copy + Send + Sync + 'static, E: Sin
 pub fn config_of(alloc: Global, load: &Load) -> Result<Config, Refusal>
     ensures refused { IfErr result (λ why. why ≡ NoMemory) }
     ensures config { IfOk result
-        (λ config. (config.proxies ≡ load.now.proxies) × (config.logs ≡ 2) × (config.book ≡ 1048576)) }
+        (λ config. (config.proxies ≡ load.now.proxies) × (config.logs ≡ 2) × (config.book ≡ 1048576)
+        × (length config.resolver_splits ≡ load.now.resolvers - 1) × (length config.shard_splits ≡ 2)) }
 {
     let resolver_splits = even_splits(alloc, load.workload, load.resolvers)?;
     let shard_splits = even_splits(alloc, load.workload, SHARDS)?;
