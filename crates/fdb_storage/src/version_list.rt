@@ -17,7 +17,6 @@ pub(crate) struct VersionedValue {
 }
 
 /// What stood at a key, the newest last. Each value is another one than the one before it, and the first one is there.
-#[derive(Drop)]
 pub(crate) struct VersionList {
     values: SmallVec<VersionedValue, 1>,
 }
@@ -123,6 +122,14 @@ impl VersionList {
     {
         let (through, above) = split_by(self.values.as_slice(), floor);
         above.len() + count_newest(through)
+    }
+}
+
+// Written out, so that what drops the cells of the values is proved here, and not anew wherever a list is dropped.
+impl Drop for VersionList {
+    fn drop(self) {
+        let VersionList { values } = self;
+        drop(values);
     }
 }
 

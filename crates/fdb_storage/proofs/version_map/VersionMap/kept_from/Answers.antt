@@ -17,6 +17,6 @@ returns-in-None c through above ended =
     let absent : found c.args.self.now.keys.entries c.args.key.now ≡ None = search rules in
     let same : versions_at c.args.self.now.keys.entries c.args.key.now ≡ c.new.result =
     ap listed absent ∙ sym c.new.ensures in
-    c.kept_from-in-None-2.ensures through above (subst (AreUpTo through) same (ended c.args.key.now))
+    c.kept_from-in-None.ensures through above (subst (AreUpTo through) same (ended c.args.key.now))
     ∙ ap (λ (versions : List VersionedValue). kept_from (λ (v : ℕ). value_up_to v versions) c.args.floor through)
     (sym same)
