@@ -5,7 +5,7 @@ ghost use Rattle.std.specs.List.{AllByRecursion};
 ghost use Rattle.fdb_txn.specs.book.Transactions.{Transaction};
 ghost use Rattle.fdb_bench.specs.Tickets.{AreMovesOf, IsOfMoves};
 
-use crate::numbers::{Fault, even_splits, one_range, random_range};
+use crate::numbers::{Fault, even_splits, one_range, random_range, shared};
 use fdb_keys::{Items, KeyRange, Refusal};
 use fdb_log::LogAck;
 use fdb_proxy::{CommitCore, Config};
@@ -114,7 +114,8 @@ fn request(
 ) -> Result<Sealed, Refusal> {
     let reads = one_range(alloc, random)?;
     let writes = one_range(alloc, random)?;
-    match Sealed::new(alloc, id, read_version, reads, writes, Items::new(alloc)) {
+    let none = shared(alloc, Items::new(alloc))?;
+    match Sealed::new(alloc, id, read_version, reads, writes, none) {
         Ok(sealed) => Ok(sealed),
         Err(refused) => Err(refused.why),
     }

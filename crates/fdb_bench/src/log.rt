@@ -1,7 +1,7 @@
 // One log and one shard that pulls from it, pops what it applied, and forgets.
 ghost use Rattle.std.specs.Prelude.{◌<◌, length, IfOk};
 
-use crate::numbers::Fault;
+use crate::numbers::{Fault, shared};
 use crate::storage::{new_shard, one_of, pool_of, set_of};
 use fdb_keys::{Items, Key, Refusal};
 use fdb_log::{LogCore, LogMsg, Tagged};
@@ -101,6 +101,7 @@ fn message_of(
         let key = one_of(random, pool);
         body.push(tagged(alloc, key, place)?)?;
     }
+    let body = shared(alloc, body)?;
     Ok(LogMsg {
         log: 0,
         index: entry,

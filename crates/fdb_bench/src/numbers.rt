@@ -1,6 +1,7 @@
 // What all measurements need: numbers from words, keys that look random and are the same at each run, faults.
+ghost use Rattle.std.specs.Prelude.{◌≡◌, IfOk};
 
-use fdb_keys::{Items, Key, KeyRange, RangeSet, Refusal};
+use fdb_keys::{Items, Key, KeyRange, RangeSet, Refusal, SharedList};
 use rand_core::Rng;
 use rand_pcg::Pcg32;
 use std::alloc::{AllocError, Global};
@@ -86,4 +87,12 @@ pub(crate) fn one_range(alloc: Global, random: &mut Pcg32) -> Result<RangeSet, R
     let mut set = RangeSet::new(alloc);
     set.add(&random_range(alloc, random)?)?;
     Ok(set)
+}
+
+/// The items, which copies share.
+pub(crate) fn shared<T: Drop>(alloc: Global, items: Items<T>) -> Result<SharedList<T>, Refusal>
+    ensures { IfOk result (λ shared. shared ≡ items) }
+{
+    let shared = SharedList::new(alloc, items)?;
+    Ok(shared)
 }

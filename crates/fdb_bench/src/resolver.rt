@@ -3,7 +3,7 @@ ghost use Rattle.std.specs.Prelude.{◌≡◌, true, IfOk};
 ghost use Rattle.fdb_resolver.specs.Parts.{IsPart};
 ghost use Rattle.fdb_bench.specs.Items.{AreItemsBelow};
 
-use crate::numbers::{Fault, one_range};
+use crate::numbers::{Fault, one_range, shared};
 use fdb_keys::{Items, Refusal};
 use fdb_resolver::{Item, Part, ResolverCore};
 use rand_pcg::Pcg32;
@@ -48,7 +48,10 @@ fn part_of(alloc: Global, random: &mut Pcg32, index: u32) -> Result<Part, Refusa
 {
     let prev = u64::from(index) * ADVANCE;
     let version = prev + ADVANCE;
-    let items = items_of(alloc, random, version.saturating_sub(BEHIND))?;
+    let items = shared(
+        alloc,
+        items_of(alloc, random, version.saturating_sub(BEHIND))?,
+    )?;
     Ok(Part {
         resolver: 0,
         index,

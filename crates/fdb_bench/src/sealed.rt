@@ -2,7 +2,7 @@
 ghost use Rattle.std.specs.Prelude.{◌≡◌, All, None, IfOk};
 ghost use Rattle.fdb_mutations.specs.Mutations.{mutation_fault};
 
-use crate::numbers::Fault;
+use crate::numbers::{Fault, shared};
 use crate::storage::pool_of;
 use fdb_keys::{Items, Key, RangeSet, Refusal, Refused};
 use fdb_mutations::Mutation;
@@ -56,6 +56,7 @@ fn seal_timed<R: Clock>(rt: &R, alloc: Global, sets: Items<Mutation>) -> Result<
         number: 0,
     };
     let (reads, writes) = (RangeSet::new(alloc), RangeSet::new(alloc));
+    let sets = shared(alloc, sets)?;
     let begin = Instant::now(rt)?;
     let sealed = Sealed::new(alloc, id, 0, reads, writes, sets);
     let took = begin.elapsed(rt);

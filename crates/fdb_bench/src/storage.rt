@@ -2,7 +2,7 @@
 ghost use Rattle.std.specs.Prelude.{◌≡◌, ◌<◌, length, IfOk};
 ghost use Rattle.fdb_log.specs.Peeks.{IsPeek};
 
-use crate::numbers::{Fault, random_key};
+use crate::numbers::{Fault, random_key, shared};
 use fdb_keys::{Items, Key, KeyRange, Refusal};
 use fdb_log::{Peek, TagMsg};
 use fdb_mutations::Mutation;
@@ -153,7 +153,7 @@ fn peek_of(
 {
     let prev = u64::from(entry) * ADVANCE;
     let version = prev + ADVANCE;
-    let body = body_of(alloc, random, pool, bytes)?;
+    let body = shared(alloc, body_of(alloc, random, pool, bytes)?)?;
     let mut messages = Items::new(alloc);
     messages.push(TagMsg {
         version,

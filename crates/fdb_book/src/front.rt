@@ -87,7 +87,7 @@ impl<B: BookName> Front<B> {
         }
     }
 
-    /// A copy of each entry, in order. Refused as `NoMemory` where memory runs out.
+    /// A copy of each entry, in order, which shares its transactions. Refused as `NoMemory` where memory runs out.
     pub fn entries(&self) -> Result<Vec<Entry>, Refusal>
         ensures { Answers result None (λ entries. entries.items ≡ self.now) }
     {

@@ -199,7 +199,7 @@ impl Txn {
 
     /// What is left to do of it: nothing where it has no mutation and an empty write set, which takes no memory and is
     /// never refused, and else to commit it. Refused as `TransactionTooLarge` where what is to be committed has more
-    /// than 10,000,000 bytes, and as `NoMemory` where memory runs out before that is known; a refusal hands the
+    /// than 10,000,000 bytes, unless memory ran out before that was known, and as `NoMemory`; a refusal hands the
     /// transaction back. It puts both sets together, which takes O(n log n) comparisons of bounds for n operations and
     /// what their range reads read.
     pub fn finish(self) -> Result<Finished, Refused<Txn>>

@@ -1,9 +1,9 @@
 // What a transaction keeps, and how each operation changes it.
-ghost use Rattle.std.specs.Prelude.{◌≡◌, true, not, ◌&&◌, [], ◌∷◌, ◌++◌, None, IfOk, IfErr, IsOk, OnOk, OnErr};
+ghost use Rattle.std.specs.Prelude.{◌≡◌, All, true, not, ◌&&◌, [], ◌∷◌, ◌++◌, None, IfOk, IfErr, IsOk, OnOk, OnErr};
 ghost use Rattle.std.specs.Prelude.{if◌then◌else◌};
 ghost use Rattle.std.specs.FinMap.{get};
 ghost use Rattle.std.specs.Option.{option_copied};
-ghost use Rattle.fdb_keys.specs.Answers.{Answers, AnswersOrHandsBack, AnswersExactlyOrHandsBack};
+ghost use Rattle.fdb_keys.specs.Answers.{Answers, AnswersOrHandsBack, unless_memory};
 ghost use Rattle.fdb_keys.specs.Insertion.{with_range, with_ranges};
 ghost use Rattle.fdb_keys.specs.Ranges.{single_range};
 ghost use Rattle.fdb_keys.specs.Removal.{outside};
@@ -13,6 +13,7 @@ ghost use Rattle.fdb_mutations.specs.PairLaws.{given_of};
 ghost use Rattle.fdb_client.specs.Programs.{program, copy, decided, decided_ranges, add_reads, is_read_only};
 ghost use Rattle.fdb_client.specs.Programs.{commit_request_of};
 ghost use Rattle.fdb_txn.specs.book.Size.{size_fault};
+ghost use Rattle.fdb_txn.specs.book.Transactions.{NamesWrites};
 ghost use Rattle.fdb_client.specs.Finishing.{finish_fault, IsFinished};
 ghost use Rattle.fdb_client.specs.declared.finished.Finished.TheVariants.{ToCommit};
 ghost use Rattle.fdb_client.specs.declared.program.Op.TheVariants as operation;
@@ -27,9 +28,9 @@ use crate::range_read::pairs_of;
 use crate::reading::{pairs_copy, scanned_part, value_of};
 use crate::snapshot::Snapshot;
 use bytes::Bytes;
-use fdb_keys::{Items, Key, KeyRange, RangeSet, Refusal, Refused};
+use fdb_keys::{Items, Key, KeyRange, RangeSet, Refusal, Refused, SharedList};
 use fdb_mutations::{Mutation, copied};
-use fdb_txn::{Sealed, TxnId};
+use fdb_txn::{Sealed, TxnId, check_size};
 use std::alloc::{AllocError, Global};
 
 #[derive(Drop)]
@@ -363,12 +364,28 @@ impl TxnState {
         }
     }
 
-    // Seals it with its read set and its write set.
+    // Seals it with its read set and its write set, if it isn't too large.
     fn seal(self, reads: RangeSet, writes: RangeSet) -> Result<Finished, Refused<TxnState>>
         requires kept { AreKept self }
         requires reads { reads ≡ self.reads }
         requires writes { writes ≡ self.writes }
-        ensures { AnswersExactlyOrHandsBack result self (size_fault (commit_request_of self.transcript))
+        ensures { AnswersOrHandsBack result self
+            (unless_memory result (size_fault (commit_request_of self.transcript)))
+            (λ finished. finished ≡ ToCommit (commit_request_of self.transcript) self.transcript) }
+    {
+        match check_size(&reads, &writes, self.mutations.as_slice()) {
+            Ok(()) => self.seal_fitting(reads, writes),
+            Err(why) => Err(Refused { why, back: self }),
+        }
+    }
+
+    // The same of one that isn't too large, whose mutations are shared from then on. So it is refused for memory alone.
+    fn seal_fitting(self, reads: RangeSet, writes: RangeSet) -> Result<Finished, Refused<TxnState>>
+        requires kept { AreKept self }
+        requires reads { reads ≡ self.reads }
+        requires writes { writes ≡ self.writes }
+        requires fits { size_fault (commit_request_of self.transcript) ≡ None }
+        ensures { AnswersOrHandsBack result self (unless_memory result None)
             (λ finished. finished ≡ ToCommit (commit_request_of self.transcript) self.transcript) }
     {
         let TxnState {
@@ -379,26 +396,54 @@ impl TxnState {
             writes: kept_writes,
             mutations,
         } = self;
-        match Sealed::from_joined(
-            transcript.id,
-            transcript.read_version,
-            reads,
-            writes,
-            mutations,
-        ) {
-            Ok(sealed) => Ok(Finished::ToCommit(sealed, transcript)),
-            Err(refused) => Err(Refused {
-                why: refused.why,
+        match SharedList::new(alloc, mutations) {
+            Ok(mutations) => {
+                let sealed = fitting(&transcript, reads, writes, mutations);
+                Ok(Finished::ToCommit(sealed, transcript))
+            }
+            Err(failed) => Err(Refused {
+                why: Refusal::NoMemory,
                 back: TxnState {
                     alloc,
                     transcript,
                     own,
                     reads: kept_reads,
                     writes: kept_writes,
-                    mutations: refused.back.mutations,
+                    mutations: failed.value,
                 },
             }),
         }
+    }
+}
+
+// What the transcript asks to commit, which isn't too large.
+fn fitting(
+    transcript: &Transcript,
+    reads: RangeSet,
+    writes: RangeSet,
+    mutations: SharedList<Mutation>,
+) -> Sealed
+    requires legal { All (λ mutation. mutation_fault mutation ≡ None) mutations }
+    requires named { NamesWrites (commit_request_of transcript.now) }
+    requires its { commit_request_of transcript.now ≡ record {
+      id = transcript.now.id;
+      read = transcript.now.read_version;
+      reads = reads;
+      writes = writes;
+      mutations = mutations;
+    } }
+    requires fits { size_fault (commit_request_of transcript.now) ≡ None }
+    ensures { result ≡ commit_request_of transcript.now }
+{
+    match Sealed::from_joined(
+        transcript.id,
+        transcript.read_version,
+        reads,
+        writes,
+        mutations,
+    ) {
+        Ok(sealed) => sealed,
+        Err(_) => unreachable!(),
     }
 }
 

@@ -13,6 +13,7 @@ mod range_set;
 mod refusal;
 mod removal;
 mod shared_items;
+mod shared_list;
 mod tree_joining;
 mod tree_range_set;
 
@@ -22,4 +23,5 @@ pub use key_range::{BOUND_LIMIT, KeyRange};
 pub use order::is_before;
 pub use range_set::RangeSet;
 pub use refusal::{Refusal, Refused};
+pub use shared_list::SharedList;
 pub use tree_range_set::TreeRangeSet;

@@ -1,9 +1,8 @@
-// Copies of messages, which share their bytes.
+// Copies of messages, which share their mutations, and of mutations, which share their bytes.
 ghost use Rattle.std.specs.Prelude.{◌≡◌, IfOk};
 
 use crate::message::Tagged;
 use fdb_keys::Items;
-use fdb_mutations::Mutation;
 use fdb_txn::TagMsg;
 use std::alloc::{AllocError, Global};
 
@@ -26,23 +25,13 @@ impl Tagged {
     }
 }
 
-fn body_of(alloc: Global, body: &[(u32, Mutation)]) -> Result<Items<(u32, Mutation)>, AllocError>
-    ensures { IfOk result (λ copy. copy ≡ body.now) }
-{
-    let mut copy = Items::new(alloc);
-    for (place, mutation) in body {
-        copy.push((*place, mutation.clone()?))?;
-    }
-    Ok(copy)
-}
-
-/// A copy of the message.
-pub(crate) fn message_of(alloc: Global, message: &TagMsg) -> Result<TagMsg, AllocError>
+/// A copy of the message, which shares its mutations. It takes O(1) time.
+pub(crate) fn message_of(message: &TagMsg) -> Result<TagMsg, AllocError>
     ensures { IfOk result (λ copy. copy ≡ message.now) }
 {
     Ok(TagMsg {
         version: message.version,
         prev: message.prev,
-        body: body_of(alloc, message.body.as_slice())?,
+        body: message.body.clone()?,
     })
 }

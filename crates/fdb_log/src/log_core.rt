@@ -127,8 +127,8 @@ impl LogCore {
     /// The first `limit` of the tag's messages after a version, one for each entry that was taken. A limit of 0 gives
     /// none. Refused as `Failed` once memory ran out in `push`, as `BadConfig` where the tag isn't kept here or the
     /// version is above that of the last entry taken, as `TransactionTooOld` where it is below the one through which
-    /// the tag was popped, and as `NoMemory`. It takes O(log n) comparisons for n messages of the tag, and a share of
-    /// each mutation given.
+    /// the tag was popped, and as `NoMemory`. It takes O(log n) comparisons for n messages of the tag, and O(m) time
+    /// for m messages given, which share their mutations with the log.
     pub fn peek(&self, tag: u32, after: u64, limit: u32) -> Result<Peek, Refusal>
         ensures answers { Answers result (peek_fault self.now tag after)
             (λ peek. peek ≡ peek_of self.now tag after limit) }

@@ -1,4 +1,4 @@
-use fdb_keys::Items;
+use fdb_keys::{Items, SharedList};
 use fdb_mutations::Mutation;
 
 /// What a log is sent of an entry: the mutations of its committed transactions that have a tag of the log.
@@ -13,7 +13,7 @@ pub struct LogMsg {
     /// The version of the entry before it, 0 where it is the first.
     pub prev: u64,
     /// The mutations: by place, and then in the transaction's order.
-    pub body: Items<Tagged>,
+    pub body: SharedList<Tagged>,
 }
 
 /// A mutation with its tags.

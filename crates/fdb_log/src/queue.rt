@@ -56,7 +56,7 @@ impl Queue {
         drop_first(&mut self.messages, count);
     }
 
-    /// Copies of the first `limit` messages above the version.
+    /// Copies of the first `limit` messages above the version, which share the mutations.
     pub(crate) fn after(
         &self,
         alloc: Global,
@@ -105,7 +105,7 @@ fn copies_of(
 {
     let mut copies = Items::new(alloc);
     for index in start..end {
-        copies.push(message_of(alloc, &messages[index])?)?;
+        copies.push(message_of(&messages[index])?)?;
     }
     Ok(copies)
 }

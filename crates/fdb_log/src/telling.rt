@@ -8,7 +8,7 @@ ghost use Rattle.fdb_log.specs.Places.{AreAdded};
 use crate::keeper::{Keeper, stands_before};
 use crate::message::{LogMsg, Tagged};
 use crate::queue::Queue;
-use fdb_keys::Items;
+use fdb_keys::{Items, SharedList};
 use fdb_mutations::Mutation;
 use fdb_txn::TagMsg;
 use std::alloc::{AllocError, Global};
@@ -33,10 +33,11 @@ pub(crate) fn push_told(
     let mut bodies = bodies_of(alloc, keeper, message)?;
     for tag in 0..keeper.tags {
         if keeper.keeps(tag) {
+            let body = take_body(alloc, &mut bodies, tag as usize)?;
             let told = TagMsg {
                 version: message.version,
                 prev: message.prev,
-                body: take_body(alloc, &mut bodies, tag as usize),
+                body,
             };
             let queue = &mut queues[tag as usize];
             queue.push(told)?;
@@ -77,13 +78,19 @@ fn add_sent(bodies: &mut Vec<Body>, keeper: Keeper, sent: &Tagged) -> Result<(),
     Ok(())
 }
 
-// The body of the tag, which is empty from then on.
-fn take_body(alloc: Global, bodies: &mut Vec<Body>, tag: usize) -> Body
+// The body of the tag, to be shared by copies of its message. The tag has an empty one from then on.
+fn take_body(
+    alloc: Global,
+    bodies: &mut Vec<Body>,
+    tag: usize,
+) -> Result<SharedList<(u32, Mutation)>, AllocError>
     requires { tag < length bodies.old.items }
-    ensures body { result ≡ unwrap_or (slice_get bodies.old.items tag) [] }
+    ensures body { IfOk result (λ body. body ≡ unwrap_or (slice_get bodies.old.items tag) []) }
     ensures left { bodies.new.items ≡ slice_set bodies.old.items tag [] }
 {
-    mem::replace(&mut bodies[tag], Items::new(alloc))
+    let body = mem::replace(&mut bodies[tag], Items::new(alloc));
+    let shared = SharedList::new(alloc, body)?;
+    Ok(shared)
 }
 
 fn empty_bodies(alloc: Global, count: u32) -> Result<Vec<Body>, AllocError>

@@ -1,9 +1,8 @@
 -- The ids of a list of requests, of which no two have the same.
-use Rattle.std.proofs.Common.{◌≡◌, sym, ◌∙◌, ap, refl, ℕ, zero, suc, Bool, true, false, not, ◌&&◌, ◌||◌, List, [], ◌∷◌, ◌++◌, take, drop}
+use Rattle.std.proofs.Common.{◌≡◌, sym, ◌∙◌, ap, refl, Bool, true, false, not, ◌&&◌, ◌||◌, List, [], ◌∷◌, ◌++◌}
 use Rattle.std.proofs.Common.{length, ◌<◌, ⊎_elim, Some, None, arith}
 use Rattle.std.proofs.lemmas.Bool.{false≢true, or_parts, or_from, or_cases, cases_Bool, le-ltb, lt-ltb, false_from_ne_true}
 use Rattle.std.proofs.lemmas.Bool.Decides.{nat_tests}
-use Rattle.std.proofs.lemmas.List.{take-append-drop}
 use Rattle.std.proofs.lemmas.List.Folds.{list_any-append}
 use Rattle.std.specs.List.{list_any, position_or_len}
 use Rattle.fdb_txn.specs.Equality.{txn_id_eq, txn_id_eq_decides}
@@ -67,37 +66,32 @@ apart-push (first ∷ others) t apart new =
     )
 
 -- who isn't among all is among no part
-none_in_parts : (n : ℕ) (ts : List Transaction) (id : TxnId) → is_named ts id ≡ false
-    → (is_named (take n ts) id ≡ false) × (is_named (drop n ts) id ≡ false)
-none_in_parts n ts id none =
-    let test = λ (t : Transaction). txn_id_eq t.id id in
-    let both : (is_named (take n ts) id || is_named (drop n ts) id) ≡ false =
-    sym (list_any-append test (take n ts) (drop n ts)) ∙ ap (list_any test) (take-append-drop n ts) ∙ none in
-    or_parts (is_named (take n ts) id) (is_named (drop n ts) id) both
+none_in_parts : (xs ys : List Transaction) (id : TxnId) → is_named (xs ++ ys) id ≡ false
+    → (is_named xs id ≡ false) × (is_named ys id ≡ false)
+none_in_parts xs ys id none =
+    or_parts (is_named xs id) (is_named ys id)
+    (sym (list_any-append (λ (t : Transaction). txn_id_eq t.id id) xs ys) ∙ none)
 
-apart-take : (n : ℕ) (ts : List Transaction) → AreNamedApart ts → AreNamedApart (take n ts)
+apart-first : (xs ys : List Transaction) → AreNamedApart (xs ++ ys) → AreNamedApart xs
 unfolding AreNamedApart
-apart-take zero ts apart = tt
-apart-take (suc n) [] apart = tt
-apart-take (suc n) (t ∷ ts) apart = ((none_in_parts n ts t.id apart.0).0, apart-take n ts apart.1)
+apart-first [] ys apart = tt
+apart-first (t ∷ xs) ys apart = ((none_in_parts xs ys t.id apart.0).0, apart-first xs ys apart.1)
 
-apart-drop : (n : ℕ) (ts : List Transaction) → AreNamedApart ts → AreNamedApart (drop n ts)
+apart-others : (xs ys : List Transaction) → AreNamedApart (xs ++ ys) → AreNamedApart ys
 unfolding AreNamedApart
-apart-drop zero ts apart = apart
-apart-drop (suc n) [] apart = tt
-apart-drop (suc n) (t ∷ ts) apart = apart-drop n ts apart.1
+apart-others [] ys apart = apart
+apart-others (t ∷ xs) ys apart = apart-others xs ys apart.1
 
 -- no id is among the first and among the others
-one_side : (n : ℕ) (ts : List Transaction) (id : TxnId) → AreNamedApart ts → is_named (take n ts) id ≡ true
-    → is_named (drop n ts) id ≡ false
+one_side : (xs ys : List Transaction) (id : TxnId) → AreNamedApart (xs ++ ys) → is_named xs id ≡ true
+    → is_named ys id ≡ false
 unfolding AreNamedApart
-one_side zero ts id apart first = absurd (false≢true first)
-one_side (suc n) [] id apart first = refl
-one_side (suc n) (t ∷ ts) id apart first =
+one_side [] ys id apart first = absurd (false≢true first)
+one_side (t ∷ xs) ys id apart first =
     ⊎_elim (λ same.
     let is : t.id ≡ id = (txn_id_eq_decides t.id id).0 same in
-    rw (← is) ((none_in_parts n ts t.id apart.0).1))
-    (λ later. one_side n ts id apart.1 later) (or_cases (txn_id_eq t.id id) (is_named (take n ts) id) first)
+    rw (← is) ((none_in_parts xs ys t.id apart.0).1))
+    (λ later. one_side xs ys id apart.1 later) (or_cases (txn_id_eq t.id id) (is_named xs id) first)
 
 -- ---- the names after a change
 
@@ -134,30 +128,28 @@ left_others true b h both one = sym (one refl)
 left_others false b h both one = both
 
 -- who is among all is among the first or among the others
-in_parts : (old : Names) (n : ℕ) (ts : List Transaction) → AreNamesOf old ts → (id : TxnId)
-    → has old id ≡ (is_named (take n ts) id || is_named (drop n ts) id)
-in_parts old n ts names id =
-    let test = λ (t : Transaction). txn_id_eq t.id id in
-    names.every id ∙ ap (list_any test) (sym (take-append-drop n ts)) ∙ list_any-append test (take n ts) (drop n ts)
+in_parts : (old : Names) (xs ys : List Transaction) → AreNamesOf old (xs ++ ys) → (id : TxnId)
+    → has old id ≡ (is_named xs id || is_named ys id)
+in_parts old xs ys names id = names.every id ∙ list_any-append (λ (t : Transaction). txn_id_eq t.id id) xs ys
 
-pub names-first : (old new : Names) (n : ℕ) (ts : List Transaction) → AreNamesOf old ts
-    → ((id : TxnId) → has new id ≡ (not (is_named (drop n ts) id) && has old id)) → AreNamesOf new (take n ts)
-names-first old new n ts names removed =
+pub names-first : (old new : Names) (xs ys : List Transaction) → AreNamesOf old (xs ++ ys)
+    → ((id : TxnId) → has new id ≡ (not (is_named ys id) && has old id)) → AreNamesOf new xs
+names-first old new xs ys names removed =
     record {
       every = λ id.
           removed id
-          ∙ left_first (is_named (take n ts) id) (is_named (drop n ts) id) (has old id) (in_parts old n ts names id)
-          (one_side n ts id names.apart);
-      apart = apart-take n ts names.apart;
+          ∙ left_first (is_named xs id) (is_named ys id) (has old id) (in_parts old xs ys names id)
+          (one_side xs ys id names.apart);
+      apart = apart-first xs ys names.apart;
     }
 
-pub names-others : (old new : Names) (n : ℕ) (ts : List Transaction) → AreNamesOf old ts
-    → ((id : TxnId) → has new id ≡ (not (is_named (take n ts) id) && has old id)) → AreNamesOf new (drop n ts)
-names-others old new n ts names removed =
+pub names-others : (old new : Names) (xs ys : List Transaction) → AreNamesOf old (xs ++ ys)
+    → ((id : TxnId) → has new id ≡ (not (is_named xs id) && has old id)) → AreNamesOf new ys
+names-others old new xs ys names removed =
     record {
       every = λ id.
           removed id
-          ∙ left_others (is_named (take n ts) id) (is_named (drop n ts) id) (has old id) (in_parts old n ts names id)
-          (one_side n ts id names.apart);
-      apart = apart-drop n ts names.apart;
+          ∙ left_others (is_named xs id) (is_named ys id) (has old id) (in_parts old xs ys names id)
+          (one_side xs ys id names.apart);
+      apart = apart-others xs ys names.apart;
     }

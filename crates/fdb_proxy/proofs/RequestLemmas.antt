@@ -1,17 +1,50 @@
--- Where no request is taken, the first ones are the first that wait.
-use Rattle.std.proofs.Common.{◌≡◌, ℕ, ◌≤◌, List, [], length, min, take, drop, ap, arith}
-use Rattle.std.proofs.lemmas.List.{length-take, take_min, drop_min}
+-- The requests of a batch, and those that wait.
+use Rattle.std.proofs.Common.{◌≡◌, sym, ◌∙◌, ap, refl, ℕ, ◌+◌, ◌-◌, ◌≤◌, Bool, true, false, List, [], ◌++◌, length, min, take, drop}
+use Rattle.std.proofs.Common.{if◌then◌else◌, ◌⊎◌, ⊎_elim, arith}
+use Rattle.std.proofs.Math.Seq.{take-append-add, take-append_seam}
+use Rattle.std.proofs.lemmas.List.{length-append, append-nil, append_cancel_left, nil_from_length, take_all, take_min, take-append-drop}
+use Rattle.fdb_proxy.specs.declared.requests.Requests.TheInside.{Inside}
+use Rattle.fdb_proxy.specs.RequestFields.{all_of, front_of, requests_of}
 
--- no request is taken where the batch has none
-pub none_taken : {X : Type 0} (taken : ℕ) (xs : List X) → take taken xs ≡ [] → taken ≤ length xs → taken ≡ 0
-none_taken taken xs none within = omega (arith, length-take taken xs, ap length none)
+either_way : {X : Type 0} (is_in_flight : Bool) (front others : List X)
+    → front ++ others
+    ≡ (if is_in_flight then front else []) ++ ((if is_in_flight then [] else front) ++ others)
+either_way true front others = refl
+either_way false front others = refl
 
--- the first requests of all are the first that wait
-pub first_waiting : {X : Type 0} (limit taken count : ℕ) (xs : List X) → taken ≡ 0 → count ≡ min limit (length xs)
-    → take count xs ≡ take limit (drop taken xs)
-first_waiting limit taken count xs none some = rw (none, some, take_min limit xs)
+-- the batch and those that wait are all, whichever of the two the front belongs to
+pub all_in_parts : (r : Inside) → all_of r ≡ (requests_of r).batch ++ (requests_of r).waiting
+all_in_parts r = either_way r.is_in_flight (front_of r.front) r.list.items
 
--- and the others are those that wait after them
-pub others_waiting : {X : Type 0} (limit taken count : ℕ) (xs : List X) → taken ≡ 0 → count ≡ min limit (length xs)
-    → drop count xs ≡ drop limit (drop taken xs)
-others_waiting limit taken count xs none some = rw (none, some, drop_min limit xs)
+-- all of the first ones, and of the others as many as the limit leaves, are the first of all
+pub first_of_all : {X : Type 0} (limit : ℕ) (xs ys : List X) → length xs ≤ limit
+    → xs ++ take (min (limit - length xs) (length ys)) ys ≡ take limit (xs ++ ys)
+first_of_all limit xs ys within =
+    let left = limit - length xs in
+    let e : length xs + left ≡ limit = omega arith in
+    ap (λ part. xs ++ part) (take_min left ys)
+    ∙ sym (take-append-add xs ys left)
+    ∙ ap (λ count. take count (xs ++ ys)) e
+
+-- the first ones are the first of all where there are no others, and where there are as many as the limit
+pub first_alone : {X : Type 0} (limit : ℕ) (xs ys : List X) → length xs ≤ limit → length ys ≡ 0 ⊎ length xs ≡ limit
+    → xs ≡ take limit (xs ++ ys)
+first_alone limit xs ys within =
+    ⊎_elim (λ none. rw (nil_from_length ys none, append-nil xs) (sym (take_all limit xs within)))
+    (λ full. sym (take-append_seam xs ys) ∙ ap (λ count. take count (xs ++ ys)) full)
+
+-- the others are the first of all where there are no first ones, and no more others than the limit
+pub others_alone : {X : Type 0} (limit : ℕ) (xs ys : List X) → length xs ≡ 0 → length ys ≤ limit
+    → ys ≡ take limit (xs ++ ys)
+others_alone limit xs ys none few = rw (nil_from_length xs none) (sym (take_all limit ys few))
+
+-- who is behind the first ones of all
+pub behind_first : {X : Type 0} (limit : ℕ) (xs ys all : List X) → xs ≡ take limit all → xs ++ ys ≡ all
+    → ys ≡ drop limit all
+behind_first limit xs ys all first whole =
+    append_cancel_left xs ys (drop limit all)
+    (whole ∙ sym (take-append-drop limit all) ∙ ap (λ part. part ++ drop limit all) (sym first))
+
+pub same_count : {X : Type 0} (xs ys zs ws : List X) → xs ++ ys ≡ zs ++ ws
+    → length xs + length ys ≡ length zs + length ws
+same_count xs ys zs ws same = sym (length-append xs ys) ∙ ap length same ∙ length-append zs ws

@@ -1,25 +1,39 @@
 -- What the own fields of a commit proxy's requests say.
-use Rattle.std.specs.Prelude.{◌≡◌, ℕ, ◌-◌, ◌<◌, ◌≤◌, min, nat_le, List, [], take, drop, if◌then◌else◌, vec_len}
-use Rattle.std.specs.Prelude.{vec_capacity}
-use Rattle.fdb_txn.specs.Limits.{place_limit}
+use Rattle.std.specs.Prelude.{◌≡◌, ℕ, ◌+◌, ◌-◌, ◌<◌, ◌≤◌, min, nat_le, List, [], ◌++◌, length, Option, Some, None}
+use Rattle.std.specs.Prelude.{if◌then◌else◌, vec_len, vec_capacity}
 use Rattle.fdb_txn.specs.book.Transactions.{Transaction}
+use Rattle.fdb_txn.specs.declared.batch.Batch.{Batch}
 use Rattle.fdb_txn.specs.declared.txn_id.TxnId.{TxnId}
 use Rattle.fdb_proxy.specs.declared.names.Names.{Names}
 use Rattle.fdb_proxy.specs.declared.requests.Requests.TheInside.{Inside}
 use Rattle.fdb_proxy.specs.Names.{has, room_of}
 use Rattle.fdb_proxy.specs.Requests.{Requests, is_named, AreNamedApart}
 
--- how many more may be submitted without memory, where there is room for the ids of the batch; each takes a place in the
+-- the transactions of a front that may be absent
+abbrev pub front_of : Option Batch → List Transaction
+front_of (Some batch) = batch
+front_of None = []
+
+-- the front, and then those that wait behind it
+abbrev pub all_of : Inside → List Transaction
+all_of r = front_of r.front ++ r.list.items
+
+-- how many more may be submitted without memory, where there is room for the ids of the front; each takes a place in the
 -- list, one among the names, and room for its id where it is refused
 abbrev pub spare_of : Inside → ℕ
 spare_of r =
-    if nat_le r.taken (vec_capacity r.room)
-    then min (room_of r.names) (min (vec_capacity r.list) (vec_capacity r.ids) - vec_len r.list)
+    let first = length (front_of r.front) in
+    if nat_le first (vec_capacity r.room)
+    then min (room_of r.names)
+    (min (vec_capacity r.list - vec_len r.list) (vec_capacity r.ids - (first + vec_len r.list)))
     else 0
 
 abbrev pub requests_of : Inside → Requests
-requests_of r = record
-    { batch = take r.taken r.list.items; waiting = drop r.taken r.list.items; spare = spare_of r }
+requests_of r = record {
+  batch = if r.is_in_flight then front_of r.front else [];
+  waiting = (if r.is_in_flight then [] else front_of r.front) ++ r.list.items;
+  spare = spare_of r;
+}
 
 -- the names are the ids of the transactions, each of which has one of its own
 pub record AreNamesOf (names : Names) (transactions : List Transaction) : Type 0 where
@@ -28,14 +42,11 @@ pub record AreNamesOf (names : Names) (transactions : List Transaction) : Type 0
 
 -- what holds of the fields of all requests
 pub record AreRequests (r : Inside) : Type 0 where
-  -- a batch is part of the list, and has no more places than it may have
-  pub within : r.taken ≤ vec_len r.list
-  pub limit : r.taken ≤ place_limit
   -- there is room for the ids of all
-  pub ids : vec_len r.list ≤ vec_capacity r.ids
-  -- once the ids of those that wait are given away, there is room for those of the batch
-  pub room : r.taken < vec_len r.list → r.taken ≤ vec_capacity r.room
+  pub ids : length (front_of r.front) + vec_len r.list ≤ vec_capacity r.ids
+  -- once the ids of those behind the front are given away, there is room for those of the front
+  pub room : 0 < vec_len r.list → length (front_of r.front) ≤ vec_capacity r.room
   pub no_ids : r.ids.items ≡ []
   pub none_in_room : r.room.items ≡ []
   -- an id is looked up among the names alone
-  pub names : AreNamesOf r.names r.list.items
+  pub names : AreNamesOf r.names (all_of r)

@@ -171,8 +171,9 @@ impl CommitCore {
     }
 
     /// The first 4,096 of those that wait, in order, become the batch in flight, all of them where there are no more.
-    /// Answers a copy of it. Refused as `Failed`, as `WrongState` where a batch is in flight already, and as
-    /// `NoMemory`, and then nothing changes.
+    /// Answers it, and shares its transactions. It takes O(n) time for n requests that wait, and copies transactions only
+    /// where more than 4,096 wait, and where others wait behind a batch that was given up. Refused as `Failed`, as
+    /// `WrongState` where a batch is in flight already, and as `NoMemory`, and then nothing changes.
     pub fn seal(&mut self) -> Result<Batch, Refusal>
         ensures answers { Answers result (seal_fault self.old.proxy)
             (λ batch. (batch ≡ take place_limit self.old.proxy.waiting) × (self.new.proxy ≡ sealing self.old.proxy)) }
@@ -183,7 +184,7 @@ impl CommitCore {
             return Err(Refusal::WrongState);
         };
         let batch = self.requests.seal()?;
-        self.stage = Stage::Sealed;
+        self.stage.enter(Stage::Sealed);
         Ok(batch)
     }
 

@@ -13,7 +13,7 @@ ghost use Rattle.fdb_proxy.specs.Logging.{with_acknowledgement};
 use crate::flags::{first_unset, is_set, unset};
 use crate::outcome::Outcome;
 use crate::position::Position;
-use fdb_keys::{Items, Refusal};
+use fdb_keys::{Items, Refusal, SharedList};
 use fdb_log::{LogAck, LogMsg, Tagged};
 use fdb_mutations::Mutation;
 use fdb_storage::ShardMap;
@@ -230,6 +230,6 @@ fn message_to(
         index: position.index,
         version: position.version,
         prev: position.prev,
-        body: body_for(alloc, logs, log, body)?,
+        body: SharedList::new(alloc, body_for(alloc, logs, log, body)?)?,
     })
 }

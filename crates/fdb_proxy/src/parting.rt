@@ -19,7 +19,7 @@ ghost use Rattle.fdb_proxy.specs.Held.{Held, with_ranges, with_parts, is_at, IsB
 ghost use Rattle.fdb_proxy.specs.Held.{items_at, IsPartWith};
 
 use crate::position::Position;
-use fdb_keys::{Items, RangeSet, Refusal};
+use fdb_keys::{Items, RangeSet, Refusal, SharedList};
 use fdb_owners::{Owned, Owners};
 use fdb_resolver::{Item, Part};
 use fdb_txn::{Sealed, WINDOW};
@@ -279,7 +279,7 @@ fn parts_with(
             index: position.index,
             version: position.version,
             prev: position.prev,
-            items: Items::from_vec(items),
+            items: SharedList::new(alloc, Items::from_vec(items))?,
         })?;
     }
     Ok(parts)

@@ -1,16 +1,22 @@
 // The transactions that were submitted to a commit proxy.
-ghost use Rattle.std.specs.Prelude.{◌≡◌, ◌+◌, ◌≤◌, ◌++◌, length, map, vec_len, vec_capacity, IfOk};
+ghost use Rattle.std.specs.Prelude.{◌≡◌, ◌+◌, ◌≤◌, ◌&&◌, ◌++◌, [], None, Some, take, length, map, not, vec_len};
+ghost use Rattle.std.specs.Prelude.{vec_capacity, IfOk, OnOk, OnErr};
+ghost use Rattle.fdb_txn.specs.Limits.{place_limit};
 ghost use Rattle.fdb_txn.specs.book.Transactions.{Transaction};
-ghost use Rattle.fdb_proxy.specs.Requests.{place_of};
+ghost use Rattle.fdb_proxy.specs.Names.{has};
+ghost use Rattle.fdb_proxy.specs.RequestFields.{front_of};
+ghost use Rattle.fdb_proxy.specs.Requests.{place_of, is_named};
 
 use crate::names::Names;
-use fdb_keys::Items;
+use fdb_keys::{Items, SharedList};
 use fdb_txn::{Batch, PLACE_LIMIT, Sealed, TxnId};
 use std::alloc::{AllocError, AllocFailed, Global};
 use std::marker::Model;
 use std::mem;
 
 /// The requests of a commit proxy: those of the batch in flight by place, and those that wait for a batch in order.
+///
+/// A sealed batch is shared with whoever sealed it. So most batches are made with no copy of a transaction.
 ///
 /// Who gives the batch up, or refuses those that wait, must not need memory for that. So there is always room for the
 /// ids of all, and while somebody waits there is as much again for the ids of the batch.
@@ -19,10 +25,12 @@ use std::mem;
 /// only for the place of a request that is there.
 #[derive(Drop)]
 pub(crate) struct Requests {
-    // the batch, and then those that wait
+    // the batch that was sealed last, until its transactions are dropped
+    front: Option<Batch>,
+    // whether the front is in flight; else its transactions are the first that wait
+    is_in_flight: bool,
+    // those that wait behind the front
     list: Vec<Sealed>,
-    // how many are in the batch
-    taken: usize,
     // both empty, and kept for their room
     ids: Vec<TxnId>,
     room: Vec<TxnId>,
@@ -53,8 +61,9 @@ impl Requests {
         ensures { Holds result [] [] }
     {
         Requests {
+            front: None,
+            is_in_flight: false,
             list: Vec::new(alloc),
-            taken: 0,
             ids: Vec::new(alloc),
             room: Vec::new(alloc),
             names: Names::new(alloc),
@@ -68,9 +77,10 @@ impl Requests {
         ensures ready { 1 ≤ self.old.spare → IsOk result }
     {
         self.list.reserve(1)?;
-        self.ids.reserve(self.list.len() + 1)?;
+        let first = places_of(&self.front).len();
+        self.ids.reserve(first + self.list.len() + 1)?;
         self.names.reserve()?;
-        self.room.reserve(self.taken)
+        self.room.reserve(first)
     }
 
     /// One more waits, the last one, whose id no other has. It takes no memory where there is room for one more. Where
@@ -98,7 +108,7 @@ impl Requests {
         if !self.names.contains(id) {
             return None;
         }
-        place_in(&self.list, id)
+        place_in(places_of(&self.front), &self.list, id)
     }
 
     /// The transactions of the batch, by place.
@@ -106,18 +116,25 @@ impl Requests {
         ensures value { result.now ≡ self.now.batch }
         ensures within { length self.now.batch ≤ place_limit }
     {
-        &self.list[..self.taken]
+        if self.is_in_flight {
+            places_of(&self.front)
+        } else {
+            &[]
+        }
     }
 
     /// Whether nobody waits for a batch.
     pub(crate) fn nobody_waits(&self) -> bool
         ensures { result ≡ (length self.now.waiting == 0) }
     {
-        self.list.len() == self.taken
+        self.list.is_empty() && (self.is_in_flight || places_of(&self.front).is_empty())
     }
 
-    /// The first 4,096 of those that wait become the batch, all of them where there are no more. Answers a copy of it.
-    /// Where memory runs out, nothing changes.
+    /// The first 4,096 of those that wait become the batch, all of them where there are no more. Answers the batch, which
+    /// shares its transactions. Where memory runs out, nothing changes.
+    ///
+    /// It takes O(n) time for n requests that wait. Transactions are copied only where more than 4,096 wait, and where
+    /// others wait behind a batch that was given up; else it takes O(1) memory beside the room for the ids.
     pub(crate) fn seal(&mut self) -> Result<Batch, AllocError>
         requires { self.old.batch ≡ [] }
         ensures batch { IfOk result (λ batch. batch ≡ take place_limit self.old.waiting) }
@@ -125,18 +142,20 @@ impl Requests {
             (Holds self.new (take place_limit self.old.waiting) (drop place_limit self.old.waiting)) }
         ensures err { OnErr result (Holds self.new self.old.batch self.old.waiting) }
     {
-        let count = PLACE_LIMIT.min(self.list.len());
-        let places = copies(*self.list.allocator(), &self.list[..count])?;
-        self.room.reserve(count)?;
-        self.taken = count;
-        Ok(Batch::new(places))
+        let first = places_of(&self.front).len();
+        self.room.reserve(PLACE_LIMIT.min(first + self.list.len()))?;
+        // nobody is in the batch, so that all wait; whoever comes to the front waits too, until nothing can fail any more
+        self.is_in_flight = false;
+        let batch = share_front(&mut self.front, &mut self.list)?;
+        self.is_in_flight = true;
+        Ok(batch)
     }
 
     /// The batch is given up: its transactions wait again, before all others. It takes no memory.
     pub(crate) fn unseal(&mut self)
         ensures { Holds self.new [] (self.old.batch ++ self.old.waiting) }
     {
-        self.taken = 0;
+        self.is_in_flight = false;
     }
 
     /// Those that wait are dropped. Answers their ids, in order. It takes no memory.
@@ -148,9 +167,13 @@ impl Requests {
         if self.nobody_waits() {
             return Items::new(alloc);
         }
-        push_ids(&mut self.ids, &self.list[self.taken..]);
-        self.names.remove_all(&self.list[self.taken..]);
-        self.list.truncate(self.taken);
+        if !self.is_in_flight {
+            push_ids(&mut self.ids, places_of(&self.front));
+            drop_front(&mut self.front, &mut self.names);
+        }
+        push_ids(&mut self.ids, &self.list);
+        self.names.remove_all(&self.list);
+        self.list.clear();
         let room = mem::replace(&mut self.room, Vec::new(alloc));
         Items::from_vec(mem::replace(&mut self.ids, room))
     }
@@ -159,36 +182,125 @@ impl Requests {
     pub(crate) fn finish(&mut self)
         ensures { Holds self.new [] self.old.waiting }
     {
-        self.names.remove_all(&self.list[..self.taken]);
-        drop(self.list.drain(..self.taken));
-        self.taken = 0;
+        if self.is_in_flight {
+            drop_front(&mut self.front, &mut self.names);
+            self.is_in_flight = false;
+        }
     }
 }
 
-fn place_in(transactions: &[Sealed], id: TxnId) -> Option<usize>
-    ensures { result ≡ place_of id transactions.now }
+fn place_in(first: &[Sealed], others: &[Sealed], id: TxnId) -> Option<usize>
+    ensures { result ≡ place_of id (first.now ++ others.now) }
 {
-    transactions
+    first
         .iter()
+        .chain(others.iter())
         .position(|transaction| transaction.id() == id)
 }
 
 // Adds the ids of the transactions, for which there is room.
 fn push_ids(ids: &mut Vec<TxnId>, transactions: &[Sealed])
     requires { vec_len ids.old + length transactions.now ≤ vec_capacity ids.old }
-    ensures { ids.new.items ≡ ids.old.items ++ map (λ (t : Transaction). t.id) transactions.now }
+    ensures ids { ids.new.items ≡ ids.old.items ++ map (λ (t : Transaction). t.id) transactions.now }
+    ensures room { vec_capacity ids.new ≡ vec_capacity ids.old }
 {
     for transaction in transactions {
         ids.push_reserved(transaction.id());
     }
 }
 
-fn copies(alloc: Global, transactions: &[Sealed]) -> Result<Items<Sealed>, AllocError>
-    ensures { IfOk result (λ copies. copies ≡ transactions.now) }
+// The transactions of the front, by place.
+fn places_of(front: &Option<Batch>) -> &[Sealed]
+    ensures value { result.now ≡ front_of front.now }
+    ensures within { length (front_of front.now) ≤ place_limit }
+{
+    match front {
+        Some(batch) => batch.as_slice(),
+        None => &[],
+    }
+}
+
+// The front is dropped, and its ids are taken out of the names.
+fn drop_front(front: &mut Option<Batch>, names: &mut Names)
+    ensures none { front.new ≡ None }
+    ensures names { (id : TxnId) → has names.new id ≡ (not (is_named (front_of front.old) id) && has names.old id) }
+{
+    names.remove_all(places_of(front));
+    *front = None;
+}
+
+// Brings the first 4,096 of all to the front, and answers a batch that shares them. The order of all stays, also where
+// memory runs out. It takes O(n) time for n of them.
+fn share_front(front: &mut Option<Batch>, list: &mut Vec<Sealed>) -> Result<Batch, AllocError>
+    ensures batch { IfOk result (λ batch. front.new ≡ Some batch) }
+    ensures first { OnOk result (front_of front.new ≡ take place_limit (front_of front.old ++ list.old.items)) }
+    ensures within { length (front_of front.new) ≤ place_limit }
+    ensures same { front_of front.new ++ list.new.items ≡ front_of front.old ++ list.old.items }
+{
+    if let Some(batch) = front {
+        let count = batch.as_slice().len();
+        if list.is_empty() || count == PLACE_LIMIT {
+            return Ok(batch.clone()?);
+        }
+    }
+    let batch = gather(places_of(front), list)?;
+    let shared: Result<Batch, AllocError> = batch.clone();
+    *front = Some(batch);
+    shared
+}
+
+// The first 4,096 of all, and the others are left in the list. Where memory runs out, nothing changes. A batch that is
+// shared doesn't grow, and a list is shared only as a whole: else the first ones are copied.
+fn gather(front: &[Sealed], list: &mut Vec<Sealed>) -> Result<Batch, AllocError>
+    requires { length front.now ≤ place_limit }
+    ensures first { IfOk result (λ batch. batch ≡ take place_limit (front.now ++ list.old.items)) }
+    ensures same { IfOk result (λ batch. batch ++ list.new.items ≡ front.now ++ list.old.items) }
+    ensures err { OnErr result (list.new.items ≡ list.old.items) }
+{
+    if front.is_empty() && list.len() <= PLACE_LIMIT {
+        return Ok(Batch::new(share_all(list)?));
+    }
+    let count = (PLACE_LIMIT - front.len()).min(list.len());
+    let places = copies(*list.allocator(), front, &list[..count])?;
+    drop(list.drain(..count));
+    Ok(Batch::new(places))
+}
+
+// All of the list, which is empty then, in O(1) time. Where memory runs out, nothing changes.
+fn share_all(list: &mut Vec<Sealed>) -> Result<SharedList<Sealed>, AllocError>
+    ensures all { IfOk result (λ shared. shared ≡ list.old.items) }
+    ensures ok { OnOk result (list.new.items ≡ []) }
+    ensures err { OnErr result (list.new.items ≡ list.old.items) }
+{
+    let alloc = *list.allocator();
+    let all = mem::replace(list, Vec::new(alloc));
+    match SharedList::new(alloc, Items::from_vec(all)) {
+        Ok(shared) => Ok(shared),
+        Err(failed) => {
+            *list = failed.value.into_vec();
+            Err(AllocError)
+        }
+    }
+}
+
+fn copies(
+    alloc: Global,
+    first: &[Sealed],
+    others: &[Sealed],
+) -> Result<SharedList<Sealed>, AllocError>
+    ensures { IfOk result (λ copies. copies ≡ first.now ++ others.now) }
 {
     let mut copies = Items::new(alloc);
+    push_copies(&mut copies, first)?;
+    push_copies(&mut copies, others)?;
+    Ok(SharedList::new(alloc, copies)?)
+}
+
+fn push_copies(copies: &mut Items<Sealed>, transactions: &[Sealed]) -> Result<(), AllocError>
+    ensures { OnOk result (copies.new ≡ copies.old ++ transactions.now) }
+{
     for transaction in transactions {
         copies.push(transaction.clone()?)?;
     }
-    Ok(copies)
+    Ok(())
 }

@@ -1,6 +1,7 @@
-use fdb_keys::{Items, RangeSet};
+use fdb_keys::{RangeSet, SharedList};
 
-/// What a resolver is sent of an entry: the places that it is asked about.
+/// What a resolver is sent of an entry: the places that it is asked about. Its copies share them: a copy takes O(1) time
+/// and no memory.
 #[derive(Clone, Drop)]
 pub struct Part {
     /// The number of the resolver that is asked.
@@ -12,7 +13,7 @@ pub struct Part {
     /// The version of the entry before it, 0 where it is the first.
     pub prev: u64,
     /// The places, each after those before it.
-    pub items: Items<Item>,
+    pub items: SharedList<Item>,
 }
 
 /// What a resolver is sent of one place.

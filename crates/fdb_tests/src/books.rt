@@ -1,7 +1,7 @@
 // Calls with known answers.
 ghost use Rattle.std.specs.Prelude.{◌≡◌};
 
-use crate::making::{ask, ask_both, ask_mut, code_of, numbers_of, push, same, seal};
+use crate::making::{ask, ask_both, ask_mut, code_of, numbers_of, push, same, seal, shared};
 use fdb_book::laws::fronts_are_books;
 use fdb_book::{Blank, Book, BookName, Front, agree, append, append_and_share, empty};
 use fdb_keys::{Items, RangeSet, Refusal, Refused};
@@ -88,6 +88,7 @@ fn entry_of(alloc: Global, numbers: [u64; 3], ids: &[(u32, u64)]) -> Result<Entr
     if places.len() > PLACE_LIMIT {
         return Err(Refusal::BookFull);
     }
+    let places = shared(alloc, places)?;
     Ok(Entry {
         version,
         prev,

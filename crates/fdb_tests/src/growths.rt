@@ -11,7 +11,7 @@ use crate::making::{ask_mut, both, code_of, same};
 use crate::proxies::committing::{asking, sealed_core, ticket, verdicts_of};
 use crate::resolving::{Row, part};
 use crate::storage::{new_shard, peek_of_two};
-use fdb_keys::{Items, Refusal};
+use fdb_keys::{Refusal, SharedList};
 use fdb_log::{LogCore, Peek, Tagged};
 use fdb_proxy::CommitCore;
 use fdb_resolver::{Part, ResolverCore, Verdict, Verdicts};
@@ -79,17 +79,17 @@ fn resolver_end(alloc: Global) -> End {
 
 const CLEARS: Clears = &[(0, b"a", &[0]), (0, b"b", &[0, 1]), (1, b"c", &[1])];
 
-// The log is sent the body, and then an empty one at the same version.
-fn push_twice(core: &mut LogCore, alloc: Global, body: Items<Tagged>) -> End {
+// The log is sent the body, and then another one at the same version.
+fn push_twice(core: &mut LogCore, body: SharedList<Tagged>, other: SharedList<Tagged>) -> End {
     let first = code_of(logs::take(core, 0, 100, 0, body));
     let has_failed = core.is_failed();
-    let next = code_of(logs::take(core, 0, 100, 0, Items::new(alloc)));
+    let next = code_of(logs::take(core, 0, 100, 0, other));
     end_of(first, has_failed, next)
 }
 
 fn push_clears(core: &mut LogCore, alloc: Global) -> End {
-    match body_of(alloc, CLEARS) {
-        Ok(body) => push_twice(core, alloc, body),
+    match both(body_of(alloc, CLEARS), body_of(alloc, &[])) {
+        Ok((body, none)) => push_twice(core, body, none),
         Err(why) => unmade(why.code()),
     }
 }

@@ -1,6 +1,6 @@
 // Keys, ranges and sets of ranges with known answers.
 use crate::making::{
-    after, are_ranges, both, code_of, equals_copy, has_bounds, same, set_of, text_of,
+    after, are_ranges, both, code_of, equals_copy, has_bounds, same, set_of, shared, text_of,
 };
 use fdb_keys::{Items, Key, KeyRange, RangeSet, Refusal, Refused, TreeRangeSet, is_before};
 use std::alloc::Global;
@@ -369,11 +369,25 @@ fn have_items(alloc: Global) -> Result<[bool; 2], Refusal> {
     ])
 }
 
+// Whether a list that is shared has its one item, equals its copy, and isn't empty as one of no items is.
+fn shares_items(alloc: Global) -> Result<[bool; 3], Refusal> {
+    let (items, none) = both(
+        shared(alloc, one_item(alloc, 7)?),
+        shared(alloc, Items::<u8>::new(alloc)),
+    )?;
+    Ok([
+        items.as_slice() == [7].as_slice() && items.len() == 1,
+        equals_copy(&items, items.clone()),
+        none.is_empty() && !items.is_empty(),
+    ])
+}
+
 #[test]
 fn copies_are_equal_and_items_come_in_order(rt: HostRuntime) {
     let alloc = rt.alloc();
     same(&rt, equal_copies(alloc), Ok([true, true, true]));
     same(&rt, have_items(alloc), Ok([true, true]));
+    same(&rt, shares_items(alloc), Ok([true, true, true]));
 }
 
 // A set whose ranges are shared, and a copy of it with one range more.

@@ -1,6 +1,6 @@
 // Logs with known answers.
-use crate::making::{ask, code_of, made_of, push, same};
-use fdb_keys::{Items, Refusal};
+use crate::making::{ask, code_of, made_of, push, same, shared};
+use fdb_keys::{Items, Refusal, SharedList};
 use fdb_log::{LogAck, LogCore, LogMsg, Tagged};
 use fdb_mutations::Mutation;
 use fdb_txn::TagMsg;
@@ -12,7 +12,7 @@ pub fn take(
     log: u32,
     version: u64,
     prev: u64,
-    body: Items<Tagged>,
+    body: SharedList<Tagged>,
 ) -> Result<LogAck, Refusal> {
     if version <= prev {
         return Err(Refusal::BadConfig);
@@ -48,12 +48,12 @@ fn add(body: &mut Items<Tagged>, sent: Result<Tagged, Refusal>) -> Result<(), Re
 pub type Clears = &'static [(u32, &'static [u8], &'static [u32])];
 
 /// What a message sends.
-pub fn body_of(alloc: Global, clears: Clears) -> Result<Items<Tagged>, Refusal> {
+pub fn body_of(alloc: Global, clears: Clears) -> Result<SharedList<Tagged>, Refusal> {
     let mut body = Items::new(alloc);
     for (place, key, tags) in clears {
         add(&mut body, tagged(alloc, *place, key, tags))?;
     }
-    Ok(body)
+    shared(alloc, body)
 }
 
 fn clears(mutation: &Mutation, wanted: &[u8]) -> bool {

@@ -4,7 +4,7 @@ ghost use Rattle.std.specs.Prelude.{◌≡◌, [], ◌∷◌, ◌++◌, All, Non
 ghost use Rattle.fdb_mutations.specs.Mutations.{mutation_fault};
 
 use bytes::Bytes;
-use fdb_keys::{Items, Key, KeyRange, RangeSet, Refusal};
+use fdb_keys::{Items, Key, KeyRange, RangeSet, Refusal, SharedList};
 use fdb_mutations::{Mutation, PlainMap, VALUE_LIMIT};
 use fdb_proxy::{Config, Outcome};
 use fdb_txn::{Sealed, TxnId};
@@ -314,10 +314,19 @@ pub fn seal(
     requires { All (λ mutation. mutation_fault mutation ≡ None) mutations }
     ensures { IfOk result (λ sealed. sealed.read ≡ read_version) }
 {
+    let mutations = shared(alloc, mutations)?;
     match Sealed::new(alloc, id, read_version, reads, writes, mutations) {
         Ok(sealed) => Ok(sealed),
         Err(refused) => Err(refused.why),
     }
+}
+
+/// The items, which copies share.
+pub fn shared<T: Drop>(alloc: Global, items: Items<T>) -> Result<SharedList<T>, Refusal>
+    ensures { IfOk result (λ shared. shared ≡ items) }
+{
+    let shared = SharedList::new(alloc, items)?;
+    Ok(shared)
 }
 
 /// Changes the map.

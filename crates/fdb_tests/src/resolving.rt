@@ -4,7 +4,7 @@ ghost use Rattle.std.specs.List.{AllByRecursion};
 ghost use Rattle.fdb_txn.specs.rules.Admission.{has_points};
 ghost use Rattle.fdb_resolver.specs.Parts.{AreRising, IsPart};
 
-use crate::making::{numbers_of, one_key, same};
+use crate::making::{numbers_of, one_key, same, shared};
 use fdb_keys::{Items, RangeSet, Refusal};
 use fdb_resolver::{Item, Part, ResolverCore, Verdict};
 use std::alloc::Global;
@@ -146,7 +146,7 @@ pub fn part(alloc: Global, row: &Row) -> Result<Part, Refusal>
     ensures { IfOk result (λ part. IsPart part) }
 {
     let (resolver, [version, prev], places, _, _) = *row;
-    let items = items_of(alloc, places)?;
+    let items = shared(alloc, items_of(alloc, places)?)?;
     if prev >= version {
         return Err(Refusal::Chain);
     }

@@ -3,7 +3,7 @@ ghost use Rattle.std.specs.Prelude.{IfOk};
 ghost use Rattle.fdb_log.specs.Peeks.{IsPeek};
 
 use crate::making::{
-    Splits, after, are_pairs, both, code_of, has_bounds, made_of, push, same, splits_of,
+    Splits, after, are_pairs, both, code_of, has_bounds, made_of, push, same, shared, splits_of,
 };
 use bytes::Bytes;
 use fdb_keys::{Items, Key, KeyRange, Refusal};
@@ -45,6 +45,7 @@ fn second_body(alloc: Global) -> Result<Body, Refusal> {
 fn peek_with(alloc: Global, first: Body, second: Body) -> Result<Peek, Refusal>
     ensures { IfOk result (λ peek. IsPeek peek) }
 {
+    let (first, second) = (shared(alloc, first)?, shared(alloc, second)?);
     let messages = vec![in alloc;
         TagMsg {
             version: 100,
@@ -148,6 +149,8 @@ fn peek_of_sets(alloc: Global) -> Result<Peek, Refusal>
     put(&mut first, 0, Mutation::set(alloc, b"a", b"1"))?;
     let mut last = Items::new(alloc);
     put(&mut last, 0, Mutation::set(alloc, b"a", b"3"))?;
+    let (first, last) = (shared(alloc, first)?, shared(alloc, last)?);
+    let none = shared(alloc, Items::new(alloc))?;
     let messages = vec![in alloc;
         TagMsg {
             version: 100,
@@ -157,7 +160,7 @@ fn peek_of_sets(alloc: Global) -> Result<Peek, Refusal>
         TagMsg {
             version: 299,
             prev: 100,
-            body: Items::new(alloc),
+            body: none,
         },
         TagMsg {
             version: 300,

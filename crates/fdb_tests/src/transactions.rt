@@ -3,12 +3,14 @@ ghost use Rattle.std.specs.Prelude.{◌≡◌, All, None, IfOk};
 ghost use Rattle.fdb_mutations.specs.Mutations.{mutation_fault};
 
 use crate::making::{
-    are_ranges, ask, ask_both, code_of, equals_copy, has_bounds, keys_of, legal_set, made_of,
-    one_set, push, same, seal, set_of, text_of,
+    are_ranges, ask, ask_both, both, code_of, equals_copy, has_bounds, keys_of, legal_set, made_of,
+    one_set, push, same, seal, set_of, shared, text_of,
 };
 use fdb_keys::{Items, Key, KeyRange, RangeSet, Refusal};
 use fdb_mutations::Mutation;
-use fdb_txn::{Batch, Entry, Move, PLACE_LIMIT, Room, Sealed, Splits, Spot, TxnId, check_turn};
+use fdb_txn::{
+    Batch, Entry, Move, PLACE_LIMIT, Room, Sealed, Splits, Spot, TxnId, check_size, check_turn,
+};
 use std::alloc::Global;
 
 // The version of an entry and the resolver to which its move goes, and whether it equals that of version 50 whose move
@@ -35,6 +37,9 @@ const SIZES: &[(usize, Result<u64, (u32, usize)>)] = &[
     (99_996, Ok(10_000_000)),
     (99_997, Err((2101, 100))),
 ];
+
+// The same, and the code of the refusal where it is looked at before the transaction is sealed.
+const CHECKS: &[(usize, u32)] = &[(99_996, 0), (99_997, 2101)];
 
 // Splits, of which there may be as many pieces, and the code of their refusal: they rise, and none is empty.
 const SPLITS: &[(&[&[u8]], usize, u32)] = &[
@@ -76,7 +81,7 @@ fn hundred_sets(alloc: Global, last: usize) -> Result<Items<Mutation>, Refusal>
 
 // The size of the transaction with those sets alone, or why it is refused; then all its mutations are back.
 fn size_of_hundred(alloc: Global, last: usize) -> Result<Result<u64, (u32, usize)>, Refusal> {
-    let mutations = hundred_sets(alloc, last)?;
+    let mutations = shared(alloc, hundred_sets(alloc, last)?)?;
     let id = TxnId {
         session: 0,
         number: 0,
@@ -88,6 +93,22 @@ fn size_of_hundred(alloc: Global, last: usize) -> Result<Result<u64, (u32, usize
     }
 }
 
+// The write set of those sets.
+fn writes_of_hundred(alloc: Global) -> Result<RangeSet, Refusal> {
+    let mut writes = RangeSet::new(alloc);
+    for key in 0..100u8 {
+        writes.add(&KeyRange::new(alloc, &[key], &[key, 0])?)?;
+    }
+    Ok(writes)
+}
+
+// The code of what is answered before the sets alone are sealed.
+fn check_hundred(alloc: Global, last: usize) -> Result<u32, Refusal> {
+    let (writes, mutations) = both(writes_of_hundred(alloc), hundred_sets(alloc, last))?;
+    let reads = RangeSet::new(alloc);
+    Ok(code_of(check_size(&reads, &writes, mutations.as_slice())))
+}
+
 // The transactions with the numbers 0 and 1 of one session.
 fn two_places(alloc: Global) -> Result<Batch, Refusal> {
     let mut places = Items::new(alloc);
@@ -97,7 +118,7 @@ fn two_places(alloc: Global) -> Result<Batch, Refusal> {
     if places.len() > PLACE_LIMIT {
         return Err(Refusal::BookFull);
     }
-    Ok(Batch::new(places))
+    Ok(Batch::new(shared(alloc, places)?))
 }
 
 fn one_move(alloc: Global, to: u32) -> Result<Items<Move>, Refusal> {
@@ -244,6 +265,9 @@ fn spots_of_one_version_differ(rt: HostRuntime) {
 fn transactions_have_at_most_10_000_000_bytes(rt: HostRuntime) {
     for (last, wanted) in SIZES {
         same(&rt, size_of_hundred(rt.alloc(), *last), Ok(*wanted));
+    }
+    for (last, code) in CHECKS {
+        same(&rt, check_hundred(rt.alloc(), *last), Ok(*code));
     }
 }
 

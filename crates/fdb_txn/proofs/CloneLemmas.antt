@@ -6,8 +6,6 @@ use Rattle.fdb_keys.specs.declared.key_range.KeyRange.{KeyRange}
 use Rattle.fdb_keys.specs.declared.range_set.RangeSet.{RangeSet}
 use Rattle.fdb_keys.specs.contracts.key_range.KeyRangeClone.TheImpl as of_ranges
 use Rattle.fdb_keys.specs.contracts.range_set.RangeSetClone.TheImpl as of_range_sets
-use Rattle.fdb_mutations.specs.declared.mutation.Mutation.{Mutation}
-use Rattle.fdb_mutations.specs.contracts.mutation.MutationClone.TheImpl as of_mutations
 use Rattle.fdb_txn.specs.declared.sealed.Sealed.{Sealed}
 use Rattle.fdb_txn.specs.declared.batch.Batch.{Batch}
 use Rattle.fdb_txn.specs.declared.entry.Move.{Move}
@@ -28,27 +26,19 @@ same_ranges xs ys =
 pub same_set : (a b : RangeSet) → (of_range_sets.ghosts).is_clone a b → b ≡ a
 same_set a b copied = sym copied.3 ∙ same_ranges copied.0.ranges copied.1.ranges copied.4 ∙ copied.2
 
-same_mutation : (a b : Mutation) → (of_mutations.ghosts).is_clone a b → b ≡ a
-same_mutation a b copied = search rules
-
-same_mutations : (xs ys : List Mutation) → AllZip (of_mutations.ghosts).is_clone xs ys → ys ≡ xs
-same_mutations xs ys copied = same_from_all_zip (of_mutations.ghosts).is_clone xs ys copied same_mutation
-
 pub same_sealed : (a b : Sealed) → (of_sealed.ghosts).is_clone a b → b ≡ a
 same_sealed a b copied =
     let fields = copied.4 in
     let reads = same_set copied.0.reads copied.1.reads fields.1.1.0 in
     let writes = same_set copied.0.writes copied.1.writes fields.1.1.1.0 in
-    let mutations = same_mutations copied.0.mutations copied.1.mutations fields.1.1.1.1 in
     sym copied.3
     ∙ (λ i. record
-    { id = fields.0 i; read = fields.1.0 i; reads = reads i; writes = writes i; mutations = mutations i })
+    { id = fields.0 i; read = fields.1.0 i; reads = reads i; writes = writes i; mutations = fields.1.1.1.1 i })
     ∙ copied.2
 
 same_batch : (a b : Batch) → (of_batches.ghosts).is_clone a b → b ≡ a
 same_batch a b copied =
-    sym copied.3 ∙ same_from_all_zip (of_sealed.ghosts).is_clone copied.0.places copied.1.places copied.4 same_sealed
-    ∙ copied.2
+    sym copied.3 ∙ copied.4 ∙ copied.2
 
 same_move : (a b : Move) → (of_moves.ghosts).is_clone a b → b ≡ a
 same_move a b copied =

@@ -2,13 +2,14 @@ ghost use Rattle.std.specs.List.{AllByRecursion};
 ghost use Rattle.fdb_txn.specs.book.Transactions.{NamesWrites};
 
 use crate::sealed::Sealed;
-use fdb_keys::Items;
+use fdb_keys::SharedList;
 use std::marker::Model;
 
-/// The transactions of one entry, in the order of their places.
+/// The transactions of one entry, in the order of their places. Its copies share them: a copy takes O(1) time and no
+/// memory.
 #[derive(Clone, Drop, PartialEq, Eq)]
 pub struct Batch {
-    places: Items<Sealed>,
+    places: SharedList<Sealed>,
 }
 
 impl Model for Batch {
@@ -34,7 +35,7 @@ impl Batch {
 
     /// The batch of these transactions, of which there are at most 4,096. It takes no memory, and O(n) time for n of
     /// them.
-    pub fn new(places: Items<Sealed>) -> Self
+    pub fn new(places: SharedList<Sealed>) -> Self
         requires { length places ≤ place_limit }
         ensures { result ≡ places }
     {

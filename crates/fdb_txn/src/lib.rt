@@ -24,6 +24,7 @@ pub use limits::{
 };
 pub use room::Room;
 pub use sealed::{Sealed, Unsealed};
+pub use size::check_size;
 pub use splits::Splits;
 pub use spot::Spot;
 pub use tag_msg::TagMsg;

@@ -1,23 +1,23 @@
 ghost use Rattle.std.specs.Prelude.{◌≡◌};
 
 use crate::limits::SIZE_LIMIT;
-use crate::size::{least_size, size_of};
+use crate::size::{check_size, least_size, size_of};
 use crate::txn_id::TxnId;
 use crate::writes::joined;
-use fdb_keys::{Items, RangeSet, Refusal, Refused};
+use fdb_keys::{RangeSet, Refusal, Refused, SharedList};
 use fdb_mutations::Mutation;
 use std::alloc::Global;
 use std::marker::Model;
 
-/// A transaction that is ready to be judged: what it read and what it will write. Its copies share its sets, if there was
-/// memory for that when it was sealed; then a copy takes O(n) time for n mutations.
+/// A transaction that is ready to be judged: what it read and what it will write. Its copies share its mutations, and its
+/// sets if there was memory for that when it was sealed; then a copy takes O(1) time.
 #[derive(Clone, Drop, PartialEq, Eq)]
 pub struct Sealed {
     id: TxnId,
     read_version: u64,
     reads: RangeSet,
     writes: RangeSet,
-    mutations: Items<Mutation>,
+    mutations: SharedList<Mutation>,
 }
 
 /// What a refused `Sealed::new` hands back.
@@ -28,7 +28,7 @@ pub struct Unsealed {
     /// The write set that was given.
     pub writes: RangeSet,
     /// The mutations that were given.
-    pub mutations: Items<Mutation>,
+    pub mutations: SharedList<Mutation>,
 }
 
 impl Model for Sealed {
@@ -67,7 +67,7 @@ fn refused(
     why: Refusal,
     reads: RangeSet,
     writes: RangeSet,
-    mutations: Items<Mutation>,
+    mutations: SharedList<Mutation>,
 ) -> Refused<Unsealed>
     ensures why { result.why ≡ why }
     ensures back { result.back ≡ record { reads = reads; writes = writes; mutations = mutations } }
@@ -104,7 +104,7 @@ impl Sealed {
         read_version: u64,
         reads: RangeSet,
         writes: RangeSet,
-        mutations: Items<Mutation>,
+        mutations: SharedList<Mutation>,
     ) -> Result<Self, Refused<Unsealed>>
         requires { All (λ mutation. mutation_fault mutation ≡ None) mutations }
         ensures answers { AnswersOrHandsBack result (record { reads = reads; writes = writes; mutations = mutations })
@@ -149,7 +149,7 @@ impl Sealed {
         read_version: u64,
         reads: RangeSet,
         writes: RangeSet,
-        mutations: Items<Mutation>,
+        mutations: SharedList<Mutation>,
     ) -> Result<Self, Refused<Unsealed>>
         requires legal { All (λ mutation. mutation_fault mutation ≡ None) mutations }
         requires named { NamesWrites (record
@@ -160,8 +160,8 @@ impl Sealed {
             (λ sealed. sealed ≡ record
             { id = id; read = read_version; reads = reads; writes = writes; mutations = mutations }) }
     {
-        if size_of(&reads, &writes, mutations.as_slice()) > SIZE_LIMIT {
-            return Err(refused(Refusal::TransactionTooLarge, reads, writes, mutations));
+        if let Err(why) = check_size(&reads, &writes, mutations.as_slice()) {
+            return Err(refused(why, reads, writes, mutations));
         }
         let mut sealed = Sealed {
             id,

@@ -15,7 +15,7 @@ pub(crate) struct Submitted {
 
 impl Submitted {
     /// The transcript with a copy of the request. Where memory runs out for that, the transcript is handed back. It
-    /// takes O(n) time for n mutations of the request, and as much for ranges that it doesn't share.
+    /// takes O(1) time, and O(n) for n ranges of a set that copies don't share, since there was no memory for that.
     pub(crate) fn new(request: &Sealed, transcript: Transcript) -> Result<Self, Transcript>
         requires { request.now ≡ commit_request_of transcript }
         ensures its { IfOk result (λ it. it.transcript ≡ transcript) }

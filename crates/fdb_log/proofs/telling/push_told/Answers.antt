@@ -8,7 +8,7 @@ use Rattle.fdb_log.specs.Messages.{is_kept, sent_to, tag_message}
 use Rattle.fdb_log.specs.Places.{list_at}
 use Rattle.fdb_log.proofs.ToldLemmas.{AreTold, read-at, set-other, told-left, told-more}
 use Rattle.fdb_log.proofs.telling.push_told.Goals as goal
-use Rattle.fdb_log.proofs.telling.push_told.Goals.{then-keeps+in_ok-push, else-keeps}
+use Rattle.fdb_log.proofs.telling.push_told.Goals.{then-keeps+in_ok-body+in_ok-push, else-keeps}
 
 pub loop-tag-preserved : goal.loop-tag-preserved
 loop-tag-preserved c =
@@ -18,12 +18,12 @@ loop-tag-preserved c =
     let tag = c.loop-tag.tag in
     let now = c.loop-tag.bodies.items in
     elim c.if-keeps.branch [
-      | then-keeps+in_ok-push w ↦
+      | then-keeps+in_ok-body+in_ok-push w ↦
           let kept_here : kept tag ≡ true = sym w.if-keeps.ensures in
           let within : tag < length c.loop-tag.queues = omega (arith, c.requires.queued) in
           let queue = get_or c.loop-tag.queues tag w.index-queues-tag.result in
-          let body : w.take_body.result ≡ sent_to tag message.body =
-          w.take_body.ensures.body
+          let body : w.in_ok-body.body ≡ sent_to tag message.body =
+          w.in_ok-body.ensures.body
           ∙ c.loop-tag.invariant.left tag (omega arith)
           ∙ c.in_ok-bodies.ensures.bodies tag kept_here in
           let pushed : w.push.new.self ≡ queue ++ told tag ∷ [] =

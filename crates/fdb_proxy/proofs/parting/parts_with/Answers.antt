@@ -31,6 +31,6 @@ loop-items-preserved c =
             index = refl;
             version = refl;
             prev = refl;
-            items = c.from_vec.ensures ∙ sym next.2;
+            items = c.in_ok-new.ensures.ok ∙ c.from_vec.ensures ∙ sym next.2;
           };
     }

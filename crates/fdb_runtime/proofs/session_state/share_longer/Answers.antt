@@ -5,6 +5,14 @@ use Rattle.fdb_book.specs.Fronts.{IsPrefix}
 use Rattle.fdb_runtime.proofs.SessionLemmas.{begins-itself, reaches, where-given}
 use Rattle.fdb_runtime.proofs.session_state.share_longer.Goals as goal
 
+pub returns-then-len-clause-begins : goal.returns-then-len-clause-begins
+returns-then-len-clause-begins g c =
+    let fewer : length c.args.own.now ≤ length c.args.theirs.now =
+    omega (arith, c.if-len.true, c.len.ensures, c.len-2.ensures) in
+    where-given c.share.result c.args.theirs.now
+    (λ (front : List Entry). IsPrefix c.args.own.now front × IsPrefix c.args.theirs.now front)
+    c.share.ensures (c.agree.ensures.shorter fewer, begins-itself c.args.theirs.now)
+
 pub returns-then-len-clause-reaches : goal.returns-then-len-clause-reaches
 returns-then-len-clause-reaches g c =
     let resolvers = suc (length g.B.ClusterName.config.resolver_splits) in

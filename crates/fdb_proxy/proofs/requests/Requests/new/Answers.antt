@@ -5,8 +5,6 @@ use Rattle.fdb_proxy.proofs.requests.Requests.new.Goals as goal
 pub invariant_of-result : goal.invariant_of-result
 invariant_of-result c =
     record {
-      within = search rules;
-      limit = search rules;
       ids = search rules;
       room = search rules;
       no_ids = search rules;

@@ -1,20 +1,40 @@
-use Rattle.std.proofs.Common.{arith, rules}
+use Rattle.std.proofs.Common.{[], arith, rules}
 use Rattle.std.proofs.lemmas.Grind.{common_steps}
-use Rattle.std.proofs.lemmas.List.{take_rest}
-use Rattle.fdb_proxy.proofs.NameLemmas.{names-first}
+use Rattle.std.proofs.lemmas.List.{append-nil}
+use Rattle.fdb_proxy.specs.RequestFields.{front_of}
+use Rattle.fdb_proxy.proofs.NameLemmas.{names-first, names-others}
 use Rattle.fdb_proxy.proofs.requests.Requests.refuse_all.Goals as goal
+use Rattle.fdb_proxy.proofs.requests.Requests.refuse_all.Goals.{then-not-self, else-not-self}
+
+pub push_ids-requires-2 : goal.push_ids-requires-2
+push_ids-requires-2 c =
+    elim c.if-not-self.branch [ then-not-self w ↦ grind (arith, common_steps) | else-not-self w ↦ grind (arith, common_steps) ]
 
 pub invariant_of-self : goal.invariant_of-self
 invariant_of-self c =
-    let list = c.self.inside.list.items in
-    record {
-      within = search rules;
-      limit = search rules;
-      ids = grind (arith, common_steps);
-      room = search rules;
-      no_ids = search rules;
-      none_in_room = search rules;
-      names = rw c.truncate.ensures.items
-          (names-first c.self.inside.names c.remove_all.new.self c.self.inside.taken list c.self.invariant.names
-          (rw (c.deref-2.ensures.value, take_rest list c.self.inside.taken) at c.remove_all.ensures));
-    }
+    let r = c.self.inside in
+    elim c.if-not-self.branch [
+      | then-not-self w ↦
+          let others =
+          names-others r.names w.drop_front.new.names (front_of r.front) r.list.items c.self.invariant.names
+          w.drop_front.ensures.names in
+          rw (w.self-inside-is, w.drop_front.ensures.none) (record {
+            ids = grind (arith, common_steps);
+            room = grind (arith, common_steps);
+            no_ids = search rules;
+            none_in_room = search rules;
+            names = rw c.clear.ensures.items
+                (names-first w.drop_front.new.names c.remove_all.new.self [] r.list.items others
+                (rw (c.deref-2.ensures.value, w.self-inside-is) at c.remove_all.ensures));
+          })
+      | else-not-self w ↦
+          rw w.self-inside-is (record {
+            ids = grind (arith, common_steps);
+            room = grind (arith, common_steps);
+            no_ids = search rules;
+            none_in_room = search rules;
+            names = rw (c.clear.ensures.items, append-nil (front_of r.front))
+                (names-first r.names c.remove_all.new.self (front_of r.front) r.list.items c.self.invariant.names
+                (rw (c.deref-2.ensures.value, w.self-inside-is) at c.remove_all.ensures));
+          })
+    ]

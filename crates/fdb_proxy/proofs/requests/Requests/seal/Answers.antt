@@ -1,33 +1,50 @@
--- Nobody is taken before, and so those who are taken are the first that wait.
-use Rattle.std.proofs.Common.{◌≡◌, sym, ◌∙◌, ap, ◌≤◌, min, length, vec_len, arith}
+use Rattle.std.proofs.Common.{◌≡◌, ◌∙◌, ap, ◌++◌, arith, rules}
+use Rattle.std.proofs.lemmas.Grind.{common_steps}
 use Rattle.fdb_txn.specs.Limits.{place_limit}
+use Rattle.fdb_proxy.specs.RequestFields.{all_of, front_of}
 use Rattle.fdb_proxy.specs.Requests.{Requests}
-use Rattle.fdb_proxy.proofs.RequestLemmas.{none_taken, first_waiting, others_waiting}
+use Rattle.fdb_proxy.proofs.RequestLemmas.{all_in_parts, behind_first, same_count}
 use Rattle.fdb_proxy.proofs.requests.Requests.seal.Goals as goal
 
-same_length : (c : goal.After-new) → length c.self.inside.list.items ≡ vec_len c.self.inside.list
-same_length c = sym (ap length c.deref.ensures.value) ∙ c.deref.ensures.len
+pub invariant_of-self-in_err-batch : goal.invariant_of-self-in_err-batch
+invariant_of-self-in_err-batch c =
+    let r = c.self.inside in
+    let new = c.share_front.new in
+    let count =
+    same_count (front_of new.front) new.list.items (front_of r.front) r.list.items c.share_front.ensures.same in
+    record {
+      ids = grind (arith, common_steps);
+      room = grind (arith, common_steps);
+      no_ids = search rules;
+      none_in_room = search rules;
+      names = rw c.share_front.ensures.same c.self.invariant.names;
+    }
 
-none : (c : goal.After-new) → c.self.inside.taken ≡ 0
-none c =
-    let length_is = same_length c in
-    let within : c.self.inside.taken ≤ length c.self.inside.list.items = omega arith in
-    none_taken c.self.inside.taken c.self.inside.list.items
-    (ap (λ (requests : Requests). requests.batch) c.self.view_is ∙ c.requires) within
-
-some : (c : goal.After-new) → c.min-count.result ≡ min place_limit (length c.self.inside.list.items)
-some c = rw (same_length c) (c.min-count.ensures ∙ ap (min place_limit) c.len.ensures)
-
-pub returns-clause-batch : goal.returns-clause-batch
-returns-clause-batch c =
-    rw (c.new.ensures, c.in_ok-places.ensures, c.deref.ensures.value, ← c.self.view_is)
-    (first_waiting place_limit c.self.inside.taken c.min-count.result c.self.inside.list.items (none c) (some c))
+pub invariant_of-self-2 : goal.invariant_of-self-2
+invariant_of-self-2 c =
+    let r = c.self.inside in
+    let new = c.share_front.new in
+    let count =
+    same_count (front_of new.front) new.list.items (front_of r.front) r.list.items c.share_front.ensures.same in
+    record {
+      ids = grind (arith, common_steps);
+      room = grind (arith, common_steps);
+      no_ids = search rules;
+      none_in_room = search rules;
+      names = rw c.share_front.ensures.same c.self.invariant.names;
+    }
 
 pub returns-clause-ok : goal.returns-clause-ok
 returns-clause-ok c =
-    let taken = c.self.inside.taken in
-    let items = c.self.inside.list.items in
-    rw (← c.self.view_is) (record {
-      in_flight = first_waiting place_limit taken c.min-count.result items (none c) (some c);
-      in_line = others_waiting place_limit taken c.min-count.result items (none c) (some c);
+    let r = c.self.inside in
+    let old = c.args.self.now in
+    let new = c.share_front.new in
+    let all : all_of r ≡ old.waiting =
+    all_in_parts r
+    ∙ ap (λ (requests : Requests). requests.batch ++ requests.waiting) c.self.view_is
+    ∙ ap (λ batch. batch ++ old.waiting) c.requires in
+    rw (← all) (record {
+      in_flight = c.in_ok-batch.ensures.first;
+      in_line = behind_first place_limit (front_of new.front) new.list.items (all_of r) c.in_ok-batch.ensures.first
+          c.share_front.ensures.same;
     })

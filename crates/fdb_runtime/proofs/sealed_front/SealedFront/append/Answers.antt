@@ -1,4 +1,4 @@
-use Rattle.std.proofs.Common.{◌∙◌, sym, subst, suc, length, List}
+use Rattle.std.proofs.Common.{◌≡◌, ◌∙◌, sym, ap, subst, suc, length, List, [], ◌∷◌, ◌++◌, None}
 use Rattle.fdb_txn.specs.declared.entry.Entry.{Entry}
 use Rattle.fdb_txn.specs.book.History.{AreEntries}
 use Rattle.fdb_book.specs.Appending.{append_fault}
@@ -18,6 +18,14 @@ invariant_of-result-in-Ok g c =
     (sym (c.in-Ok.ensures.1 ∙ c.in-Ok.ensures.0.1))
     (one-entry-more (suc (length g.B.ClusterName.config.resolver_splits)) (length g.B.BookName.cells)
     c.self.inside.front c.args.entry c.self.invariant c.in-Ok.ensures.0.0 c.as_slice.ensures.sealed c.requires)
+
+pub returns-in-Ok : goal.returns-in-Ok
+returns-in-Ok g c = (
+  subst (λ (front : List Entry). append_fault (length g.B.BookName.cells) front c.args.entry ≡ None) c.self.view_is
+      c.in-Ok.ensures.0.0,
+  c.in-Ok.ensures.0.1 ∙ ap (λ (front : List Entry). front ++ c.args.entry ∷ []) c.self.view_is,
+  c.in-Ok.ensures.1,
+)
 
 pub returns-in-Err : goal.returns-in-Err
 returns-in-Err g c =
