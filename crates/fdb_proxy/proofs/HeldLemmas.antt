@@ -2,7 +2,7 @@
 use Rattle.std.proofs.Common.{◌≡◌, ◌∙◌, sym, ap, ap₂, subst, refl, ℕ, zero, suc, ◌+◌, ◌-◌, ◌<◌, ◌==◌, Bool, true}
 use Rattle.std.proofs.Common.{false, ◌&&◌}
 use Rattle.std.proofs.Common.{◌||◌, List, [], ◌∷◌, ◌++◌, append-nil, length, length-append, slice_get, get_or, set}
-use Rattle.std.proofs.Common.{take, drop, Option, Some, None}
+use Rattle.std.proofs.Common.{drop, Option, Some, None}
 use Rattle.std.proofs.Common.{⊎_elim, arith, Vec}
 use Rattle.std.specs.Option.{option_to_list}
 use Rattle.std.specs.List.{AllByRecursion}
@@ -341,20 +341,6 @@ empty-next lists now items n count empty none adds i within = ⊎_elim
     ap (λ (all : List (Vec Item Global)). items_at all i) adds
     ∙ items_at-push_other lists i items (omega (arith, below, count)) ∙ empty i below)
     (cases_Bool (i == n))
-
--- what is left after some items begins with the next one
-pub next-dropped : {A : Type 0} (items : List A) (n : ℕ) (item : A) (rest : List A) → drop n items ≡ item ∷ rest
-    → (n < length items) × (rest ≡ drop (suc n) items) × (take (suc n) items ≡ take n items ++ item ∷ [])
-next-dropped [] zero item rest is = cc
-next-dropped [] (suc n) item rest is = cc
-next-dropped {A} (first ∷ items) zero item rest is =
-    let same : first ≡ item = cc in
-    let others : items ≡ rest = cc in
-    (omega arith, sym others, ap (λ (one : A). one ∷ []) same)
-next-dropped {A} (first ∷ items) (suc n) item rest is =
-    let later = next-dropped items n item rest is in
-    let within = later.0 in
-    (omega (arith, within), later.1, ap (λ (list : List A). first ∷ list) later.2)
 
 -- the lists that are left begin with that of the next number
 pub next-left : (lists : List (Vec Item Global)) (n : ℕ) (items : Vec Item Global) (rest : List (Vec Item Global))

@@ -3,7 +3,6 @@ use Rattle.std.proofs.Common.{◌≡◌, ◌∙◌, sym, ap, subst, refl, ℕ, z
 use Rattle.std.proofs.Common.{append-nil, length, slice_get, Option, Some, None, ⊎_elim, inl, inr, arith}
 use Rattle.std.specs.Option.{option_to_list}
 use Rattle.std.proofs.lemmas.Bool.{or_left, or_right, or_cases, false_from_ne_true, both_ways}
-use Rattle.std.proofs.lemmas.Slice.Zip.{AllZip-long}
 use Rattle.fdb_keys.specs.Points.{Point}
 use Rattle.fdb_keys.specs.Ranges.{Range, in_set}
 use Rattle.fdb_txn.specs.book.Book.{Stamped, Place, placed}
@@ -19,7 +18,7 @@ use Rattle.fdb_resolver.specs.declared.part.Part.{Part}
 use Rattle.fdb_resolver.specs.RuleLaws.{IsItemOf}
 use Rattle.fdb_proxy.specs.declared.parting.Spread.{Spread}
 use Rattle.fdb_proxy.specs.Parting.{AreItems}
-use Rattle.fdb_proxy.specs.Spreads.{IsSpreadOf, AreSpreadsOf, IsItemIfAsked}
+use Rattle.fdb_proxy.specs.Spreads.{IsSpreadOf, IsItemIfAsked}
 
 -- two sets of what resolver i holds of a place's reads and writes
 module _ (splits : List Point) (i : ℕ) (place : Place) (spread : Spread) (reads writes : List Range)
@@ -90,66 +89,15 @@ module _ (splits : List Point) (moves : List Stamped) (i version : ℕ) where
       are
 
   -- with its item, if it is asked
-  items-add : (ts : List Transaction) (t : Transaction) (items : List Item) (given : Option Item)
-      → AreItems splits moves i version 0 ts items → IsItemIfAsked splits i (length ts) (placed version moves t) given
+  pub items-next : (ts : List Transaction) (t : Transaction) (number : ℕ) (items : List Item) (given : Option Item)
+      → length ts ≡ number → AreItems splits moves i version 0 ts items
+      → IsItemIfAsked splits i number (placed version moves t) given
       → AreItems splits moves i version 0 (ts ++ t ∷ []) (items ++ option_to_list given)
-  items-add ts t items None are unasked =
+  items-next ts t number items None count are unasked =
       subst (λ (all : List Item). AreItems splits moves i version 0 (ts ++ t ∷ []) all) (sym (append-nil items))
       (items-skip 0 ts t items are unasked)
-  items-add ts t items (Some item) are asked =
-      items-push 0 ts t items item are asked.0 (omega (arith, asked)) asked.2
-
--- a batch's last transaction, with its spread
-last-spread : (splits : List Point) (moves : List Stamped) (version : ℕ) (batch : List Transaction)
-    (spreads : List Spread) (spread : Spread) → AreSpreadsOf splits moves version batch (spreads ++ spread ∷ [])
-    → (ts : List Transaction) × (t : Transaction) × (batch ≡ ts ++ t ∷ [])
-    × AreSpreadsOf splits moves version ts spreads
-    × IsSpreadOf splits (placed version moves t) spread
-last-spread splits moves version [] [] spread are = absurd are
-last-spread splits moves version [] (first ∷ spreads) spread are = absurd are
-last-spread splits moves version (t ∷ []) [] spread are = ([], t, refl, tt, are.0)
-last-spread splits moves version (t ∷ next ∷ ts) [] spread are = absurd are.1
-last-spread splits moves version (t ∷ ts) (first ∷ spreads) spread are =
-    let rest = last-spread splits moves version ts spreads spread are.1 in
-    (t ∷ rest.0, rest.1, ap (λ (others : List Transaction). t ∷ others) rest.2, (are.0, rest.3), rest.4)
-
--- the items of one place more come after those before it
-pub items-next : (splits : List Point) (moves : List Stamped) (i version : ℕ) (batch : List Transaction)
-    (spreads : List Spread) (spread : Spread) (number : ℕ) (items : List Item) (given : Option Item)
-    → length spreads ≡ number
-    → ((ts : List Transaction) → AreSpreadsOf splits moves version ts spreads
-    → AreItems splits moves i version 0 ts items)
-    → ((place : Place) → IsSpreadOf splits place spread → IsItemIfAsked splits i number place given)
-    → AreSpreadsOf splits moves version batch (spreads ++ spread ∷ [])
-    → AreItems splits moves i version 0 batch (items ++ option_to_list given)
-items-next splits moves i version batch spreads spread number items given count before its are =
-    let last = last-spread splits moves version batch spreads spread are in
-    let place = placed version moves last.1 in
-    let numbered : number ≡ length last.0 = sym count ∙ AllZip-long _ last.0 spreads last.3 in
-    subst (λ (all : List Transaction). AreItems splits moves i version 0 all (items ++ option_to_list given))
-    (sym last.2) (items-add splits moves i version last.0 last.1 items given (before last.0 last.3)
-    (subst (λ (n : ℕ). IsItemIfAsked splits i n place given) numbered (its place last.4)))
-
--- a batch with one transaction more, and its spread
-spreads-push : (splits : List Point) (moves : List Stamped) (version : ℕ) (ts : List Transaction) (t : Transaction)
-    (spreads : List Spread) (spread : Spread) → AreSpreadsOf splits moves version ts spreads
-    → IsSpreadOf splits (placed version moves t) spread
-    → AreSpreadsOf splits moves version (ts ++ t ∷ []) (spreads ++ spread ∷ [])
-spreads-push splits moves version [] t [] spread are is = (is, tt)
-spreads-push splits moves version [] t (first ∷ spreads) spread are is = absurd are
-spreads-push splits moves version (other ∷ ts) t [] spread are is = absurd are
-spreads-push splits moves version (other ∷ ts) t (first ∷ spreads) spread are is =
-    (are.0, spreads-push splits moves version ts t spreads spread are.1 is)
-
--- the same of lists that are longer by those
-pub spreads-next : (splits : List Point) (moves : List Stamped) (version : ℕ) (ts all : List Transaction)
-    (t : Transaction) (old new : List Spread) (spread : Spread) → all ≡ ts ++ t ∷ [] → new ≡ old ++ spread ∷ []
-    → AreSpreadsOf splits moves version ts old → IsSpreadOf splits (placed version moves t) spread
-    → AreSpreadsOf splits moves version all new
-spreads-next splits moves version ts all t old new spread longer adds are is =
-    subst (λ (batch : List Transaction). AreSpreadsOf splits moves version batch new) (sym longer)
-    (subst (AreSpreadsOf splits moves version (ts ++ t ∷ [])) (sym adds)
-    (spreads-push splits moves version ts t old spread are is))
+  items-next ts t number items (Some item) count are asked =
+      items-push 0 ts t items item are asked.0 (omega (arith, asked, count)) asked.2
 
 -- what holds of each part and of one more at its number holds of all
 parts-push : (P : ℕ → Part → Type 0) (parts : List Part) (part : Part)
@@ -160,13 +108,6 @@ parts-push P [] part each last (suc i) given there = cc
 parts-push P (first ∷ parts) part each last zero given there = each zero given there
 parts-push P (first ∷ parts) part each last (suc i) given there =
     parts-push (λ (j : ℕ). P (suc j)) parts part (λ j one at. each (suc j) one at) last i given there
-
--- an empty batch has no items
-pub no-items : (splits : List Point) (moves : List Stamped) (i version : ℕ) (batch : List Transaction)
-    (items : List Item) → AreSpreadsOf splits moves version batch [] → items ≡ []
-    → AreItems splits moves i version 0 batch items
-no-items splits moves i version [] items are none = none
-no-items splits moves i version (t ∷ ts) items are none = absurd are
 
 -- the same of a list that is longer by that one
 pub parts-next : (P : ℕ → Part → Type 0) (old new : List Part) (number : ℕ) (part : Part) → new ≡ old ++ part ∷ []

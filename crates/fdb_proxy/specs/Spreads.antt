@@ -1,9 +1,7 @@
 -- A transaction of a batch, spread over the resolvers that are asked about it.
 use Rattle.std.specs.Prelude.{◌≡◌, ℕ, true, false, List, Option, MatchOption}
-use Rattle.std.specs.List.{AllZip}
 use Rattle.fdb_keys.specs.Points.{Point}
-use Rattle.fdb_txn.specs.book.Book.{Stamped, Place, placed}
-use Rattle.fdb_txn.specs.book.Transactions.{Transaction}
+use Rattle.fdb_txn.specs.book.Book.{Place}
 use Rattle.fdb_txn.specs.rules.Admission.{has_points}
 use Rattle.fdb_txn.specs.rules.Owners.{is_asked}
 use Rattle.fdb_txn.specs.rules.Resolvers.{part_reads, part_writes}
@@ -23,11 +21,6 @@ pub record IsSpreadOf (splits : List Point) (place : Place) (spread : Spread) : 
   pub has_reads : spread.head.has_reads ≡ has_points place.transaction.reads
   pub reads : (i : ℕ) (x : Point) → is_held spread.reads i x ≡ part_reads splits i place x
   pub writes : (i : ℕ) (x : Point) → is_held spread.writes i x ≡ part_writes splits i place x
-
--- one for each transaction of a batch at a version
-abbrev pub AreSpreadsOf : List Point → List Stamped → ℕ → List Transaction → List Spread → Type 0
-AreSpreadsOf splits moves version =
-    AllZip (λ (t : Transaction) (spread : Spread). IsSpreadOf splits (placed version moves t) spread)
 
 -- resolver i's item for the place with the number, none where it isn't asked about the place
 abbrev pub IsItemIfAsked : List Point → ℕ → ℕ → Place → Option Item → Type 0

@@ -7,14 +7,13 @@ ghost use Rattle.fdb_keys.specs.Answers.{Answers};
 ghost use Rattle.fdb_keys.specs.Points.{Point};
 ghost use Rattle.fdb_keys.specs.Ranges.{in_set};
 ghost use Rattle.fdb_txn.specs.book.Book.{Stamped, Place, placed};
-ghost use Rattle.fdb_txn.specs.book.Transactions.{Transaction};
 ghost use Rattle.fdb_txn.specs.rules.Admission.{has_points};
 ghost use Rattle.fdb_txn.specs.rules.Owners.{window};
 ghost use Rattle.fdb_owners.specs.Ownership.{resolvers_of};
 ghost use Rattle.fdb_owners.specs.OwnersLaws.{AgreesWith};
 ghost use Rattle.fdb_owners.specs.Spreads.{AreOwned};
 ghost use Rattle.fdb_proxy.specs.Parting.{AreItems, AreParts};
-ghost use Rattle.fdb_proxy.specs.Spreads.{IsOwned, IsSpreadOf, AreSpreadsOf, IsItemIfAsked};
+ghost use Rattle.fdb_proxy.specs.Spreads.{IsOwned, IsSpreadOf, IsItemIfAsked};
 ghost use Rattle.fdb_proxy.specs.Held.{Held, with_ranges, with_parts, is_at, IsBelow, IsItemWith, EndsWithItem};
 ghost use Rattle.fdb_proxy.specs.Held.{items_at, IsPartWith};
 
@@ -75,28 +74,6 @@ fn spread_txn(owners: &Owners, version: u64, txn: &Sealed) -> Result<Spread, Ref
         reads,
         writes,
     })
-}
-
-// Each transaction of the entry's batch, spread.
-fn spread_batch(
-    alloc: Global,
-    owners: &Owners,
-    version: u64,
-    batch: &[Sealed],
-) -> Result<Items<Spread>, Refusal>
-    requires later { All (λ t. t.read < version) batch.now }
-    requires learnt { owners.now.last ≤ version }
-    requires kept { owners.now.floor ≤ version - window }
-    ensures owned { IfOk result (All (IsOwned (resolvers_of owners.now))) }
-    ensures count { IfOk result (λ spreads. length spreads ≡ length batch.now) }
-    ensures spread { Answers result None (λ spreads. (moves : List Stamped) → AgreesWith owners.now moves
-        → AreSpreadsOf owners.now.splits moves version batch.now spreads) }
-{
-    let mut spreads = Items::new(alloc);
-    for txn in batch {
-        spreads.push(spread_txn(owners, version, txn)?)?;
-    }
-    Ok(spreads)
 }
 
 // Whether the last of the items is of the place.
@@ -240,21 +217,26 @@ fn no_items(alloc: Global, resolvers: u32) -> Result<Vec<Vec<Item>>, Refusal>
     Ok(lists)
 }
 
-// What each resolver is sent of all places.
+// What each resolver is sent of the entry's batch. What one transaction's spread takes is given back before the next
+// one is made, which so takes memory that is still in the processor's cache.
 fn items_of(
     alloc: Global,
-    resolvers: u32,
-    spreads: Items<Spread>,
+    owners: &Owners,
+    version: u64,
+    batch: &[Sealed],
 ) -> Result<Vec<Vec<Item>>, Refusal>
-    requires few { length spreads < 2 ^ 32 }
-    requires owned { All (IsOwned resolvers) spreads }
-    ensures { Answers result None (λ lists. (length lists.items ≡ resolvers)
-        × ((i : ℕ) → i < resolvers → (splits : List Point) (moves : List Stamped) (version : ℕ)
-        (batch : List Transaction) → AreSpreadsOf splits moves version batch spreads
-        → AreItems splits moves i version 0 batch (items_at lists.items i))) }
+    requires few { length batch.now < 2 ^ 32 }
+    requires later { All (λ t. t.read < version) batch.now }
+    requires learnt { owners.now.last ≤ version }
+    requires kept { owners.now.floor ≤ version - window }
+    ensures few { IfOk result (λ lists. length lists.items < 2 ^ 32) }
+    ensures items { Answers result None (λ lists. (length lists.items ≡ resolvers_of owners.now)
+        × ((i : ℕ) → i < resolvers_of owners.now → (moves : List Stamped) → AgreesWith owners.now moves
+        → AreItems owners.now.splits moves i version 0 batch.now (items_at lists.items i))) }
 {
-    let mut lists = no_items(alloc, resolvers)?;
-    for (place, spread) in spreads.into_vec().into_iter().enumerate() {
+    let mut lists = no_items(alloc, owners.resolvers())?;
+    for (place, txn) in batch.iter().enumerate() {
+        let spread = spread_txn(owners, version, txn)?;
         hold_place(alloc, lists.as_mut_slice(), place as u32, spread)?;
     }
     Ok(lists)
@@ -306,8 +288,7 @@ pub fn parts_of(
     ensures { Answers result None (λ parts. (moves : List Stamped) → AgreesWith owners.now moves
         → AreParts owners.now.splits moves position batch.now parts) }
 {
-    let spreads = spread_batch(alloc, owners, position.version, batch)?;
-    let lists = items_of(alloc, owners.resolvers(), spreads)?;
+    let lists = items_of(alloc, owners, position.version, batch)?;
     let parts = parts_with(alloc, position, lists)?;
     Ok(parts)
 }
