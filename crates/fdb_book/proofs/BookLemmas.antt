@@ -8,7 +8,6 @@ use Rattle.fdb_txn.specs.declared.txn_id.TxnId.{TxnId}
 use Rattle.fdb_txn.specs.book.History.{AreLinked, ReadsBelow, IsSealed}
 use Rattle.fdb_txn.specs.book.Once.{times_with_id, times_in_book}
 use Rattle.fdb_book.specs.Fronts.{IsLinkedBook}
-use Rattle.fdb_book.specs.Ids.{Latest, Covers}
 
 -- the version of the last of these entries after the version
 abbrev pub last_after : ℕ → List Entry → ℕ
@@ -48,18 +47,8 @@ book-first first later book = record {
   ids = λ id. grind (arith, times-first id first later, book.ids id);
 }
 
-covers-first : (latest : Latest) (first later : List Entry) → Covers latest (first ++ later) → Covers latest first
-covers-first latest first later covers id is_later = grind (arith, times-first id first later, covers id is_later)
-
 -- the first entries of a book are a book
 pub book-take : (count : ℕ) (book : List Entry) → IsLinkedBook book → IsLinkedBook (take count book)
 book-take count book linked =
     book-first (take count book) (drop count book)
     (subst IsLinkedBook (sym (take-append-drop count book)) linked)
-
--- what covers the ids of a book covers those of its first entries
-pub covers-take : (latest : Latest) (count : ℕ) (book : List Entry) → Covers latest book
-    → Covers latest (take count book)
-covers-take latest count book covers =
-    covers-first latest (take count book) (drop count book)
-    (subst (Covers latest) (sym (take-append-drop count book)) covers)

@@ -1,6 +1,6 @@
 -- What is known of a book's first cells.
 use Rattle.std.proofs.Common.{◌≡◌, ◌∙◌, sym, ap, refl, subst, ℕ, zero, suc, ◌<◌, ◌≤◌, ◌+◌, List, [], ◌∷◌, ◌++◌, map}
-use Rattle.std.proofs.Common.{fold, take, drop, length, get_or, slice_get, Some, arith, rules}
+use Rattle.std.proofs.Common.{fold, take, drop, length, get_or, slice_get, Some, Bool, false, arith, rules}
 use Rattle.std.specs.declared.alloc.Global.{Global}
 use Rattle.std.proofs.lemmas.List.{get_or-map, get_or-take, length-map, length-append, length-take-le, map-append}
 use Rattle.std.proofs.lemmas.List.{take-map, take-append-drop}
@@ -9,8 +9,8 @@ use Rattle.std.proofs.Math.Seq.{take-suc}
 use Rattle.once_cell.specs.Once.{cell_name}
 use Rattle.fdb_txn.specs.declared.entry.Entry.{Entry}
 use Rattle.fdb_book.specs.Fronts.{IsLinkedBook, IsFront, Known, AreOfFirst, IsPrefix, shown}
-use Rattle.fdb_book.specs.Ids.{Latest, Covers}
-use Rattle.fdb_book.proofs.BookLemmas.{book-take, covers-take}
+use Rattle.fdb_book.specs.Ids.{Latest}
+use Rattle.fdb_book.proofs.BookLemmas.{book-take}
 
 abbrev pub cell_of : ℕ × Entry → ℕ
 cell_of it = it.0
@@ -181,16 +181,16 @@ prefix-of-takes count shorter longer within same = (
 )
 
 -- what is known of the first of a front's cells is a front's
-pub front-take : (names cells : List ℕ) (known : Known) (len : ℕ) (latest : Latest) (count : ℕ)
-    → count ≤ length known → IsFront names cells known len latest
-    → IsFront names cells (take count known) count latest
-front-take names cells known len latest count within front = record {
-  same = front.same;
-  first = take-first cells known count within front.first;
+pub front-take : (names own cells : List ℕ) (known : Known) (len : ℕ) (knows_ids : Bool) (latest other : Latest) (count : ℕ)
+    → count ≤ length known → IsFront names own known len knows_ids latest → cells ≡ names
+    → IsFront names cells (take count known) count false other
+front-take names own cells known len knows_ids latest other count within front same = record {
+  same = same;
+  first = subst (λ (list : List ℕ). AreOfFirst list (take count known)) (front.same ∙ sym same)
+      (take-first own known count within front.first);
   counted = sym (length-take-le count known within);
   book = subst IsLinkedBook (take-map value_of count known) (book-take count (shown known) front.book);
-  covered =
-      subst (Covers latest) (take-map value_of count known) (covers-take latest count (shown known) front.covered);
+  covered = λ no. cc;
 }
 
 take-next : (book : List Entry) (i : ℕ) (entry : Entry) → slice_get book i ≡ Some entry

@@ -89,7 +89,7 @@ room-left names cells known book entry same first view fits =
 pub front-next : (names cells : List ℕ) (next : Known) (len : ℕ) (latest : Latest) (capacity : ℕ) (book : List Entry)
     (entry : Entry) → cells ≡ names → AreOfFirst names next → len ≡ length book → shown next ≡ book ++ entry ∷ []
     → IsLinkedBook book → append_fault capacity book entry ≡ None → IsSealed entry
-    → Covers latest (book ++ entry ∷ []) → IsFront names cells next (len + 1) latest
+    → Covers latest (book ++ entry ∷ []) → IsFront names cells next (len + 1) true latest
 front-next names cells next len latest capacity book entry same
     first counted more linked fits is_sealed covered = record {
       same = same;
@@ -98,7 +98,7 @@ front-next names cells next len latest capacity book entry same
           ap (λ (n : ℕ). n + 1) counted ∙ sym (length-append book (entry ∷ [])) ∙ ap length (sym more)
           ∙ shown-count next;
       book = rw more (append-book capacity book entry linked fits is_sealed);
-      covered = rw more covered;
+      covered = λ known. rw more covered;
     }
 
 -- what a call gives says that there is no fault, and what it gives

@@ -9,7 +9,7 @@ use Rattle.std.specs.Ordering.{nat_cmp}
 use Rattle.std.proofs.Math.Seq.{drop-cons, take-suc}
 use Rattle.std.proofs.lemmas.Bool.{cases_Bool, cond-true, cond-false, eqb-true, ne_eqb, and_left, and_right, lt-ltb}
 use Rattle.std.proofs.lemmas.Bool.{ltb-true, ltb-false, le-ltb}
-use Rattle.std.proofs.lemmas.List.Sums.{sum_by-cons, count_by_more_no}
+use Rattle.std.proofs.lemmas.List.Sums.{sum_by-cons, sum_by_push, count_by_more_no}
 use Rattle.std.proofs.lemmas.Option.{IfSome_then, slice_get_within, get_or_from_slice_get}
 use Rattle.fdb_txn.specs.declared.entry.Entry.{Entry}
 use Rattle.fdb_txn.specs.declared.txn_id.TxnId.{TxnId}
@@ -165,3 +165,10 @@ new-more before latest book batch i t put within is_t is_put taken covers later 
     taken t.id (subst (IsLater latest) is_put later) in
     let none : times_in_book t.id book ≡ 0 = covers t.id prior.0 in
     repeated-past book batch i t within is_t (le-ltb 0 _ (omega (arith, prior.1)))
+
+-- what covers the ids of a book covers those of the book with one entry more, once its ids were taken
+pub covers-more : (before after : Latest) (book : List Entry) (entry : Entry) → Covers before book
+    → AreTaken before entry.batch after → Covers after (book ++ entry ∷ [])
+covers-more before after book entry covers taken id is_later =
+    let prior : IsLater before id × (times_with_id id entry.batch ≡ 0) = taken id is_later in
+    sum_by_push (λ (e : Entry). times_with_id id e.batch) book entry ∙ omega (arith, covers id prior.0, prior.1)

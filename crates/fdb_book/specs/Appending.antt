@@ -48,10 +48,3 @@ Appends capacity book entry (Err refused) = refuses (append_fault capacity book 
         ((refused.why ≡ NoMemory) × (refused.back ≡ None))
         ⊎ ((refused.why ≡ Taken)
         × ((found : Entry) × (found ≢ entry) × (refused.back ≡ with_found capacity book found)))
-
--- The same of an append that gives the longer book twice.
-abbrev pub AppendsAndShares : ℕ → List Entry → Entry → Result (List Entry × List Entry) (Refused (Option (List Entry)))
-    → Type 0
-AppendsAndShares capacity book entry (Ok longer) =
-    Appends capacity book entry (Ok longer.0) × (longer.1 ≡ longer.0)
-AppendsAndShares capacity book entry (Err refused) = Appends capacity book entry (Err refused)

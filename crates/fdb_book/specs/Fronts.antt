@@ -1,5 +1,5 @@
 -- What a front of a book is.
-use Rattle.std.specs.Prelude.{◌≡◌, ◌≤◌, ◌++◌, ◌==◌, ◌||◌, ℕ, nat_lt, List, map, take, length, Option, Some, None}
+use Rattle.std.specs.Prelude.{◌≡◌, ◌≤◌, ◌++◌, ◌==◌, ◌||◌, ℕ, Bool, true, nat_lt, List, map, take, length, Option, Some, None}
 use Rattle.std.specs.Prelude.{if◌then◌else◌}
 use Rattle.std.specs.List.{AllByRecursion}
 use Rattle.fdb_keys.specs.declared.refusal.Refusal.{Refusal}
@@ -40,10 +40,10 @@ pub record AreOfFirst (cells : List ℕ) (known : Known) : Type 0 where
 abbrev pub capacity_fault : ℕ → Option Refusal
 capacity_fault capacity = if (capacity == 0) || nat_lt book_limit capacity then Some BadConfig else None
 
--- so many first cells of the book are known, what they hold is a book, and its ids are covered
-pub record IsFront (names cells : List ℕ) (known : Known) (len : ℕ) (latest : Latest) : Type 0 where
+-- So many first cells of the book are known, and what they hold is a book. Its ids are covered where they are known.
+pub record IsFront (names cells : List ℕ) (known : Known) (len : ℕ) (knows_ids : Bool) (latest : Latest) : Type 0 where
   pub same : cells ≡ names
   pub first : AreOfFirst cells known
   pub counted : len ≡ length known
   pub book : IsLinkedBook (shown known)
-  pub covered : Covers latest (shown known)
+  pub covered : knows_ids ≡ true → Covers latest (shown known)

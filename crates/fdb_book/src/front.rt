@@ -25,7 +25,9 @@ pub struct Front<B: BookName> {
     pub(crate) cells: Arc<Vec<OnceBox<Entry>>>,
     pub(crate) facts: Facts<Entry>,
     pub(crate) len: usize,
-    pub(crate) latest: Arc<BTreeMap<u32, u64>>,
+    // The greatest number of each session, where it is known: a share and a cut begin without them.
+    pub(crate) latest: BTreeMap<u32, u64>,
+    pub(crate) knows_ids: bool,
     pub(crate) name: PhantomData<B>,
 }
 
@@ -41,7 +43,7 @@ impl<B: BookName> Model for Front<B> {
     ghost view = { λ front. shown front.facts.known };
 
     ghost invariant = { λ front. IsFront B.cells (map cell_name (arc_value front.cells).items) front.facts.known
-        front.len (arc_value front.latest) };
+        front.len front.knows_ids front.latest };
 }
 
 /// The front of no entries. Refused as `NoMemory` where memory runs out.
@@ -52,7 +54,8 @@ pub fn empty<B: BookName>(alloc: Global, book: &Book<B>) -> Result<Front<B>, Ref
         cells: Arc::try_clone(&book.cells)?,
         facts: Facts::none(),
         len: 0,
-        latest: Arc::new(alloc, BTreeMap::new(alloc))?,
+        latest: BTreeMap::new(alloc),
+        knows_ids: true,
         name: PhantomData,
     })
 }
@@ -105,13 +108,8 @@ impl<B: BookName> Front<B> {
         requires { len ≤ length self.now }
         ensures { Answers result None (λ front. front ≡ take len self.now) }
     {
-        Ok(Front {
-            cells: Arc::try_clone(&self.cells)?,
-            facts: self.facts.first(len),
-            len,
-            latest: Arc::try_clone(&self.latest)?,
-            name: PhantomData,
-        })
+        let cells = Arc::try_clone(&self.cells)?;
+        Ok(self.cut_with(cells, len))
     }
 
     /// The same front once more, as for another thread. No entry is copied, and it takes the same time whatever their
@@ -122,21 +120,19 @@ impl<B: BookName> Front<B> {
         self.cut(self.len)
     }
 
-    // The same front over these shares of the book's cells and of numbers that cover its ids. It takes no memory.
-    pub(crate) fn share_with(
-        &self,
-        cells: Arc<Vec<OnceBox<Entry>>>,
-        latest: Arc<BTreeMap<u32, u64>>,
-    ) -> Self
+    // The front of the first entries, over this share of the book's cells. It takes no memory.
+    pub(crate) fn cut_with(&self, cells: Arc<Vec<OnceBox<Entry>>>, len: usize) -> Self
         requires cells { map cell_name (arc_value cells).items ≡ B.cells }
-        requires ids { Covers (arc_value latest) self.now }
-        ensures { result ≡ self.now }
+        requires within { len ≤ length self.now }
+        ensures { result ≡ take len self.now }
     {
+        let alloc = *self.cells.allocator();
         Front {
             cells,
-            facts: self.facts.first(self.len),
-            len: self.len,
-            latest,
+            facts: self.facts.first(len),
+            len,
+            latest: BTreeMap::new(alloc),
+            knows_ids: false,
             name: PhantomData,
         }
     }

@@ -1,5 +1,5 @@
 -- What a session that commits is answered, by what its transaction came to.
-use Rattle.std.proofs.Common.{◌≡◌, ◌∙◌, refl, sym, ap, subst, inr, ⊎_elim, Bool, true, false, List, length}
+use Rattle.std.proofs.Common.{◌≡◌, ◌∙◌, refl, sym, ap, subst, inr, ⊎_elim, Bool, true, false, List}
 use Rattle.std.proofs.Common.{Option, Some, None, if◌then◌else◌}
 use Rattle.std.specs.Prelude.{◌⊎◌, max, Result, Ok, Err, IfSome}
 use Rattle.fdb_keys.specs.declared.refusal.Refusal.{Refusal}

@@ -1,6 +1,6 @@
 -- A sequencer that appends to the book itself.
 use Rattle.std.proofs.Common.{◌≡◌, ◌∙◌, ◌<◌, refl, sym, ap, subst, ℕ, suc, List, [], ◌∷◌, ◌++◌, Option, Some, None}
-use Rattle.std.proofs.Common.{Bool, true, false, inl, inr, Result, Ok, Err, OnErr, ⊎_elim}
+use Rattle.std.proofs.Common.{Bool, true, false, inl, inr, Result, Ok, Err, IfOk, OnErr, ⊎_elim}
 use Rattle.std.specs.Prelude.{◌&&◌, ◌==◌, nat_lt, length, if◌then◌else◌}
 use Rattle.std.specs.List.{AllByRecursion, list_all}
 use Rattle.std.proofs.lemmas.Bool.{and_parts, eqb-true, ltb-true}
@@ -15,7 +15,7 @@ use Rattle.fdb_txn.specs.book.Book.{last_version}
 use Rattle.fdb_txn.specs.book.History.{AreEntries, IsSealed}
 use Rattle.fdb_txn.specs.book.Transactions.{Transaction, NamesWrites}
 use Rattle.fdb_txn.proofs.book.HistoryLemmas.{entries_go_on}
-use Rattle.fdb_book.specs.Appending.{goes_on, ids_fault, append_fault, AppendsAndShares}
+use Rattle.fdb_book.specs.Appending.{goes_on, ids_fault, append_fault, Appends}
 use Rattle.fdb_book.specs.Ids.{repeated_place}
 use Rattle.fdb_sequencer.specs.declared.ticket.Ticket.{Ticket}
 use Rattle.fdb_sequencer.specs.Moves.{Dated, dated}
@@ -81,14 +81,25 @@ one-entry-more resolvers capacity book entry entries none names targets =
     entries_go_on resolvers 0 book entry entries
     (on.0, on.1, targets, both entry.version entry.batch on.2 names, tt)
 
+-- a front of such entries stays one, whatever an append to it answers
+pub front-after : (resolvers capacity : ℕ) (old new : List Entry) (entry : Entry)
+    (result : Result (List Entry) (Refused (Option (List Entry)))) → Appends capacity old entry result
+    → IfOk result (λ share. new ≡ share) → OnErr result (new ≡ old) → AreEntries resolvers 0 old → IsSealed entry
+    → AllByRecursion (λ (move : Move). move.to < resolvers) entry.moves → AreEntries resolvers 0 new
+front-after resolvers capacity old new entry (Ok longer) answers is same entries names targets =
+    subst (AreEntries resolvers 0) (sym (is ∙ answers.1))
+    (one-entry-more resolvers capacity old entry entries answers.0 names targets)
+front-after resolvers capacity old new entry (Err refused) answers is same entries names targets =
+    subst (AreEntries resolvers 0) (sym same) entries
+
 -- an append that is refused
 pub append-refused : (capacity : ℕ) (book : List Entry) (entry : Entry) (refused : Refused (Option (List Entry)))
-    → AppendsAndShares capacity book entry (Err refused)
+    → Appends capacity book entry (Err refused)
     → IsAppendRefused (append_fault capacity book entry) refused.why
 append-refused capacity book entry refused answers = by_fault (append_fault capacity book entry) refl answers
   where
     by_fault : (fault : Option Refusal) → append_fault capacity book entry ≡ fault
-        → AppendsAndShares capacity book entry (Err refused)
+        → Appends capacity book entry (Err refused)
         → IsAppendRefused (append_fault capacity book entry) refused.why
     by_fault (Some fault) is = rw is (λ because. because.0)
     by_fault None is = rw is (⊎_elim (λ lacks. inl lacks.0) (λ taken. inr taken.0))

@@ -10,11 +10,11 @@ abbrev pub IsAppendRefused : Option Refusal → Refusal → Type 0
 IsAppendRefused (Some fault) why = why ≡ fault
 IsAppendRefused None why = (why ≡ NoMemory) ⊎ (why ≡ Taken)
 
--- it gives the longer book twice
-abbrev pub AppendsTwice : ℕ → List Entry → Entry → Result (List Entry × List Entry) Refusal → Type 0
-AppendsTwice capacity book entry (Ok longer) =
-    (append_fault capacity book entry ≡ None) × (longer.0 ≡ book ++ entry ∷ []) × (longer.1 ≡ longer.0)
-AppendsTwice capacity book entry (Err why) = IsAppendRefused (append_fault capacity book entry) why
+-- it gives the longer book
+abbrev pub AppendsToFront : ℕ → List Entry → Entry → Result (List Entry) Refusal → Type 0
+AppendsToFront capacity book entry (Ok longer) =
+    (append_fault capacity book entry ≡ None) × (longer ≡ book ++ entry ∷ [])
+AppendsToFront capacity book entry (Err why) = IsAppendRefused (append_fault capacity book entry) why
 
 -- An issue is refused with the fault of its plan where that has one, and else as memory runs out, or as the append of
 -- the ticket's entry is.

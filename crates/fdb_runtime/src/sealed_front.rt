@@ -1,4 +1,4 @@
-ghost use Rattle.std.specs.Prelude.{◌≡◌, ◌<◌, ◌≤◌, [], suc, take, length, slice_get, None};
+ghost use Rattle.std.specs.Prelude.{◌≡◌, ◌<◌, ◌≤◌, [], suc, take, length, slice_get, None, IfOk, OnErr};
 ghost use Rattle.std.specs.Option.{option_copied};
 ghost use Rattle.std.specs.Ordering.{nat_cmp};
 ghost use Rattle.fdb_keys.specs.Answers.{Answers, AnswersExactly};
@@ -7,7 +7,7 @@ ghost use Rattle.fdb_txn.specs.declared.entry.Move.{Move as AMove};
 ghost use Rattle.fdb_txn.specs.book.Book.{last_version};
 ghost use Rattle.fdb_txn.specs.book.History.{AreEntries};
 ghost use Rattle.fdb_book.specs.Fronts.{IsPrefix};
-ghost use Rattle.fdb_runtime.specs.Issuing.{AppendsTwice};
+ghost use Rattle.fdb_runtime.specs.Issuing.{AppendsToFront};
 ghost use Rattle.fdb_runtime.specs.Turns.{front_fault, HasOneMore};
 
 use crate::name::ClusterName;
@@ -95,22 +95,25 @@ impl<B: ClusterName> SealedFront<B> {
         })
     }
 
-    /// Appends an entry to the book behind the front, and gives the longer front twice, once to keep and once to hand
-    /// on. Refused as `Chain` where the entry doesn't go on from the front or has a transaction that didn't read below
-    /// it, as `Repeated` where an id stands in the front or earlier in the entry, as `BookFull`, as `NoMemory`, and as
-    /// `Taken` where another entry stands in the book. It takes the time of a copy of one number for each session.
+    /// Appends an entry to the book behind the front, which has it last from then on, and gives a share of the longer
+    /// front to hand on. Refused as `Chain` where the entry doesn't go on from the front or has a transaction that didn't
+    /// read below it, as `Repeated` where an id stands in the front or earlier in the entry, as `BookFull`, as
+    /// `NoMemory`, and as `Taken` where another entry stands in the book; then the front is as it was. It takes
+    /// O(b log s) for b transactions of the entry and s sessions, at a front that is no share of another.
     pub(crate) fn append(
-        &self,
+        &mut self,
         alloc: Global,
         book: &Book<B>,
         entry: Entry,
-    ) -> Result<(Self, Self), Refusal>
+    ) -> Result<Self, Refusal>
         requires { AllByRecursion (λ (move : AMove). move.to < suc (length B.config.resolver_splits)) entry.moves }
-        ensures { AppendsTwice (length B.cells) self.now entry result }
+        ensures answers { AppendsToFront (length B.cells) self.old entry result }
+        ensures longer { IfOk result (λ share. self.new ≡ share) }
+        ensures refused { OnErr result (self.new ≡ self.old) }
     {
         let _ = entry.batch.as_slice();
-        match append_and_share(alloc, book, &self.front, entry) {
-            Ok((front, share)) => Ok((SealedFront { front }, SealedFront { front: share })),
+        match append_and_share(alloc, book, &mut self.front, entry) {
+            Ok(share) => Ok(SealedFront { front: share }),
             Err(refused) => Err(refused.why),
         }
     }

@@ -49,6 +49,25 @@ const AFTER_REFUSALS: [Append; 4] = [
     (2, [200, 100, 100], &[(0, 0)], (0, 0, Some(2))),
 ];
 
+// Appends to one front of a book of three, which goes on by those that aren't refused: the entry's version, its previous
+// version and its read version; the ids; the refusal's numbers, zeros where there is none; how many entries the front
+// shows then.
+type GoneOn = ([u64; 3], &'static [(u32, u64)], (u32, u64), usize);
+
+const ONE_FRONT: &[GoneOn] = &[
+    ([100, 0, 0], &[(0, 4), (1, 0)], (0, 0), 1),
+    ([200, 0, 100], &[(0, 5)], (9010, 0), 1),
+    ([200, 100, 100], &[(2, 0), (1, 0)], (9007, 1), 1),
+    // The other id of the refused entry isn't there yet.
+    ([200, 100, 100], &[(2, 0)], (0, 0), 2),
+    ([300, 200, 200], &[(3, 1), (3, 1)], (9007, 1), 2),
+    // A lesser number of a session is as good as a greater one, where it isn't there yet.
+    ([300, 200, 200], &[(0, 3), (1, 1)], (0, 0), 3),
+    ([400, 300, 300], &[(4, 0)], (9006, 0), 3),
+    ([400, 300, 300], &[(0, 3)], (9007, 0), 3),
+    ([400, 200, 300], &[(4, 0)], (9010, 0), 3),
+];
+
 const CAPACITIES: &[(u32, u32)] = &[(0, 9009), (1, 0), (1_048_577, 9009)];
 
 // Books of two cells, each with what is appended and what the fronts show then.
@@ -107,23 +126,16 @@ fn handed_out<B: BookName>(
     }
 }
 
-// Appends and gives the share, where it shows as many entries as the longer front.
+// Appends to a share of the front, and gives the share of that.
 fn share_of<B: BookName>(
     alloc: Global,
     book: &Book<B>,
     front: &Front<B>,
     entry: Entry,
 ) -> Result<Front<B>, Refused<Option<Front<B>>>> {
-    let (longer, share) = match append_and_share(alloc, book, front, entry) {
-        Ok(fronts) => fronts,
-        Err(refused) => return Err(refused),
-    };
-    match agree(&longer, &share) {
-        Ordering::Equal => Ok(share),
-        _ => Err(Refused {
-            why: Refusal::Unknown,
-            back: Some(longer),
-        }),
+    match front.share() {
+        Ok(mut longer) => append_and_share(alloc, book, &mut longer, entry),
+        Err(why) => Err(Refused { why, back: None }),
     }
 }
 
@@ -267,6 +279,48 @@ fn entries_are_appended_to_books_of_two(rt: HostRuntime) -> Result<(), Fail> {
         fill_book::<Brand>(&rt, alloc, Blank::new(alloc, 2)?, *of, false);
         fill_book::<Brand>(&rt, alloc, Blank::new(alloc, 2)?, *of, true);
     }
+    Ok(())
+}
+
+// Appends to the front itself. Says the refusal's numbers, how many entries the front shows then, and how it agrees with
+// its share, if there is one.
+fn go_on_itself<B: BookName>(
+    alloc: Global,
+    book: &Book<B>,
+    front: &mut Front<B>,
+    row: &GoneOn,
+) -> Result<((u32, u64), usize, Option<Ordering>), Refusal> {
+    let entry = entry_of(alloc, row.0, row.1)?;
+    let (numbers, share) = handed_out(append_and_share(alloc, book, front, entry));
+    let agreed = share.map(|share| agree(front, &share));
+    Ok((numbers, front.len(), agreed))
+}
+
+fn fill_by_one_front<B: BookName>(rt: &impl Abort, alloc: Global, blank: Blank)
+    requires { blank ≡ B.cells }
+{
+    let book = Book::<B>::open(blank);
+    let played = ask_mut(empty(alloc, &book), |front| {
+        for row in ONE_FRONT {
+            let agreed = if row.2.0 == 0 {
+                Some(Ordering::Equal)
+            } else {
+                None
+            };
+            same(
+                rt,
+                go_on_itself(alloc, &book, front, row),
+                Ok((row.2, row.3, agreed)),
+            );
+        }
+    });
+    same(rt, played, Ok(()));
+}
+
+#[test]
+fn a_front_goes_on_by_itself(rt: HostRuntime) -> Result<(), Fail> {
+    let alloc = rt.alloc();
+    fill_by_one_front::<Brand>(&rt, alloc, Blank::new(alloc, 3)?);
     Ok(())
 }
 

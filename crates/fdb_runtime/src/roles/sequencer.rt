@@ -65,7 +65,8 @@ impl<B: ClusterName> SequencerAt<B> {
     /// Refused as `SequencerCore::plan` refuses; then as `Chain` where a transaction of the batch read at the ticket's
     /// version or above it, as `Repeated` where an id stands in the book or earlier in the batch, as `BookFull`, as
     /// `NoMemory`, and as `Taken`, where someone else appended to the book. Then nothing changes, and the batch is
-    /// dropped. It takes the time of a copy of the moves that the proxy hasn't had, and of one number for each session.
+    /// dropped. It takes O(m + b log s) for m moves that the proxy hasn't had, b transactions of the batch and s sessions
+    /// with a transaction in the book.
     pub(crate) fn issue(
         &mut self,
         alloc: Global,
@@ -87,9 +88,8 @@ impl<B: ClusterName> SequencerAt<B> {
     {
         let ticket = self.core.plan(proxy, advance)?;
         let entry = entry_for(alloc, &ticket, batch)?;
-        let (front, share) = self.front.append(alloc, book, entry)?;
+        let share = self.front.append(alloc, book, entry)?;
         accept(&mut self.core, &ticket);
-        self.front = front;
         Ok((ticket, share))
     }
 

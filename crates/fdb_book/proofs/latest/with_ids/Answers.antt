@@ -7,7 +7,7 @@ use Rattle.fdb_book.proofs.latest.with_ids.Goals.{in_default-via-in-Some+else-id
 
 pub loop-sealed-preserved : goal.loop-sealed-preserved
 loop-sealed-preserved c =
-    let before = c.args.latest.now in
+    let before = c.args.latest in
     let batch = c.args.batch.now in
     let i = c.loop-sealed.sealed-index in
     let taken = c.loop-sealed.taken in

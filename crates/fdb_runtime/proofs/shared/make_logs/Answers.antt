@@ -1,7 +1,6 @@
-use Rattle.std.proofs.Common.{◌≡◌, ◌<◌, ◌≤◌, ℕ, suc, length, None, refl, arith}
+use Rattle.std.proofs.Common.{◌≡◌, ◌<◌, ◌≤◌, ℕ, None, refl, arith}
 use Rattle.std.proofs.lemmas.Bool.{lt-ltb, le-leb}
 use Rattle.std.proofs.lemmas.Result.{err_from_is_err_and}
-use Rattle.std.specs.Prelude.{⊤}
 use Rattle.fdb_txn.specs.Limits.{log_limit, tag_limit}
 use Rattle.fdb_log.specs.Logs.{config_fault}
 use Rattle.fdb_core.proofs.common.FaultLemmas.{lacks-memory}

@@ -1,7 +1,4 @@
 use Rattle.std.proofs.Common.{◌∙◌, sym, subst, ap, length, [], ◌∷◌, ◌++◌}
-use Rattle.std.specs.Arc.{arc_value}
-use Rattle.std.specs.declared.alloc.Global.{Global}
-use Rattle.std.specs.declared.sync.Arc.{Arc}
 use Rattle.fdb_txn.specs.declared.entry.Entry.{Entry}
 use Rattle.fdb_book.specs.Fronts.{IsLinkedBook}
 use Rattle.fdb_book.specs.Appending.{append_fault}
@@ -10,9 +7,6 @@ use Rattle.fdb_book.proofs.FactLemmas.{counted-view}
 use Rattle.fdb_book.proofs.FoundLemmas.{found-handed, found-refused, front-next, room-left, match-none, match-some}
 use Rattle.fdb_book.proofs.FoundLemmas.{given-fits, given-has}
 use Rattle.fdb_book.proofs.front.Front.set_next.Goals as goal
-
-abbrev Prepared : Type 0
-Prepared = Arc Latest Global
 
 pub fill_next-facts-requires : goal.fill_next-facts-requires
 fill_next-facts-requires g c =
@@ -31,31 +25,31 @@ invariant_of-result-in-Ok-prepare g c =
     front-next _ _ _ _ _ _ _ _ (rw c.in-Ok.ensures.0 c.self.invariant.same) c.fill_next-facts.ensures.first
     (counted-view _ _ _ c.self.invariant.counted c.self.view_is)
     (match-some _ _ _ _ c.in-Some.is c.fill_next-facts.ensures.entry).0
-    (subst IsLinkedBook c.self.view_is c.self.invariant.book) (given-fits {T = Prepared} c.in-Ok-prepare.latest
+    (subst IsLinkedBook c.self.view_is c.self.invariant.book) (given-fits {T = Latest} c.in-Ok-prepare.latest
     (append_fault (length g.B.BookName.cells) c.args.self.now c.in-Some.other.now)
-    (λ latest. Covers (arc_value latest) (c.args.self.now ++ c.in-Some.other.now ∷ []))
+    (λ latest. Covers latest (c.args.self.now ++ c.in-Some.other.now ∷ []))
     c.in-Ok-prepare.ensures.answers)
-    c.in-Ok-prepare.ensures.sealed (given-has {T = Prepared} c.in-Ok-prepare.latest
+    c.in-Ok-prepare.ensures.sealed (given-has {T = Latest} c.in-Ok-prepare.latest
     (append_fault (length g.B.BookName.cells) c.args.self.now c.in-Some.other.now)
-    (λ latest. Covers (arc_value latest) (c.args.self.now ++ c.in-Some.other.now ∷ []))
+    (λ latest. Covers latest (c.args.self.now ++ c.in-Some.other.now ∷ []))
     c.in-Ok-prepare.ensures.answers)
 
 pub returns-in-Ok-prepare : goal.returns-in-Ok-prepare
 returns-in-Ok-prepare g c =
     let found = match-some _ _ _ _ c.in-Some.is c.fill_next-facts.ensures.entry in
     found-handed _ _ _ _ c.in-Some.other.now c.requires.fits (λ same. found.1 (same ∙ sym c.in-Ok.ensures.1))
-    (given-fits {T = Prepared} c.in-Ok-prepare.latest
+    (given-fits {T = Latest} c.in-Ok-prepare.latest
     (append_fault (length g.B.BookName.cells) c.args.self.now c.in-Some.other.now)
-    (λ latest. Covers (arc_value latest) (c.args.self.now ++ c.in-Some.other.now ∷ []))
+    (λ latest. Covers latest (c.args.self.now ++ c.in-Some.other.now ∷ []))
     c.in-Ok-prepare.ensures.answers)
     found.0
 
 pub returns : goal.returns
 returns g c =
     let found = match-some _ _ _ _ c.in-Some.is c.fill_next-facts.ensures.entry in
-    found-refused {T = Prepared} (length g.B.BookName.cells) c.args.self.now c.args.entry c.in-Some.other.now
+    found-refused {T = Latest} (length g.B.BookName.cells) c.args.self.now c.args.entry c.in-Some.other.now
     c.in-Err.why c.why_taken.result
-    (λ latest. Covers (arc_value latest) (c.args.self.now ++ c.in-Some.other.now ∷ []))
+    (λ latest. Covers latest (c.args.self.now ++ c.in-Some.other.now ∷ []))
     c.requires.fits
     (λ same. found.1 (same ∙ sym c.in-Ok.ensures.1)) c.in-Err.ensures.answers c.why_taken.ensures.memory
     c.why_taken.ensures.taken

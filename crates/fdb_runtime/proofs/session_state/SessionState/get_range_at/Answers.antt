@@ -4,13 +4,11 @@ use Rattle.fdb_keys.specs.Answers.{Answers}
 use Rattle.fdb_keys.specs.Points.{Point}
 use Rattle.fdb_keys.specs.Ranges.{Range}
 use Rattle.fdb_keys.specs.declared.refusal.Refusal.{Refusal}
-use Rattle.fdb_mutations.specs.Maps.{Map}
 use Rattle.fdb_mutations.specs.PairLaws.{given_of}
 use Rattle.fdb_txn.specs.declared.entry.Entry.{Entry}
 use Rattle.fdb_proxy.specs.declared.config.Config.{Config}
 use Rattle.fdb_client.specs.Programs.{program, copy, reply_on}
 use Rattle.fdb_client.specs.TxnState.{with_op}
-use Rattle.fdb_client.specs.declared.program.Op.{Op}
 use Rattle.fdb_client.specs.declared.program.Op.TheVariants as operation
 use Rattle.fdb_client.specs.declared.program.Reply.TheVariants as answer
 use Rattle.fdb_client.specs.declared.program.Transcript.{Transcript}

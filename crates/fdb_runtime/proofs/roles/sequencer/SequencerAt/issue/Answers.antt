@@ -12,26 +12,27 @@ accept-requires g c =
     (λ (ticket : Ticket). ticket ≡ planned core c.args.proxy c.args.advance) c.in_ok-ticket.ensures in
     planned-accepted core c.in_ok-ticket.ticket c.args.proxy c.args.advance plan.0 plan.1
 
-pub invariant_of-self : goal.invariant_of-self
-invariant_of-self g c =
+pub invariant_of-self-2 : goal.invariant_of-self-2
+invariant_of-self-2 g c =
     let core = c.self.inside.core in
     let plan = answers-fault (plan_fault core c.args.proxy c.args.advance) c.in_ok-ticket.ticket
     (λ (ticket : Ticket). ticket ≡ planned core c.args.proxy c.args.advance) c.in_ok-ticket.ensures in
-    accepted-there c.self.inside.front c.args.batch core c.in_ok-ticket.ticket c.in_ok-entry.entry c.in_ok-front.front
-    c.in_ok-entry.ensures c.in_ok-front.ensures.1 g.B.ClusterName.config c.accept.new.core c.self.invariant
+    accepted-there c.self.inside.front c.args.batch core c.in_ok-ticket.ticket c.in_ok-entry.entry c.append.new.self
+    c.in_ok-entry.ensures (c.in_ok-share.ensures.longer ∙ c.in_ok-share.ensures.answers.1) g.B.ClusterName.config
+    c.accept.new.core c.self.invariant
     (planned-accepted core c.in_ok-ticket.ticket c.args.proxy c.args.advance plan.0 plan.1) c.accept.ensures
 
 pub returns-clause-reads : goal.returns-clause-reads
 returns-clause-reads g c =
     read-below-it c.self.inside.front c.args.batch c.self.inside.core c.in_ok-ticket.ticket c.in_ok-entry.entry
-    c.in_ok-front.share c.in_ok-entry.ensures (c.in_ok-front.ensures.2 ∙ c.in_ok-front.ensures.1)
-    (length g.B.BookName.cells) c.in_ok-front.ensures.0
+    c.in_ok-share.share c.in_ok-entry.ensures c.in_ok-share.ensures.answers.1
+    (length g.B.BookName.cells) c.in_ok-share.ensures.answers.0
 
 pub returns-clause-moves : goal.returns-clause-moves
 returns-clause-moves g c =
     let core = c.self.inside.core in
     let plan = answers-fault (plan_fault core c.args.proxy c.args.advance) c.in_ok-ticket.ticket
     (λ (ticket : Ticket). ticket ≡ planned core c.args.proxy c.args.advance) c.in_ok-ticket.ensures in
-    its-moves c.self.inside.front c.args.batch core c.in_ok-ticket.ticket c.in_ok-entry.entry c.in_ok-front.share
-    c.in_ok-entry.ensures (c.in_ok-front.ensures.2 ∙ c.in_ok-front.ensures.1) c.args.proxy c.args.advance
+    its-moves c.self.inside.front c.args.batch core c.in_ok-ticket.ticket c.in_ok-entry.entry c.in_ok-share.share
+    c.in_ok-entry.ensures c.in_ok-share.ensures.answers.1 c.args.proxy c.args.advance
     c.self.invariant.0 plan.1

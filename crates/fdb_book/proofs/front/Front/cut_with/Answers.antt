@@ -1,14 +1,14 @@
 use Rattle.std.proofs.Common.{◌≤◌, sym, length}
 use Rattle.std.proofs.lemmas.List.{take-map}
 use Rattle.fdb_book.proofs.FactLemmas.{value_of, front-take, shown-count}
-use Rattle.fdb_book.proofs.front.Front.cut.Goals as goal
+use Rattle.fdb_book.proofs.front.Front.cut_with.Goals as goal
 
 pub invariant_of-result : goal.invariant_of-result
 invariant_of-result g c =
     let within : c.args.len ≤ length c.self.inside.facts.known =
-    rw (← shown-count c.self.inside.facts.known, c.self.view_is) c.requires in
-    rw (c.in_ok-try_clone.ensures, c.first.ensures, c.in_ok-try_clone-2.ensures)
-    (front-take _ _ _ _ _ c.args.len within c.self.invariant)
+    rw (← shown-count c.self.inside.facts.known, c.self.view_is) c.requires.within in
+    rw c.first.ensures
+    (front-take _ _ _ _ _ _ _ _ c.args.len within c.self.invariant c.requires.cells)
 
 pub returns : goal.returns
 returns g c =
