@@ -9,7 +9,8 @@ use Rattle.std.proofs.lemmas.List.Folds.{list_any-append}
 use Rattle.fdb_mutations.specs.declared.mutation.Mutation.{Mutation}
 use Rattle.fdb_log.specs.declared.message.Tagged.{Tagged}
 use Rattle.fdb_log.specs.Messages.{has_tag, sent_to}
-use Rattle.fdb_log.specs.Places.{AreAdded, is_among, list_at}
+use Rattle.fdb_log.specs.Places.{AreAdded, list_at}
+use Rattle.fdb_log.specs.TagSets.{is_among}
 use Rattle.fdb_log.proofs.ToldLemmas.{set-same, set-other}
 
 module _ {A : Type 0} (kept : ℕ → Bool) (one : A) (tags : List ℕ) (index it : ℕ) (old now : List (List A))

@@ -8,5 +8,6 @@ pub mod PlacesLemmas
 pub mod PopLemmas
 pub mod PushLemmas
 pub mod RisingLemmas
+pub mod TagSetLemmas
 pub mod ToldLemmas
 pub mod WaitingLemmas

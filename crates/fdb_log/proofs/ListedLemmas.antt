@@ -5,13 +5,15 @@ use Rattle.std.specs.Prelude.{◌==◌, filter, slice_set}
 use Rattle.std.specs.List.{AllByRecursion}
 use Rattle.std.proofs.lemmas.Bool.{cases_Bool, cond-true, cond-false, eqb-true, eq-eqb, and_parts, and_from, both_ways, not-true}
 use Rattle.fdb_txn.proofs.book.HistoryLemmas.{all-append, all-weaken}
-use Rattle.fdb_log.specs.Places.{Holding, AreAdded, AreListed, AreRising, StartsAbove, has_place, is_among, is_place}
+use Rattle.fdb_log.specs.Places.{Holding, AreAdded, AreListed, AreRising, StartsAbove, has_place, is_place}
 use Rattle.fdb_log.specs.Places.{list_at, places_above}
-use Rattle.fdb_log.specs.Waiting.{Waiting, waits}
+use Rattle.fdb_log.specs.TagSets.{is_among}
+use Rattle.fdb_log.specs.Waiting.{Waiting, kept_among, waits}
 use Rattle.fdb_log.proofs.PlacesLemmas.{rising-later, rising-push, rising-above, all-above}
 use Rattle.fdb_log.proofs.PlacesLemmas.{has-above, has-still, has-before, has-last}
+use Rattle.fdb_log.proofs.TagSetLemmas.{among-of_kept}
 use Rattle.fdb_log.proofs.ToldLemmas.{set-same, set-other}
-use Rattle.fdb_log.proofs.WaitingLemmas.{all-passing, filter-all, any-picked_of, leaves-for}
+use Rattle.fdb_log.proofs.WaitingLemmas.{all-passing, filter-all, leaves-for}
 
 -- a later version is the last one
 pub listed-later : (kept : ℕ → Bool) (popped : ℕ → ℕ) (last later : ℕ) (holding : Holding) → last ≤ later
@@ -25,7 +27,7 @@ listed-later kept popped last later holding more are =
 -- one mutation more, with its place in the lists of its tags
 module _ (kept : ℕ → Bool) (popped : ℕ → ℕ) (place : ℕ × ℕ) (tags : List ℕ) (old new : Holding)
     (are : AreListed kept popped place.0 old) (added : AreAdded kept place tags old.places new.places)
-    (waiting : new.waiting ≡ old.waiting ++ (place, filter kept tags) ∷ []) where
+    (waiting : new.waiting ≡ old.waiting ++ (place, kept_among kept tags) ∷ []) where
   still-has : (tag : ℕ) (other : ℕ × ℕ) → kept tag ≡ true → has_place (list_at old.places tag) other ≡ true
       → has_place (list_at new.places tag) other ≡ true
   still-has tag other here has =
@@ -57,14 +59,14 @@ module _ (kept : ℕ → Bool) (popped : ℕ → ℕ) (place : ℕ × ℕ) (tags
             (sym waiting)
             (all-append (λ (one : Waiting). (tag : ℕ) → kept tag ≡ true → is_among one.1 tag ≡ true
             → popped tag < one.0.0 → has_place (list_at new.places tag) one.0 ≡ true)
-            old.waiting ((place, filter kept tags) ∷ [])
+            old.waiting ((place, kept_among kept tags) ∷ [])
             (all-weaken (λ (one : Waiting). (tag : ℕ) → kept tag ≡ true → is_among one.1 tag ≡ true
             → popped tag < one.0.0 → has_place (list_at old.places tag) one.0 ≡ true)
             (λ (one : Waiting). (tag : ℕ) → kept tag ≡ true → is_among one.1 tag ≡ true
             → popped tag < one.0.0 → has_place (list_at new.places tag) one.0 ≡ true)
             (λ one has tag here among low. still-has tag one.0 here (has tag here among low)) old.waiting are.listed) (
               (λ tag here among low.
-                  let sent : is_among tags tag ≡ true = any-picked_of (λ (other : ℕ). other == tag) kept tags among in
+                  let sent : is_among tags tag ≡ true = among-of_kept kept tags tag among in
                   ap (λ (list : List (ℕ × ℕ)). has_place list place)
                   (added tag here ∙ cond-true (is_among tags tag) _ _ sent)
                   ∙ has-last (list_at old.places tag) place),

@@ -128,6 +128,7 @@ module _ (core : Log) (tag through found value : ℕ) (queue : List TagMsg) (wai
       record {
         number = pops.is_log.number;
         few = pops.is_log.few;
+        few_tags = pops.is_log.few_tags;
         tagged = length-set core.popped tag value ∙ pops.is_log.tagged;
         queued = length-set core.queues tag queue ∙ pops.is_log.queued;
         within = λ works other.

@@ -12,6 +12,7 @@ use Rattle.fdb_log.specs.Peeks.{RiseAfter, through_after}
 use Rattle.fdb_log.specs.Waiting.{Waiting, waits, waiting_of}
 use Rattle.fdb_log.proofs.RisingLemmas.{rises-push, through-push}
 use Rattle.fdb_log.specs.Places.{list_at}
+use Rattle.fdb_log.proofs.TagSetLemmas.{few-kept}
 use Rattle.fdb_log.proofs.WaitingLemmas.{waiting_from-wait, waiting_from-count}
 
 -- the log with these queues, these mutations that wait, and this last version
@@ -68,7 +69,9 @@ module _ (core : Log) (message : LogMsg) (queues : List (List TagMsg)) (waiting 
 
   new-wait : AllByRecursion (λ (one : Waiting). (one.0.0 ≡ message.version) × (waits (popped_through core) one ≡ true))
       (waiting_of (keeps core) message)
-  new-wait = waiting_from-wait (keeps core) message.version (popped_through core) low 0 message.body
+  new-wait =
+      waiting_from-wait (keeps core) message.version (few-kept core.log core.logs core.tags takes.is_log.few_tags)
+      (popped_through core) low 0 message.body
 
   -- the invariant holds of it
   pub is_log-push : IsLog (with_taken core message.version queues waiting)
@@ -76,6 +79,7 @@ module _ (core : Log) (message : LogMsg) (queues : List (List TagMsg)) (waiting 
       record {
         number = takes.is_log.number;
         few = takes.is_log.few;
+        few_tags = takes.is_log.few_tags;
         tagged = takes.is_log.tagged;
         queued = takes.long ∙ takes.is_log.queued;
         within = λ _ tag.

@@ -9,12 +9,13 @@ use Rattle.std.specs.declared.cmp.Ordering.{Ordering}
 use Rattle.std.specs.declared.cmp.Ordering.TheVariants.{Equal, Greater}
 use Rattle.std.proofs.lemmas.Bool.{cases_Bool, cases_lt, cond-true, cond-false, lt-ltb, le-ltb, le-leb, lt-leb, ltb-true}
 use Rattle.std.proofs.lemmas.Bool.{eqb-true, eq-eqb, ne_eqb, and_parts, not-true, leb-true, or_left, or_right}
-use Rattle.std.proofs.lemmas.Bool.{or_cases}
 use Rattle.std.proofs.lemmas.List.{take_more, append-nil, length-take}
 use Rattle.std.proofs.lemmas.List.Sums.{length-filter}
+use Rattle.fdb_txn.specs.Limits.{tag_limit}
 use Rattle.fdb_txn.proofs.book.HistoryLemmas.{all-append, all-weaken}
 use Rattle.fdb_log.specs.declared.message.Tagged.{Tagged}
-use Rattle.fdb_log.specs.Waiting.{Waiting, ComesBefore, waits, waits_for_alone, waiting_from}
+use Rattle.fdb_log.specs.Waiting.{Waiting, ComesBefore, kept_among, waits, waits_for_alone, waiting_from}
+use Rattle.fdb_log.proofs.TagSetLemmas.{any-kept, any-of_kept}
 
 -- what follows of those that pass a test holds of each that is picked by it
 pub all-passing : {A : Type 0} (P Q : A → Type 0) (test : A → Bool) (items : List A)
@@ -116,55 +117,6 @@ any-alike test other (first ∷ tags) alike =
     ap (λ (b : Bool). b || list_any test tags) (alike first)
     ∙ ap (λ (b : Bool). other first || b) (any-alike test other tags alike)
 
--- a test that all pass finds one where some are picked
-pub any-of_picked : (picks test : ℕ → Bool) (tags : List ℕ) → ((tag : ℕ) → test tag ≡ true)
-    → list_any picks tags ≡ true → list_any test (filter picks tags) ≡ true
-any-of_picked picks test [] passes some = some
-any-of_picked picks test (first ∷ tags) passes some =
-    ⊎_elim
-    (λ picked.
-    ap (list_any test) (cond-true (picks first) _ _ picked)
-    ∙ ap (λ (b : Bool). b || list_any test (filter picks tags)) (passes first))
-    (λ left.
-    ap (list_any test) (cond-false (picks first) _ _ left)
-    ∙ any-of_picked picks test tags passes
-    (ap (λ (b : Bool). b || list_any picks tags) (sym left) ∙ some))
-    (cases_Bool (picks first))
-
--- what is found among those that are picked is found among all
-pub any-picked_of : (test picks : ℕ → Bool) (tags : List ℕ) → list_any test (filter picks tags) ≡ true
-    → list_any test tags ≡ true
-any-picked_of test picks [] found = found
-any-picked_of test picks (first ∷ tags) found =
-    ⊎_elim
-    (λ picked.
-    let here : (test first || list_any test (filter picks tags)) ≡ true =
-    sym (ap (list_any test) (cond-true (picks first) (first ∷ filter picks tags) (filter picks tags) picked)) ∙ found in
-    ⊎_elim (λ is. or_left (test first) (list_any test tags) is)
-    (λ later. or_right (test first) (list_any test tags) (any-picked_of test picks tags later))
-    (or_cases (test first) (list_any test (filter picks tags)) here))
-    (λ left.
-    or_right (test first) (list_any test tags)
-    (any-picked_of test picks tags
-    (sym (ap (list_any test) (cond-false (picks first) (first ∷ filter picks tags) (filter picks tags) left)) ∙ found)))
-    (cases_Bool (picks first))
-
--- none is picked where none passes
-pub any-picked : (picks : ℕ → Bool) (tags : List ℕ)
-    → list_any picks tags ≡ not (length (filter picks tags) == 0)
-any-picked picks [] = refl
-any-picked picks (first ∷ tags) =
-    ⊎_elim
-    (λ picked.
-    ap (λ (b : Bool). b || list_any picks tags) picked
-    ∙ sym (ap (λ (list : List ℕ). not (length list == 0)) (cond-true (picks first) _ _ picked)
-    ∙ ap not (ne_eqb (length (first ∷ filter picks tags)) 0 (λ same. absurd (omega arith)))))
-    (λ left.
-    ap (λ (b : Bool). b || list_any picks tags) left
-    ∙ any-picked picks tags
-    ∙ sym (ap (λ (list : List ℕ). not (length list == 0)) (cond-false (picks first) _ _ left)))
-    (cases_Bool (picks first))
-
 -- The tag is popped through the version as well, and no other tag is.
 module _ (before after : ℕ → ℕ) (tag through : ℕ) (here : after tag ≡ max (before tag) through)
     (others : (other : ℕ) → (other == tag) ≡ false → after other ≡ before other) where
@@ -262,7 +214,7 @@ module _ (kept : ℕ → Bool) (version : ℕ) where
       ap (λ (n : ℕ). waiting_from kept version n back) (sym same)
   waiting_from-append index (sent ∷ front) back =
       let next : suc index + length front ≡ index + length (sent ∷ front) = omega arith in
-      more (list_any kept sent.tags) ((version, index), filter kept sent.tags) _ _ _
+      more (list_any kept sent.tags) ((version, index), kept_among kept sent.tags) _ _ _
       (waiting_from-append (suc index) front back
       ∙ ap (λ (n : ℕ). waiting_from kept version (suc index) front ++ waiting_from kept version n back) next)
 
@@ -279,29 +231,30 @@ module _ (kept : ℕ → Bool) (version : ℕ) where
           (waiting_from kept version (suc index) body)
           → AllByRecursion (λ (one : Waiting). ComesBefore one.0 (version, next))
           (if b
-          then ((version, index), filter kept sent.tags) ∷ waiting_from kept version (suc index) body
+          then ((version, index), kept_among kept sent.tags) ∷ waiting_from kept version (suc index) body
           else waiting_from kept version (suc index) body)
       step true here rest = (here, rest)
       step false here rest = rest
 
   -- they are of the version, and wait where no tag was popped so far
-  pub waiting_from-wait : (popped : ℕ → ℕ) → ((tag : ℕ) → popped tag < version) → (index : ℕ) (body : List Tagged)
+  pub waiting_from-wait : ((tag : ℕ) → kept tag ≡ true → tag < tag_limit) → (popped : ℕ → ℕ)
+      → ((tag : ℕ) → popped tag < version) → (index : ℕ) (body : List Tagged)
       → AllByRecursion (λ (one : Waiting). (one.0.0 ≡ version) × (waits popped one ≡ true))
       (waiting_from kept version index body)
-  waiting_from-wait popped low index [] = tt
-  waiting_from-wait popped low index (sent ∷ body) =
+  waiting_from-wait few popped low index [] = tt
+  waiting_from-wait few popped low index (sent ∷ body) =
       step (list_any kept sent.tags)
-      (any-of_picked kept (λ (tag : ℕ). nat_lt (popped tag) version) sent.tags
+      (any-of_kept kept few sent.tags (λ (tag : ℕ). nat_lt (popped tag) version)
       (λ tag. lt-ltb (popped tag) version (low tag)))
-      (waiting_from-wait popped low (suc index) body)
+      (waiting_from-wait few popped low (suc index) body)
     where
       step : (b : Bool)
-          → (b ≡ true → list_any (λ (tag : ℕ). nat_lt (popped tag) version) (filter kept sent.tags) ≡ true)
+          → (b ≡ true → list_any (λ (tag : ℕ). nat_lt (popped tag) version) (kept_among kept sent.tags) ≡ true)
           → AllByRecursion (λ (one : Waiting). (one.0.0 ≡ version) × (waits popped one ≡ true))
           (waiting_from kept version (suc index) body)
           → AllByRecursion (λ (one : Waiting). (one.0.0 ≡ version) × (waits popped one ≡ true))
           (if b
-          then ((version, index), filter kept sent.tags) ∷ waiting_from kept version (suc index) body
+          then ((version, index), kept_among kept sent.tags) ∷ waiting_from kept version (suc index) body
           else waiting_from kept version (suc index) body)
       step true waits_now rest = ((refl, waits_now refl), rest)
       step false waits_now rest = rest
@@ -324,7 +277,7 @@ module _ (kept : ℕ → Bool) (version : ℕ) where
           ≡ length (filter (λ (sent : Tagged). list_any kept sent.tags) body)
       by_filter index [] = refl
       by_filter index (sent ∷ body) =
-          step (list_any kept sent.tags) ((version, index), filter kept sent.tags) sent _ _ (by_filter (suc index) body)
+          step (list_any kept sent.tags) ((version, index), kept_among kept sent.tags) sent _ _ (by_filter (suc index) body)
 
   -- one mutation more of a message
   next-of : (index : ℕ) (body : List Tagged) (sent : Tagged) → index < length body → sent ≡ get_or body index sent
@@ -338,12 +291,13 @@ module _ (kept : ℕ → Bool) (version : ℕ) where
       ∙ waiting_from-append 0 (take index body) (sent ∷ [])
       ∙ ap (λ (n : ℕ). waiting_from kept version 0 (take index body) ++ waiting_from kept version n (sent ∷ [])) long
 
-  pub next-none : (index : ℕ) (body : List Tagged) (sent : Tagged) (tags : List ℕ) → index < length body
-      → sent ≡ get_or body index sent → tags ≡ filter kept sent.tags → (length tags == 0) ≡ true
+  pub next-none : ((tag : ℕ) → kept tag ≡ true → tag < tag_limit) → (index : ℕ) (body : List Tagged)
+      (sent : Tagged) (tags : List ℕ) → index < length body → sent ≡ get_or body index sent
+      → tags ≡ kept_among kept sent.tags → (length tags == 0) ≡ true
       → waiting_from kept version 0 (take (index + 1) body) ≡ waiting_from kept version 0 (take index body)
-  next-none index body sent tags within reads picked none =
+  next-none few index body sent tags within reads picked none =
       let not_one : list_any kept sent.tags ≡ false =
-      any-picked kept sent.tags
+      any-kept kept few sent.tags
       ∙ ap (λ (list : List ℕ). not (length list == 0)) (sym picked)
       ∙ ap not none in
       next-of index body sent within reads
@@ -351,13 +305,14 @@ module _ (kept : ℕ → Bool) (version : ℕ) where
       (cond-false (list_any kept sent.tags) _ _ not_one)
       ∙ append-nil (waiting_from kept version 0 (take index body))
 
-  pub next-one : (index : ℕ) (body : List Tagged) (sent : Tagged) (tags : List ℕ) → index < length body
-      → sent ≡ get_or body index sent → tags ≡ filter kept sent.tags → (length tags == 0) ≡ false
+  pub next-one : ((tag : ℕ) → kept tag ≡ true → tag < tag_limit) → (index : ℕ) (body : List Tagged)
+      (sent : Tagged) (tags : List ℕ) → index < length body → sent ≡ get_or body index sent
+      → tags ≡ kept_among kept sent.tags → (length tags == 0) ≡ false
       → waiting_from kept version 0 (take (index + 1) body)
       ≡ waiting_from kept version 0 (take index body) ++ ((version, index), tags) ∷ []
-  next-one index body sent tags within reads picked some =
+  next-one few index body sent tags within reads picked some =
       let is_one : list_any kept sent.tags ≡ true =
-      any-picked kept sent.tags
+      any-kept kept few sent.tags
       ∙ ap (λ (list : List ℕ). not (length list == 0)) (sym picked)
       ∙ ap not some in
       next-of index body sent within reads

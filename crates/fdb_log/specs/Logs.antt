@@ -83,12 +83,14 @@ peek_of core tag after limit =
       messages = given_after core tag after limit;
     }
 
--- Between two calls its number is that of a log. Unless memory ran out, each tag was popped through at most the last
--- entry's version, the messages that are kept of a tag rise from there up to that version, and each mutation that waits
--- is of an entry up to it and has a tag that wasn't popped so far.
+-- Between two calls its number is that of a log, and there are no more logs and tags than their limits say. Unless
+-- memory ran out, each tag was popped through at most the last entry's version, the messages that are kept of a tag rise
+-- from there up to that version, and each mutation that waits is of an entry up to it and has a tag that wasn't popped
+-- so far.
 pub record IsLog (core : Log) : Type 0 where
   pub number : core.log < core.logs
   pub few : core.logs ≤ log_limit
+  pub few_tags : core.tags ≤ tag_limit
   pub tagged : length core.popped ≡ core.tags
   pub queued : length core.queues ≡ core.tags
   pub within : core.is_failed ≡ false → (tag : ℕ) → popped_through core tag ≤ core.last

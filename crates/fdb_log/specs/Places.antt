@@ -5,6 +5,7 @@ use Rattle.std.specs.List.{AllByRecursion, list_any}
 use Rattle.std.specs.Ordering.{nat_cmp, ordering_then}
 use Rattle.std.specs.declared.cmp.Ordering.{Ordering}
 use Rattle.fdb_log.specs.Logs.{Log, IsLog, keeps, popped_through}
+use Rattle.fdb_log.specs.TagSets.{is_among}
 use Rattle.fdb_log.specs.Waiting.{Waiting}
 
 -- of each tag the places of its mutations, and the mutations that wait, by their places
@@ -42,10 +43,6 @@ AreRising last (first ∷ places) =
 abbrev pub StartsAbove : ℕ → List (ℕ × ℕ) → Type 0
 StartsAbove version [] = ⊤
 StartsAbove version (first ∷ places) = version < first.0
-
--- the tag is one of these
-abbrev pub is_among : List ℕ → ℕ → Bool
-is_among tags tag = list_any (λ (other : ℕ). other == tag) tags
 
 -- the list of each tag that is kept, and is one of these, has one more item at its end
 abbrev pub AreAdded : {A : Type 0} → (ℕ → Bool) → A → List ℕ → (old new : List (List A)) → Type 0

@@ -1,10 +1,12 @@
 -- Which mutations of a log wait, until the last of their tags is popped.
-use Rattle.std.specs.Prelude.{◌≡◌, ◌<◌, ◌⊎◌, ℕ, suc, Bool, not, ◌&&◌, ◌==◌, nat_lt, nat_le, List, [], ◌∷◌, filter, if◌then◌else◌}
+use Rattle.std.specs.Prelude.{◌≡◌, ◌<◌, ◌⊎◌, ℕ, suc, Bool, not, ◌&&◌, ◌==◌, nat_lt, nat_le, List, [], ◌∷◌, if◌then◌else◌}
 use Rattle.std.specs.List.{list_any}
 use Rattle.fdb_log.specs.declared.message.LogMsg.{LogMsg}
 use Rattle.fdb_log.specs.declared.message.Tagged.{Tagged}
+use Rattle.fdb_log.specs.TagSets.{is_among, tags_that}
 
--- a mutation: the version of its entry and its index in the message, and those of its tags that the log keeps
+-- a mutation: the version of its entry and its index in the message, and those of its tags that the log keeps, each
+-- once, rising
 abbrev pub Waiting : Type 0
 Waiting = (ℕ × ℕ) × List ℕ
 
@@ -23,12 +25,16 @@ waits_for_alone popped tag through one =
     && list_any (λ (other : ℕ). other == tag) one.1
     && not (list_any (λ (other : ℕ). not (other == tag) && nat_lt (popped other) one.0.0) one.1)
 
+-- those of the tags that are kept, each once, rising
+abbrev pub kept_among : (ℕ → Bool) → List ℕ → List ℕ
+kept_among kept tags = tags_that (λ (tag : ℕ). is_among tags tag && kept tag)
+
 -- of mutations from an index on those that have a tag which is kept
 abbrev pub waiting_from : (ℕ → Bool) → (version index : ℕ) → List Tagged → List Waiting
 waiting_from kept version index [] = []
 waiting_from kept version index (sent ∷ body) =
     if list_any kept sent.tags
-    then ((version, index), filter kept sent.tags) ∷ waiting_from kept version (suc index) body
+    then ((version, index), kept_among kept sent.tags) ∷ waiting_from kept version (suc index) body
     else waiting_from kept version (suc index) body
 
 -- those of a message

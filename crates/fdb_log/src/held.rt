@@ -7,14 +7,15 @@ ghost use Rattle.std.specs.List.{AllByRecursion, list_any};
 ghost use Rattle.std.specs.List.Sorted.{IsStrictlySortedBy};
 ghost use Rattle.std.specs.Map.{keys_of, lookup};
 ghost use Rattle.std.specs.Option.{unwrap_or};
+ghost use Rattle.fdb_txn.specs.Limits.{tag_limit};
 ghost use Rattle.fdb_log.specs.Messages.{is_kept};
 ghost use Rattle.fdb_log.specs.Places.{AreAdded, AreRising, has_place, is_place, place_cmp, places_above};
-ghost use Rattle.fdb_log.specs.Waiting.{Waiting, waits};
+ghost use Rattle.fdb_log.specs.Waiting.{Waiting, kept_among, waits};
 
 use crate::keeper::{Keeper, stands_before};
 use crate::message::{LogMsg, Tagged};
 use crate::places::Places;
-use fdb_keys::Items;
+use crate::tag_set::TagSet;
 use std::alloc::{AllocError, Global};
 use std::collections::BTreeMap;
 use std::marker::Model;
@@ -24,7 +25,7 @@ use std::marker::Model;
 #[derive(Drop)]
 pub(crate) struct Held {
     places: Vec<Places>,
-    tags: BTreeMap<(u64, usize), Items<u32>>,
+    tags: BTreeMap<(u64, usize), TagSet>,
 }
 
 impl Model for Held {
@@ -40,6 +41,7 @@ impl Held {
     ghost use Rattle.std.specs.Prelude.{OnOk, slice_get, slice_set};
     ghost use Rattle.std.specs.List.{AllByRecursion};
     ghost use Rattle.std.specs.Option.{unwrap_or};
+    ghost use Rattle.fdb_txn.specs.Limits.{tag_limit};
     ghost use Rattle.fdb_log.specs.Waiting.{Waiting, ComesBefore, waits, waiting_of};
     ghost use Rattle.fdb_log.specs.Messages.{is_kept};
     ghost use Rattle.fdb_log.specs.Places.{AreAdded, AreListed, AreRising, has_place, list_at, places_above};
@@ -62,13 +64,9 @@ impl Held {
     }
 
     /// Adds those of the message's mutations that have a tag which is kept here.
-    pub(crate) fn add(
-        &mut self,
-        alloc: Global,
-        keeper: Keeper,
-        message: &LogMsg,
-    ) -> Result<(), AllocError>
+    pub(crate) fn add(&mut self, keeper: Keeper, message: &LogMsg) -> Result<(), AllocError>
         requires number { keeper.log < keeper.logs }
+        requires few { keeper.tags ≤ tag_limit }
         requires placed { length self.old.places ≡ keeper.tags }
         requires later { AllByRecursion (λ one. one.0.0 < message.now.version) self.old.waiting }
         ensures waiting { OnOk result (self.new.waiting ≡ self.old.waiting
@@ -79,7 +77,7 @@ impl Held {
             → AreListed (is_kept keeper.log keeper.logs keeper.tags) popped message.now.version self.new) }
     {
         for (index, sent) in message.body.as_slice().iter().enumerate() {
-            let tags = kept_tags(alloc, keeper, sent)?;
+            let tags = kept_tags(keeper, sent);
             if !tags.is_empty() {
                 self.add_one(keeper, (message.version, index), sent, tags)?;
             }
@@ -109,7 +107,7 @@ impl Held {
         keeper: Keeper,
         place: (u64, usize),
         sent: &Tagged,
-        tags: Items<u32>,
+        tags: TagSet,
     ) -> Result<(), AllocError>
         requires number { keeper.log < keeper.logs }
         requires placed { length self.old.places ≡ keeper.tags }
@@ -151,7 +149,7 @@ fn add_place(
 // Takes the places up to the version, and drops those mutations there for which no tag waits.
 fn release_through(
     places: &mut Places,
-    tags: &mut BTreeMap<(u64, usize), Items<u32>>,
+    tags: &mut BTreeMap<(u64, usize), TagSet>,
     popped: &[u64],
     through: u64,
 )
@@ -169,7 +167,7 @@ fn release_through(
 }
 
 // Drops the mutation at the place, unless some tag waits for it.
-fn drop_unwaited(tags: &mut BTreeMap<(u64, usize), Items<u32>>, popped: &[u64], place: (u64, usize))
+fn drop_unwaited(tags: &mut BTreeMap<(u64, usize), TagSet>, popped: &[u64], place: (u64, usize))
     ensures { tags.new.entries
         ≡ filter (λ (one : Waiting). waits (λ tag. unwrap_or (slice_get popped.now tag) 0) one
         || not (is_place place one.0)) tags.old.entries }
@@ -180,11 +178,7 @@ fn drop_unwaited(tags: &mut BTreeMap<(u64, usize), Items<u32>>, popped: &[u64], 
 }
 
 // Whether a mutation is held at the place, for which no tag waits.
-fn is_unwaited(
-    tags: &BTreeMap<(u64, usize), Items<u32>>,
-    popped: &[u64],
-    place: (u64, usize),
-) -> bool
+fn is_unwaited(tags: &BTreeMap<(u64, usize), TagSet>, popped: &[u64], place: (u64, usize)) -> bool
     ensures rising { IsStrictlySortedBy place_cmp (keys_of tags.now.entries) }
     ensures test { MatchOption (lookup (is_at (place_cmp place)) tags.now.entries) (result ≡ false)
         (λ left. result ≡ not (waits (λ tag. unwrap_or (slice_get popped.now tag) 0) (place, left))) }
@@ -192,31 +186,37 @@ fn is_unwaited(
     // `len` says that the places rise.
     let _count = tags.len();
     match tags.get(&place) {
-        Some(left) => !waits(popped, place.0, left.as_slice()),
+        Some(left) => !waits(popped, place.0, left),
         None => false,
     }
 }
 
 // Those of its tags that are kept here.
-fn kept_tags(alloc: Global, keeper: Keeper, sent: &Tagged) -> Result<Items<u32>, AllocError>
-    requires { keeper.log < keeper.logs }
-    ensures { IfOk result
-        (λ tags. tags ≡ filter (is_kept keeper.log keeper.logs keeper.tags) sent.now.tags) }
+fn kept_tags(keeper: Keeper, sent: &Tagged) -> TagSet
+    requires number { keeper.log < keeper.logs }
+    requires few { keeper.tags ≤ tag_limit }
+    ensures { result ≡ kept_among (is_kept keeper.log keeper.logs keeper.tags) sent.now.tags }
 {
-    let mut tags = Items::new(alloc);
+    let mut tags = TagSet::empty();
     for tag in sent.tags.as_slice() {
         if keeper.keeps(*tag) {
-            tags.push(*tag)?;
+            tags.add(*tag);
         }
     }
-    Ok(tags)
+    tags
 }
 
 // Whether some of the tags was popped through a version below this one only.
-fn waits(popped: &[u64], version: u64, tags: &[u32]) -> bool
+fn waits(popped: &[u64], version: u64, tags: &TagSet) -> bool
     ensures { result ≡ list_any (λ tag. nat_lt (unwrap_or (slice_get popped.now tag) 0) version) tags.now }
 {
-    tags.iter().any(|tag| is_behind(popped, version, *tag))
+    let mut left = tags.copy();
+    while let Some(tag) = left.pop_first() {
+        if is_behind(popped, version, tag) {
+            return true;
+        }
+    }
+    false
 }
 
 // Whether the tag was popped through a version below this one only.

@@ -1,7 +1,7 @@
 // Which tags a log keeps.
 ghost use Rattle.std.specs.Prelude.{◌≡◌, ◌<◌, length, take};
 ghost use Rattle.fdb_log.specs.Messages.{is_kept};
-ghost use Rattle.fdb_log.specs.Places.{is_among};
+ghost use Rattle.fdb_log.specs.TagSets.{is_among};
 
 /// The number of a log, and how many logs and tags there are.
 #[derive(Clone, Copy)]

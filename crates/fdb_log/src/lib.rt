@@ -10,6 +10,7 @@ mod message;
 mod peek;
 mod places;
 mod queue;
+mod tag_set;
 mod telling;
 
 pub use fdb_txn::TagMsg;

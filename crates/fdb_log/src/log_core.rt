@@ -1,6 +1,7 @@
 ghost use Rattle.std.specs.Prelude.{◌≡◌, ◌<◌, ◌≤◌, ◌++◌, ℕ, [], ◌∷◌, length, true, replicate, slice_get, IfOk, OnOk};
 ghost use Rattle.std.specs.List.{AllByRecursion};
 ghost use Rattle.std.specs.Option.{unwrap_or};
+ghost use Rattle.fdb_txn.specs.Limits.{tag_limit};
 ghost use Rattle.fdb_log.specs.Messages.{is_kept, tag_message};
 ghost use Rattle.fdb_log.specs.Peeks.{through_after};
 ghost use Rattle.fdb_log.specs.Places.{AreListed};
@@ -235,6 +236,7 @@ fn take(
     message: &LogMsg,
 ) -> Result<(), AllocError>
     requires number { keeper.log < keeper.logs }
+    requires few { keeper.tags ≤ tag_limit }
     requires queued { length queues.old ≡ keeper.tags }
     requires placed { length held.old.places ≡ keeper.tags }
     requires later { AllByRecursion (λ one. one.0.0 < message.now.version) held.old.waiting }
@@ -249,7 +251,7 @@ fn take(
         → AreListed (is_kept keeper.log keeper.logs keeper.tags) popped message.now.version held.new) }
 {
     push_told(alloc, keeper, queues, message)?;
-    held.add(alloc, keeper, message)
+    held.add(keeper, message)
 }
 
 // The version of the last message, and this one where there is none.

@@ -153,7 +153,7 @@ struct Case {
     lines: &'static [(Line, Answer)],
 }
 
-static CASES: [Case; 7] = [
+static CASES: [Case; 8] = [
     Case {
         what: "messages after a version are given up to the limit",
         number: 0,
@@ -267,6 +267,40 @@ static CASES: [Case; 7] = [
             (Line::Held, Ok((1, 0))),
             (Line::Peek(1, 100, 9), Ok((1, 200))),
             (Line::Pop(1, 200), DONE),
+            (Line::Held, Ok((0, 0))),
+        ],
+    },
+    Case {
+        what: "the last of 64 tags is one like the first, in whatever order and however often it comes",
+        number: 0,
+        logs: 1,
+        tags: 64,
+        lines: &[
+            (
+                Line::Take(
+                    0,
+                    100,
+                    0,
+                    &[
+                        (0, b"a", &[63, 0, 63]),
+                        (1, b"b", &[63]),
+                        (2, b"c", &[]),
+                        (3, b"d", &[31, 32]),
+                    ],
+                ),
+                Ok((0, 7)),
+            ),
+            (Line::Held, Ok((3, 0))),
+            (Line::Gives(63, &[(0, b"a"), (1, b"b")]), YES),
+            (Line::Pop(63, 100), DONE),
+            (Line::Held, Ok((2, 0))),
+            (Line::Pop(32, 100), DONE),
+            (Line::Pop(33, 100), DONE),
+            (Line::Held, Ok((2, 0))),
+            (Line::Pop(31, 100), DONE),
+            (Line::Held, Ok((1, 0))),
+            (Line::Gives(0, &[(0, b"a")]), YES),
+            (Line::Pop(0, 100), DONE),
             (Line::Held, Ok((0, 0))),
         ],
     },

@@ -3,7 +3,8 @@ use Rattle.std.proofs.Common.{take, inl, inr, rules}
 use Rattle.std.specs.Prelude.{slice_set}
 use Rattle.std.proofs.lemmas.List.{get_or_default, length-set}
 use Rattle.fdb_log.specs.Messages.{is_kept}
-use Rattle.fdb_log.specs.Places.{AreAdded, is_among}
+use Rattle.fdb_log.specs.Places.{AreAdded}
+use Rattle.fdb_log.specs.TagSets.{is_among}
 use Rattle.fdb_log.proofs.AddedLemmas.{added-left, added-more}
 use Rattle.fdb_log.proofs.ToldLemmas.{read-at}
 use Rattle.fdb_log.proofs.held.add_place.Goals as goal

@@ -1,4 +1,5 @@
 use Rattle.std.proofs.Common.{◌≡◌, ◌∙◌, ap, ap₂, refl, ℕ, ◌+◌, max, Bool, true, false, List, [], ◌∷◌, ◌++◌, arith}
+use Rattle.std.proofs.Common.{if◌then◌else◌}
 use Rattle.std.specs.Prelude.{◌==◌, ◌&&◌, nat_lt, filter, count_by}
 use Rattle.std.specs.List.{list_any}
 use Rattle.fdb_mutations.specs.declared.mutation.Mutation.{Mutation}
@@ -6,7 +7,8 @@ use Rattle.fdb_log.specs.declared.message.Tagged.{Tagged}
 use Rattle.fdb_log.specs.Examples.{sent_with, first_to, second_to}
 use Rattle.fdb_log.specs.Logs.{Log, keeps, held, popped_through}
 use Rattle.fdb_log.specs.Messages.{log_of, is_kept}
-use Rattle.fdb_log.specs.Waiting.{Waiting, waits, waits_for_alone, waiting_of}
+use Rattle.fdb_log.specs.TagSets.{all_tags}
+use Rattle.fdb_log.specs.Waiting.{Waiting, kept_among, waits, waits_for_alone, waiting_of}
 use Rattle.fdb_log.proofs.laws.worked_held.Goals as goal
 
 -- what a log keeps, by its numbers
@@ -21,16 +23,31 @@ keeps-is core log logs tags tag log_is logs_is tags_is =
 abbrev counted : (ℕ → Bool) → List Tagged → ℕ
 counted kept body = count_by (λ (sent : Tagged). list_any kept sent.tags) body
 
+-- tag 1 alone, where it is kept
+only-one : (kept : ℕ → Bool) → kept 1 ≡ true → kept_among kept (1 ∷ []) ≡ 1 ∷ []
+unfolding all_tags
+only-one kept one_is = ap (λ (one : Bool). if one then 1 ∷ [] else []) one_is
+
+-- tags 0 and 1, where each is kept or isn't
+of-both : (kept : ℕ → Bool) (zero one : Bool) → kept 0 ≡ zero → kept 1 ≡ one
+    → kept_among kept (0 ∷ 1 ∷ [])
+    ≡ (if zero then 0 ∷ (if one then 1 ∷ [] else []) else (if one then 1 ∷ [] else []))
+unfolding all_tags
+of-both kept zero one zero_is one_is =
+    ap₂ (λ (zero one : Bool). if zero then 0 ∷ (if one then 1 ∷ [] else []) else (if one then 1 ∷ [] else []))
+    zero_is one_is
+
 -- where tag 1 is kept, and tag 0 isn't
 module _ (kept : ℕ → Bool) (zero_is : kept 0 ≡ false) (one_is : kept 1 ≡ true) (mutation : Mutation) where
   own-waits : waiting_of kept (first_to 1 (sent_with mutation (1 ∷ []) ∷ [])) ≡ ((100, 0), 1 ∷ []) ∷ []
-  own-waits = rw one_is refl
+  own-waits = rw one_is (ap (λ (tags : List ℕ). ((100, 0), tags) ∷ []) (only-one kept one_is))
 
   own-counts : counted kept (sent_with mutation (1 ∷ []) ∷ []) ≡ 1
   own-counts = rw one_is refl
 
   shared-waits : waiting_of kept (second_to 1 (sent_with mutation (0 ∷ 1 ∷ []) ∷ [])) ≡ ((200, 0), 1 ∷ []) ∷ []
-  shared-waits = rw (zero_is, one_is) refl
+  shared-waits =
+      rw (zero_is, one_is) (ap (λ (tags : List ℕ). ((200, 0), tags) ∷ []) (of-both kept false true zero_is one_is))
 
   shared-counts : counted kept (sent_with mutation (0 ∷ 1 ∷ []) ∷ []) ≡ 1
   shared-counts = rw (zero_is, one_is) refl
@@ -39,13 +56,14 @@ module _ (kept : ℕ → Bool) (zero_is : kept 0 ≡ false) (one_is : kept 1 ≡
 module _ (kept : ℕ → Bool) (zero_is : kept 0 ≡ true) (one_is : kept 1 ≡ true) (mutation : Mutation) where
   one-waits : waiting_of kept (first_to 0 (sent_with mutation (1 ∷ []) ∷ sent_with mutation [] ∷ []))
       ≡ ((100, 0), 1 ∷ []) ∷ []
-  one-waits = rw one_is refl
+  one-waits = rw one_is (ap (λ (tags : List ℕ). ((100, 0), tags) ∷ []) (only-one kept one_is))
 
   one-counts : counted kept (sent_with mutation (1 ∷ []) ∷ sent_with mutation [] ∷ []) ≡ 1
   one-counts = rw one_is refl
 
   both-wait : waiting_of kept (second_to 0 (sent_with mutation (0 ∷ 1 ∷ []) ∷ [])) ≡ ((200, 0), 0 ∷ 1 ∷ []) ∷ []
-  both-wait = rw (zero_is, one_is) refl
+  both-wait =
+      rw zero_is (ap (λ (tags : List ℕ). ((200, 0), tags) ∷ []) (of-both kept true true zero_is one_is))
 
   both-count : counted kept (sent_with mutation (0 ∷ 1 ∷ []) ∷ []) ≡ 1
   both-count = rw zero_is refl

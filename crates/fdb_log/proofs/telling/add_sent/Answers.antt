@@ -4,7 +4,8 @@ use Rattle.std.specs.Prelude.{slice_set}
 use Rattle.std.proofs.lemmas.List.{get_or_default, length-set}
 use Rattle.fdb_mutations.specs.declared.mutation.Mutation.{Mutation}
 use Rattle.fdb_log.specs.Messages.{is_kept}
-use Rattle.fdb_log.specs.Places.{AreAdded, is_among}
+use Rattle.fdb_log.specs.Places.{AreAdded}
+use Rattle.fdb_log.specs.TagSets.{is_among}
 use Rattle.fdb_log.proofs.AddedLemmas.{added-left, added-more}
 use Rattle.fdb_log.proofs.ToldLemmas.{read-at}
 use Rattle.fdb_log.proofs.telling.add_sent.Goals as goal

@@ -5,6 +5,7 @@ use Rattle.fdb_log.specs.Messages.{is_kept}
 use Rattle.fdb_log.specs.Places.{Holding, AreListed}
 use Rattle.fdb_log.specs.Waiting.{Waiting, ComesBefore, waiting_from}
 use Rattle.fdb_log.proofs.ListedLemmas.{listed-later, listed-more}
+use Rattle.fdb_log.proofs.TagSetLemmas.{few-kept}
 use Rattle.fdb_log.proofs.WaitingLemmas.{next-none, next-one, come-before}
 use Rattle.fdb_log.proofs.held.Held.add.Goals as goal
 use Rattle.fdb_log.proofs.held.Held.add.Goals.{then-not-is_empty+in_ok-add_one, else-not-is_empty}
@@ -42,28 +43,30 @@ loop-index-preserved c =
     let within : index < length message.body = search rules in
     let reads : sent ≡ get_or message.body index sent = search rules in
     let before = c.args.self.now.waiting in
+    let tags = c.kept_tags-tags.result in
+    let few = few-kept c.args.keeper.log c.args.keeper.logs c.args.keeper.tags c.requires.few in
     elim c.if-not-is_empty.branch [
       | then-not-is_empty+in_ok-add_one w ↦
           let added : w.add_one.new.self.waiting
-          ≡ c.loop-index.self.waiting ++ ((message.version, index), c.in_ok-tags.tags) ∷ [] =
+          ≡ c.loop-index.self.waiting ++ ((message.version, index), tags) ∷ [] =
           w.in_ok-add_one.ensures.waiting in
           let waiting : w.add_one.new.self.waiting
           ≡ before ++ waiting_from kept message.version 0 (take (index + 1) message.body) =
           added
-          ∙ ap (λ (list : List Waiting). list ++ ((message.version, index), c.in_ok-tags.tags) ∷ [])
+          ∙ ap (λ (list : List Waiting). list ++ ((message.version, index), tags) ∷ [])
           c.loop-index.invariant.waiting
           ∙ append_assoc before (waiting_from kept message.version 0 (take index message.body)) _
           ∙ ap (λ (list : List Waiting). before ++ list)
-          (sym (next-one kept message.version index message.body sent c.in_ok-tags.tags within reads
-          c.in_ok-tags.ensures (sym w.if-not-is_empty.ensures))) in
+          (sym (next-one kept message.version few index message.body sent tags within reads
+          c.kept_tags-tags.ensures (sym w.if-not-is_empty.ensures))) in
           let listed : (popped : ℕ → ℕ) (last : ℕ) → last ≤ message.version
           → AreListed kept popped last c.args.self.now
           → AreListed kept popped message.version w.add_one.new.self =
           λ popped last more are. listed-more kept popped (message.version, index) sent.tags c.loop-index.self
           w.add_one.new.self (c.loop-index.invariant.listed popped last more are) w.in_ok-add_one.ensures.places
           (added
-          ∙ ap (λ (tags : List ℕ). c.loop-index.self.waiting ++ ((message.version, index), tags) ∷ [])
-          c.in_ok-tags.ensures) in
+          ∙ ap (λ (list : List ℕ). c.loop-index.self.waiting ++ ((message.version, index), list) ∷ [])
+          c.kept_tags-tags.ensures) in
           record {
             waiting = ap (λ (held : Holding). held.waiting) w.self-is ∙ waiting;
             placed = ap (λ (held : Holding). length held.places) w.self-is ∙ w.in_ok-add_one.ensures.placed;
@@ -76,8 +79,8 @@ loop-index-preserved c =
                 ap (λ (held : Holding). held.waiting) w.self-is
                 ∙ c.loop-index.invariant.waiting
                 ∙ ap (λ (list : List Waiting). before ++ list)
-                (sym (next-none kept message.version index message.body sent c.in_ok-tags.tags within reads
-                c.in_ok-tags.ensures (sym w.if-not-is_empty.ensures)));
+                (sym (next-none kept message.version few index message.body sent tags within reads
+                c.kept_tags-tags.ensures (sym w.if-not-is_empty.ensures)));
             placed = ap (λ (held : Holding). length held.places) w.self-is ∙ c.loop-index.invariant.placed;
             listed = λ popped last more are.
                 subst (AreListed kept popped message.version) (sym w.self-is)

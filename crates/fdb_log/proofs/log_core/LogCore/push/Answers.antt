@@ -13,6 +13,7 @@ take-requires c =
     let works : c.self.inside.is_failed ≡ false = ap (λ (core : Log). core.is_failed) c.self.view_is ∙ free.0 in
     record {
       number = c.self.invariant.is_log.number;
+      few = c.self.invariant.is_log.few_tags;
       queued = ap length c.deref_mut.ensures.value ∙ c.self.invariant.is_log.queued;
       placed = c.self.invariant.placed works;
       later =
