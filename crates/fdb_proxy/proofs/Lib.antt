@@ -1,3 +1,4 @@
+pub mod BodyLemmas
 pub mod CloneLemmas
 pub mod DecidingLemmas
 pub mod HeldLemmas

@@ -1,4 +1,5 @@
 pub mod Askers
+pub mod Bodies
 pub mod CommitFields
 pub mod CommitProxies
 pub mod ConfigExamples

@@ -1,6 +1,7 @@
 //! The proxies of a transaction system: one kind gives read versions, the other takes transactions to be committed.
 #![tactic(auto)]
 
+mod bodies;
 mod commit_core;
 mod config;
 mod deciding;

@@ -1,15 +1,16 @@
 // A batch that is decided, and what it makes for the logs.
-ghost use Rattle.std.specs.Prelude.{◌≡◌, ◌<◌, ◌^◌, ◌++◌, ℕ, [], Some, None, true, false, filter, map, length};
-ghost use Rattle.std.specs.Prelude.{replicate, IsTrue, IfOk, OnErr, if◌then◌else◌};
+ghost use Rattle.std.specs.Prelude.{◌≡◌, ◌<◌, ◌^◌, ◌++◌, [], Some, None, true, false, map, length, replicate};
+ghost use Rattle.std.specs.Prelude.{IsTrue, IfOk, OnErr, if◌then◌else◌};
 ghost use Rattle.std.specs.List.{range_with_len};
 ghost use Rattle.fdb_keys.specs.Answers.{Answers, AnswersExactly};
 ghost use Rattle.fdb_keys.specs.declared.refusal.Refusal.TheVariants.{Stale};
 ghost use Rattle.fdb_txn.specs.rules.Messages.{at_place};
-ghost use Rattle.fdb_storage.specs.LogMessages.{tagged, is_for_log};
+ghost use Rattle.fdb_storage.specs.LogMessages.{tagged};
 ghost use Rattle.fdb_proxy.specs.Flags.{first_unset};
 ghost use Rattle.fdb_proxy.specs.Logging.{is_commit, answers_by, body_by, message_with, messages_by, is_awaited};
 ghost use Rattle.fdb_proxy.specs.Logging.{with_acknowledgement};
 
+use crate::bodies::spread;
 use crate::flags::{first_unset, is_set, unset};
 use crate::outcome::Outcome;
 use crate::position::Position;
@@ -19,6 +20,7 @@ use fdb_mutations::Mutation;
 use fdb_storage::ShardMap;
 use fdb_txn::{Sealed, TxnId};
 use std::alloc::{AllocError, Global};
+use std::mem;
 
 /// A batch with its position, what its clients are to be told, and for each log whether its acknowledgement came.
 #[derive(Drop)]
@@ -52,7 +54,8 @@ impl Logging {
         })
     }
 
-    /// The message for each log, of so many, of the batch.
+    /// The message for each log, of so many, of the batch. Once the tags are found, it takes O(m + l) time for m
+    /// mutations of one tag each and l logs, and O(l t) more for each mutation of t tags.
     pub(crate) fn messages(
         &self,
         alloc: Global,
@@ -66,11 +69,7 @@ impl Logging {
         ensures { Answers result None (λ messages. messages ≡ messages_by shards.now logs batch.now self.now) }
     {
         let body = tagged_body(alloc, shards, batch, self.answers.as_slice())?;
-        let mut messages = Items::new(alloc);
-        for log in 0..logs {
-            messages.push(message_to(alloc, logs, log, self.position, body.as_slice())?)?;
-        }
-        Ok(messages)
+        Ok(messages_with(alloc, logs, self.position, body)?)
     }
 
     /// Whether the batch waits for this acknowledgement.
@@ -189,47 +188,45 @@ fn tagged_body(
     Ok(body)
 }
 
-fn is_for_log(logs: u32, log: u32, sent: &Tagged) -> bool
-    requires { 0 < logs }
-    ensures { result ≡ is_for_log logs log sent.now }
-{
-    sent.tags.as_slice().iter().any(|tag| *tag % logs == log)
-}
-
-fn body_for(
-    alloc: Global,
-    logs: u32,
-    log: u32,
-    body: &[Tagged],
-) -> Result<Items<Tagged>, AllocError>
-    requires { 0 < logs }
-    ensures { IfOk result (λ sent. sent ≡ filter (is_for_log logs log) body.now) }
-{
-    let mut sent = Items::new(alloc);
-    for one in body {
-        if is_for_log(logs, log, one) {
-            sent.push(one.copy(alloc)?)?;
-        }
-    }
-    Ok(sent)
-}
-
-// The message for a log, of so many, at a position, with its part of these mutations.
+// The message for the log, at a position, with these mutations.
 fn message_to(
     alloc: Global,
-    logs: u32,
     log: u32,
     position: Position,
-    body: &[Tagged],
+    body: Items<Tagged>,
 ) -> Result<LogMsg, AllocError>
-    requires { 0 < logs }
-    ensures { IfOk result (λ message. message ≡ message_with logs position body.now log) }
+    ensures { IfOk result (λ message. message ≡ record {
+      log = log;
+      index = position.index;
+      version = position.version;
+      prev = position.prev;
+      body = body;
+    }) }
 {
     Ok(LogMsg {
         log,
         index: position.index,
         version: position.version,
         prev: position.prev,
-        body: SharedList::new(alloc, body_for(alloc, logs, log, body)?)?,
+        body: SharedList::new(alloc, body)?,
     })
+}
+
+// The message for each log, of so many, at a position, with its part of these mutations.
+fn messages_with(
+    alloc: Global,
+    logs: u32,
+    position: Position,
+    body: Items<Tagged>,
+) -> Result<Items<LogMsg>, AllocError>
+    requires { 0 < logs }
+    ensures { IfOk result (λ messages. messages ≡ map (message_with logs position body) (range_with_len 0 logs)) }
+{
+    let mut bodies = spread(alloc, logs, body)?;
+    let mut messages = Items::new(alloc);
+    for log in 0..logs {
+        let body = mem::replace(&mut bodies[log as usize], Items::new(alloc));
+        messages.push(message_to(alloc, log, position, body)?)?;
+    }
+    Ok(messages)
 }
