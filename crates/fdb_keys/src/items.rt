@@ -91,7 +91,18 @@ impl<T> Items<T> {
         ensures ok { OnOk result (self.new ≡ take start self.old ++ item ∷ drop end self.old) }
         ensures err { OnErr result (self.new ≡ self.old) }
     {
+        self.hold_one()?;
         let _replaced = self.list.splice(start..end, Some(item))?;
+        Ok(())
+    }
+
+    // Makes room for one item in an empty list, and for no more: most lists that `replace` fills keep one.
+    fn hold_one(&mut self) -> Result<(), AllocError>
+        ensures { self.new ≡ self.old }
+    {
+        if self.list.is_empty() {
+            self.list.reserve_exact(1)?;
+        }
         Ok(())
     }
 

@@ -56,7 +56,8 @@ impl KeyRange {
 
     /// The range from `begin` up to but not including `end`. Refused as `KeyTooLarge` where a bound
     /// exceeds 10,001 bytes, as `KeyOutsideLegalRange` where one comes after the one byte `FF`, and as
-    /// `InvertedRange` where the end comes before the begin. Equal bounds give the empty range.
+    /// `InvertedRange` where the end comes before the begin. Equal bounds give the empty range. Both are copied into one
+    /// piece of memory, in O(n) time for their n bytes; it is given back once no copy of either is left.
     pub fn new(alloc: Global, begin: &[u8], end: &[u8]) -> Result<Self, Refusal>
         ensures { Answers result (range_fault begin.now end.now)
             (λ range. range ≡ record { begin = begin.now; end = end.now }) }
@@ -70,8 +71,7 @@ impl KeyRange {
         if is_before(end, begin) {
             return Err(Refusal::InvertedRange);
         }
-        let begin = Bytes::copy_from_slice(alloc, begin)?;
-        let end = Bytes::copy_from_slice(alloc, end)?;
+        let (begin, end) = side_by_side(alloc, begin, end)?;
         Ok(KeyRange { begin, end })
     }
 
@@ -275,6 +275,18 @@ impl KeyRange {
             end: greater_of(self.end, other.end),
         }
     }
+}
+
+// Copies of both texts, in one piece of memory.
+fn side_by_side(alloc: Global, first: &[u8], second: &[u8]) -> Result<(Bytes, Bytes), AllocError>
+    ensures { IfOk result (λ texts. (texts.0 ≡ first.now) × (texts.1 ≡ second.now)) }
+{
+    let mut text = Vec::with_capacity(alloc, first.len().saturating_add(second.len()))?;
+    text.extend_from_slice(first)?;
+    text.extend_from_slice(second)?;
+    let mut front = Bytes::from_vec(text)?;
+    let rest = front.split_off(first.len())?;
+    Ok((front, rest))
 }
 
 // The least text after the key.
