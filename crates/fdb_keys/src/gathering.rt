@@ -9,6 +9,9 @@ use crate::order::is_before;
 use std::alloc::{AllocError, Global};
 use std::mem;
 
+// For how many a list that grows makes room at first. Most sets have fewer ranges.
+const FIRST_ROOM: usize = 4;
+
 // The ranges of both lists, with those joined that overlap or touch.
 pub(crate) fn join_all(
     alloc: Global,
@@ -51,7 +54,7 @@ fn joined_in_order(alloc: Global, ranges: Vec<KeyRange>) -> Result<Vec<KeyRange>
     ensures apart { IfOk result (λ joined. IsTrue (is_apart joined.items)) }
     ensures points { IfOk result (λ joined. (x : Point) → in_set joined.items x ≡ in_set ranges.items x) }
 {
-    let mut joined = Vec::new(alloc);
+    let mut joined = Vec::with_capacity(alloc, ranges.len().min(FIRST_ROOM))?;
     let mut left = ranges.into_iter();
     let Some(mut last) = left.next() else {
         return Ok(joined);

@@ -8,8 +8,8 @@ use Rattle.fdb_keys.proofs.InsertionLemmas.{in_inserted}
 use Rattle.fdb_keys.proofs.GatheringLemmas.{inserted-next, inserted-extended, order-next, order-extended, apart-order}
 use Rattle.fdb_keys.proofs.gathering.joined_in_order.Goals as goal
 
-pub loop-range-preserved-in-Continue-1 : goal.loop-range-preserved-in-Continue-1
-loop-range-preserved-in-Continue-1 c =
+pub loop-range-preserved-in-Continue-branch-2 : goal.loop-range-preserved-in-Continue-branch-2
+loop-range-preserved-in-Continue-branch-2 c =
     let joined = c.loop-range.joined.items in
     let last = c.loop-range.last in
     let range = c.in-Some-range.range in
