@@ -306,8 +306,8 @@ impl CommitCore {
 
     /// Decides the batch, as `decide` does, and answers with what becomes of each place the message of the batch for
     /// each log, as `messages` does then. Refused as `decide` is, also where memory runs out for the messages. Then
-    /// nothing changes. It takes O(n) time for the n places, verdicts and mutations of the batch, times the number of
-    /// logs for the mutations.
+    /// nothing changes. Once the tags are found, it takes O(n + l) time for the n places, verdicts and mutations of one tag
+    /// of the batch and l logs, and O(l t) more for each mutation of t tags.
     pub fn decide_with_messages(&mut self) -> Result<(Items<Outcome>, Items<LogMsg>), Refusal>
         ensures answers { Answers result (decide_fault self.old.proxy) (λ given.
             (given.0 ≡ outcomes_in self.old.proxy) × (self.new.proxy ≡ deciding self.old.proxy)
