@@ -1,7 +1,7 @@
 -- Sorted ranges, joined where they overlap or touch, are apart and have the points of all.
-use Rattle.std.proofs.Common.{◌≡◌, ◌∙◌, ap, subst, refl, Bool, true, false, not, ◌&&◌, List, [], ◌∷◌, ◌+◌, suc, get_or}
-use Rattle.std.proofs.Common.{filter, ⊎_elim, arith}
-use Rattle.std.specs.List.{list_any}
+use Rattle.std.proofs.Common.{◌≡◌, ◌∙◌, sym, ap, subst, refl, Bool, true, false, not, ◌&&◌, List, [], ◌∷◌, ◌+◌, suc, get_or, length}
+use Rattle.std.proofs.Common.{filter, ⊎_elim, arith, ℕ, zero, ◌<◌}
+use Rattle.std.specs.List.{list_any, AllAdjacentBelow}
 use Rattle.std.specs.List.Sorted.{IsSortedBy}
 use Rattle.std.specs.Cmp.{IsStrictWeakOrder}
 use Rattle.std.proofs.lemmas.Bool.{cases_Bool, and_parts, and_from, or_left, or_right, both_ways}
@@ -14,8 +14,8 @@ use Rattle.fdb_keys.specs.Insertion.{lesser_point, joined_range, inserted}
 use Rattle.fdb_keys.specs.Points.{Point, point_lt}
 use Rattle.fdb_keys.specs.Ranges.{Range, in_range, in_set, is_empty_range, begins_after, is_apart}
 use Rattle.fdb_keys.proofs.PointOrder.{lt_one_way, le_chain, lt_le_chain, le_lt_chain}
-use Rattle.fdb_keys.proofs.InsertionLemmas.{lesser-right, below_lesser, some_joined, apart_from, in_range-empty}
-use Rattle.fdb_keys.proofs.InsertionLemmas.{inserted-after, inserted-joined}
+use Rattle.fdb_keys.proofs.InsertionLemmas.{lesser-right, below_lesser, some_joined, apart_from, apart_parts}
+use Rattle.fdb_keys.proofs.InsertionLemmas.{in_range-empty, inserted-after, inserted-joined}
 
 -- ---- what it is to be in order
 pub order_parts : (range : Range) (ranges : List Range) → is_in_order (range ∷ ranges) ≡ true
@@ -146,3 +146,37 @@ in_set-filter ranges x =
     any-filter_same (λ range. in_range range x) has_point true
     (λ range inside. not_from_false _ (false_from_ne_true _ (λ empty.
     both_ways _ (in_range-empty range x empty) inside))) ranges
+
+-- ---- ranges of which each ends before the next one begins
+abbrev pub ends_before : Range → Range → Bool
+ends_before range next = point_lt range.end next.begin
+
+pub apart-neighbours : (ranges : List Range) → is_in_order ranges ≡ true
+    → AllAdjacentBelow (λ range next. true ≡ ends_before range next) ranges (length ranges)
+    → is_apart ranges ≡ true
+apart-neighbours [] ordered each = refl
+apart-neighbours (range ∷ []) ordered each = apart_from range [] (order_parts range [] ordered).0 refl refl
+apart-neighbours (range ∷ next ∷ ranges) ordered each =
+    let parts = order_parts range (next ∷ ranges) ordered in
+    apart_from range (next ∷ ranges) parts.0 (sym (each 0 range (omega arith)))
+    (apart-neighbours (next ∷ ranges) parts.2
+    (λ k d within.
+    subst (λ n. true ≡ ends_before (get_or (next ∷ ranges) k d) (get_or (range ∷ next ∷ ranges) n d))
+    {x = suc k + 1} {y = suc (k + 1)} (omega arith) (each (suc k) d (omega arith))))
+
+-- where one of them reaches the next one, they aren't
+pub apart-reached : (ranges : List Range) (k : ℕ) → k + 1 < length ranges
+    → ((d : Range) → false ≡ ends_before (get_or ranges k d) (get_or ranges (k + 1) d)) → is_apart ranges ≡ false
+apart-reached [] k within reached = absurd (omega (arith, within))
+apart-reached (range ∷ []) k within reached = absurd (omega (arith, within))
+apart-reached (range ∷ next ∷ ranges) zero within reached =
+    false_from_ne_true _ (λ apart.
+    both_ways _ (sym (reached range)) (apart_parts range (next ∷ ranges) apart).1)
+apart-reached (range ∷ next ∷ ranges) (suc k) within reached =
+    false_from_ne_true _ (λ apart.
+    both_ways _
+    (apart-reached (next ∷ ranges) k (omega (arith, within))
+    (λ d.
+    subst (λ n. false ≡ ends_before (get_or (next ∷ ranges) k d) (get_or (range ∷ next ∷ ranges) n d))
+    {x = suc k + 1} {y = suc (k + 1)} (omega arith) (reached d)))
+    (apart_parts range (next ∷ ranges) apart).2)

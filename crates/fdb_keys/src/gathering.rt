@@ -1,7 +1,7 @@
-// Many ranges joined at once: all of them in one list, which is sorted and then walked once.
+// Many ranges joined at once: all of them in one list, which is sorted and walked, and walked again where some touch.
 ghost use Rattle.std.specs.Prelude.{◌≡◌, ◌||◌, ◌++◌, IfOk, IsTrue};
 ghost use Rattle.fdb_keys.specs.Gathering.{is_in_order};
-ghost use Rattle.fdb_keys.specs.Points.{Point};
+ghost use Rattle.fdb_keys.specs.Points.{Point, point_lt};
 ghost use Rattle.fdb_keys.specs.Ranges.{in_set, is_apart};
 
 use crate::key_range::KeyRange;
@@ -24,7 +24,7 @@ pub(crate) fn join_all(
 {
     let mut all = added_with(held, added)?;
     put_in_order(&mut all);
-    joined_in_order(alloc, all)
+    joined(alloc, all)
 }
 
 // The added ranges, and behind them copies of those that are held.
@@ -48,7 +48,31 @@ fn put_in_order(ranges: &mut Vec<KeyRange>)
     ranges.sort_unstable_by(|a, b| a.begin().cmp(b.begin()));
 }
 
-// The sorted ranges, with those joined that overlap or touch.
+// The sorted ranges, with those joined that overlap or touch. Mostly none do: then the list stays as it is.
+fn joined(alloc: Global, ranges: Vec<KeyRange>) -> Result<Vec<KeyRange>, AllocError>
+    requires { IsTrue (is_in_order ranges.items) }
+    ensures apart { IfOk result (λ joined. IsTrue (is_apart joined.items)) }
+    ensures points { IfOk result (λ joined. (x : Point) → in_set joined.items x ≡ in_set ranges.items x) }
+{
+    if are_apart(&ranges) {
+        return Ok(ranges);
+    }
+    joined_in_order(alloc, ranges)
+}
+
+// Whether none of the sorted ranges overlaps or touches the next one.
+fn are_apart(ranges: &[KeyRange]) -> bool
+    requires { IsTrue (is_in_order ranges.now) }
+    ensures { result ≡ is_apart ranges.now }
+{
+    ranges.is_sorted_by(
+        |range: &KeyRange, next: &KeyRange| -> bool
+            ensures { result ≡ point_lt range.now.end next.now.begin }
+        { is_before(range.end(), next.begin()) },
+    )
+}
+
+// The sorted ranges, with those joined that overlap or touch, in a list of their own.
 fn joined_in_order(alloc: Global, ranges: Vec<KeyRange>) -> Result<Vec<KeyRange>, AllocError>
     requires { IsTrue (is_in_order ranges.items) }
     ensures apart { IfOk result (λ joined. IsTrue (is_apart joined.items)) }
