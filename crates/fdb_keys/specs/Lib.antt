@@ -13,6 +13,6 @@ pub mod RangeMaps
 pub mod Ranges
 pub mod Refusals
 pub mod Removal
-pub mod SharedItems
+pub mod SharedRanges
 pub mod Texts
 pub mod Touching

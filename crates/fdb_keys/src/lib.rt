@@ -12,8 +12,8 @@ mod range_map;
 mod range_set;
 mod refusal;
 mod removal;
-mod shared_items;
 mod shared_list;
+mod shared_ranges;
 mod tree_joining;
 mod tree_range_set;
 

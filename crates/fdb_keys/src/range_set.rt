@@ -6,7 +6,7 @@ use crate::items::Items;
 use crate::key_range::KeyRange;
 use crate::refusal::Refusal;
 use crate::removal::without;
-use crate::shared_items::SharedItems;
+use crate::shared_ranges::{SharedRanges, copies};
 use std::alloc::{AllocError, Global};
 use std::marker::Model;
 use std::slice;
@@ -14,7 +14,7 @@ use std::slice;
 /// A set of keys, as the shortest sorted list of ranges that hold it. Once it is shared, its copies take O(1) time.
 #[derive(Clone, Drop, PartialEq, Eq)]
 pub struct RangeSet {
-    ranges: SharedItems<KeyRange>,
+    ranges: SharedRanges,
 }
 
 impl Model for RangeSet {
@@ -59,7 +59,7 @@ impl RangeSet {
         ensures { result ≡ ranges }
     {
         RangeSet {
-            ranges: SharedItems::from_items(ranges),
+            ranges: SharedRanges::from_items(ranges),
         }
     }
 
@@ -105,7 +105,7 @@ impl RangeSet {
         ensures err { OnErr result (self.new ≡ self.old) }
     {
         let joined = join_all(self.ranges.allocator(), self.ranges.as_slice(), ranges)?;
-        self.ranges = SharedItems::from_items(Items::from_vec(joined));
+        self.ranges = SharedRanges::from_items(Items::from_vec(joined));
         Ok(())
     }
 
@@ -117,7 +117,7 @@ impl RangeSet {
         ensures err { OnErr result (self.new ≡ self.old) }
     {
         let left = without(self.ranges.allocator(), self.ranges.as_slice(), range)?;
-        self.ranges = SharedItems::from_items(Items::from_vec(left));
+        self.ranges = SharedRanges::from_items(Items::from_vec(left));
         Ok(())
     }
 
@@ -133,7 +133,7 @@ impl RangeSet {
 // Puts the range in the place of those from `start` up to but not including `end`. Ranges that are shared are copied
 // first. Where memory runs out, nothing changes.
 fn put(
-    ranges: &mut SharedItems<KeyRange>,
+    ranges: &mut SharedRanges,
     start: usize,
     end: usize,
     range: KeyRange,
@@ -157,22 +157,12 @@ fn replaced(
     start: usize,
     end: usize,
     range: KeyRange,
-) -> Result<SharedItems<KeyRange>, AllocError>
+) -> Result<SharedRanges, AllocError>
     requires order { start ≤ end }
     requires within { end ≤ length ranges.now }
     ensures { IfOk result (λ made. made ≡ take start ranges.now ++ range ∷ drop end ranges.now) }
 {
     let mut made = copies(alloc, ranges)?;
     made.replace(start, end, range)?;
-    Ok(SharedItems::from_items(made))
-}
-
-fn copies(alloc: Global, ranges: &[KeyRange]) -> Result<Items<KeyRange>, AllocError>
-    ensures { IfOk result (λ made. made ≡ ranges.now) }
-{
-    let mut made = Items::new(alloc);
-    for range in ranges {
-        made.push(range.clone()?)?;
-    }
-    Ok(made)
+    Ok(SharedRanges::from_items(made))
 }

@@ -1,6 +1,5 @@
 -- A clone of an entry is that entry, since a clone of each of its parts is that part.
-use Rattle.std.proofs.Common.{◌≡◌, sym, ◌∙◌, ◌⊎◌, ⊎_elim, List, rules}
-use Rattle.std.specs.List.{AllZip}
+use Rattle.std.proofs.Common.{◌≡◌, sym, ◌∙◌, rules}
 use Rattle.std.proofs.lemmas.List.Elements.{same_from_all_zip}
 use Rattle.fdb_keys.specs.declared.key_range.KeyRange.{KeyRange}
 use Rattle.fdb_keys.specs.declared.range_set.RangeSet.{RangeSet}
@@ -18,13 +17,8 @@ use Rattle.fdb_txn.specs.contracts.entry.EntryClone.TheImpl as of_entries
 same_range : (a b : KeyRange) → (of_ranges.ghosts).is_clone a b → b ≡ a
 same_range a b copied = search rules
 
--- a copy shares the ranges, or has copies of them
-same_ranges : (xs ys : List KeyRange) → (ys ≡ xs) ⊎ AllZip (of_ranges.ghosts).is_clone xs ys → ys ≡ xs
-same_ranges xs ys =
-    ⊎_elim (λ same. same) (λ copied. same_from_all_zip (of_ranges.ghosts).is_clone xs ys copied same_range)
-
 pub same_set : (a b : RangeSet) → (of_range_sets.ghosts).is_clone a b → b ≡ a
-same_set a b copied = sym copied.3 ∙ same_ranges copied.0.ranges copied.1.ranges copied.4 ∙ copied.2
+same_set a b copied = sym copied.3 ∙ copied.4 ∙ copied.2
 
 pub same_sealed : (a b : Sealed) → (of_sealed.ghosts).is_clone a b → b ≡ a
 same_sealed a b copied =
