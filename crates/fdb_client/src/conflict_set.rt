@@ -1,8 +1,6 @@
-ghost use Rattle.std.specs.Prelude.{◌≡◌, map, None};
+ghost use Rattle.std.specs.Prelude.{◌≡◌};
 ghost use Rattle.std.specs.List.{list_any};
-ghost use Rattle.fdb_keys.specs.Answers.{Answers};
 ghost use Rattle.fdb_keys.specs.Points.{point_eq};
-ghost use Rattle.fdb_keys.specs.Ranges.{single_range};
 
 use crate::own_writes::OwnWrites;
 use fdb_keys::{Items, Key, KeyRange, RangeSet, Refusal, TreeRangeSet};
@@ -76,7 +74,7 @@ impl ConflictSet {
     {
         let mut set = self.ranges.to_set(alloc)?;
         if !self.keys.is_empty() {
-            set.add_all(singles(alloc, self.keys.as_slice())?)?;
+            set.add_all(KeyRange::singles(alloc, self.keys.as_slice())?)?;
         }
         Ok(set)
     }
@@ -156,15 +154,4 @@ fn has(keys: &[Key], key: &Key) -> bool
             ensures { result ≡ point_eq key.entry.now held.now }
         { key == held },
     )
-}
-
-// The ranges of the keys, each of one key alone.
-fn singles(alloc: Global, keys: &[Key]) -> Result<Vec<KeyRange>, Refusal>
-    ensures { Answers result None (λ ranges. ranges.items ≡ map single_range keys.now) }
-{
-    let mut ranges = Vec::with_capacity(alloc, keys.len())?;
-    for key in keys {
-        ranges.push(KeyRange::single(alloc, key)?)?;
-    }
-    Ok(ranges)
 }

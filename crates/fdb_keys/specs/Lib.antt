@@ -14,5 +14,6 @@ pub mod Ranges
 pub mod Refusals
 pub mod Removal
 pub mod SharedRanges
+pub mod Singles
 pub mod Texts
 pub mod Touching

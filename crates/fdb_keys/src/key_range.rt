@@ -80,8 +80,17 @@ impl KeyRange {
         ensures answers { Answers result None (λ range. range ≡ single_range key.now) }
         ensures alone { IfOk result (λ range. (x : Point) → in_range range x ≡ point_eq x key.now) }
     {
-        let begin = key.text().clone()?;
         let end = text_after(alloc, key)?;
+        let range = KeyRange::ending(key, end)?;
+        Ok(range)
+    }
+
+    // The range of one key alone, whose end this is.
+    pub(crate) fn ending(key: &Key, end: Bytes) -> Result<Self, AllocError>
+        requires { end ≡ (single_range key.now).end }
+        ensures { IfOk result (λ range. range ≡ single_range key.now) }
+    {
+        let begin = key.text().clone()?;
         Ok(KeyRange { begin, end })
     }
 

@@ -14,6 +14,7 @@ mod refusal;
 mod removal;
 mod shared_list;
 mod shared_ranges;
+mod single_ranges;
 mod tree_joining;
 mod tree_range_set;
 
