@@ -33,6 +33,9 @@ use fdb_mutations::{Mutation, copied};
 use fdb_txn::{Sealed, TxnId, check_size};
 use std::alloc::{AllocError, Global};
 
+// For how many operations a transaction makes room at its first get or write. Most have few.
+const FIRST_OPS: usize = 6;
+
 #[derive(Drop)]
 pub(crate) struct TxnState {
     pub(crate) alloc: Global,
@@ -166,6 +169,7 @@ impl TxnState {
         ensures err { OnErr result (self.new ≡ self.old) }
         ensures kept { OnOk result (AreKept self.new) }
     {
+        self.transcript.ops.hold(FIRST_OPS)?;
         if !is_read(is_snapshot, is_decided) {
             return self.note(answered_get(key, is_snapshot, value)?);
         }
@@ -302,6 +306,7 @@ impl TxnState {
         }) }
         ensures err { OnErr result (self.new ≡ self.old) }
     {
+        self.transcript.ops.hold(FIRST_OPS)?;
         let count = self.mutations.len();
         self.mutations.push(copy_of(mutation)?)?;
         if let Err(why) = push_write(&mut self.transcript.ops, mutation) {

@@ -91,17 +91,19 @@ impl<T> Items<T> {
         ensures ok { OnOk result (self.new ≡ take start self.old ++ item ∷ drop end self.old) }
         ensures err { OnErr result (self.new ≡ self.old) }
     {
-        self.hold_one()?;
+        // most lists that are filled so keep one item
+        self.hold(1)?;
         let _replaced = self.list.splice(start..end, Some(item))?;
         Ok(())
     }
 
-    // Makes room for one item in an empty list, and for no more: most lists that `replace` fills keep one.
-    fn hold_one(&mut self) -> Result<(), AllocError>
+    /// Makes room for `count` items in an empty list, and for no more. A list that has items stays as it is. Where memory
+    /// runs out, nothing changes. It takes O(1) time.
+    pub fn hold(&mut self, count: usize) -> Result<(), AllocError>
         ensures { self.new ≡ self.old }
     {
         if self.list.is_empty() {
-            self.list.reserve_exact(1)?;
+            self.list.reserve_exact(count)?;
         }
         Ok(())
     }

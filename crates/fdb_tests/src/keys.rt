@@ -1,6 +1,7 @@
 // Keys, ranges and sets of ranges with known answers.
 use crate::making::{
-    after, are_ranges, both, code_of, equals_copy, has_bounds, same, set_of, shared, text_of,
+    after, are_ranges, both, code_of, equals_copy, has_bounds, keys_of, made_of, same, set_of,
+    shared, text_of,
 };
 use fdb_keys::{Items, Key, KeyRange, RangeSet, Refusal, Refused, TreeRangeSet, is_before};
 use std::alloc::Global;
@@ -99,6 +100,22 @@ fn is_single(alloc: Global) -> Result<bool, Refusal> {
     Ok(key.bytes() == b"a".as_slice() && has_bounds(&range, b"a", b"a\0"))
 }
 
+// The range of each key alone.
+static SINGLES: [Bounds; 5] = [
+    (b"b", b"b\0"),
+    (b"", b"\0"),
+    (b"aa", b"aa\0"),
+    (b"a\0", b"a\0\0"),
+    (b"b", b"b\0"),
+];
+
+// Whether several keys, of which not all ends stand in one piece of memory, have these ranges.
+fn are_singles(alloc: Global) -> Result<bool, Refusal> {
+    let keys = keys_of(alloc, &[b"b", b"", b"aa", b"a\0", b"b"]);
+    let ranges = made_of(keys, |keys| KeyRange::singles(alloc, keys.as_slice()))?;
+    Ok(are_ranges(&ranges, SINGLES.as_slice()))
+}
+
 // Whether the key lies in the range, and the parts of this through it and behind it have the bounds.
 fn are_parts(
     alloc: Global,
@@ -129,10 +146,11 @@ fn range_is_cut_at_a_key(rt: HostRuntime) {
     let alloc = rt.alloc();
     let found = [
         is_single(alloc),
+        are_singles(alloc),
         is_cut(alloc, false, [(b"a", b"b\0"), (b"b\0", b"d")]),
         is_cut(alloc, true, [(b"b", b"d"), (b"a", b"b")]),
     ];
-    same(&rt, found, [Ok(true), Ok(true), Ok(true)]);
+    same(&rt, found, [Ok(true), Ok(true), Ok(true), Ok(true)]);
 }
 
 fn add_to_tree(tree: &mut TreeRangeSet, alloc: Global, bounds: Bounds) -> Result<(), Refusal> {
@@ -337,6 +355,7 @@ fn trees_join_the_ranges_that_touch(rt: HostRuntime) {
 // The list of the one byte.
 fn one_item(alloc: Global, byte: u8) -> Result<Items<u8>, Refusal> {
     let mut items = Items::new(alloc);
+    items.hold(1)?;
     items.push(byte)?;
     Ok(items)
 }
@@ -354,9 +373,10 @@ fn equal_copies(alloc: Global) -> Result<[bool; 3], Refusal> {
     ])
 }
 
-// The items of the vector of 1 and 2.
+// The items of the vector of 1 and 2, for which no room is made.
 fn two_items(alloc: Global) -> Result<Vec<u8>, Refusal> {
-    let items = Items::from_vec(vec![in alloc; 1u8, 2]?);
+    let mut items = Items::from_vec(vec![in alloc; 1u8, 2]?);
+    items.hold(7)?;
     Ok(items.into_vec())
 }
 
@@ -390,27 +410,45 @@ fn copies_are_equal_and_items_come_in_order(rt: HostRuntime) {
     same(&rt, shares_items(alloc), Ok([true, true, true]));
 }
 
-// A set whose ranges are shared, and a copy of it with one range more.
-fn shared_and_grown(alloc: Global) -> Result<(RangeSet, RangeSet), Refusal> {
-    let (mut set, range) = both(a_to_d(alloc), KeyRange::new(alloc, b"f", b"g"))?;
+// The set of the ranges, which are shared, and a copy of it with one range more.
+fn shared_and_grown(alloc: Global, bounds: &[Bounds]) -> Result<(RangeSet, RangeSet), Refusal> {
+    let (mut set, range) = both(set_of(alloc, bounds), KeyRange::new(alloc, b"f", b"g"))?;
     set.share();
     let mut copy = set.clone()?;
     copy.add(&range)?;
     Ok((set, copy))
 }
 
-// Whether the shared set stays as it was, and the copy has the range more.
-fn grow_apart(alloc: Global) -> Result<[bool; 2], Refusal> {
-    let (set, copy) = shared_and_grown(alloc)?;
+// Whether the shared set of the ranges stays as it was and equals one that isn't shared, and the copy has these.
+fn grow_apart(alloc: Global, bounds: &[Bounds], grown: &[Bounds]) -> Result<[bool; 3], Refusal> {
+    let ((set, copy), own) = both(shared_and_grown(alloc, bounds), set_of(alloc, bounds))?;
     Ok([
-        are_ranges(set.iter().as_slice(), &[(b"a", b"d")]),
-        are_ranges(copy.iter().as_slice(), &[(b"a", b"d"), (b"f", b"g")]),
+        are_ranges(set.iter().as_slice(), bounds),
+        set == own && set != copy,
+        are_ranges(copy.iter().as_slice(), grown),
     ])
 }
 
+// The ranges of a set, and those of its copy with the range from f to g: of one range, of several, and of none.
+static GROWN: [(&[Bounds], &[Bounds]); 3] = [
+    (&[(b"a", b"d")], &[(b"a", b"d"), (b"f", b"g")]),
+    (
+        &[(b"a", b"d"), (b"h", b"i")],
+        &[(b"a", b"d"), (b"f", b"g"), (b"h", b"i")],
+    ),
+    (&[], &[(b"f", b"g")]),
+];
+
 #[test]
 fn a_copy_of_a_shared_set_grows_alone(rt: HostRuntime) {
-    same(&rt, grow_apart(rt.alloc()), Ok([true, true]));
+    let alloc = rt.alloc();
+    for (bounds, grown) in GROWN.as_slice() {
+        same(
+            &rt,
+            grow_apart(alloc, bounds, grown),
+            Ok([true, true, true]),
+        );
+    }
 }
 
 // Whether a refusal is written as the text, alone and with what is handed back.

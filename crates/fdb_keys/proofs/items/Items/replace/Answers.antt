@@ -20,4 +20,4 @@ returns-clause-ok g c =
     ∙ ap (λ (put : List _). take c.args.start before ++ (put ++ drop c.args.end before))
     (only_item spliced.0 spliced.1 c.args.item spliced.2.0 spliced.3)
     ∙ ap (λ (list : List _). take c.args.start list ++ c.args.item ∷ drop c.args.end list)
-    (c.self.view_is ∙ c.hold_one.ensures)
+    (c.self.view_is ∙ c.hold.ensures)
