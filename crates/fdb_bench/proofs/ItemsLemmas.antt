@@ -1,7 +1,7 @@
 -- Items with one more at the end.
 use Rattle.std.proofs.Common.{◌≡◌, ℕ, ◌<◌, ◌+◌, true, List, [], ◌∷◌, ◌++◌, arith}
 use Rattle.std.specs.List.{AllByRecursion}
-use Rattle.fdb_txn.proofs.book.HistoryLemmas.{all-append, all-weaken}
+use Rattle.fdb_txn.proofs.Exports.{all-append, all-weaken}
 use Rattle.fdb_txn.specs.rules.Admission.{has_points}
 use Rattle.fdb_resolver.specs.declared.part.Item.{Item}
 use Rattle.fdb_resolver.specs.Parts.{AreRising}

@@ -1,1 +1,1 @@
-pub mod ItemsLemmas
+mod ItemsLemmas

@@ -38,8 +38,8 @@ pub(crate) fn number_of(word: &str) -> Result<u32, Fault> {
     number_up_to(word, 10_000_000)
 }
 
-/// How many operations one transaction has by the word, if it is at most 1,000,000: these are in memory all at once, and
-/// a transaction that has more is too large anyhow.
+/// How many operations one transaction has by the word, if it is at most 1,000,000: these are in memory all at once,
+/// and a transaction that has more is too large anyhow.
 pub(crate) fn operations_of(word: &str) -> Result<u32, Fault> {
     number_up_to(word, 1_000_000)
 }

@@ -15,8 +15,8 @@ use std::time::{Clock, Duration, Instant};
 // How long a value is.
 const BYTES: usize = 16;
 
-/// How long it takes to seal so many sets of random keys, with an empty read set and an empty write set, which what they
-/// name joins. They are made outside of that time.
+/// How long it takes to seal so many sets of random keys, with an empty read set and an empty write set, which what
+/// they name joins. They are made outside of that time.
 pub(crate) fn measure<R: Clock>(rt: &R, alloc: Global, mutations: u32) -> Result<Duration, Fault> {
     let mut random = Pcg32::new(1, 1);
     let keys = pool_of(alloc, &mut random, mutations)?;

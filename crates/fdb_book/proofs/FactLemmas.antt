@@ -181,7 +181,8 @@ prefix-of-takes count shorter longer within same = (
 )
 
 -- what is known of the first of a front's cells is a front's
-pub front-take : (names own cells : List ℕ) (known : Known) (len : ℕ) (knows_ids : Bool) (latest other : Latest) (count : ℕ)
+pub front-take : (names own cells : List ℕ) (known : Known) (len : ℕ) (knows_ids : Bool) (latest other : Latest)
+    (count : ℕ)
     → count ≤ length known → IsFront names own known len knows_ids latest → cells ≡ names
     → IsFront names cells (take count known) count false other
 front-take names own cells known len knows_ids latest other count within front same = record {

@@ -1,6 +1,7 @@
-pub mod AppendLemmas
-pub mod BookLemmas
-pub mod FactLemmas
-pub mod FoundLemmas
-pub mod Known
-pub mod IdLemmas
+pub mod Exports
+mod AppendLemmas
+mod BookLemmas
+mod FactLemmas
+mod FoundLemmas
+mod Known
+mod IdLemmas

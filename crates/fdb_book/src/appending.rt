@@ -41,8 +41,8 @@ use std::sync::Arc;
 ///
 /// It takes O(s + b log s) for b transactions of the entry and s sessions with a transaction in the book, to copy the
 /// greatest number of each session; at a front that is a share, or that was cut, it goes over all transactions that the
-/// front shows. Where the number of some transaction of the entry isn't above those of its session before, or memory runs
-/// out for the numbers, it goes over all of them for each of the entry's.
+/// front shows. Where the number of some transaction of the entry isn't above those of its session before, or memory
+/// runs out for the numbers, it goes over all of them for each of the entry's.
 pub fn append<B: BookName>(
     alloc: Global,
     book: &Book<B>,
@@ -58,15 +58,15 @@ pub fn append<B: BookName>(
     }
 }
 
-/// Appends as `append` does, but to the front itself, which is one entry longer from then on, and gives a share of it to
-/// hand on. It makes the share before it sets the cell: so the entry doesn't come to stand where memory runs out for the
-/// share. Refused as `append` is, in the same order; then the front is as it was, and a refusal hands out what one of
-/// `append` does.
+/// Appends as `append` does, but to the front itself, which is one entry longer from then on, and gives a share of it
+/// to hand on. It makes the share before it sets the cell: so the entry doesn't come to stand where memory runs out for
+/// the share. Refused as `append` is, in the same order; then the front is as it was, and a refusal hands out what one
+/// of `append` does.
 ///
-/// It takes O(b log s) for b transactions of the entry and s sessions with a transaction in the book, since it adds to the
-/// front's own numbers. The first one at a front that is a share or that was cut, and the next one after a refusal as
-/// `NoMemory`, `Repeated` or `Taken`, goes over all transactions that the front shows. One that is refused as `Chain` or
-/// `BookFull`, and one with a number that isn't above those of its session, takes as long as an `append`.
+/// It takes O(b log s) for b transactions of the entry and s sessions with a transaction in the book, since it adds to
+/// the front's own numbers. The first one at a front that is a share or that was cut, and the next one after a refusal
+/// as `NoMemory`, `Repeated` or `Taken`, goes over all transactions that the front shows. One that is refused as
+/// `Chain` or `BookFull`, and one with a number that isn't above those of its session, takes as long as an `append`.
 pub fn append_and_share<B: BookName>(
     alloc: Global,
     book: &Book<B>,

@@ -9,7 +9,8 @@ use Rattle.std.specs.List.{slice_get}
 use Rattle.std.proofs.lemmas.Bool.Decides.{Decides-and}
 use Rattle.std.proofs.lemmas.List.{take_more}
 use Rattle.std.proofs.lemmas.Option.{slice_get_within, get_or_from_slice_get}
-use Rattle.fdb_keys.specs.Equality.{key_eq, key_eq_decides, items_eq_decides}
+use Rattle.fdb_keys.specs.Equality.{key_eq}
+use Rattle.fdb_keys.proofs.Exports.{key_eq_decides, items_eq_decides}
 use Rattle.fdb_keys.specs.Points.{Point}
 use Rattle.fdb_keys.specs.Ranges.{Range}
 use Rattle.fdb_mutations.specs.Maps.{Map}
@@ -83,7 +84,8 @@ pub answered-get : (map : Map) (earlier : List Op) (op : Op) (reply : Reply) (ke
     → (same ≡ true) ↔ (reply ≡ Value value)
     → (same ≡ true) ↔ (is_ordinary op ≡ true → reply ≡ reply_on (copy map earlier) op)
 answered-get map earlier op reply key value same is has told =
-    subst (λ (read : Op). (same ≡ true) ↔ (is_ordinary read ≡ true → reply ≡ reply_on (copy map earlier) read)) (sym is) (
+    subst (λ (read : Op). (same ≡ true) ↔ (is_ordinary read ≡ true
+    → reply ≡ reply_on (copy map earlier) read)) (sym is) (
       λ yes ordinary. told.0 yes ∙ ap Value has,
       λ answered. told.1 (answered refl ∙ ap Value (sym has)),
     )
@@ -96,7 +98,8 @@ pub answered-range : (map : Map) (earlier : List Op) (op : Op) (reply : Reply) (
     → (same ≡ true) ↔ (reply ≡ Pairs pairs)
     → (same ≡ true) ↔ (is_ordinary op ≡ true → reply ≡ reply_on (copy map earlier) op)
 answered-range map earlier op reply range limit is_reverse pairs same is has told =
-    subst (λ (read : Op). (same ≡ true) ↔ (is_ordinary read ≡ true → reply ≡ reply_on (copy map earlier) read)) (sym is) (
+    subst (λ (read : Op). (same ≡ true) ↔ (is_ordinary read ≡ true
+    → reply ≡ reply_on (copy map earlier) read)) (sym is) (
       λ yes ordinary. told.0 yes ∙ ap Pairs has,
       λ answered. told.1 (answered refl ∙ ap Pairs (sym has)),
     )

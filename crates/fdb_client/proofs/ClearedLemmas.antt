@@ -1,6 +1,7 @@
 -- What is kept once a range is cleared, and the entries of its keys are taken away.
 use Rattle.std.proofs.Common.{◌≡◌, ◌∙◌, sym, ap, ap₂, refl, ℕ, Bool, true, false, not, ◌&&◌, ◌||◌, cond, if◌then◌else◌}
-use Rattle.std.proofs.Common.{Result, Ok, Err, List, [], ◌∷◌, ◌++◌, Option, Some, None, Less, Equal, Greater, ⊎_elim, ◌⊎◌, inl, inr}
+use Rattle.std.proofs.Common.{Result, Ok, Err, List, [], ◌∷◌, ◌++◌, Option, Some, None, Less, Equal, Greater, ⊎_elim}
+use Rattle.std.proofs.Common.{◌⊎◌, inl, inr}
 use Rattle.std.specs.Ordering.{nat_cmp, is_lt, is_gt, is_le, ordering_reverse}
 use Rattle.std.specs.declared.cmp.Ordering.{Ordering}
 use Rattle.std.specs.Cmp.Lexicographic.{slice_cmp, bytes_decides}
@@ -20,8 +21,7 @@ use Rattle.fdb_keys.specs.Insertion.{with_range}
 use Rattle.fdb_keys.specs.Points.{Point, point_eq, point_lt}
 use Rattle.fdb_keys.specs.Ranges.{Range, in_range, in_set, is_empty_range}
 use Rattle.fdb_keys.specs.Texts.{is_key}
-use Rattle.fdb_keys.proofs.ApartLemmas.{in_with_range}
-use Rattle.fdb_keys.proofs.InsertionLemmas.{in_range-empty}
+use Rattle.fdb_keys.proofs.Exports.{in_with_range, in_range-empty}
 use Rattle.fdb_client.specs.declared.left.Left.{Left}
 use Rattle.fdb_client.specs.declared.left.Left.TheVariants.{Value, Changes}
 use Rattle.fdb_client.specs.declared.own_writes.OwnWrites.{OwnWrites}
@@ -145,7 +145,8 @@ undecided-point range entries cleared x stays = by_range (in_range range x) refl
     within inside true listed value gone_is listed_is value_is = sym (stays gone_is) ∙ value_is
     within inside false true value gone_is listed_is value_is = refl
     within inside false false value gone_is listed_is value_is =
-        sym (ap (λ (there : Option Left). is_value (kept_of cleared x there)) (no_entry range entries x inside listed_is)
+        sym (ap (λ (there : Option Left). is_value (kept_of cleared x there))
+        (no_entry range entries x inside listed_is)
         ∙ ap (λ (gone : Bool). is_value (cond gone (Value None) (Changes []))) gone_is)
         ∙ value_is
 
@@ -187,7 +188,8 @@ left_at-cleared range before after cleared new_cleared there sets x = by_range (
 -- and what was cleared is decided there too, whether memory ran out or not
 pub cleared-range : {T : Type 0} (result : Result T Refusal) (own after : OwnWrites) (range : Range)
     → AreClearedDecided own
-    → Answers result None (λ _. (x : Point) → left_at after x ≡ (if in_range range x then Value None else left_at own x))
+    → Answers result None (λ _. (x : Point) → left_at after x ≡
+    (if in_range range x then Value None else left_at own x))
     → OnOk result (after.cleared ≡ with_range range own.cleared)
     → OnErr result ((x : Point) → left_at after x ≡ left_at own x) → OnErr result (after.cleared ≡ own.cleared)
     → AreClearedDecided after

@@ -15,8 +15,7 @@ use Rattle.fdb_keys.specs.declared.refusal.Refusal.{Refusal}
 use Rattle.fdb_keys.specs.Insertion.{with_range, with_ranges}
 use Rattle.fdb_keys.specs.Points.{Point, point_eq}
 use Rattle.fdb_keys.specs.Ranges.{Range, single_range, in_set, is_apart}
-use Rattle.fdb_keys.proofs.ApartLemmas.{same_list, apart-with_ranges, in_with_ranges}
-use Rattle.fdb_keys.proofs.SingleLemmas.{in_range-single}
+use Rattle.fdb_keys.proofs.Exports.{same_list, apart-with_ranges, in_with_ranges, in_range-single}
 use Rattle.fdb_client.specs.Conflicts.{with_keys}
 
 -- the ranges of the keys hold just these

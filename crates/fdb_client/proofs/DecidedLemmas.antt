@@ -3,9 +3,9 @@ use Rattle.std.proofs.Common.{◌≡◌, ◌∙◌, ap, refl, Bool, true, false,
 use Rattle.fdb_keys.specs.Insertion.{with_range}
 use Rattle.fdb_keys.specs.Points.{Point}
 use Rattle.fdb_keys.specs.Ranges.{Range, in_set}
-use Rattle.fdb_keys.proofs.ApartLemmas.{in_with_range}
+use Rattle.fdb_keys.proofs.Exports.{in_with_range}
 use Rattle.fdb_mutations.specs.Mutations.{names, named_range, is_blind}
-use Rattle.fdb_mutations.proofs.Effects.{in_named_range}
+use Rattle.fdb_mutations.proofs.Exports.{in_named_range}
 use Rattle.fdb_client.specs.declared.program.Op.{Op}
 use Rattle.fdb_client.specs.declared.program.Op.TheVariants.{Get, Write, AddRead, AddWrite}
 use Rattle.fdb_client.specs.declared.program.Op.TheVariants as operation

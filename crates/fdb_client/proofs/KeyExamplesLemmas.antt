@@ -7,8 +7,7 @@ use Rattle.fdb_mutations.specs.declared.mutation.Mutation.TheVariants.{Set, Clea
 use Rattle.fdb_mutations.specs.Examples.{one}
 use Rattle.fdb_mutations.specs.Mutations.{value_after}
 use Rattle.fdb_mutations.specs.PairExamples.{three, three_pairs}
-use Rattle.fdb_mutations.proofs.Effects.{at_every_point}
-use Rattle.fdb_mutations.proofs.MapsLemmas.{value_at, get-pairs}
+use Rattle.fdb_mutations.proofs.Exports.{at_every_point, value_at, get-pairs}
 use Rattle.fdb_client.specs.declared.program.Op.{Op}
 use Rattle.fdb_client.specs.declared.program.Op.TheVariants.{Get, Write, AddRead, AddWrite}
 use Rattle.fdb_client.specs.declared.program.Op.TheVariants as operation

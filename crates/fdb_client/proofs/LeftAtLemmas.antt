@@ -17,7 +17,7 @@ use Rattle.fdb_keys.specs.Ranges.{Range, in_set}
 use Rattle.fdb_keys.specs.Texts.{is_key}
 use Rattle.fdb_mutations.specs.declared.mutation.Mutation.{Mutation}
 use Rattle.fdb_mutations.specs.Mutations.{is_blind, new_value}
-use Rattle.fdb_mutations.proofs.Effects.{blind_is_blind}
+use Rattle.fdb_mutations.proofs.Exports.{blind_is_blind}
 use Rattle.fdb_client.specs.declared.left.Left.{Left}
 use Rattle.fdb_client.specs.declared.left.Left.TheVariants.{Value, Changes}
 use Rattle.fdb_client.specs.OwnWrites.{kept_of, kept_at, left_after}

@@ -1,7 +1,8 @@
-pub mod AnsweredLemmas
+pub mod Exports
+mod AnsweredLemmas
 mod ClearedLemmas
 mod ConflictLemmas
-pub mod DecidedLemmas
+mod DecidedLemmas
 mod FaultLemmas
 mod KeyExamplesLemmas
 mod LeftAtLemmas
@@ -10,9 +11,9 @@ mod OwnKeysLemmas
 mod OwnWritesLemmas
 mod PagesLemmas
 mod TxnStateLemmas
-pub mod ProgramLemmas
-pub mod ProgramsAgree
+mod ProgramLemmas
+mod ProgramsAgree
 mod ReadExamplesLemmas
-pub mod ReadSetLemmas
+mod ReadSetLemmas
 mod RequestLemmas
-pub mod WriteSetLemmas
+mod WriteSetLemmas

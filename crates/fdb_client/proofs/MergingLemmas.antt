@@ -7,14 +7,11 @@ use Rattle.std.proofs.lemmas.List.{append_assoc, length-append}
 use Rattle.fdb_keys.specs.Cutting.{range_behind}
 use Rattle.fdb_keys.specs.Points.{Point}
 use Rattle.fdb_keys.specs.Ranges.{Range, in_range, in_set}
-use Rattle.fdb_keys.proofs.BehindLemmas.{after_next, behind-inside}
-use Rattle.fdb_keys.proofs.RangesLemmas.{in_range_parts, in_range_from}
-use Rattle.fdb_keys.proofs.SingleLemmas.{below_next}
+use Rattle.fdb_keys.proofs.Exports.{after_next, behind-inside, in_range_parts, in_range_from, below_next}
 use Rattle.fdb_mutations.specs.Maps.{Map}
 use Rattle.fdb_mutations.specs.Pairs.{is_limit_reached, pairs_in}
 use Rattle.fdb_mutations.specs.PairLaws.{pair_of}
-use Rattle.fdb_mutations.proofs.FirstPairLemmas.{first-inside, first-is, no_pairs, none-before}
-use Rattle.fdb_mutations.proofs.PairsLemmas.{no_values, pairs_from_a_key_on}
+use Rattle.fdb_mutations.proofs.Exports.{first-inside, first-is, no_pairs, none-before, no_values, pairs_from_a_key_on}
 use Rattle.fdb_client.specs.declared.left.Left.{Left}
 use Rattle.fdb_client.specs.declared.left.Left.TheVariants.{Value, Changes}
 use Rattle.fdb_client.specs.declared.own_writes.OwnWrites.{OwnWrites}

@@ -15,9 +15,8 @@ use Rattle.std.proofs.lemmas.Map.Text.{is_eq-slice_cmp}
 use Rattle.fdb_keys.specs.Cutting.{range_behind}
 use Rattle.fdb_keys.specs.Points.{Point, point_lt}
 use Rattle.fdb_keys.specs.Ranges.{Range, in_range}
-use Rattle.fdb_keys.proofs.BehindLemmas.{after_next, behind-inside, not_behind-itself}
-use Rattle.fdb_keys.proofs.PointOrder.{cmp_less}
-use Rattle.fdb_keys.proofs.RangesLemmas.{in_range_parts, in_range_from}
+use Rattle.fdb_keys.proofs.Exports.{after_next, behind-inside, not_behind-itself, cmp_less, in_range_parts}
+use Rattle.fdb_keys.proofs.Exports.{in_range_from}
 use Rattle.fdb_client.specs.declared.left.Left.{Left}
 use Rattle.fdb_client.specs.OwnWrites.{keys_between}
 use Rattle.fdb_client.proofs.ClearedLemmas.{between-range}

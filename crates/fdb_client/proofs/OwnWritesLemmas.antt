@@ -8,7 +8,7 @@ use Rattle.fdb_keys.specs.Points.{Point}
 use Rattle.fdb_mutations.specs.declared.mutation.Mutation.{Mutation}
 use Rattle.fdb_mutations.specs.Maps.{Map}
 use Rattle.fdb_mutations.specs.Mutations.{names, new_value, is_blind}
-use Rattle.fdb_mutations.proofs.Effects.{at_every_point, blind_is_blind}
+use Rattle.fdb_mutations.proofs.Exports.{at_every_point, blind_is_blind}
 use Rattle.fdb_client.specs.declared.left.Left.{Left}
 use Rattle.fdb_client.specs.declared.left.Left.TheVariants.{Value, Changes}
 use Rattle.fdb_client.specs.declared.program.Op.{Op}

@@ -14,16 +14,14 @@ use Rattle.std.proofs.Math.ListN.{get_or}
 use Rattle.fdb_keys.specs.Cutting.{range_behind}
 use Rattle.fdb_keys.specs.Points.{Point}
 use Rattle.fdb_keys.specs.Ranges.{Range, in_range}
-use Rattle.fdb_keys.proofs.BehindLemmas.{behind-inside}
+use Rattle.fdb_keys.proofs.Exports.{behind-inside}
 use Rattle.fdb_mutations.specs.Maps.{Map}
 use Rattle.fdb_mutations.specs.Pairs.{first_of, is_limit_reached, pairs_in}
 use Rattle.fdb_mutations.specs.PairLaws.{given_of, pair_of}
-use Rattle.fdb_mutations.proofs.FirstPairLemmas.{no_pairs}
-use Rattle.fdb_mutations.proofs.OrderedLemmas.{all_at}
-use Rattle.fdb_mutations.proofs.PairsLemmas.{all_in-pairs_in, no_values}
+use Rattle.fdb_mutations.proofs.Exports.{no_pairs, all_at, all_in-pairs_in, no_values}
 use Rattle.fdb_client.specs.declared.left.Left.{Left}
 use Rattle.fdb_client.specs.declared.own_writes.OwnWrites.{OwnWrites}
-use Rattle.fdb_client.specs.declared.snapshot.Page.{Page}
+use Rattle.fdb_mutations.specs.declared.page.Page.{Page}
 use Rattle.fdb_client.specs.LeftAt.{left_at}
 use Rattle.fdb_client.specs.Merging.{GoesOn, HasFirst, HasNoValue, IsCopyOf, IsWithin, ReadsOn, ReadsPage, TookOwn}
 use Rattle.fdb_client.specs.Merging.{TookPage}

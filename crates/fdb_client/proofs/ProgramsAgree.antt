@@ -12,8 +12,7 @@ use Rattle.fdb_mutations.specs.Maps.{Map}
 use Rattle.fdb_mutations.specs.Mutations.{names, new_value, is_blind}
 use Rattle.fdb_mutations.specs.Pairs.{scanned}
 use Rattle.fdb_mutations.specs.PairLaws.{given_of, scanned_of}
-use Rattle.fdb_mutations.proofs.Effects.{at_every_point, blind_is_blind}
-use Rattle.fdb_mutations.proofs.ScannedLemmas.{decides_what_is_given}
+use Rattle.fdb_mutations.proofs.Exports.{at_every_point, blind_is_blind, decides_what_is_given}
 use Rattle.fdb_client.specs.declared.program.Op.{Op}
 use Rattle.fdb_client.specs.declared.program.Op.TheVariants.{Get, Write, AddRead, AddWrite}
 use Rattle.fdb_client.specs.declared.program.Op.TheVariants as operation

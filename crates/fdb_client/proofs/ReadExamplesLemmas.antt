@@ -16,7 +16,7 @@ use Rattle.fdb_mutations.specs.Mutations.{effect, new_value, with_value}
 use Rattle.fdb_mutations.specs.PairExamples.{pair, three_pairs, three}
 use Rattle.fdb_mutations.specs.PairLaws.{given_of}
 use Rattle.fdb_mutations.specs.Pairs.{pairs_within, first_of, scanned}
-use Rattle.fdb_mutations.proofs.MapsLemmas.{entries-sorted, get-pairs, some_kept}
+use Rattle.fdb_mutations.proofs.Exports.{entries-sorted, get-pairs, some_kept}
 use Rattle.fdb_client.specs.declared.program.Op.{Op}
 use Rattle.fdb_client.specs.declared.program.Op.TheVariants as operation
 use Rattle.fdb_client.specs.declared.program.Reply.TheVariants.{Pairs}

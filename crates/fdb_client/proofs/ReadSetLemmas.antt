@@ -8,9 +8,7 @@ use Rattle.fdb_keys.specs.Points.{Point, point_eq}
 use Rattle.fdb_keys.specs.Ranges.{Range, single_range, in_range, in_set}
 use Rattle.fdb_keys.specs.Insertion.{with_range}
 use Rattle.fdb_keys.specs.Removal.{outside}
-use Rattle.fdb_keys.proofs.ApartLemmas.{in_with_range, in_with_ranges}
-use Rattle.fdb_keys.proofs.OutsideLemmas.{in_outside}
-use Rattle.fdb_keys.proofs.SingleLemmas.{in_range-single}
+use Rattle.fdb_keys.proofs.Exports.{in_with_range, in_with_ranges, in_outside, in_range-single}
 use Rattle.fdb_mutations.specs.Maps.{Map}
 use Rattle.fdb_mutations.specs.PairLaws.{scanned_of}
 use Rattle.fdb_client.specs.declared.program.Op.{Op}

@@ -5,8 +5,7 @@ use Rattle.std.specs.FinMap.{get}
 use Rattle.fdb_keys.specs.Points.{Point}
 use Rattle.fdb_keys.specs.Ranges.{Range, in_range, in_set, is_apart}
 use Rattle.fdb_keys.specs.Removal.{outside}
-use Rattle.fdb_keys.proofs.ApartLemmas.{same_list}
-use Rattle.fdb_keys.proofs.OutsideLemmas.{in_outside, apart-outside}
+use Rattle.fdb_keys.proofs.Exports.{same_list, in_outside, apart-outside}
 use Rattle.fdb_mutations.specs.declared.mutation.Mutation.{Mutation}
 use Rattle.fdb_mutations.specs.Maps.{Map}
 use Rattle.fdb_mutations.specs.Mutations.{mutation_fault}

@@ -4,8 +4,8 @@ use Rattle.std.proofs.lemmas.Bool.{or_cases, or_left, or_right}
 use Rattle.std.proofs.lemmas.List.Folds.{list_any-append}
 use Rattle.fdb_keys.specs.Points.{Point}
 use Rattle.fdb_keys.specs.Ranges.{Range, in_range, in_set}
-use Rattle.fdb_keys.proofs.ApartLemmas.{in_with_range}
-use Rattle.fdb_mutations.proofs.Effects.{in_named_range}
+use Rattle.fdb_keys.proofs.Exports.{in_with_range}
+use Rattle.fdb_mutations.proofs.Exports.{in_named_range}
 use Rattle.fdb_mutations.specs.Maps.{Map}
 use Rattle.fdb_mutations.specs.declared.mutation.Mutation.{Mutation}
 use Rattle.fdb_mutations.specs.Mutations.{names, named_range, effect, effects}

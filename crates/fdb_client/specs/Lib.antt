@@ -10,9 +10,3 @@ pub mod ProgramLaws
 pub mod Programs
 pub mod ReadExamples
 pub mod WriteExamples
-pub use Rattle.fdb_keys.specs.Answers
-pub use Rattle.fdb_keys.specs.Insertion
-pub use Rattle.fdb_keys.specs.Points
-pub use Rattle.fdb_keys.specs.Ranges
-pub use Rattle.fdb_mutations.specs.Maps
-pub use Rattle.fdb_mutations.specs.Mutations

@@ -10,7 +10,7 @@ use Rattle.fdb_mutations.specs.Pairs.{pairs_in, is_limit_reached}
 use Rattle.fdb_mutations.specs.PairLaws.{given_of}
 use Rattle.fdb_client.specs.declared.left.Left.{Left}
 use Rattle.fdb_client.specs.declared.own_writes.OwnWrites.{OwnWrites}
-use Rattle.fdb_client.specs.declared.snapshot.Page.{Page}
+use Rattle.fdb_mutations.specs.declared.page.Page.{Page}
 use Rattle.fdb_client.specs.LeftAt.{entry_of, HasNoEntry}
 use Rattle.fdb_client.specs.OwnWrites.{value_over}
 

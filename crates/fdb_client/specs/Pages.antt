@@ -3,7 +3,7 @@ use Rattle.std.specs.Prelude.{◌≡◌, ◌<◌, ◌≤◌, ℕ, Bool, true, fa
 use Rattle.fdb_keys.specs.Ranges.{Range}
 use Rattle.fdb_mutations.specs.Maps.{Map}
 use Rattle.fdb_mutations.specs.Pairs.{pairs_in}
-use Rattle.fdb_client.specs.declared.snapshot.Page.{Page}
+use Rattle.fdb_mutations.specs.declared.page.Page.{Page}
 
 -- A page has the first pairs of the range on the map, no more than the limit says, if it isn't 0. There is more
 -- exactly where the range has a further pair, and then the page has one at least.

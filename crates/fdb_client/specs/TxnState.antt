@@ -35,8 +35,8 @@ pub record AreWritesOf (ops : List Op) (own : OwnWrites) (writes : List Range) :
   pub cleared_decided : AreClearedDecided own
   pub are_written : writes ≡ write_ranges ops
 
--- what is kept of the operations: what is kept of their writes, the read set, and the mutations, each of which is a legal
--- one
+-- what is kept of the operations: what is kept of their writes, the read set, and the mutations, each of which is a
+-- legal one
 pub record AreOf (ops : List (Op × Reply)) (own : OwnWrites) (reads writes : List Range)
     (mutations : List Mutation) : Type 0 where
   pub written : AreWritesOf (program ops) own writes

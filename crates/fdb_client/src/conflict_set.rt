@@ -8,8 +8,8 @@ use fdb_mutations::Mutation;
 use std::alloc::Global;
 use std::marker::Model;
 
-/// What an open transaction reads or writes: a set of keys that grows by single keys and by ranges, seen as the shortest
-/// sorted list of ranges that hold it. A single key is only put down; the list is put together in `to_set`.
+/// What an open transaction reads or writes: a set of keys that grows by single keys and by ranges, seen as the
+/// shortest sorted list of ranges that hold it. A single key is only put down; the list is put together in `to_set`.
 #[derive(Drop)]
 pub struct ConflictSet {
     alloc: Global,

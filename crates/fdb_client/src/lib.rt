@@ -20,9 +20,10 @@ mod txn_state;
 
 pub use answered::is_answered_on;
 pub use conflict_set::ConflictSet;
+pub use fdb_mutations::Page;
 pub use finished::Finished;
 pub use plain_snapshot::PlainSnapshot;
 pub use program::{Op, Reply, Transcript};
 pub use request::{has_written_nothing, is_request_of};
-pub use snapshot::{Page, Snapshot};
+pub use snapshot::Snapshot;
 pub use txn::Txn;

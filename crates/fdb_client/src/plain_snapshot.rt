@@ -1,7 +1,7 @@
-use crate::snapshot::{Page, Snapshot};
+use crate::snapshot::Snapshot;
 use bytes::Bytes;
 use fdb_keys::{Key, KeyRange, Refusal};
-use fdb_mutations::{PlainMap, copied};
+use fdb_mutations::{Page, PlainMap, copied};
 
 /// A plain map, read at a version. It is refused nothing but memory.
 #[derive(Clone, Copy)]

@@ -15,9 +15,10 @@ ghost use Rattle.fdb_client.specs.Pages.{IsPage};
 
 use crate::own_writes::OwnWrites;
 use crate::reading::value_over;
-use crate::snapshot::{Page, Snapshot};
+use crate::snapshot::Snapshot;
 use bytes::Bytes;
 use fdb_keys::{Items, Key, KeyRange, Refusal};
+use fdb_mutations::Page;
 use std::alloc::Global;
 
 // How far a read is.

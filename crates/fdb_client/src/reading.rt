@@ -91,7 +91,8 @@ pub(crate) fn value_over(
     }
 }
 
-// What stands at the key after the writes, and whether they decide the key. The snapshot is asked only where they don't.
+// What stands at the key after the writes, and whether they decide the key. The snapshot is asked only where they
+// don't.
 pub(crate) fn value_of<S: Snapshot>(
     alloc: Global,
     own: &OwnWrites,

@@ -9,16 +9,8 @@ ghost use Rattle.fdb_client.specs.Merging.{IsPartOf};
 ghost use Rattle.fdb_client.specs.Pages.{IsPage};
 
 use bytes::Bytes;
-use fdb_keys::{Items, Key, KeyRange, Refusal};
-
-/// Some pairs of a range.
-#[derive(Drop)]
-pub struct Page {
-    /// The first pairs of the range in the order that was asked for, as many as the page has.
-    pub pairs: Items<(Key, Bytes)>,
-    /// Whether the range has a further pair.
-    pub more: bool,
-}
+use fdb_keys::{Key, KeyRange, Refusal};
+use fdb_mutations::Page;
 
 /// What is read at one version: all answers are those of one map. What can't answer refuses, as a shard does that
 /// doesn't serve the version.

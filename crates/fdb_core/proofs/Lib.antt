@@ -1,7 +1,3 @@
-pub mod checking
-pub mod common
-pub mod headline
-pub mod invariant
-pub mod machine
-pub mod readings
-pub mod refinement
+mod checking
+mod common
+mod refinement

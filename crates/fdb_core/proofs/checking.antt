@@ -1,11 +1,2 @@
-pub mod BodyLemmas
 pub mod HoldingLemmas
-pub mod JudgedLemmas
-pub mod JudgingLemmas
-pub mod ReplayLemmas
-pub mod RunningLemmas
 pub mod SoundChecks
-pub mod SpotLemmas
-pub mod StandingLemmas
-pub mod ValueLemmas
-pub mod VisitLemmas

@@ -1,5 +1,1 @@
-pub mod AllLemmas
-pub mod SumLemmas
-pub mod FaultLemmas
 pub mod CloneLemmas
-pub mod ListLemmas

@@ -1,7 +1,6 @@
-pub mod BookLemmas
 pub mod BookPushes
 pub mod RestoringLemmas
-pub mod RunLaws
+pub mod ServingLaws
 pub mod StartLemmas
 pub mod StepLemmas
 pub mod client

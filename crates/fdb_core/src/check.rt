@@ -1,8 +1,3 @@
-// A check runs the committed transactions anew, one at a time, and compares.
-pub(crate) mod judge;
-pub(crate) mod judged;
-pub(crate) mod run;
-pub(crate) mod serial;
+// A check of a world compares what is acknowledged, and the shards, with the run of one transaction at a time.
 pub(crate) mod shards;
-pub(crate) mod standing;
-pub(crate) mod visits;
+pub(crate) mod whole;

@@ -1,16 +1,15 @@
 // The parts of a world: the machine's bookkeeping, and what the roles keep for themselves.
 ghost use Rattle.std.specs.Prelude.{◌≡◌, suc, [], length, replicate, None, IfOk};
 ghost use Rattle.fdb_keys.specs.Answers.{Answers};
-ghost use Rattle.fdb_core.specs.machine.Worlds.{first_state};
+ghost use Rattle.fdb_machine.specs.machine.Worlds.{first_state};
 ghost use Rattle.fdb_core.specs.refinement.Restoring.{Tied};
 ghost use Rattle.fdb_core.specs.refinement.Systems.{state_of};
 ghost use Rattle.fdb_core.specs.refinement.commit_proxy.Ties.{IsNewCommitProxy};
-ghost use Rattle.fdb_core.specs.refinement.log.Ties.{Each};
+ghost use Rattle.fdb_roles.specs.Lists.{Each};
 ghost use Rattle.fdb_core.specs.refinement.Starts.{AreNewLogs, AreNewShards, IsNewResolver};
 ghost use Rattle.fdb_proxy.specs.Configs.{config_fault};
 ghost use Rattle.fdb_sequencer.specs.Sequencer.{fresh};
 
-use crate::roles::client::Placed;
 use crate::roles::client::sessions::Sessions;
 use crate::roles::commit_proxy::{CommitProxyRole, new_commit_proxies};
 use crate::roles::grv_proxy::new_grv_proxies;
@@ -22,6 +21,7 @@ use fdb_keys::{Items, Refusal};
 use fdb_log::LogMsg;
 use fdb_proxy::{Config, GrvCore};
 use fdb_resolver::Part;
+use fdb_roles::Placed;
 use fdb_sequencer::SequencerCore;
 use fdb_storage::ShardMap;
 use fdb_txn::Entry;

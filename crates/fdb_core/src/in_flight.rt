@@ -1,22 +1,12 @@
 // The batches that the commit proxies have in flight.
 ghost use Rattle.std.specs.Prelude.{◌≡◌};
-ghost use Rattle.fdb_core.specs.machine.InFlight.{in_flight};
+ghost use Rattle.fdb_machine.specs.machine.InFlight.{in_flight};
 ghost use Rattle.fdb_core.specs.refinement.Restoring.{Tied};
 ghost use Rattle.fdb_core.specs.refinement.Systems.{state_of};
 
 use crate::cluster::Cluster;
 use fdb_keys::Refusal;
-
-/// A batch in flight at a commit proxy, with those whose part in it the proxy waits for.
-#[derive(Clone, Copy, PartialEq, Eq)]
-pub struct InFlight {
-    /// The number of the batch's entry.
-    pub entry: u32,
-    /// How many resolvers there are.
-    pub resolvers: u32,
-    /// How many logs there are.
-    pub logs: u32,
-}
+use fdb_machine::InFlight;
 
 impl Cluster {
     pub(crate) fn in_flight(&self, proxy: u32) -> Result<InFlight, Refusal>

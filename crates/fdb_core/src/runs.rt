@@ -1,11 +1,11 @@
 ghost use Rattle.fdb_keys.specs.Answers.{Answers};
-ghost use Rattle.fdb_core.specs.headline.Headline.{IsStrictlySerializable};
-ghost use Rattle.fdb_core.specs.headline.Serving.{RolesKeep};
+ghost use Rattle.fdb_machine.specs.headline.Headline.{IsStrictlySerializable};
+ghost use Rattle.fdb_machine.specs.headline.Serving.{RolesKeep};
 ghost use Rattle.fdb_proxy.specs.Configs.{config_fault};
 
-use crate::step::{Answered, Step};
 use crate::world::World;
 use fdb_keys::{Items, Refusal};
+use fdb_machine::{Answered, Step};
 use fdb_proxy::Config;
 use std::alloc::Global;
 

@@ -7,15 +7,16 @@ mod resolver;
 mod sequencer;
 mod shard;
 
-ghost use Rattle.fdb_core.specs.invariant.Invariant.{Invariant};
+ghost use Rattle.fdb_machine.specs.invariant.Invariant.{Invariant};
 ghost use Rattle.fdb_core.specs.refinement.Cluster.{machine_of};
 ghost use Rattle.fdb_core.specs.refinement.Restoring.{Tied};
 ghost use Rattle.fdb_core.specs.refinement.Steps.{Takes};
 
 use crate::cluster::Cluster;
+use crate::roles::client::note::Note;
 use crate::roles::client::read::Read;
-use crate::step::{Answered, Step};
 use fdb_keys::Refusal;
+use fdb_machine::{Answered, Step};
 
 impl Cluster {
     /// Takes the step.
@@ -46,9 +47,9 @@ impl Cluster {
                 };
                 self.read(*session, read, *snapshot)
             }
-            Step::Write { session, mutation } => self.write(*session, mutation),
-            Step::AddRead { session, range } => self.add_read(*session, range),
-            Step::AddWrite { session, range } => self.add_write(*session, range),
+            Step::Write { session, mutation } => self.note(*session, Note::Write(mutation)),
+            Step::AddRead { session, range } => self.note(*session, Note::AddRead(range)),
+            Step::AddWrite { session, range } => self.note(*session, Note::AddWrite(range)),
             Step::Submit { session, proxy } => self.submit(*session, *proxy),
             Step::Seal { proxy, advance } => self.seal(*proxy, *advance),
             Step::Resolve { entry, resolver } => self.resolve(*entry, *resolver),

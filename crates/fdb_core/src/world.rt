@@ -1,26 +1,15 @@
-use crate::check::serial::check_all;
+use crate::check::whole::check_all;
 use crate::cluster::Cluster;
-use crate::in_flight::InFlight;
-use crate::roles::client::Placed;
-use crate::step::{Answered, Step};
+use fdb_check::CheckFault;
 use fdb_client::Txn;
 use fdb_keys::Refusal;
+use fdb_machine::{Answered, InFlight, Step};
 use fdb_proxy::Config;
+use fdb_roles::Placed;
 use fdb_storage::ShardMap;
-use fdb_txn::{Entry, TxnId};
+use fdb_txn::Entry;
 use std::alloc::Global;
 use std::marker::Model;
-
-/// What a check of a world found.
-#[derive(Clone, Copy, Debug, PartialEq, Eq)]
-pub enum CheckFault {
-    /// The transaction was not answered as in the run of one transaction at a time.
-    Txn(TxnId),
-    /// The shard does not hold the serial map at its version.
-    Shard(u32),
-    /// Memory ran out.
-    NoMemory,
-}
 
 /// The transaction system: clients and roles as one machine over a list of steps.
 #[derive(Drop)]
@@ -34,8 +23,8 @@ impl Model for World {
     ghost use Rattle.fdb_core.specs.refinement.Cluster.{machine_of};
     ghost use Rattle.fdb_core.specs.refinement.Restoring.{Tied};
     ghost use Rattle.fdb_core.specs.refinement.Systems.{system_of};
-    ghost use Rattle.fdb_core.specs.headline.Serving.{System};
-    ghost use Rattle.fdb_core.specs.invariant.Invariant.{Invariant};
+    ghost use Rattle.fdb_machine.specs.headline.Serving.{System};
+    ghost use Rattle.fdb_machine.specs.invariant.Invariant.{Invariant};
     ghost use Rattle.std.specs.Coded.{codes};
     ghost use Rattle.fdb_core.specs.contracts.roles.client.sessions.Sessions as sessions;
 
@@ -55,17 +44,17 @@ impl World {
     ghost use Rattle.fdb_keys.specs.Answers.{Answers};
     ghost use Rattle.fdb_keys.specs.declared.refusal.Refusal.{Refusal};
     ghost use Rattle.fdb_proxy.specs.declared.config.Config.{Config};
-    ghost use Rattle.fdb_core.specs.declared.step.Answered.{Answered};
-    ghost use Rattle.fdb_core.specs.declared.step.Step.{Step};
+    ghost use Rattle.fdb_machine.specs.declared.step.Answered.{Answered};
+    ghost use Rattle.fdb_machine.specs.declared.step.Step.{Step};
     ghost use Rattle.std.specs.Option.{option_copied};
     ghost use Rattle.fdb_txn.specs.book.History.{IsBook, IsSealed};
-    ghost use Rattle.fdb_core.specs.machine.InFlight.{in_flight};
-    ghost use Rattle.fdb_core.specs.machine.Sessions.{open_at};
-    ghost use Rattle.fdb_core.specs.headline.Headline.{IsStrictlySerializable};
-    ghost use Rattle.fdb_core.specs.headline.Serving.{RolesKeep};
-    ghost use Rattle.fdb_core.specs.headline.Traces.{IsTraceOf};
+    ghost use Rattle.fdb_machine.specs.machine.InFlight.{in_flight};
+    ghost use Rattle.fdb_machine.specs.machine.Sessions.{open_at};
+    ghost use Rattle.fdb_machine.specs.headline.Headline.{IsStrictlySerializable};
+    ghost use Rattle.fdb_machine.specs.headline.Serving.{RolesKeep};
+    ghost use Rattle.fdb_machine.specs.headline.Traces.{IsTraceOf};
     ghost use Rattle.fdb_proxy.specs.Configs.{config_fault};
-    ghost use Rattle.fdb_core.specs.machine.Worlds.{first_state, IsStep};
+    ghost use Rattle.fdb_machine.specs.machine.Worlds.{first_state, IsStep};
 
     /// The world before its first step.
     ///

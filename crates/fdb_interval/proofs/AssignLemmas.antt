@@ -10,7 +10,7 @@ use Rattle.std.proofs.lemmas.Bool.{cases_Bool, both_ways, cond-true, cond-false,
 use Rattle.std.proofs.lemmas.Bool.{and_left, not_from_true, not_from_false}
 use Rattle.fdb_keys.specs.Points.{Point, point_lt}
 use Rattle.fdb_keys.specs.Ranges.{Range, in_range}
-use Rattle.fdb_keys.proofs.PointOrder.{lt-itself, lt_one_way, lt_chain, lt_le_chain}
+use Rattle.fdb_keys.proofs.Exports.{lt-itself, lt_one_way, lt_chain, lt_le_chain}
 use Rattle.fdb_interval.specs.Breakpoints.{Breaks, value_from, last_value, breaks_before, breaks_inside}
 use Rattle.fdb_interval.specs.Breakpoints.{without, AreRising, AreJoined}
 use Rattle.fdb_interval.proofs.BreaksLemmas.{sift, before, from, up_to, beyond, at, inside, inside-is, all-sift}

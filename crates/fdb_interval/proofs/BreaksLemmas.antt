@@ -13,7 +13,7 @@ use Rattle.std.specs.declared.ops.Bound.TheVariants.{Included, Excluded, Unbound
 use Rattle.std.proofs.lemmas.Bool.{cases_Bool, cond-true, cond-false, not_from_true, not_from_false, not-true}
 use Rattle.std.proofs.lemmas.Cmp.{nat_list_cmp_total}
 use Rattle.fdb_keys.specs.Points.{Point, point_lt}
-use Rattle.fdb_keys.proofs.PointOrder.{lt_one_way, lt_chain, lt_le_chain, le_lt_chain, le_chain}
+use Rattle.fdb_keys.proofs.Exports.{lt_one_way, lt_chain, lt_le_chain, le_lt_chain, le_chain}
 use Rattle.fdb_interval.specs.Breakpoints.{Breaks, value_from, last_value, breaks_before, AreRising}
 
 -- what holds of each breakpoint

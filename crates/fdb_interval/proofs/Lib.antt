@@ -1,10 +1,11 @@
-pub mod AssignLemmas
-pub mod BreaksLemmas
-pub mod HeadsLemmas
-pub mod JoinedLemmas
-pub mod NewerWalkLemmas
-pub mod PartsLemmas
-pub mod PiecesLemmas
-pub mod SweepLemmas
-pub mod ThroughoutLemmas
-pub mod VersionsLemmas
+pub mod Exports
+mod AssignLemmas
+mod BreaksLemmas
+mod HeadsLemmas
+mod JoinedLemmas
+mod NewerWalkLemmas
+mod PartsLemmas
+mod PiecesLemmas
+mod SweepLemmas
+mod ThroughoutLemmas
+mod VersionsLemmas

@@ -12,7 +12,7 @@ use Rattle.std.specs.declared.cmp.Ordering.{Ordering}
 use Rattle.std.proofs.lemmas.Bool.{cases_Bool, both_ways, cond-true, cond-false}
 use Rattle.std.proofs.lemmas.Cmp.{nat_list_cmp_total, tied_itself}
 use Rattle.fdb_keys.specs.Points.{Point, point_lt}
-use Rattle.fdb_keys.proofs.PointOrder.{lt-itself, lt_chain, cmp_less, cmp_greater}
+use Rattle.fdb_keys.proofs.Exports.{lt-itself, lt_chain, cmp_less, cmp_greater}
 use Rattle.fdb_interval.specs.Breakpoints.{Breaks, value_from, AreRising, without}
 use Rattle.fdb_interval.proofs.BreaksLemmas.{all_imply, sift, sift-true, sift-false, sift-none, at, value-after}
 

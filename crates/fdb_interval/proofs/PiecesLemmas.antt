@@ -7,7 +7,7 @@ use Rattle.std.specs.Map.{values_of}
 use Rattle.std.proofs.lemmas.Bool.{cases_Bool, cases_lt, and_from, and_left, cond-true, cond-false, lt-ltb, le-ltb}
 use Rattle.std.proofs.lemmas.Bool.{not_from_true, not_from_false}
 use Rattle.fdb_keys.specs.Points.{Point, point_lt}
-use Rattle.fdb_keys.proofs.PointOrder.{lt_chain}
+use Rattle.fdb_keys.proofs.Exports.{lt_chain}
 use Rattle.fdb_interval.specs.Breakpoints.{Breaks, value_from, last_value, AreRising, AreJoined}
 use Rattle.fdb_interval.specs.Pieces.{Piece, version_in, EndsBefore, AreMaximal, ArePieces}
 use Rattle.fdb_interval.proofs.BreaksLemmas.{all_imply, value-after}

@@ -10,7 +10,7 @@ use Rattle.std.specs.declared.ops.Bound.TheVariants.{Included, Unbounded}
 use Rattle.std.proofs.lemmas.Bool.{cases_Bool, cond-true, cond-false, leb-true}
 use Rattle.std.proofs.lemmas.Cmp.{nat_list_cmp_total}
 use Rattle.fdb_keys.specs.Points.{Point, point_lt}
-use Rattle.fdb_keys.proofs.PointOrder.{lt_one_way, lt_le_chain}
+use Rattle.fdb_keys.proofs.Exports.{lt_one_way, lt_le_chain}
 use Rattle.fdb_interval.specs.Breakpoints.{Breaks, value_from, last_value, breaks_before, AreRising, AreJoined}
 use Rattle.fdb_interval.specs.Breakpoints.{dead_of, without, IsWalk}
 use Rattle.fdb_interval.proofs.BreaksLemmas.{all_imply, cut_in_two, cut_from, before, from, last-append, value-append}

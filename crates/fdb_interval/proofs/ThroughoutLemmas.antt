@@ -11,7 +11,7 @@ use Rattle.std.specs.List.{AllByRecursion}
 use Rattle.std.specs.Ordering.{nat_cmp}
 use Rattle.std.specs.declared.ops.Bound.TheVariants.{Excluded, Unbounded}
 use Rattle.fdb_keys.specs.Points.{Point, point_lt}
-use Rattle.fdb_keys.proofs.PointOrder.{lt-itself, le_lt_chain, lt_le_chain, lt_one_way, le_chain, lt_chain}
+use Rattle.fdb_keys.proofs.Exports.{lt-itself, le_lt_chain, lt_le_chain, lt_one_way, le_chain, lt_chain}
 use Rattle.fdb_interval.specs.Breakpoints.{Breaks, value_from, last_value, breaks_before, AreRising}
 use Rattle.fdb_interval.proofs.BreaksLemmas.{sift, sift-none, sift-all, sift_twice, rising-sift, all_imply, before}
 use Rattle.fdb_interval.proofs.BreaksLemmas.{beyond, absorbed}

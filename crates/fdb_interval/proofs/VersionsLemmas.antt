@@ -8,7 +8,7 @@ use Rattle.std.proofs.lemmas.Bool.{ltb-true, lt-ltb, le-ltb, cond-true, cond-fal
 use Rattle.std.proofs.lemmas.Bool.{not_from_false}
 use Rattle.fdb_keys.specs.Points.{Point, point_lt}
 use Rattle.fdb_keys.specs.Ranges.{Range, in_range}
-use Rattle.fdb_keys.proofs.PointOrder.{lt-itself, lt_one_way, le_lt_chain}
+use Rattle.fdb_keys.proofs.Exports.{lt-itself, lt_one_way, le_lt_chain}
 use Rattle.fdb_interval.specs.Breakpoints.{Breaks, value_from, AreRising, AreJoined}
 use Rattle.fdb_interval.specs.Versions.{changes}
 use Rattle.fdb_interval.proofs.BreaksLemmas.{sift, sift-true, sift-false, inside, inside-is, value-after}

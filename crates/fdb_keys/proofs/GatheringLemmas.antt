@@ -1,5 +1,6 @@
 -- Sorted ranges, joined where they overlap or touch, are apart and have the points of all.
-use Rattle.std.proofs.Common.{◌≡◌, ◌∙◌, sym, ap, subst, refl, Bool, true, false, not, ◌&&◌, List, [], ◌∷◌, ◌+◌, suc, get_or, length}
+use Rattle.std.proofs.Common.{◌≡◌, ◌∙◌, sym, ap, subst, refl, Bool, true, false, not, ◌&&◌, List, [], ◌∷◌, ◌+◌, suc}
+use Rattle.std.proofs.Common.{get_or, length}
 use Rattle.std.proofs.Common.{filter, ⊎_elim, arith, ℕ, zero, ◌<◌}
 use Rattle.std.specs.List.{list_any, AllAdjacentBelow}
 use Rattle.std.specs.List.Sorted.{IsSortedBy}

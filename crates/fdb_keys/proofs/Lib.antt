@@ -1,20 +1,22 @@
-pub mod ApartLemmas
-pub mod BehindLemmas
-pub mod ClippingLemmas
-pub mod CuttingLemmas
-pub mod GatheringLemmas
-pub mod InsertionLemmas
-pub mod JoiningLemmas
-pub mod LastLemmas
-pub mod OutsideLemmas
-pub mod PlaceLemmas
-pub mod PointOrder
-pub mod PutBackLemmas
-pub mod RangeMapLemmas
-pub mod RangesLemmas
-pub mod RemovalLemmas
-pub mod SingleLemmas
-pub mod SwallowedLemmas
-pub mod TextsLemmas
-pub mod TouchedLemmas
-pub mod WithinLemmas
+pub mod Exports
+mod ApartLemmas
+mod BehindLemmas
+mod ClippingLemmas
+mod CuttingLemmas
+mod EqualityLemmas
+mod GatheringLemmas
+mod InsertionLemmas
+mod JoiningLemmas
+mod LastLemmas
+mod OutsideLemmas
+mod PlaceLemmas
+mod PointOrder
+mod PutBackLemmas
+mod RangeMapLemmas
+mod RangesLemmas
+mod RemovalLemmas
+mod SingleLemmas
+mod SwallowedLemmas
+mod TextsLemmas
+mod TouchedLemmas
+mod WithinLemmas

@@ -97,8 +97,8 @@ impl<T> Items<T> {
         Ok(())
     }
 
-    /// Makes room for `count` items in an empty list, and for no more. A list that has items stays as it is. Where memory
-    /// runs out, nothing changes. It takes O(1) time.
+    /// Makes room for `count` items in an empty list, and for no more. A list that has items stays as it is. Where
+    /// memory runs out, nothing changes. It takes O(1) time.
     pub fn hold(&mut self, count: usize) -> Result<(), AllocError>
         ensures { self.new ≡ self.old }
     {

@@ -56,8 +56,8 @@ impl KeyRange {
 
     /// The range from `begin` up to but not including `end`. Refused as `KeyTooLarge` where a bound
     /// exceeds 10,001 bytes, as `KeyOutsideLegalRange` where one comes after the one byte `FF`, and as
-    /// `InvertedRange` where the end comes before the begin. Equal bounds give the empty range. Both are copied into one
-    /// piece of memory, in O(n) time for their n bytes; it is given back once no copy of either is left.
+    /// `InvertedRange` where the end comes before the begin. Equal bounds give the empty range. Both are copied into
+    /// one piece of memory, in O(n) time for their n bytes; it is given back once no copy of either is left.
     pub fn new(alloc: Global, begin: &[u8], end: &[u8]) -> Result<Self, Refusal>
         ensures { Answers result (range_fault begin.now end.now)
             (λ range. range ≡ record { begin = begin.now; end = end.now }) }

@@ -73,8 +73,8 @@ impl SharedRanges {
         self.alloc
     }
 
-    // Puts the range in the place of those from `start` up to but not including `end`, if the ranges are the list's own.
-    // Else it hands the range back, and nothing changes; neither where memory runs out.
+    // Puts the range in the place of those from `start` up to but not including `end`, if the ranges are the list's
+    // own. Else it hands the range back, and nothing changes; neither where memory runs out.
     pub(crate) fn replace(
         &mut self,
         start: usize,

@@ -3,8 +3,8 @@ use Rattle.std.specs.Prelude.{◌≡◌, ◌+◌, ℕ, List}
 use Rattle.std.specs.List.{AllByRecursion}
 use Rattle.fdb_keys.specs.Points.{Point}
 use Rattle.fdb_txn.specs.declared.entry.Entry.{Entry}
-use Rattle.fdb_core.specs.declared.roles.client.Placed.{Placed}
-use Rattle.fdb_core.specs.headline.Headline.{IsSerialized}
+use Rattle.fdb_roles.specs.declared.placed.Placed.{Placed}
+use Rattle.fdb_roles.specs.Spots.{IsSerialized}
 use Rattle.fdb_load.specs.declared.report.Report.{Report}
 
 -- Each try was told of, and each transaction with a receipt is serialized where that says among the entries, and was

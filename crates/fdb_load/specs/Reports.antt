@@ -2,8 +2,8 @@
 use Rattle.std.specs.Prelude.{◌≡◌, ◌+◌, ◌*◌, ℕ, List, true, codes, Some, ◌⊎◌, if◌then◌else◌}
 use Rattle.serde_json.specs.Data.{Data, Members, number, unsigned, string, boolean, object, member, no_members}
 use Rattle.serde_json.specs.Written.{compact_text}
-use Rattle.fdb_play.specs.declared.play.stop.Stop.{Stop}
-use Rattle.fdb_play.specs.play.Scripts.{printed_line, stop_text}
+use Rattle.fdb_print.specs.declared.stop.Stop.{Stop}
+use Rattle.fdb_print.specs.Stops.{printed_line, stop_text}
 use Rattle.fdb_load.specs.declared.load.Load.{Load}
 use Rattle.fdb_load.specs.declared.report.Report.{Report}
 use Rattle.fdb_load.specs.declared.workload.Workload.{Workload}

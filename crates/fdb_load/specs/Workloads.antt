@@ -18,8 +18,9 @@ keys_of Ring = 32
 keys_of Transfers = 32
 keys_of Counters = 4
 
--- The pairs are such as so many committed transactions of the workload leave: one cycle of all keys of the ring, numbers
--- with the sum of the first amounts of the accounts, and numbers with the sum of all that was added of the counters.
+-- The pairs are such as so many committed transactions of the workload leave: one cycle of all keys of the ring,
+-- numbers with the sum of the first amounts of the accounts, and numbers with the sum of all that was added of the
+-- counters.
 abbrev pub AreLeft : Workload → List (Point × List ℕ) → ℕ → Type 0
 AreLeft Ring pairs committed = IsOneCycle pairs
 AreLeft Transfers pairs committed = (length pairs ≡ 32) × (told_sum pairs ≡ Some 32000)

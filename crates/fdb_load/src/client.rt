@@ -11,7 +11,7 @@ use std::sync::Wait;
 
 /// What a client does.
 #[derive(Clone, Copy)]
-pub(crate) struct Part {
+pub(crate) struct Share {
     /// The client's number, from 0.
     pub(crate) number: u32,
     /// How many transactions it tries.
@@ -26,12 +26,12 @@ pub(crate) fn play<B: ClusterName, R: Wait>(
     rt: &R,
     alloc: Global,
     session: Session<B>,
-    part: Part,
+    share: Share,
     tally: &Tally,
 ) -> Played {
     let mut session = session;
     let mut played = Played::new(alloc);
-    let ended = try_all(rt, alloc, &mut session, part, tally, &mut played);
+    let ended = try_all(rt, alloc, &mut session, share, tally, &mut played);
     if let Err(halt) = ended {
         played.note_halt(halt);
     }
@@ -43,14 +43,14 @@ fn try_all<B: ClusterName, R: Wait>(
     rt: &R,
     alloc: Global,
     session: &mut Session<B>,
-    part: Part,
+    share: Share,
     tally: &Tally,
     played: &mut Played,
 ) -> Result<(), Halt> {
-    let seed = u64::from(part.number);
+    let seed = u64::from(share.number);
     let mut random = Pcg32::new(seed, seed);
-    for _try in 0..part.txns {
-        let is_committed = try_one(rt, alloc, session, part.workload, &mut random, played)?;
+    for _try in 0..share.txns {
+        let is_committed = try_one(rt, alloc, session, share.workload, &mut random, played)?;
         tally.add_try(is_committed);
     }
     Ok(())

@@ -1,5 +1,5 @@
 // The threads of all clients.
-use crate::client::{Part, play};
+use crate::client::{Share, play};
 use crate::played::Played;
 use crate::tally::Tally;
 use fdb_keys::Refusal;
@@ -22,14 +22,14 @@ pub(crate) fn start<
     alloc: Global,
     database: &mut Database<B>,
     count: u32,
-    part: Part,
+    share: Share,
     tally: &Arc<Tally>,
     clients: &mut Vec<Client>,
 ) -> Result<(), Refusal> {
     clients.reserve(count as usize)?;
     for number in 0..count {
         let session = database.session(alloc)?;
-        let client = start_one(rt, alloc, session, Part { number, ..part }, tally)?;
+        let client = start_one(rt, alloc, session, Share { number, ..share }, tally)?;
         clients.push(client)?;
     }
     Ok(())
@@ -42,11 +42,11 @@ fn start_one<
     rt: &R,
     alloc: Global,
     session: Session<B>,
-    part: Part,
+    share: Share,
     tally: &Arc<Tally>,
 ) -> Result<Client, Refusal> {
     match Arc::try_clone(tally) {
-        Ok(tally) => spawn(rt, alloc, session, part, tally),
+        Ok(tally) => spawn(rt, alloc, session, share, tally),
         Err(_) => Err(Refusal::NoMemory),
     }
 }
@@ -55,11 +55,11 @@ fn spawn<B: ClusterName + Send + Sync + 'static, R: Threads + Wait + Copy + Send
     rt: &R,
     alloc: Global,
     session: Session<B>,
-    part: Part,
+    share: Share,
     tally: Arc<Tally>,
 ) -> Result<Client, Refusal> {
     let handle = *rt;
-    match thread::spawn(rt, move || play(&handle, alloc, session, part, &*tally)) {
+    match thread::spawn(rt, move || play(&handle, alloc, session, share, &*tally)) {
         Ok(client) => Ok(client),
         Err(_) => Err(Refusal::NoMemory),
     }

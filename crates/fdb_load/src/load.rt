@@ -1,14 +1,14 @@
 // What is asked of a load, and its run up to what is printed.
 ghost use Rattle.std.specs.Prelude.{◌≤◌, List, ℕ, IfOk, IfErr};
 ghost use Rattle.std.specs.Io.KnownBytes.{Appends};
-ghost use Rattle.fdb_play.specs.Streams.{IsStreamError};
+ghost use Rattle.fdb_print.specs.Streams.{IsStreamError};
 ghost use Rattle.fdb_load.specs.Reports.{PrintsEnd};
 
 use crate::report::print_report;
 use crate::running::run_load;
 use crate::watch::Pace;
 use crate::workload::Workload;
-use fdb_play::{Sink, print_stop};
+use fdb_print::{Sink, print_stop};
 use std::alloc::Global;
 use std::io;
 use std::sync::Wait;

@@ -1,8 +1,8 @@
 ghost use Rattle.std.specs.Prelude.{◌≡◌, [], None};
 
 use crate::halt::Halt;
-use fdb_core::Placed;
 use fdb_keys::{Refusal, Refused};
+use fdb_roles::Placed;
 use fdb_runtime::{ClusterName, Receipt, Transcript};
 use std::alloc::Global;
 

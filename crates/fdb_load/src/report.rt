@@ -7,7 +7,7 @@ ghost use Rattle.serde_json.specs.Written.{compact_text};
 ghost use Rattle.fdb_load.specs.Reports.{report_data, report_members, ReportPrints};
 
 use crate::workload::Workload;
-use fdb_play::{Sink, Stop, print_stop};
+use fdb_print::{Sink, Stop, print_stop};
 use serde_json::{Map, Value, put};
 use std::alloc::{AllocError, Global};
 use std::io;

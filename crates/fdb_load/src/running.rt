@@ -4,7 +4,7 @@ ghost use Rattle.fdb_keys.specs.declared.refusal.Refusal.TheVariants.{NoMemory};
 ghost use Rattle.fdb_load.specs.Reports.{IsReportOf};
 ghost use Rattle.fdb_load.specs.Stops.{StopsWith};
 
-use crate::client::Part;
+use crate::client::Share;
 use crate::clients::{Client, join, start};
 use crate::judging::{Asked, Kept, judge};
 use crate::load::Load;
@@ -15,7 +15,7 @@ use crate::tally::Tally;
 use crate::watch::{Pace, Run, watch};
 use crate::workload::Workload;
 use fdb_keys::Refusal;
-use fdb_play::{Sink, Stop};
+use fdb_print::{Sink, Stop};
 use fdb_runtime::{Blank, ClusterName, Config, Database, NoGate, Record, Session, Spot};
 use std::alloc::Global;
 use std::marker::Brand;
@@ -232,7 +232,7 @@ fn play_all<
 {
     let tally = Arc::new(alloc, Tally::new())?;
     let mut clients: Vec<Client> = Vec::new(alloc);
-    let part = Part {
+    let share = Share {
         number: 0,
         txns: load.txns,
         workload: load.workload,
@@ -242,7 +242,7 @@ fn play_all<
         alloc,
         database,
         load.clients,
-        part,
+        share,
         &tally,
         &mut clients,
     );

@@ -6,7 +6,7 @@ use crate::names::range_of;
 use crate::tally::Tally;
 use crate::workload::Workload;
 use fdb_keys::Refusal;
-use fdb_play::{Sink, Stop};
+use fdb_print::{Sink, Stop};
 use fdb_runtime::{ClusterName, Database};
 use rand_core::Rng;
 use rand_pcg::Pcg32;

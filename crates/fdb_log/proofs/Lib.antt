@@ -1,13 +1,14 @@
-pub mod AboveLemmas
-pub mod AddedLemmas
-pub mod FaultLemmas
-pub mod KeptLemmas
-pub mod ListedLemmas
-pub mod NextLemmas
-pub mod PlacesLemmas
-pub mod PopLemmas
-pub mod PushLemmas
-pub mod RisingLemmas
-pub mod TagSetLemmas
-pub mod ToldLemmas
-pub mod WaitingLemmas
+pub mod Exports
+mod AboveLemmas
+mod AddedLemmas
+mod FaultLemmas
+mod KeptLemmas
+mod ListedLemmas
+mod NextLemmas
+mod PlacesLemmas
+mod PopLemmas
+mod PushLemmas
+mod RisingLemmas
+mod TagSetLemmas
+mod ToldLemmas
+mod WaitingLemmas

@@ -1,10 +1,12 @@
 -- Mutations that stand in the lists of their tags.
-use Rattle.std.proofs.Common.{◌≡◌, ◌∙◌, refl, sym, ap, subst, ℕ, ◌<◌, ◌≤◌, max, Bool, true, false, not, ◌||◌, List, [], ◌∷◌, ◌++◌}
+use Rattle.std.proofs.Common.{◌≡◌, ◌∙◌, refl, sym, ap, subst, ℕ, ◌<◌, ◌≤◌, max, Bool, true, false, not, ◌||◌, List, []}
+use Rattle.std.proofs.Common.{◌∷◌, ◌++◌}
 use Rattle.std.proofs.Common.{length, ⊎_elim, arith}
 use Rattle.std.specs.Prelude.{◌==◌, filter, slice_set}
 use Rattle.std.specs.List.{AllByRecursion}
-use Rattle.std.proofs.lemmas.Bool.{cases_Bool, cond-true, cond-false, eqb-true, eq-eqb, and_parts, and_from, both_ways, not-true}
-use Rattle.fdb_txn.proofs.book.HistoryLemmas.{all-append, all-weaken}
+use Rattle.std.proofs.lemmas.Bool.{cases_Bool, cond-true, cond-false, eqb-true, eq-eqb, and_parts, and_from, both_ways}
+use Rattle.std.proofs.lemmas.Bool.{not-true}
+use Rattle.fdb_txn.proofs.Exports.{all-append, all-weaken}
 use Rattle.fdb_log.specs.Places.{Holding, AreAdded, AreListed, AreRising, StartsAbove, has_place, is_place}
 use Rattle.fdb_log.specs.Places.{list_at, places_above}
 use Rattle.fdb_log.specs.TagSets.{is_among}

@@ -1,5 +1,6 @@
 -- Places of mutations, and those that are taken from them.
-use Rattle.std.proofs.Common.{◌≡◌, ◌∙◌, sym, ap, ap₂, refl, subst, ℕ, ◌<◌, ◌≤◌, Bool, true, false, not, ◌||◌, List, [], ◌∷◌, ◌++◌}
+use Rattle.std.proofs.Common.{◌≡◌, ◌∙◌, sym, ap, ap₂, refl, subst, ℕ, ◌<◌, ◌≤◌, Bool, true, false, not, ◌||◌, List, []}
+use Rattle.std.proofs.Common.{◌∷◌, ◌++◌}
 use Rattle.std.proofs.Common.{⊎_elim, arith, cond, Option, Some, None}
 use Rattle.std.specs.Prelude.{◌==◌, ◌&&◌, nat_lt, filter, MatchOption}
 use Rattle.std.specs.List.{AllByRecursion}
@@ -9,11 +10,12 @@ use Rattle.std.specs.declared.cmp.Ordering.TheVariants.{Less, Equal, Greater}
 use Rattle.std.specs.BTreeMap.{is_at}
 use Rattle.std.specs.Map.{keys_of, lookup, remove_entry}
 use Rattle.std.specs.List.Sorted.{IsStrictlySortedBy}
-use Rattle.std.proofs.lemmas.Bool.{cases_Bool, cond-true, cond-false, lt-ltb, le-ltb, ltb-true, eqb-true, eq-eqb, ne_eqb}
+use Rattle.std.proofs.lemmas.Bool.{cases_Bool, cond-true, cond-false, lt-ltb, le-ltb, ltb-true, eqb-true, eq-eqb}
+use Rattle.std.proofs.lemmas.Bool.{ne_eqb}
 use Rattle.std.proofs.lemmas.Bool.{and_parts, or_left, or_right, not-true, not-false}
 use Rattle.std.proofs.lemmas.List.Folds.{list_any-append}
 use Rattle.std.proofs.lemmas.Map.Keys.{sorted_head, sorted_tail}
-use Rattle.fdb_txn.proofs.book.HistoryLemmas.{all-append, all-weaken}
+use Rattle.fdb_txn.proofs.Exports.{all-append, all-weaken}
 use Rattle.fdb_log.specs.Places.{AreRising, StartsAbove, has_place, is_place, place_cmp, places_above}
 use Rattle.fdb_log.specs.Waiting.{Waiting}
 use Rattle.fdb_log.proofs.WaitingLemmas.{all-filter}
@@ -88,7 +90,8 @@ has-above version [] place all has = cc
 has-above version (first ∷ places) place all has =
     ⊎_elim
     (λ same.
-    let at : place.0 ≡ first.0 = eqb-true place.0 first.0 (and_parts (place.0 == first.0) (place.1 == first.1) same).0 in
+    let at : place.0 ≡ first.0 = eqb-true place.0 first.0 (and_parts (place.0 == first.0)
+    (place.1 == first.1) same).0 in
     let above : version < first.0 = all.0 in
     omega arith)
     (λ apart.
@@ -103,7 +106,8 @@ has-still version [] place above has = has
 has-still version (first ∷ places) place above has =
     ⊎_elim
     (λ same.
-    let at : place.0 ≡ first.0 = eqb-true place.0 first.0 (and_parts (place.0 == first.0) (place.1 == first.1) same).0 in
+    let at : place.0 ≡ first.0 = eqb-true place.0 first.0 (and_parts (place.0 == first.0)
+    (place.1 == first.1) same).0 in
     ap (λ (list : List (ℕ × ℕ)). has_place list place)
     (cond-true (nat_lt version first.0) _ _ (lt-ltb version first.0 (omega arith)))
     ∙ or_left (is_place place first) (has_place (places_above version places) place) same)
@@ -261,5 +265,6 @@ module _ (test : Waiting → Bool) (place : ℕ × ℕ) where
       → items ≡ filter stays items
   waited-stays items sorted found =
       none-dropped items sorted (λ tags is. not-false (test (place, tags))
-      (sym (subst (λ (was : Option (List ℕ)). MatchOption was (false ≡ false) (λ tags. false ≡ not (test (place, tags))))
+      (sym (subst (λ (was : Option (List ℕ)). MatchOption was (false ≡ false)
+      (λ tags. false ≡ not (test (place, tags))))
       is found)))

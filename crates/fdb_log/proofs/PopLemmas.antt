@@ -1,5 +1,6 @@
 -- A log of which a tag was popped.
-use Rattle.std.proofs.Common.{◌≡◌, ◌∙◌, sym, ap, subst, refl, ℕ, ◌+◌, ◌<◌, ◌≤◌, max, true, false, not, List, length, get_or, ⊎_elim, arith}
+use Rattle.std.proofs.Common.{◌≡◌, ◌∙◌, sym, ap, subst, refl, ℕ, ◌+◌, ◌<◌, ◌≤◌, max, true, false, not, List, length}
+use Rattle.std.proofs.Common.{get_or, ⊎_elim, arith}
 use Rattle.std.specs.Prelude.{◌==◌, slice_get, slice_set, filter, count_by}
 use Rattle.std.specs.List.{AllByRecursion}
 use Rattle.std.specs.Option.{unwrap_or}
@@ -7,7 +8,7 @@ use Rattle.std.proofs.lemmas.Bool.{cases_Bool, eqb-true, eqb-false}
 use Rattle.std.proofs.lemmas.List.{get_or-set_same, get_or-set_other, length-set}
 use Rattle.std.proofs.lemmas.Option.{unwrap_or-slice_get, slice_get_read}
 use Rattle.fdb_txn.specs.declared.tag_msg.TagMsg.{TagMsg}
-use Rattle.fdb_txn.proofs.book.HistoryLemmas.{all-weaken}
+use Rattle.fdb_txn.proofs.Exports.{all-weaken}
 use Rattle.fdb_log.specs.Logs.{Log, IsLog, HasPopped, kept, popped_through}
 use Rattle.fdb_log.specs.Messages.{above}
 use Rattle.fdb_log.specs.Peeks.{RiseAfter, through_after}

@@ -1,8 +1,10 @@
 -- Queues to which the tags' messages are added, tag by tag.
-use Rattle.std.proofs.Common.{◌≡◌, ◌≢◌, ◌∙◌, sym, ap, ℕ, ◌+◌, ◌<◌, Bool, true, false, List, [], ◌∷◌, ◌++◌, length, get_or}
+use Rattle.std.proofs.Common.{◌≡◌, ◌≢◌, ◌∙◌, sym, ap, ℕ, ◌+◌, ◌<◌, Bool, true, false, List, [], ◌∷◌, ◌++◌, length}
+use Rattle.std.proofs.Common.{get_or}
 use Rattle.std.proofs.Common.{if◌then◌else◌, ⊎_elim, ◌⊎◌, inl, inr, arith}
 use Rattle.std.specs.Prelude.{◌==◌, ◌&&◌, nat_lt, slice_set}
-use Rattle.std.proofs.lemmas.Bool.{cases_Bool, cond-true, cond-false, eqb-true, eqb-false, and_from, and_right, lt-ltb, le-ltb, cases_lt}
+use Rattle.std.proofs.lemmas.Bool.{cases_Bool, cond-true, cond-false, eqb-true, eqb-false, and_from, and_right, lt-ltb}
+use Rattle.std.proofs.lemmas.Bool.{le-ltb, cases_lt}
 use Rattle.std.proofs.lemmas.List.{get_or-set_same, get_or-set_other, get_or_default}
 use Rattle.std.proofs.lemmas.Option.{unwrap_or-slice_get}
 use Rattle.fdb_txn.specs.declared.tag_msg.TagMsg.{TagMsg}
@@ -46,7 +48,8 @@ module _ (kept : ℕ → Bool) (told : ℕ → TagMsg) (tag : ℕ) (old now : Li
       let apart : other ≢ tag = eqb-false other tag differs in
       ap (λ (b : Bool). b && kept other) (le-ltb other (tag + 1) (omega arith) ∙ sym (le-ltb other tag later)))
       (cases_lt other tag))
-      (λ left. and_right (nat_lt other (tag + 1)) (kept other) left ∙ sym (and_right (nat_lt other tag) (kept other) left))
+      (λ left. and_right (nat_lt other (tag + 1)) (kept other) left
+      ∙ sym (and_right (nat_lt other tag) (kept other) left))
       either
 
   -- the next tag isn't kept
@@ -64,7 +67,8 @@ module _ (kept : ℕ → Bool) (told : ℕ → TagMsg) (tag : ℕ) (old now : Li
       ⊎_elim
       (λ same.
       let here : list_at old tag ≡ list_at now tag = sym (are tag
-      ∙ cond-false (nat_lt tag tag && kept tag) _ _ (ap (λ (b : Bool). b && kept tag) (le-ltb tag tag (omega arith)))) in
+      ∙ cond-false (nat_lt tag tag && kept tag) _ _ (ap (λ (b : Bool). b && kept tag)
+      (le-ltb tag tag (omega arith)))) in
       ap (list_at (slice_set now tag (queue ++ told tag ∷ []))) (eqb-true other tag same)
       ∙ set-same now tag (queue ++ told tag ∷ []) within
       ∙ ap (λ (front : List TagMsg). front ++ told tag ∷ []) (reads ∙ sym here)

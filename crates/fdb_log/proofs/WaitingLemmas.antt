@@ -7,12 +7,13 @@ use Rattle.std.specs.BTreeMap.{insert_entry}
 use Rattle.std.specs.Ordering.{nat_cmp, ordering_then, match_ordering}
 use Rattle.std.specs.declared.cmp.Ordering.{Ordering}
 use Rattle.std.specs.declared.cmp.Ordering.TheVariants.{Equal, Greater}
-use Rattle.std.proofs.lemmas.Bool.{cases_Bool, cases_lt, cond-true, cond-false, lt-ltb, le-ltb, le-leb, lt-leb, ltb-true}
+use Rattle.std.proofs.lemmas.Bool.{cases_Bool, cases_lt, cond-true, cond-false, lt-ltb, le-ltb, le-leb, lt-leb}
+use Rattle.std.proofs.lemmas.Bool.{ltb-true}
 use Rattle.std.proofs.lemmas.Bool.{eqb-true, eq-eqb, ne_eqb, and_parts, not-true, leb-true, or_left, or_right}
 use Rattle.std.proofs.lemmas.List.{take_more, append-nil, length-take}
 use Rattle.std.proofs.lemmas.List.Sums.{length-filter}
 use Rattle.fdb_txn.specs.Limits.{tag_limit}
-use Rattle.fdb_txn.proofs.book.HistoryLemmas.{all-append, all-weaken}
+use Rattle.fdb_txn.proofs.Exports.{all-append, all-weaken}
 use Rattle.fdb_log.specs.declared.message.Tagged.{Tagged}
 use Rattle.fdb_log.specs.Waiting.{Waiting, ComesBefore, kept_among, waits, waits_for_alone, waiting_from}
 use Rattle.fdb_log.proofs.TagSetLemmas.{any-kept, any-of_kept}
@@ -146,7 +147,8 @@ module _ (before after : ℕ → ℕ) (tag through : ℕ) (here : after tag ≡ 
       sym (any-split (λ (other : ℕ). nat_lt (before other) version) tag one.1) ∙ waited in
       by_order rest has version waited_still ∙ sym (ap not now)
     where
-      step : (rest has behind passed still : Bool) → (rest || (has && behind)) ≡ true → (behind ≡ true → passed ≡ not still)
+      step : (rest has behind passed still : Bool) → (rest || (has && behind)) ≡ true
+          → (behind ≡ true → passed ≡ not still)
           → ((passed && has) && not rest) ≡ not (rest || (has && still))
       step true has behind passed still waited order = right passed has
         where
@@ -277,7 +279,8 @@ module _ (kept : ℕ → Bool) (version : ℕ) where
           ≡ length (filter (λ (sent : Tagged). list_any kept sent.tags) body)
       by_filter index [] = refl
       by_filter index (sent ∷ body) =
-          step (list_any kept sent.tags) ((version, index), kept_among kept sent.tags) sent _ _ (by_filter (suc index) body)
+          step (list_any kept sent.tags) ((version, index), kept_among kept sent.tags) sent _ _
+          (by_filter (suc index) body)
 
   -- one mutation more of a message
   next-of : (index : ℕ) (body : List Tagged) (sent : Tagged) → index < length body → sent ≡ get_or body index sent

@@ -5,7 +5,8 @@ use Rattle.fdb_keys.specs.declared.refusal.Refusal.TheVariants.{TransactionTooOl
 use Rattle.fdb_mutations.specs.declared.mutation.Mutation.{Mutation}
 use Rattle.fdb_log.specs.declared.message.LogMsg.{LogMsg}
 use Rattle.fdb_log.specs.declared.message.Tagged.{Tagged}
-use Rattle.fdb_log.specs.Logs.{Log, config_fault, push_fault, tag_fault, peek_fault, held, IsNewLog, HasTaken, HasPopped}
+use Rattle.fdb_log.specs.Logs.{Log, config_fault, push_fault, tag_fault, peek_fault, held, IsNewLog, HasTaken}
+use Rattle.fdb_log.specs.Logs.{HasPopped}
 
 -- log 1 of two, of four tags, after an entry of version 100, with tag 3 popped through 50
 abbrev pub log_one : Bool → Log

@@ -1,5 +1,6 @@
 -- What a log keeps, why it refuses, and what its calls leave.
-use Rattle.std.specs.Prelude.{◌≡◌, ◌<◌, ◌≤◌, ◌+◌, ℕ, max, Bool, true, false, not, ◌&&◌, ◌||◌, ◌==◌, nat_lt, nat_le, List, []}
+use Rattle.std.specs.Prelude.{◌≡◌, ◌<◌, ◌≤◌, ◌+◌, ℕ, max, Bool, true, false, not, ◌&&◌, ◌||◌, ◌==◌, nat_lt, nat_le}
+use Rattle.std.specs.Prelude.{List, []}
 use Rattle.std.specs.Prelude.{◌∷◌, ◌++◌, take, length, Option, Some, None, slice_get, unwrap_or, if◌then◌else◌}
 use Rattle.fdb_keys.specs.declared.refusal.Refusal.{Refusal}
 use Rattle.fdb_keys.specs.declared.refusal.Refusal.TheVariants.{Failed, Unknown, BadConfig, TransactionTooOld}
@@ -84,9 +85,9 @@ peek_of core tag after limit =
     }
 
 -- Between two calls its number is that of a log, and there are no more logs and tags than their limits say. Unless
--- memory ran out, each tag was popped through at most the last entry's version, the messages that are kept of a tag rise
--- from there up to that version, and each mutation that waits is of an entry up to it and has a tag that wasn't popped
--- so far.
+-- memory ran out, each tag was popped through at most the last entry's version, the messages that are kept of a tag
+-- rise from there up to that version, and each mutation that waits is of an entry up to it and has a tag that wasn't
+-- popped so far.
 pub record IsLog (core : Log) : Type 0 where
   pub number : core.log < core.logs
   pub few : core.logs ≤ log_limit

@@ -11,9 +11,7 @@ use Rattle.std.proofs.lemmas.Map.Text.{is_eq-slice_cmp}
 use Rattle.fdb_keys.specs.Points.{Point, point_eq}
 use Rattle.fdb_keys.specs.Ranges.{Range, in_range, single_range, ranges_meet}
 use Rattle.fdb_keys.specs.Clipping.{common_range, clipped_range}
-use Rattle.fdb_keys.proofs.RangesLemmas.{HaveCommonPoint, common_from_meet, meet_from_common}
-use Rattle.fdb_keys.proofs.SingleLemmas.{in_range-single}
-use Rattle.fdb_keys.proofs.ClippingLemmas.{in_common}
+use Rattle.fdb_keys.proofs.Exports.{HaveCommonPoint, common_from_meet, meet_from_common, in_range-single, in_common}
 use Rattle.fdb_mutations.specs.declared.mutation.Mutation.{Mutation}
 use Rattle.fdb_mutations.specs.declared.mutation.Mutation.TheVariants.{Set, Clear, ClearRange}
 use Rattle.fdb_mutations.specs.Maps.{Map}

@@ -10,10 +10,7 @@ use Rattle.std.proofs.lemmas.List.{reverse-reverse}
 use Rattle.fdb_keys.specs.Cutting.{range_behind}
 use Rattle.fdb_keys.specs.Points.{Point, point_lt}
 use Rattle.fdb_keys.specs.Ranges.{Range, in_range, single_range}
-use Rattle.fdb_keys.proofs.BehindLemmas.{not_behind-itself}
-use Rattle.fdb_keys.proofs.PointOrder.{lt_one_way, le_chain}
-use Rattle.fdb_keys.proofs.RangesLemmas.{in_range_parts}
-use Rattle.fdb_keys.proofs.SingleLemmas.{next_after, below_next}
+use Rattle.fdb_keys.proofs.Exports.{not_behind-itself, lt_one_way, le_chain, in_range_parts, next_after, below_next}
 use Rattle.fdb_mutations.specs.Maps.{Map}
 use Rattle.fdb_mutations.specs.Pairs.{pairs_within, pairs_in}
 use Rattle.fdb_mutations.specs.PairLaws.{pair_of}

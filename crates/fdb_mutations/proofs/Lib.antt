@@ -1,7 +1,9 @@
-pub mod Effects
-pub mod FirstPairLemmas
-pub mod MapsLemmas
-pub mod NumbersLemmas
-pub mod OrderedLemmas
-pub mod PairsLemmas
-pub mod ScannedLemmas
+pub mod Exports
+mod Effects
+mod EqualityLemmas
+mod FirstPairLemmas
+mod MapsLemmas
+mod NumbersLemmas
+mod OrderedLemmas
+mod PairsLemmas
+mod ScannedLemmas

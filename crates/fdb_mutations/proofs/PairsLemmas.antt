@@ -15,9 +15,8 @@ use Rattle.std.proofs.lemmas.Map.Text.{is_eq-slice_cmp}
 use Rattle.fdb_keys.specs.Cutting.{range_behind}
 use Rattle.fdb_keys.specs.Points.{Point, point_lt, point_eq}
 use Rattle.fdb_keys.specs.Ranges.{Range, in_range, single_range}
-use Rattle.fdb_keys.proofs.PointOrder.{lt_one_way, le_chain, lt_le_chain}
-use Rattle.fdb_keys.proofs.RangesLemmas.{in_range_parts, in_range_from}
-use Rattle.fdb_keys.proofs.SingleLemmas.{in_range-single, next_after, below_next}
+use Rattle.fdb_keys.proofs.Exports.{lt_one_way, le_chain, lt_le_chain, in_range_parts, in_range_from, in_range-single}
+use Rattle.fdb_keys.proofs.Exports.{next_after, below_next}
 use Rattle.fdb_mutations.specs.Maps.{Map}
 use Rattle.fdb_mutations.specs.Pairs.{pairs_within, pairs_in}
 use Rattle.fdb_mutations.specs.PairLaws.{RangeHasThePairsOfItsParts, PairsFromAKeyOn, KeyHasItsPair}

@@ -8,9 +8,8 @@ use Rattle.std.proofs.lemmas.Bool.{cond-false, eqb-true, eq-eqb}
 use Rattle.std.proofs.lemmas.List.{take_all, take-append-drop, take_at, length-take-le, append-nil}
 use Rattle.fdb_keys.specs.Points.{Point, point_lt}
 use Rattle.fdb_keys.specs.Ranges.{Range, in_range, single_range}
-use Rattle.fdb_keys.proofs.PointOrder.{lt-itself, lt_one_way, lt_chain, le_lt_chain}
-use Rattle.fdb_keys.proofs.RangesLemmas.{in_range_parts, in_range_from}
-use Rattle.fdb_keys.proofs.SingleLemmas.{below_next}
+use Rattle.fdb_keys.proofs.Exports.{lt-itself, lt_one_way, lt_chain, le_lt_chain, in_range_parts, in_range_from}
+use Rattle.fdb_keys.proofs.Exports.{below_next}
 use Rattle.fdb_mutations.specs.Maps.{Map}
 use Rattle.fdb_mutations.specs.Pairs.{pairs_in, first_of, is_limit_reached, part_to_last}
 use Rattle.fdb_mutations.specs.PairLaws.{given_of, scanned_of, ScannedLiesInTheRange, ScannedHasWhatWasGiven}

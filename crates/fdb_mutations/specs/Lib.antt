@@ -10,9 +10,3 @@ pub mod Operands
 pub mod PairExamples
 pub mod PairLaws
 pub mod Pairs
-pub use Rattle.fdb_keys.specs.Answers
-pub use Rattle.fdb_keys.specs.Clipping
-pub use Rattle.fdb_keys.specs.Insertion
-pub use Rattle.fdb_keys.specs.Points
-pub use Rattle.fdb_keys.specs.Ranges
-pub use Rattle.fdb_keys.specs.Texts

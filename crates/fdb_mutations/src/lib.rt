@@ -6,11 +6,13 @@ mod making;
 mod mutation;
 mod numbers;
 mod operands;
+mod page;
 mod paging;
 mod pairs;
 mod plain_map;
 
 pub use mutation::{Mutation, Named, VALUE_LIMIT};
 pub use operands::copied;
+pub use page::Page;
 pub use paging::{one_more, page_of};
 pub use plain_map::PlainMap;

@@ -4,7 +4,7 @@ use Rattle.std.proofs.lemmas.Bool.{cases_lt}
 use Rattle.fdb_keys.specs.Points.{Point}
 use Rattle.fdb_txn.specs.book.Book.{add_moves}
 use Rattle.fdb_txn.specs.rules.Owners.{first_owner, owner}
-use Rattle.fdb_txn.proofs.rules.CornersLemmas.{owned_at_some_version}
+use Rattle.fdb_txn.proofs.Exports.{owned_at_some_version}
 use Rattle.fdb_owners.specs.Ownership.{target_after}
 use Rattle.fdb_owners.specs.OwnersLaws.{NewGoesOn, LearningGoesOn, ExpiringGoesOn, OwnedByTheBook}
 use Rattle.fdb_owners.proofs.OwnerLemmas.{owner-since, owner-before}

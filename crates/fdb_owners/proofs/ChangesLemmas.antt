@@ -7,7 +7,7 @@ use Rattle.std.proofs.lemmas.Bool.{cases_Bool, cond-true, cond-false, lt-ltb, le
 use Rattle.std.proofs.lemmas.List.Sums.{prefix_len_is}
 use Rattle.std.proofs.lemmas.List.{append-nil}
 use Rattle.std.proofs.lemmas.List.Elements.{filter-append}
-use Rattle.fdb_txn.proofs.book.HistoryLemmas.{all-weaken}
+use Rattle.fdb_txn.proofs.Exports.{all-weaken}
 use Rattle.fdb_owners.specs.declared.history.Change.{Change}
 use Rattle.fdb_owners.specs.Histories.{AreAbove, AreUpTo, owner_by}
 use Rattle.fdb_owners.specs.Parts.{changes_within}
@@ -78,12 +78,14 @@ newer v change = nat_lt v change.version
 above-newer : (v : ℕ) (changes : List Change) → AreAbove v changes
     → AllByRecursion (λ (change : Change). newer v change ≡ true) changes
 above-newer v changes above =
-    all-weaken _ (λ (change : Change). newer v change ≡ true) (λ (change : Change) is. lt-ltb v change.version is) changes above
+    all-weaken _ (λ (change : Change). newer v change ≡ true) (λ (change : Change) is. lt-ltb v change.version is)
+    changes above
 
 up_to-not_newer : (v : ℕ) (changes : List Change) → AreUpTo v changes
     → AllByRecursion (λ (change : Change). newer v change ≡ false) changes
 up_to-not_newer v changes through =
-    all-weaken _ (λ (change : Change). newer v change ≡ false) (λ (change : Change) is. le-ltb v change.version is) changes
+    all-weaken _ (λ (change : Change). newer v change ≡ false) (λ (change : Change) is. le-ltb v change.version is)
+    changes
     through
 
 -- two searches find the changes of a span
@@ -99,7 +101,8 @@ within-parted since through above within before later known inside past = sym (
     all-weaken _ (λ (change : Change). up_to change ≡ true)
     (λ (change : Change) is. le-leb change.version through is) (within ++ before) known))
     ∙ filter-append (newer since) within before
-    ∙ ap (λ (l : List Change). l ++ filter (newer since) before) (filter-all (newer since) within (above-newer since within inside))
+    ∙ ap (λ (l : List Change). l ++ filter (newer since) before) (filter-all (newer since) within
+    (above-newer since within inside))
     ∙ ap (λ (l : List Change). within ++ l) (filter-none (newer since) before (up_to-not_newer since before past))
     ∙ append-nil within
     )

@@ -20,7 +20,8 @@ count-same test other low zero same = refl
 count-same test other low (suc v) same =
     ap (λ (n : ℕ). n + one_if (nat_le low v && test (suc v)))
     (count-same test other low v (λ w from below. same w from (omega arith)))
-    ∙ ap (λ (n : ℕ). count_between other low v + n) (last (nat_le low v) (λ reached. same v (leb-true low v reached) (omega arith)))
+    ∙ ap (λ (n : ℕ). count_between other low v + n) (last (nat_le low v)
+    (λ reached. same v (leb-true low v reached) (omega arith)))
   where
     last : (reached : Bool) → (reached ≡ true → test (suc v) ≡ other (suc v))
         → one_if (reached && test (suc v)) ≡ one_if (reached && other (suc v))
@@ -51,7 +52,8 @@ count-front test low middle (suc v) order none =
     (λ (below : middle < suc v).
     ap (λ (n : ℕ). n + one_if (nat_le low v && test (suc v)))
     (count-front test low middle v (omega arith) (λ w from under. none w from (omega arith)))
-    ∙ ap (λ (passes : Bool). count_between test low middle + one_if (nat_le low v && passes)) (none v (omega arith) (omega arith))
+    ∙ ap (λ (passes : Bool). count_between test low middle + one_if (nat_le low v && passes))
+    (none v (omega arith) (omega arith))
     ∙ added_none (nat_le low v) (count_between test low middle))
     (λ (reached : suc v ≤ middle).
     ap (λ (n : ℕ). count_between test low n) (all_of_it reached))
@@ -116,7 +118,8 @@ count-latest first change older floor last v is from within below counted =
     before =
         count-same (changes_at (owner_by first older)) test floor v
         (λ w above under.
-        ap₂ (λ (after ago : ℕ). not (after == ago)) (sym (unreached (suc w) (omega arith))) (sym (unreached w (omega arith))))
+        ap₂ (λ (after ago : ℕ). not (after == ago)) (sym (unreached (suc w) (omega arith)))
+        (sym (unreached w (omega arith))))
 
     here : (if change.owner == latest_of first older then 0 else 1) ≡ one_if (test (suc v))
     here =
@@ -152,10 +155,12 @@ count-changes first (change ∷ older) floor last falling above through =
 -- and so there are by all changes, of which those up to the floor have an owner
 pub count-above : (first : ℕ) (above through : List Change) (floor last : ℕ) → AreFalling above → AreAbove floor above
     → AreUpTo last above → AreUpTo floor through
-    → differing (latest_of first through) above ≡ count_between (changes_at (owner_by first (above ++ through))) floor last
+    → differing (latest_of first through) above ≡ count_between (changes_at (owner_by first (above
+    ++ through))) floor last
 count-above first above through floor last falling are_above within known =
     count-changes (latest_of first through) above floor last falling are_above within
-    ∙ count-same (changes_at (owner_by (latest_of first through) above)) (changes_at (owner_by first (above ++ through)))
+    ∙ count-same (changes_at (owner_by (latest_of first through) above)) (changes_at (owner_by first (above
+    ++ through)))
     floor last
     (λ v from under.
     ap₂ (λ (after ago : ℕ). not (after == ago)) (owner-cut first above through floor (suc v) known (omega arith))

@@ -6,12 +6,11 @@ use Rattle.std.specs.Ordering.{match_ordering}
 use Rattle.std.proofs.lemmas.Bool.{cases_Bool, and_parts, cond-true, cond-false}
 use Rattle.fdb_keys.specs.Points.{Point, point_lt}
 use Rattle.fdb_keys.specs.Texts.{is_bound}
-use Rattle.fdb_keys.proofs.PointOrder.{lt_chain, cmp_greater}
+use Rattle.fdb_keys.proofs.Exports.{lt_chain, cmp_greater}
 use Rattle.fdb_txn.specs.rules.Owners.{first_owner}
 use Rattle.fdb_txn.specs.rules.Splits.{rise_after}
 use Rattle.fdb_interval.specs.Breakpoints.{Breaks, value_from}
-use Rattle.fdb_interval.proofs.BreaksLemmas.{value-after}
-use Rattle.fdb_interval.proofs.PartsLemmas.{put}
+use Rattle.fdb_interval.proofs.Exports.{value-after, put}
 use Rattle.fdb_owners.specs.declared.history.History.{History}
 use Rattle.fdb_owners.specs.Histories.{IsHistory}
 
@@ -36,7 +35,8 @@ first_breaks-push before (first ∷ splits) split =
     ∙ ap (λ (n : ℕ). first_breaks (suc before) splits ++ (split, alone (suc n)) ∷ []) (omega arith))
 
 -- splits rise up to the last one
-rises-to : (before : ℕ) (start : Point) (splits : List Point) (split : Point) → rise_after start (splits ++ split ∷ []) ≡ true
+rises-to : (before : ℕ) (start : Point) (splits : List Point) (split : Point)
+    → rise_after start (splits ++ split ∷ []) ≡ true
     → (point_lt start split ≡ true)
     × AllByRecursion (λ (piece : Point × History). point_lt piece.0 split ≡ true) (first_breaks before splits)
 rises-to before start [] split rising = ((and_parts _ _ rising).0, tt)
@@ -67,7 +67,8 @@ first_breaks-put start all splits split k n rising more is =
     put-last split (alone n) (first_breaks 0 splits)
     (rises-to 0 start splits split
     (ap (rise_after start) (sym more)
-    ∙ rise-front start (take (k + 1) all) (drop (k + 1) all) (ap (rise_after start) (take-append-drop (k + 1) all) ∙ rising))).1
+    ∙ rise-front start (take (k + 1) all) (drop (k + 1) all) (ap (rise_after start) (take-append-drop (k + 1) all)
+    ∙ rising))).1
     ∙ ap (λ (m : ℕ). first_breaks 0 splits ++ (split, alone m) ∷ []) (omega (arith, is))
     ∙ sym (first_breaks-push 0 splits split)
     ∙ ap (first_breaks 0) (sym more)

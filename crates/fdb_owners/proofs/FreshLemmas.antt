@@ -18,8 +18,7 @@ use Rattle.fdb_keys.specs.Points.{Point, point_lt}
 use Rattle.fdb_keys.specs.Ranges.{Range, in_range}
 use Rattle.fdb_txn.specs.declared.entry.Move.{Move}
 use Rattle.fdb_interval.specs.Breakpoints.{Breaks, AreRising}
-use Rattle.fdb_interval.proofs.BreaksLemmas.{all_imply, at}
-use Rattle.fdb_interval.proofs.PartsLemmas.{at_itself, at_same, at_before, at_after, later_than_same}
+use Rattle.fdb_interval.proofs.Exports.{all_imply, at, at_itself, at_same, at_before, at_after, later_than_same}
 use Rattle.fdb_owners.specs.declared.history.History.{History}
 use Rattle.fdb_owners.specs.Learning.{changed, fresh_by, fresh_of, with_fresh}
 

@@ -89,7 +89,8 @@ up_to-weaken low high (change ∷ older) order all = (omega (arith, all, order),
 -- from a version on, the latest owner up to it serves as the first one
 pub owner-cut : (first : ℕ) (above through : List Change) (floor v : ℕ) → AreUpTo floor through → floor ≤ v
     → owner_by (latest_of first through) above v ≡ owner_by first (above ++ through) v
-owner-cut first [] through floor v all from = sym (owner-through first through v (up_to-weaken floor v through from all))
+owner-cut first [] through floor v all from = sym (owner-through first through v
+    (up_to-weaken floor v through from all))
 owner-cut first (change ∷ above) through floor v all from =
     ap (λ (owner : ℕ). if nat_le change.version v then change.owner else owner)
     (owner-cut first above through floor v all from)
@@ -137,5 +138,9 @@ changes-same (change ∷ older) [] same = absurd (both_ways _ refl same)
 changes-same (change ∷ older) (other ∷ others) same =
     let parts = and_parts (change.version == other.version && change.owner == other.owner) _ same in
     let fields = and_parts (change.version == other.version) _ parts.0 in
-    (λ i. record { version = eqb-true change.version other.version fields.0 i; owner = eqb-true change.owner other.owner fields.1 i }
+    (λ i. record {
+      version = eqb-true change.version other.version fields.0 i;
+      owner = eqb-true change.owner other.owner
+          fields.1 i;
+    }
     ∷ changes-same older others parts.1 i)

@@ -3,9 +3,9 @@ use Rattle.std.proofs.Common.{◌≡◌, ◌∙◌, sym, ap, subst, refl, true, 
 use Rattle.std.specs.List.{AllByRecursion}
 use Rattle.std.proofs.lemmas.Bool.{cases_Bool, cond-true, cond-false}
 use Rattle.fdb_keys.specs.Points.{Point, point_lt}
-use Rattle.fdb_keys.proofs.PointOrder.{lt_chain}
+use Rattle.fdb_keys.proofs.Exports.{lt_chain}
 use Rattle.fdb_interval.specs.Breakpoints.{Breaks, value_from, AreRising}
-use Rattle.fdb_interval.proofs.BreaksLemmas.{all_imply, value-after}
+use Rattle.fdb_interval.proofs.Exports.{all_imply, value-after}
 use Rattle.fdb_owners.specs.declared.history.History.{History}
 use Rattle.fdb_owners.specs.declared.pieces.Pieces.{Pieces}
 use Rattle.fdb_owners.specs.Histories.{same_history}

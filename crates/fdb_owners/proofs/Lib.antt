@@ -1,22 +1,23 @@
-pub mod AnswersLemmas
-pub mod BetweenLemmas
-pub mod BookLemmas
-pub mod ChangesLemmas
-pub mod CountLemmas
-pub mod FirstLemmas
-pub mod FreshLemmas
-pub mod HistoryLemmas
-pub mod JoinedLemmas
-pub mod LearntLemmas
-pub mod OwnedFromLemmas
-pub mod OwnerLemmas
-pub mod OwnersLemmas
-pub mod PartsLemmas
-pub mod PlaceLemmas
-pub mod SameHistoryLemmas
-pub mod SoleLemmas
-pub mod SplitLemmas
-pub mod SpreadLemmas
-pub mod SweepingLemmas
-pub mod TouchedLemmas
-pub mod WalkLemmas
+pub mod Exports
+mod AnswersLemmas
+mod BetweenLemmas
+mod BookLemmas
+mod ChangesLemmas
+mod CountLemmas
+mod FirstLemmas
+mod FreshLemmas
+mod HistoryLemmas
+mod JoinedLemmas
+mod LearntLemmas
+mod OwnedFromLemmas
+mod OwnerLemmas
+mod OwnersLemmas
+mod PartsLemmas
+mod PlaceLemmas
+mod SameHistoryLemmas
+mod SoleLemmas
+mod SplitLemmas
+mod SpreadLemmas
+mod SweepingLemmas
+mod TouchedLemmas
+mod WalkLemmas

@@ -32,7 +32,7 @@ use Rattle.fdb_owners.proofs.JoinedLemmas.{value-joined}
 use Rattle.fdb_owners.proofs.OwnedFromLemmas.{between-owned_from, owned_from-one}
 use Rattle.fdb_owners.proofs.PartsLemmas.{parts-alike}
 use Rattle.fdb_owners.proofs.SplitLemmas.{value-holds}
-use Rattle.fdb_interval.proofs.BreaksLemmas.{all_imply}
+use Rattle.fdb_interval.proofs.Exports.{all_imply}
 
 -- what owners with these pieces inside say
 abbrev pub seen_as : List Point → Pieces → ℕ → ℕ → Ownership
@@ -66,7 +66,8 @@ owners-within resolvers last (change ∷ older) all = (all.0.0, owners-within re
 pub owner-known : (resolvers last : ℕ) (history : History) (v : ℕ) → IsHistory resolvers last history
     → owner_in history v < resolvers
 owner-known resolvers last history v is =
-    owner-below resolvers history.first v history.changes is.first (owners-within resolvers last history.changes is.changes)
+    owner-below resolvers history.first v history.changes is.first
+    (owners-within resolvers last history.changes is.changes)
 
 -- from the last version on, the owner stays
 settled-in : (resolvers last : ℕ) (history : History) (v : ℕ) → IsHistory resolvers last history → last ≤ v
@@ -78,7 +79,8 @@ settled-in resolvers last history v is from =
 
 -- ---- all owners
 -- a point's owner is the one by the history of its piece
-seen-is : (splits : List Point) (pieces : Pieces) (last floor : ℕ) → AreRising pieces.breaks.entries → (x : Point) (v : ℕ)
+seen-is : (splits : List Point) (pieces : Pieces) (last floor : ℕ) → AreRising pieces.breaks.entries
+    → (x : Point) (v : ℕ)
     → owner_at (seen_as splits pieces last floor) x v ≡ owner_in (history_at pieces x) v
 seen-is splits pieces last floor rising x v =
     ap (λ (history : History). owner_in history v) (value-joined pieces.front pieces.breaks.entries x rising)
@@ -97,7 +99,8 @@ module _ (splits : List Point) (pieces : Pieces) (last floor : ℕ) (are : IsPie
       → owner_at owners x v ≡ owner_at owners x owners.last) seen
       (λ x v from.
       owner-seen x v
-      ∙ settled-in (suc (length splits)) last (history_at pieces x) v (history-is (suc (length splits)) last pieces are x)
+      ∙ settled-in (suc (length splits)) last (history_at pieces x) v (history-is
+      (suc (length splits)) last pieces are x)
       from
       ∙ sym (owner-seen x last))
 
@@ -106,7 +109,8 @@ module _ (splits : List Point) (pieces : Pieces) (last floor : ℕ) (are : IsPie
       → ((v : ℕ) → AreUpTo v history.changes → result ≡ owner_in history v)
       → (result ≡ owner_at self key self.last) × (result < resolvers_of self)
   owner-answers self seen key history result is says =
-      let kept = subst (IsHistory (suc (length splits)) last) (sym is) (history-is (suc (length splits)) last pieces are key)
+      let kept = subst (IsHistory (suc (length splits)) last) (sym is) (history-is
+      (suc (length splits)) last pieces are key)
       in
       let there = says last (through-last (suc (length splits)) last history kept) in (
         subst (λ (owners : Ownership). result ≡ owner_at owners key owners.last) seen
@@ -123,7 +127,8 @@ module _ (splits : List Point) (pieces : Pieces) (last floor : ℕ) (are : IsPie
       → result ≡ count_between (changes_at (owner_in history)) floor v)
       → result ≡ changes_of self key
   changes-answers self seen key history result is says =
-      let kept = subst (IsHistory (suc (length splits)) last) (sym is) (history-is (suc (length splits)) last pieces are key)
+      let kept = subst (IsHistory (suc (length splits)) last) (sym is) (history-is
+      (suc (length splits)) last pieces are key)
       in
       subst (λ (owners : Ownership). result ≡ changes_of owners key) seen
       (says last (through-last (suc (length splits)) last history kept)
@@ -235,7 +240,8 @@ new-answers splits resolvers pieces count few rise rising owners =
     no_fault =
         ap (λ (t : Bool). if t && nat_le resolvers resolver_limit && are_splits splits then None else Some BadConfig)
         (eq-eqb (suc (length splits)) resolvers count)
-        ∙ ap (λ (t : Bool). if t && are_splits splits then None else Some BadConfig) (le-leb resolvers resolver_limit few)
+        ∙ ap (λ (t : Bool). if t && are_splits splits then None else Some BadConfig)
+        (le-leb resolvers resolver_limit few)
         ∙ ap (λ (t : Bool). if t then None else Some BadConfig) rise
 
 pub learn-has : (splits : List Point) (pieces others : Pieces) (last floor version : ℕ) (moves : List Move)

@@ -8,11 +8,9 @@ use Rattle.std.proofs.lemmas.Bool.{eq-eqb, both_ways, or_cases, or_left, or_righ
 use Rattle.fdb_keys.specs.Insertion.{with_range}
 use Rattle.fdb_keys.specs.Points.{Point, point_lt}
 use Rattle.fdb_keys.specs.Ranges.{Range, in_range, in_set}
-use Rattle.fdb_keys.proofs.ApartLemmas.{in_with_range}
-use Rattle.fdb_keys.proofs.PointOrder.{lt-itself, le_lt_chain}
-use Rattle.fdb_keys.proofs.RangesLemmas.{in_range_parts, in_range_from}
+use Rattle.fdb_keys.proofs.Exports.{in_with_range, lt-itself, le_lt_chain, in_range_parts, in_range_from}
 use Rattle.fdb_txn.specs.rules.Admission.{has_points}
-use Rattle.fdb_txn.proofs.book.HistoryLemmas.{all-weaken}
+use Rattle.fdb_txn.proofs.Exports.{all-weaken}
 use Rattle.fdb_owners.specs.declared.history.Change.{Change}
 use Rattle.fdb_owners.specs.declared.history.History.{History}
 use Rattle.fdb_owners.specs.declared.parts.Owned.{Owned}

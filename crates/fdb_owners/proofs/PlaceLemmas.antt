@@ -9,10 +9,9 @@ use Rattle.std.specs.Ordering.{nat_cmp}
 use Rattle.std.proofs.lemmas.Bool.{cases_Bool, both_ways, cond-true, cond-false}
 use Rattle.fdb_keys.specs.Points.{Point, point_lt}
 use Rattle.fdb_keys.specs.Ranges.{Range, in_range}
-use Rattle.fdb_keys.proofs.PointOrder.{lt-itself, lt_chain, lt_one_way}
+use Rattle.fdb_keys.proofs.Exports.{lt-itself, lt_chain, lt_one_way}
 use Rattle.fdb_interval.specs.Breakpoints.{Breaks, value_from, AreRising}
-use Rattle.fdb_interval.proofs.BreaksLemmas.{all_imply, at}
-use Rattle.fdb_interval.proofs.PartsLemmas.{at_same, later_than_same}
+use Rattle.fdb_interval.proofs.Exports.{all_imply, at, at_same, later_than_same}
 use Rattle.fdb_owners.proofs.FreshLemmas.{remade}
 
 -- the last breakpoint up to the point, `before` where there is none

@@ -1,14 +1,13 @@
 -- One owner of a whole set: no breakpoint is between its first begin and its last end.
-use Rattle.std.proofs.Common.{◌≡◌, ◌∙◌, sym, ap, subst, ℕ, suc, ◌-◌, Bool, true, false, ◌||◌, ◌==◌, List, [], ◌∷◌, length}
+use Rattle.std.proofs.Common.{◌≡◌, ◌∙◌, sym, ap, subst, ℕ, suc, ◌-◌, Bool, true, false, ◌||◌, ◌==◌, List, [], ◌∷◌}
+use Rattle.std.proofs.Common.{length}
 use Rattle.std.proofs.Common.{⊎_elim, Option, Some, unwrap_or, refl, slice_get, arith}
 use Rattle.std.specs.List.{list_any}
 use Rattle.std.proofs.lemmas.Bool.{both_ways, or_cases, or_left, false_from_ne_true}
 use Rattle.fdb_keys.specs.Points.{Point, point_lt}
 use Rattle.fdb_keys.specs.Ranges.{Range, in_range, in_set, is_apart}
-use Rattle.fdb_keys.proofs.ApartLemmas.{all_after, in_set-before}
-use Rattle.fdb_keys.proofs.InsertionLemmas.{apart_parts}
-use Rattle.fdb_keys.proofs.PointOrder.{lt-itself, lt_chain}
-use Rattle.fdb_keys.proofs.RangesLemmas.{in_range_parts, in_range_from}
+use Rattle.fdb_keys.proofs.Exports.{all_after, in_set-before, apart_parts, lt-itself, lt_chain, in_range_parts}
+use Rattle.fdb_keys.proofs.Exports.{in_range_from}
 use Rattle.fdb_interval.specs.Breakpoints.{Breaks, value_from, breaks_inside, AreRising}
 use Rattle.fdb_owners.specs.declared.history.Change.{Change}
 use Rattle.fdb_owners.specs.declared.history.History.{History}

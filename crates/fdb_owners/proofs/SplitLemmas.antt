@@ -11,11 +11,10 @@ use Rattle.std.specs.declared.cmp.Ordering.{Ordering}
 use Rattle.std.proofs.lemmas.Bool.{cases_Bool, both_ways, cond-true, cond-false}
 use Rattle.fdb_keys.specs.Points.{Point, point_lt}
 use Rattle.fdb_keys.specs.Texts.{is_bound}
-use Rattle.fdb_keys.proofs.PointOrder.{lt-itself, lt_chain, lt_one_way}
+use Rattle.fdb_keys.proofs.Exports.{lt-itself, lt_chain, lt_one_way}
 use Rattle.fdb_interval.specs.Breakpoints.{Breaks, value_from, AreRising}
-use Rattle.fdb_interval.proofs.BreaksLemmas.{all_imply, at, value-after}
-use Rattle.fdb_interval.proofs.PartsLemmas.{put, at_itself, later_than_same, equal_points, less_first, greater_after}
-use Rattle.fdb_interval.proofs.PartsLemmas.{rising-put}
+use Rattle.fdb_interval.proofs.Exports.{all_imply, at, value-after, put, at_itself, later_than_same, equal_points}
+use Rattle.fdb_interval.proofs.Exports.{less_first, greater_after, rising-put}
 use Rattle.fdb_owners.specs.declared.history.History.{History}
 use Rattle.fdb_owners.specs.declared.pieces.Pieces.{Pieces}
 use Rattle.fdb_owners.specs.Histories.{IsHistory, same_history}

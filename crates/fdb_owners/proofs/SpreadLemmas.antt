@@ -9,7 +9,7 @@ use Rattle.std.proofs.Math.Bool.{and-true, or-false}
 use Rattle.fdb_keys.specs.Points.{Point}
 use Rattle.fdb_keys.specs.Ranges.{Range, in_range, in_set}
 use Rattle.fdb_txn.specs.rules.Admission.{has_points}
-use Rattle.fdb_txn.proofs.book.HistoryLemmas.{all-weaken}
+use Rattle.fdb_txn.proofs.Exports.{all-weaken}
 use Rattle.fdb_owners.specs.declared.parts.Owned.{Owned}
 use Rattle.fdb_owners.specs.Parts.{ranges_of, AreRising, ArePartsOf}
 use Rattle.fdb_owners.specs.Spreads.{is_held, AreOwned}

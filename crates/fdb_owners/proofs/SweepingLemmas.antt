@@ -10,14 +10,12 @@ use Rattle.std.specs.Ordering.{nat_cmp}
 use Rattle.std.proofs.lemmas.Bool.{both_ways, cases_Bool, cond-true, cond-false, not_from_false}
 use Rattle.fdb_keys.specs.Points.{Point, point_lt}
 use Rattle.fdb_keys.specs.Texts.{is_bound}
-use Rattle.fdb_keys.proofs.PointOrder.{lt_one_way, lt_le_chain, lt-itself}
+use Rattle.fdb_keys.proofs.Exports.{lt_one_way, lt_le_chain, lt-itself}
 use Rattle.fdb_interval.specs.Breakpoints.{Breaks, value_from, last_value, breaks_before, AreRising}
-use Rattle.fdb_interval.proofs.BreaksLemmas.{sift, all-sift, cut_in_two, cut_within, cut_from}
-use Rattle.fdb_interval.proofs.BreaksLemmas.{cut_beyond, at-is, value-append, value-reached, before, from, up_to}
-use Rattle.fdb_interval.proofs.BreaksLemmas.{beyond, at, absorbed}
-use Rattle.fdb_interval.proofs.PartsLemmas.{taken, taken-other, taken-passing, rising-taken, at_itself}
-use Rattle.fdb_interval.proofs.PartsLemmas.{all_left, found-at}
-use Rattle.fdb_interval.proofs.ThroughoutLemmas.{none-at}
+use Rattle.fdb_interval.proofs.Exports.{sift, all-sift, cut_in_two, cut_within, cut_from, cut_beyond, at-is}
+use Rattle.fdb_interval.proofs.Exports.{value-append, value-reached, before, from, up_to, beyond, at, absorbed, taken}
+use Rattle.fdb_interval.proofs.Exports.{taken-other, taken-passing, rising-taken, at_itself, all_left, found-at}
+use Rattle.fdb_interval.proofs.Exports.{none-at}
 use Rattle.fdb_owners.specs.declared.history.History.{History}
 use Rattle.fdb_owners.specs.Histories.{owner_in, AreFalling, IsHistory}
 use Rattle.fdb_owners.specs.declared.pieces.Pieces.{Pieces}
@@ -55,7 +53,8 @@ others_left : {V : Type 0} (start : V) (x : Point) (es : Breaks V) → AreRising
     → taken x es ≡ sift (before x) es ++ sift (beyond x) es
 others_left {V} start x es rising =
     three_parts x (taken x es) (rising-taken x es rising)
-    ∙ (λ i. taken-other (before x) x (lt-itself x) es i ++ (none_there i ++ taken-other (beyond x) x (lt-itself x) es i))
+    ∙ (λ i. taken-other (before x) x (lt-itself x) es i ++ (none_there i
+    ++ taken-other (beyond x) x (lt-itself x) es i))
   where
     none_there : sift (at x) (taken x es) ≡ []
     none_there =
@@ -123,7 +122,8 @@ set-agrees floor x old new agree (e ∷ es) found start y = ⊎_elim
     (λ here.
     subst (λ l. Agree floor (value_from start (e ∷ es) y) (value_from start l y)) (sym (cond-true _ _ _ here))
     (by_side (point_lt y e.0)
-    (subst (λ (history : History). Agree floor history new) (sym (taken_from (sym (cond-true _ _ _ here) ∙ found))) agree)))
+    (subst (λ (history : History). Agree floor history new) (sym (taken_from (sym (cond-true _ _ _ here)
+    ∙ found))) agree)))
     (λ elsewhere.
     subst (λ l. Agree floor (value_from start (e ∷ es) y) (value_from start l y)) (sym (cond-false _ _ _ elsewhere))
     (set-agrees floor x old new agree es (sym (cond-false _ _ _ elsewhere) ∙ found)
@@ -134,7 +134,8 @@ set-agrees floor x old new agree (e ∷ es) found start y = ⊎_elim
     taken_from is = ap (λ (o : Option History). unwrap_or o old) is
 
     by_side : (sooner : Bool) → Agree floor e.1 new
-        → Agree floor (value_from (if sooner then start else e.1) es y) (value_from (if sooner then start else new) es y)
+        → Agree floor (value_from (if sooner then start else e.1) es y)
+        (value_from (if sooner then start else new) es y)
     by_side true same = agree-itself floor (value_from start es y)
     by_side false same = agree-after floor e.1 new same es y
 
@@ -146,7 +147,8 @@ all-set P x old new goes_on [] found all = tt
 all-set P x old new goes_on (e ∷ es) found all = ⊎_elim
     (λ here.
     subst (AllByRecursion P) (sym (cond-true _ _ _ here)) (
-      goes_on e.0 (subst (λ (history : History). P (e.0, history)) (taken_from (sym (cond-true _ _ _ here) ∙ found)) all.0),
+      goes_on e.0 (subst (λ (history : History). P (e.0, history)) (taken_from (sym (cond-true _ _ _ here)
+          ∙ found)) all.0),
       all.1,
     ))
     (λ elsewhere.
@@ -210,7 +212,8 @@ pub taken-kept : (resolvers last : ℕ) (x : Point) (es : Breaks History) → Al
     → AllByRecursion (IsPiece resolvers last) (taken x es)
 taken-kept resolvers last x es all = all_left (IsPiece resolvers last) x es all
 
-pub set-kept : (resolvers last : ℕ) (x : Point) (old new : History) → (IsHistory resolvers last old → IsHistory resolvers last new)
+pub set-kept : (resolvers last : ℕ) (x : Point) (old new : History)
+    → (IsHistory resolvers last old → IsHistory resolvers last new)
     → (es : Breaks History) → lookup (is_at (slice_cmp nat_cmp x)) es ≡ Some old
     → AllByRecursion (IsPiece resolvers last) es
     → AllByRecursion (IsPiece resolvers last) (set_value (is_at (slice_cmp nat_cmp x)) es new)

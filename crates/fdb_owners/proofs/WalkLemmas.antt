@@ -6,14 +6,11 @@ use Rattle.std.proofs.lemmas.Bool.{cases_Bool, and_right, cond-true, cond-false,
 use Rattle.fdb_keys.specs.Points.{Point, point_lt}
 use Rattle.fdb_keys.specs.Ranges.{Range, in_range}
 use Rattle.fdb_keys.specs.Texts.{is_bound}
-use Rattle.fdb_keys.proofs.PointOrder.{lt-itself, lt_one_way, lt_chain, lt_le_chain}
-use Rattle.fdb_keys.proofs.RangesLemmas.{in_range_parts}
-use Rattle.fdb_txn.proofs.book.HistoryLemmas.{all-append, all-weaken}
+use Rattle.fdb_keys.proofs.Exports.{lt-itself, lt_one_way, lt_chain, lt_le_chain, in_range_parts}
+use Rattle.fdb_txn.proofs.Exports.{all-append, all-weaken}
 use Rattle.fdb_interval.specs.Breakpoints.{Breaks, value_from, last_value, breaks_inside, AreRising as Rise}
-use Rattle.fdb_interval.proofs.BreaksLemmas.{sift, before, at, inside, inside-is, beyond, five_parts, all-sift}
-use Rattle.fdb_interval.proofs.BreaksLemmas.{all_kept}
-use Rattle.fdb_interval.proofs.BreaksLemmas.{rising-sift, value-append, value-after, value-reached}
-use Rattle.fdb_interval.proofs.PartsLemmas.{at_same}
+use Rattle.fdb_interval.proofs.Exports.{sift, before, at, inside, inside-is, beyond, five_parts, all-sift, all_kept}
+use Rattle.fdb_interval.proofs.Exports.{rising-sift, value-append, value-after, value-reached, at_same}
 use Rattle.fdb_owners.specs.declared.history.Change.{Change}
 use Rattle.fdb_owners.specs.declared.history.History.{History}
 use Rattle.fdb_owners.specs.declared.parts.Owned.{Owned}
@@ -71,7 +68,8 @@ way-goes history begin (piece ∷ rest) end way =
     lt_chain begin piece.0 end way.2 (way-goes piece.1 piece.0 rest end way.3)
 
 way-rises : (history : History) (begin : Point) (pieces : Breaks History) (end : Point)
-    → IsWay history begin pieces end → AllByRecursion (λ (piece : Point × History). point_lt begin piece.0 ≡ true) pieces
+    → IsWay history begin pieces end → AllByRecursion (λ (piece : Point
+    × History). point_lt begin piece.0 ≡ true) pieces
 way-rises history begin [] end way = tt
 way-rises history begin (piece ∷ rest) end way = (
   way.2,
@@ -212,7 +210,8 @@ parts-with_pieces n history since through begin (piece ∷ rest) end held parts 
     parts-alike n _ _ (with_pieces history since through begin (piece ∷ rest) end parts)
     (parts-with_pieces n piece.1 since through piece.0 rest end _ (with_owners history since through range parts)
     way.3 all.0 all.1 (parts-with_owners n history since through range held parts low way.2 are))
-    (λ j x. parted (held j x) (λ (h : History). owned_from h j since through) history begin piece rest end x way.2 way.3)
+    (λ j x. parted (held j x) (λ (h : History). owned_from h j since through) history begin piece rest end x way.2
+    way.3)
 
 owners_below : (n last : ℕ) (history : History) → IsHistory n last history → HasOwnersBelow n history
 owners_below n last history is = record {

@@ -17,7 +17,8 @@ owner_in history v = owner_by history.first history.changes v
 -- each change is of a version above those after it
 abbrev pub AreFalling : List Change → Type 0
 AreFalling [] = ⊤
-AreFalling (change ∷ older) = AllByRecursion (λ (earlier : Change). earlier.version < change.version) older × AreFalling older
+AreFalling (change ∷ older) = AllByRecursion (λ (earlier : Change). earlier.version < change.version) older
+    × AreFalling older
 
 -- each change is of a version above this one
 abbrev pub AreAbove : ℕ → List Change → Type 0
@@ -40,7 +41,8 @@ differing first (change ∷ older) = differing first older + (if change.owner ==
 -- the owners are some of so many resolvers, and the changes' versions, the latest first, are up to the last one
 pub record IsHistory (resolvers last : ℕ) (history : History) : Type 0 where
   pub first : history.first < resolvers
-  pub changes : AllByRecursion (λ (change : Change). (change.owner < resolvers) × (change.version ≤ last)) history.changes
+  pub changes : AllByRecursion (λ (change : Change). (change.owner < resolvers)
+      × (change.version ≤ last)) history.changes
   pub falling : AreFalling history.changes
 
 -- whether an owner isn't the one at the version before

@@ -32,7 +32,8 @@ joined pieces = joined_after pieces.front pieces.breaks.entries
 -- each history is one of so many resolvers up to the last version, and each breakpoint may bound a range
 pub record IsPieces (resolvers last : ℕ) (pieces : Pieces) : Type 0 where
   pub front : IsHistory resolvers last pieces.front
-  pub breaks : AllByRecursion (λ (piece : Point × History). (is_bound piece.0 ≡ true) × IsHistory resolvers last piece.1)
+  pub breaks : AllByRecursion (λ (piece : Point × History). (is_bound piece.0 ≡ true)
+      × IsHistory resolvers last piece.1)
       pieces.breaks.entries
 
 -- from a version on each point has the same owner

@@ -38,10 +38,10 @@ impl Owned {
     ghost use Rattle.fdb_keys.specs.Ranges.{in_set};
     ghost use Rattle.fdb_owners.specs.Parts.{HasSomeOf};
 
-    /// Adds the keys of the part to the set, in O(m (m + n)) time for m ranges of the part and n of the set. An empty set
-    /// becomes a copy of the part's, in O(m) time. Refused only as `NoMemory`. Then the set is half changed: it has all
-    /// keys that it had, and may have any of the part's. Which ones isn't said, so whoever wants the set from before, or
-    /// the whole one, has to make it anew.
+    /// Adds the keys of the part to the set, in O(m (m + n)) time for m ranges of the part and n of the set. An empty
+    /// set becomes a copy of the part's, in O(m) time. Refused only as `NoMemory`. Then the set is half changed: it has
+    /// all keys that it had, and may have any of the part's. Which ones isn't said, so whoever wants the set from
+    /// before, or the whole one, has to make it anew.
     pub fn add_to(&self, set: &mut RangeSet) -> Result<(), Refusal>
         ensures answers { Answers result None
             (λ _. (x : Point) → in_set set.new x ≡ (in_set self.now.ranges x || in_set set.old x)) }

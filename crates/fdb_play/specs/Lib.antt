@@ -1,5 +1,4 @@
 pub mod Random
-pub mod Streams
 pub mod play
 pub mod print
 pub mod script

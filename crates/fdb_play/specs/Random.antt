@@ -6,7 +6,7 @@ use Rattle.serde_json.specs.Data.{Members, boolean, number, unsigned, string, ob
 use Rattle.serde_json.specs.Written.{compact_text}
 use Rattle.fdb_keys.specs.declared.refusal.Refusal.{Refusal}
 use Rattle.fdb_keys.specs.declared.refusal.Refusal.TheVariants.{NoMemory}
-use Rattle.fdb_play.specs.play.Scripts.{printed_line, refused_line}
+use Rattle.fdb_print.specs.Stops.{printed_line, refused_line}
 use Rattle.fdb_play.specs.declared.random.ended.Ended.{Ended}
 use Rattle.fdb_play.specs.declared.random.ended.Ended.TheVariants.{Io, Refused}
 use Rattle.fdb_play.specs.declared.random.report.Report.{Report}

@@ -1,4 +1,3 @@
 pub mod driving;
 pub mod script;
 pub mod showing;
-pub mod stop;

@@ -2,7 +2,7 @@
 //! shards.
 ghost use Rattle.std.specs.Prelude.{◌≡◌, ◌≤◌, ◌⊎◌, ℕ, Some, IfOk, IfErr, OnOk};
 ghost use Rattle.fdb_play.specs.Random.{EndsWith, IsEnded, IsReportOf, ReportPrints, RunPrints};
-ghost use Rattle.fdb_play.specs.Streams.{IsStreamError};
+ghost use Rattle.fdb_print.specs.Streams.{IsStreamError};
 ghost use Rattle.fdb_play.specs.declared.random.ended.Ended.TheVariants.{Io};
 ghost use Rattle.fdb_play.specs.play.Scripts.{Printed};
 
@@ -13,16 +13,15 @@ pub mod report;
 pub mod tally;
 pub mod watch;
 
-use crate::print::endings::print_refusal;
 use crate::random::acts::{SPLIT, take};
 use crate::random::drawing::{Drawing, LOGS, PROXIES};
 use crate::random::ended::Ended;
 use crate::random::report::Report;
 use crate::random::tally::Tally;
 use crate::random::watch::{Nobody, Teller, Watch};
-use crate::streams::Sink;
 use fdb_core::{CheckFault, Config, World};
 use fdb_keys::{Items, Key, Refusal};
+use fdb_print::{Sink, print_refusal};
 use std::alloc::Global;
 use std::io;
 use std::time::Clock;
@@ -171,8 +170,8 @@ fn take_one(
     }
 }
 
-// How many transactions were compared. There is no difference, as long as memory didn't run out. Fails only where it does
-// now.
+// How many transactions were compared. There is no difference, as long as memory didn't run out. Fails only where it
+// does now.
 fn check(world: &World) -> Result<Option<u64>, Refusal>
     ensures { IfOk result (λ checked. (count : ℕ) × (checked ≡ Some count)) }
 {

@@ -1,5 +1,6 @@
 -- The lists of the logs, to which one mutation more is given.
-use Rattle.std.proofs.Common.{◌≡◌, ◌∙◌, sym, ap, ℕ, ◌+◌, ◌<◌, ◌≤◌, ◌%◌, Bool, true, false, ◌||◌, List, [], ◌∷◌, ◌++◌, length}
+use Rattle.std.proofs.Common.{◌≡◌, ◌∙◌, sym, ap, ℕ, ◌+◌, ◌<◌, ◌≤◌, ◌%◌, Bool, true, false, ◌||◌, List, [], ◌∷◌, ◌++◌}
+use Rattle.std.proofs.Common.{length}
 use Rattle.std.proofs.Common.{⊎_elim, arith}
 use Rattle.std.specs.Prelude.{◌==◌, slice_set, filter}
 use Rattle.std.specs.List.{list_any}
@@ -7,7 +8,7 @@ use Rattle.std.proofs.lemmas.Bool.{cases_Bool, cond-true, cond-false, eqb-true, 
 use Rattle.std.proofs.lemmas.List.{append-nil}
 use Rattle.fdb_log.specs.declared.message.Tagged.{Tagged}
 use Rattle.fdb_log.specs.Places.{list_at}
-use Rattle.fdb_log.proofs.ToldLemmas.{set-same, set-other}
+use Rattle.fdb_log.proofs.Exports.{set-same, set-other}
 use Rattle.fdb_storage.specs.LogMessages.{is_for_log}
 use Rattle.fdb_proxy.specs.Bodies.{AreGiven}
 

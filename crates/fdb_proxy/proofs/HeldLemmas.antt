@@ -16,8 +16,7 @@ use Rattle.fdb_keys.specs.Points.{Point}
 use Rattle.fdb_keys.specs.Ranges.{Range, in_set}
 use Rattle.fdb_txn.specs.book.Book.{Place}
 use Rattle.fdb_txn.specs.rules.Admission.{has_points}
-use Rattle.fdb_txn.proofs.rules.AskedLemmas.{points_from-in_set, point_of-set}
-use Rattle.fdb_txn.proofs.book.HistoryLemmas.{all-append, all-weaken}
+use Rattle.fdb_txn.proofs.Exports.{points_from-in_set, point_of-set, all-append, all-weaken}
 use Rattle.fdb_owners.specs.declared.parts.Owned.{Owned}
 use Rattle.fdb_owners.specs.Spreads.{is_held}
 use Rattle.fdb_resolver.specs.declared.part.Item.{Item}

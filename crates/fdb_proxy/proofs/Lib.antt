@@ -1,14 +1,15 @@
-pub mod BodyLemmas
-pub mod CloneLemmas
-pub mod DecidingLemmas
-pub mod HeldLemmas
-pub mod LoggingLemmas
-pub mod MessageLemmas
-pub mod NameLemmas
-pub mod OutcomeLemmas
-pub mod PartingLemmas
-pub mod RequestLemmas
-pub mod ResolvingLemmas
-pub mod SpreadLemmas
-pub mod TicketLemmas
-pub mod VerdictLemmas
+pub mod Exports
+mod BodyLemmas
+mod CloneLemmas
+mod DecidingLemmas
+mod HeldLemmas
+mod LoggingLemmas
+mod MessageLemmas
+mod NameLemmas
+mod OutcomeLemmas
+mod PartingLemmas
+mod RequestLemmas
+mod ResolvingLemmas
+mod SpreadLemmas
+mod TicketLemmas
+mod VerdictLemmas

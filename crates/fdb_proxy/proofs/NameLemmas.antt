@@ -1,11 +1,13 @@
 -- The ids of a list of requests, of which no two have the same.
 use Rattle.std.proofs.Common.{◌≡◌, sym, ◌∙◌, ap, refl, Bool, true, false, not, ◌&&◌, ◌||◌, List, [], ◌∷◌, ◌++◌}
 use Rattle.std.proofs.Common.{length, ◌<◌, ⊎_elim, Some, None, arith}
-use Rattle.std.proofs.lemmas.Bool.{false≢true, or_parts, or_from, or_cases, cases_Bool, le-ltb, lt-ltb, false_from_ne_true}
+use Rattle.std.proofs.lemmas.Bool.{false≢true, or_parts, or_from, or_cases, cases_Bool, le-ltb, lt-ltb}
+use Rattle.std.proofs.lemmas.Bool.{false_from_ne_true}
 use Rattle.std.proofs.lemmas.Bool.Decides.{nat_tests}
 use Rattle.std.proofs.lemmas.List.Folds.{list_any-append}
 use Rattle.std.specs.List.{list_any, position_or_len}
-use Rattle.fdb_txn.specs.Equality.{txn_id_eq, txn_id_eq_decides}
+use Rattle.fdb_txn.specs.Equality.{txn_id_eq}
+use Rattle.fdb_txn.proofs.Exports.{txn_id_eq_decides}
 use Rattle.fdb_txn.specs.book.Transactions.{Transaction}
 use Rattle.fdb_txn.specs.declared.txn_id.TxnId.{TxnId}
 use Rattle.fdb_proxy.specs.declared.names.Names.{Names}

@@ -15,7 +15,7 @@ use Rattle.fdb_txn.specs.book.History.{IsHistory}
 use Rattle.fdb_txn.specs.laws.AdmissionLaws.{IsAmongAsked}
 use Rattle.fdb_txn.specs.rules.Owners.{is_asked}
 use Rattle.fdb_txn.specs.rules.Admission.{is_fresh, admits, committed}
-use Rattle.fdb_txn.proofs.rules.AskedLemmas.{committed_by_the_asked, old_is_asked}
+use Rattle.fdb_txn.proofs.Exports.{committed_by_the_asked, old_is_asked}
 use Rattle.fdb_resolver.specs.declared.verdict.Verdict.{Verdict}
 use Rattle.fdb_resolver.specs.declared.verdict.Verdict.TheVariants as verdict
 use Rattle.fdb_proxy.specs.declared.outcome.Outcome.{Outcome}

@@ -10,8 +10,7 @@ use Rattle.fdb_txn.specs.book.Transactions.{Transaction}
 use Rattle.fdb_txn.specs.rules.Admission.{has_points}
 use Rattle.fdb_txn.specs.rules.Owners.{is_asked}
 use Rattle.fdb_txn.specs.rules.Resolvers.{part_reads, part_writes}
-use Rattle.fdb_txn.proofs.rules.AskedLemmas.{points_from-in_set, point_of-set}
-use Rattle.fdb_txn.proofs.rules.CornersLemmas.{asked_at_some_point}
+use Rattle.fdb_txn.proofs.Exports.{points_from-in_set, point_of-set, asked_at_some_point}
 use Rattle.fdb_owners.specs.Spreads.{is_held}
 use Rattle.fdb_resolver.specs.declared.part.Item.{Item}
 use Rattle.fdb_resolver.specs.declared.part.Part.{Part}

@@ -1,8 +1,10 @@
 -- The requests of a batch, and those that wait.
-use Rattle.std.proofs.Common.{◌≡◌, sym, ◌∙◌, ap, refl, ℕ, ◌+◌, ◌-◌, ◌≤◌, Bool, true, false, List, [], ◌++◌, length, min, take, drop}
+use Rattle.std.proofs.Common.{◌≡◌, sym, ◌∙◌, ap, refl, ℕ, ◌+◌, ◌-◌, ◌≤◌, Bool, true, false, List, [], ◌++◌, length, min}
+use Rattle.std.proofs.Common.{take, drop}
 use Rattle.std.proofs.Common.{if◌then◌else◌, ◌⊎◌, ⊎_elim, arith}
 use Rattle.std.proofs.Math.Seq.{take-append-add, take-append_seam}
-use Rattle.std.proofs.lemmas.List.{length-append, append-nil, append_cancel_left, nil_from_length, take_all, take_min, take-append-drop}
+use Rattle.std.proofs.lemmas.List.{length-append, append-nil, append_cancel_left, nil_from_length, take_all, take_min}
+use Rattle.std.proofs.lemmas.List.{take-append-drop}
 use Rattle.fdb_proxy.specs.declared.requests.Requests.TheInside.{Inside}
 use Rattle.fdb_proxy.specs.RequestFields.{all_of, front_of, requests_of}
 

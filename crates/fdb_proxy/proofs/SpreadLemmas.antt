@@ -9,7 +9,7 @@ use Rattle.fdb_txn.specs.rules.Owners.{window}
 use Rattle.fdb_owners.specs.Ownership.{Ownership, owner_at, owned_between}
 use Rattle.fdb_owners.specs.OwnersLaws.{AgreesWith}
 use Rattle.fdb_owners.specs.Spreads.{is_held}
-use Rattle.fdb_owners.proofs.BookLemmas.{owned_by_the_book}
+use Rattle.fdb_owners.proofs.Exports.{owned_by_the_book}
 use Rattle.fdb_proxy.specs.declared.parting.Spread.{Spread}
 use Rattle.fdb_proxy.specs.Spreads.{IsSpreadOf}
 

@@ -16,7 +16,7 @@ use Rattle.fdb_txn.specs.declared.entry.Move.{Move}
 use Rattle.fdb_txn.specs.book.Book.{Stamped, add_moves}
 use Rattle.fdb_owners.specs.Ownership.{Ownership, learn_fault, HasLearnt}
 use Rattle.fdb_owners.specs.OwnersLaws.{AgreesWith}
-use Rattle.fdb_owners.proofs.BookLemmas.{learning_goes_on}
+use Rattle.fdb_owners.proofs.Exports.{learning_goes_on}
 use Rattle.fdb_proxy.specs.CommitProxies.{CommitProxy, is_sealed, is_stale, moves_with, learn_fault as ticket_fault}
 
 abbrev Dated : Type 0

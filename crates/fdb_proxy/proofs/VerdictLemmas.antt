@@ -9,13 +9,12 @@ use Rattle.fdb_txn.specs.book.History.{IsHistory}
 use Rattle.fdb_txn.specs.rules.Owners.{window, is_asked}
 use Rattle.fdb_txn.specs.rules.Admission.{admits}
 use Rattle.fdb_txn.specs.rules.Resolvers.{part_writes, IsStateOf}
-use Rattle.fdb_txn.proofs.rules.CornersLemmas.{asked_at_some_point}
-use Rattle.fdb_txn.proofs.rules.ResolverLemmas.{state_takes_place}
+use Rattle.fdb_txn.proofs.Exports.{asked_at_some_point, state_takes_place}
 use Rattle.fdb_resolver.specs.declared.part.Item.{Item}
 use Rattle.fdb_resolver.specs.declared.verdict.Verdict.{Verdict}
 use Rattle.fdb_resolver.specs.Rule.{AreVerdicts, versions_with, versions_after}
 use Rattle.fdb_resolver.specs.RuleLaws.{IsItemOf}
-use Rattle.fdb_resolver.proofs.BookLemmas.{verdicts_are_by_the_book, places_keep_state}
+use Rattle.fdb_resolver.proofs.Exports.{verdicts_are_by_the_book, places_keep_state}
 use Rattle.fdb_proxy.specs.Parting.{AreItems}
 use Rattle.fdb_proxy.specs.Verdicts.{verdict_at, verdicts_from, asks_about, moves_through}
 use Rattle.fdb_proxy.specs.VerdictLaws.{BatchesAreJudgedByTheRule, EntriesAreJudgedByTheRule, ItemsWhereAsked}

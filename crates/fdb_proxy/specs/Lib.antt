@@ -18,4 +18,3 @@ pub mod Resolving
 pub mod Spreads
 pub mod VerdictLaws
 pub mod Verdicts
-pub use Rattle.fdb_keys.specs.Answers

@@ -18,8 +18,8 @@ front_of None = []
 abbrev pub all_of : Inside → List Transaction
 all_of r = front_of r.front ++ r.list.items
 
--- how many more may be submitted without memory, where there is room for the ids of the front; each takes a place in the
--- list, one among the names, and room for its id where it is refused
+-- how many more may be submitted without memory, where there is room for the ids of the front; each takes a place in
+-- the list, one among the names, and room for its id where it is refused
 abbrev pub spare_of : Inside → ℕ
 spare_of r =
     let first = length (front_of r.front) in

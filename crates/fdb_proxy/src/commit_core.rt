@@ -48,7 +48,8 @@ impl Model for CommitCore {
 }
 
 impl CommitCore {
-    ghost use Rattle.std.specs.Prelude.{◌≡◌, ◌==◌, ◌≤◌, ⊤, true, not, [], take, length, IsSome, IsNone, IfOk, OnErr, None, map};
+    ghost use Rattle.std.specs.Prelude.{◌≡◌, ◌==◌, ◌≤◌, ⊤, true, not, [], take, length, IsSome, IsNone, IfOk, OnErr};
+    ghost use Rattle.std.specs.Prelude.{None, map};
     ghost use Rattle.fdb_keys.specs.Answers.{Answers, AnswersExactly, AnswersOrHandsBack, AnswersExactlyOrHandsBack};
     ghost use Rattle.fdb_txn.specs.Limits.{place_limit};
     ghost use Rattle.fdb_txn.specs.book.Transactions.{Transaction};
@@ -142,8 +143,9 @@ impl CommitCore {
     /// Takes a request, which waits for a batch after those that wait already. It takes no memory where there is room
     /// for one more. Refused as `Failed`; as `Repeated` where a request of its id is in flight or waits, with the place
     /// of that one, counted from the first place of the batch in flight on through those that wait (and no higher than
-    /// 2^32 - 1); and as `NoMemory`. A refusal hands the request back, and nothing changes. It takes O(1) expected time,
-    /// amortised where it makes room, and where it is refused as `Repeated` O(n) for n requests in flight and waiting.
+    /// 2^32 - 1); and as `NoMemory`. A refusal hands the request back, and nothing changes. It takes O(1) expected
+    /// time, amortised where it makes room, and where it is refused as `Repeated` O(n) for n requests in flight and
+    /// waiting.
     pub fn submit(&mut self, sealed: Sealed) -> Result<(), Refused<Sealed>>
         ensures answers { AnswersOrHandsBack result sealed (submit_fault self.old.proxy sealed)
             (λ _. self.new.proxy ≡ submitting self.old.proxy sealed) }
@@ -171,8 +173,8 @@ impl CommitCore {
     }
 
     /// The first 4,096 of those that wait, in order, become the batch in flight, all of them where there are no more.
-    /// Answers it, and shares its transactions. It takes O(n) time for n requests that wait, and copies transactions only
-    /// where more than 4,096 wait, and where others wait behind a batch that was given up. Refused as `Failed`, as
+    /// Answers it, and shares its transactions. It takes O(n) time for n requests that wait, and copies transactions
+    /// only where more than 4,096 wait, and where others wait behind a batch that was given up. Refused as `Failed`, as
     /// `WrongState` where a batch is in flight already, and as `NoMemory`, and then nothing changes.
     pub fn seal(&mut self) -> Result<Batch, Refusal>
         ensures answers { Answers result (seal_fault self.old.proxy)
@@ -201,8 +203,8 @@ impl CommitCore {
     }
 
     /// Drops those that wait, and answers their ids in order. Those in flight stay and aren't named, so neither is a
-    /// batch whose ticket was learnt, or for whose ticket memory ran out. It takes no memory, and O(n) expected time for
-    /// n requests, ranges and mutations that are dropped.
+    /// batch whose ticket was learnt, or for whose ticket memory ran out. It takes no memory, and O(n) expected time
+    /// for n requests, ranges and mutations that are dropped.
     pub fn refuse_all(&mut self) -> Items<TxnId>
         ensures ids { result ≡ map (λ (t : Transaction). t.id) self.old.proxy.waiting }
         ensures left { self.new.proxy ≡ record self.old.proxy { waiting = [] } }
@@ -306,8 +308,8 @@ impl CommitCore {
 
     /// Decides the batch, as `decide` does, and answers with what becomes of each place the message of the batch for
     /// each log, as `messages` does then. Refused as `decide` is, also where memory runs out for the messages. Then
-    /// nothing changes. Once the tags are found, it takes O(n + l) time for the n places, verdicts and mutations of one tag
-    /// of the batch and l logs, and O(l t) more for each mutation of t tags.
+    /// nothing changes. Once the tags are found, it takes O(n + l) time for the n places, verdicts and mutations of one
+    /// tag of the batch and l logs, and O(l t) more for each mutation of t tags.
     pub fn decide_with_messages(&mut self) -> Result<(Items<Outcome>, Items<LogMsg>), Refusal>
         ensures answers { Answers result (decide_fault self.old.proxy) (λ given.
             (given.0 ≡ outcomes_in self.old.proxy) × (self.new.proxy ≡ deciding self.old.proxy)
@@ -363,9 +365,9 @@ impl CommitCore {
     }
 
     /// The batch is done: answers the id of each transaction with what became of it, by place. The next batch may be
-    /// sealed. It takes no memory, and O(n) expected time for n requests in flight and waiting, and ranges and mutations
-    /// that are dropped. Refused as `Failed`, and as `WrongState` unless all logs have acknowledged the batch. Then
-    /// nothing changes.
+    /// sealed. It takes no memory, and O(n) expected time for n requests in flight and waiting, and ranges and
+    /// mutations that are dropped. Refused as `Failed`, and as `WrongState` unless all logs have acknowledged the
+    /// batch. Then nothing changes.
     pub fn done(&mut self) -> Result<Items<(TxnId, Outcome)>, Refusal>
         ensures answers { AnswersExactly result (done_fault self.old.proxy) (λ answers.
             (answers ≡ answers_in self.old.proxy.stage) × (self.new.proxy ≡ finishing self.old.proxy)) }

@@ -273,8 +273,8 @@ fn parts_with(
 /// there are fewer than 2^32 of them. Refused only as `NoMemory`.
 ///
 /// The owners tell who owns a whole set of the batch, if one look finds it, else who owns each of its ranges. What they
-/// told is then gone through once, whoever it is for: in O(n + r) time for n of their parts and r resolvers, beside what
-/// adding the parts' ranges to the items' sets takes.
+/// told is then gone through once, whoever it is for: in O(n + r) time for n of their parts and r resolvers, beside
+/// what adding the parts' ranges to the items' sets takes.
 pub fn parts_of(
     alloc: Global,
     owners: &Owners,

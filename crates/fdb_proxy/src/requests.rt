@@ -130,8 +130,8 @@ impl Requests {
         self.list.is_empty() && (self.is_in_flight || places_of(&self.front).is_empty())
     }
 
-    /// The first 4,096 of those that wait become the batch, all of them where there are no more. Answers the batch, which
-    /// shares its transactions. Where memory runs out, nothing changes.
+    /// The first 4,096 of those that wait become the batch, all of them where there are no more. Answers the batch,
+    /// which shares its transactions. Where memory runs out, nothing changes.
     ///
     /// It takes O(n) time for n requests that wait. Transactions are copied only where more than 4,096 wait, and where
     /// others wait behind a batch that was given up; else it takes O(1) memory beside the room for the ids.
@@ -144,7 +144,8 @@ impl Requests {
     {
         let first = places_of(&self.front).len();
         self.room.reserve(PLACE_LIMIT.min(first + self.list.len()))?;
-        // nobody is in the batch, so that all wait; whoever comes to the front waits too, until nothing can fail any more
+        // nobody is in the batch, so that all wait; whoever comes to the front waits too, until nothing can fail any
+        // more
         self.is_in_flight = false;
         let batch = share_front(&mut self.front, &mut self.list)?;
         self.is_in_flight = true;

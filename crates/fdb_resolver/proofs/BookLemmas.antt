@@ -7,7 +7,7 @@ use Rattle.fdb_txn.specs.book.Book.{Place}
 use Rattle.fdb_txn.specs.rules.Owners.{window}
 use Rattle.fdb_txn.specs.rules.Admission.{is_fresh, admits}
 use Rattle.fdb_txn.specs.rules.Resolvers.{with_place, IsAdmittedBy}
-use Rattle.fdb_txn.proofs.rules.ResolverLemmas.{state_decides, state_takes_place}
+use Rattle.fdb_txn.proofs.Exports.{state_decides, state_takes_place}
 use Rattle.fdb_resolver.specs.declared.part.Item.{Item}
 use Rattle.fdb_resolver.specs.declared.verdict.Verdict.{Verdict}
 use Rattle.fdb_resolver.specs.declared.verdict.Verdict.TheVariants.{Yes, Conflict, Old}

@@ -1,2 +1,3 @@
-pub mod BookLemmas
-pub mod RuleLemmas
+pub mod Exports
+mod BookLemmas
+mod RuleLemmas

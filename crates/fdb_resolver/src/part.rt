@@ -1,7 +1,7 @@
 use fdb_keys::{RangeSet, SharedList};
 
-/// What a resolver is sent of an entry: the places that it is asked about. Its copies share them: a copy takes O(1) time
-/// and no memory.
+/// What a resolver is sent of an entry: the places that it is asked about. Its copies share them: a copy takes O(1)
+/// time and no memory.
 #[derive(Clone, Drop)]
 pub struct Part {
     /// The number of the resolver that is asked.

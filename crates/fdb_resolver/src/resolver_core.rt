@@ -95,8 +95,8 @@ impl ResolverCore {
         }
     }
 
-    /// Whether memory ran out in `take`: then every part is refused as `Failed`, but one of another resolver. It takes no
-    /// memory, and O(1) time.
+    /// Whether memory ran out in `take`: then every part is refused as `Failed`, but one of another resolver. It takes
+    /// no memory, and O(1) time.
     pub fn is_failed(&self) -> bool
         ensures { result ≡ self.now.is_failed }
     {

@@ -1,11 +1,12 @@
 // A database that is closed while a commit is under way and another one waits.
 ghost use Rattle.std.specs.Prelude.{◌≡◌};
 
+use crate::asserting::same;
 use crate::gates::wait_for;
-use crate::making::{both, coded, count_config, same};
 use crate::running::{Done, Host, Named, commit_code, length_of, thread_of, write};
 use fdb_book::Blank;
 use fdb_keys::Refusal;
+use fdb_making::{both, coded, count_config};
 use fdb_mutations::Mutation;
 use fdb_runtime::{ClusterName, Config, Database, Gate, Role, Session};
 use std::alloc::Global;

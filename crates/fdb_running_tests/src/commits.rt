@@ -1,12 +1,13 @@
 // What becomes of commits, on one thread.
 ghost use Rattle.std.specs.Prelude.{◌≡◌};
 
-use crate::making::{coded, count_config, keys_of, same};
+use crate::asserting::same;
 use crate::running::{
     Asked, Done, Host, Named, add_read, add_write, byte_of, commit_code, is_serial, length_of, put,
     reads_just, receipt_of, two_sessions, write,
 };
 use fdb_keys::{Items, Key, Refusal};
+use fdb_making::{coded, count_config, keys_of};
 use fdb_mutations::Mutation;
 use fdb_runtime::{Blank, ClusterName, Config, Database, NoGate, Session, Spot};
 use std::alloc::Global;

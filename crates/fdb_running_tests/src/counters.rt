@@ -1,11 +1,12 @@
 // Clients in threads of their own, each with keys that no other one writes, and one sum that all add to.
 ghost use Rattle.std.specs.Prelude.{◌≡◌};
 
-use crate::making::{both, coded, count_config, keys_of, same};
+use crate::asserting::same;
 use crate::running::{Done, Host, Named, byte_of, move_keys, receipt_of, thread_of, write};
 use bytes::Bytes;
 use fdb_book::Blank;
 use fdb_keys::{Key, Refusal};
+use fdb_making::{both, coded, count_config, keys_of};
 use fdb_mutations::Mutation;
 use fdb_runtime::{ClusterName, Config, Database, NoGate, Record, Session};
 use std::alloc::Global;

@@ -1,10 +1,11 @@
 // Threads that run at once, as a gate sees that holds some of them back.
 ghost use Rattle.std.specs.Prelude.{◌≡◌};
 
-use crate::making::{coded, count_config, keys_of, same};
+use crate::asserting::same;
 use crate::running::{Done, Host, Named, byte_of, put, two_sessions};
 use fdb_book::Blank;
 use fdb_keys::Refusal;
+use fdb_making::{coded, count_config, keys_of};
 use fdb_runtime::{ClusterName, Config, Database, Gate, Role, Session};
 use fdb_txn::Spot;
 use std::alloc::Global;

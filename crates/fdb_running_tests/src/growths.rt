@@ -2,10 +2,11 @@
 // growth of memory is refused, each time another one.
 ghost use Rattle.std.specs.Prelude.{◌≡◌};
 
-use crate::making::{coded, count_config, keys_of, same};
+use crate::asserting::same;
 use crate::running::{Host, Named, byte_of, is_serial, receipt_of, two_sessions, write};
 use bytes::Bytes;
 use fdb_keys::{Key, Refusal};
+use fdb_making::{coded, count_config, keys_of};
 use fdb_mutations::Mutation;
 use fdb_runtime::{Blank, ClusterName, Config, Database, NoGate, Record, Session};
 use std::alloc::Global;

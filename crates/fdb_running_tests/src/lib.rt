@@ -2,6 +2,8 @@
 #![tactic(auto)]
 
 #[cfg(test)]
+mod asserting;
+#[cfg(test)]
 mod closings;
 #[cfg(test)]
 mod commits;
@@ -11,8 +13,6 @@ mod counters;
 mod gates;
 #[cfg(test)]
 mod growths;
-#[cfg(test)]
-mod making;
 #[cfg(test)]
 mod moves;
 #[cfg(test)]

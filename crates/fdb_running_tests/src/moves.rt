@@ -1,10 +1,11 @@
 // Moves of keys between resolvers, which stand in the book with the next entry.
 ghost use Rattle.std.specs.Prelude.{◌≡◌};
 
-use crate::making::{coded, count_config, keys_of, same};
+use crate::asserting::same;
 use crate::running::{Done, Host, Named, move_keys, put};
 use fdb_book::Blank;
 use fdb_keys::Refusal;
+use fdb_making::{coded, count_config, keys_of};
 use fdb_runtime::{ClusterName, Config, Database, NoGate, Record, Session};
 use fdb_txn::{Entry, Move};
 use std::alloc::Global;

@@ -1,12 +1,13 @@
 // What a session reads, and which of its calls turn it down where another one writes.
 ghost use Rattle.std.specs.Prelude.{◌≡◌};
 
-use crate::making::{coded, count_config, keys_of, same};
+use crate::asserting::same;
 use crate::running::{
     Asked, Done, Host, Named, add_read, add_write, byte_of, commit_code, put, reads_just,
     snapshot_of, two_sessions, write,
 };
 use fdb_keys::Refusal;
+use fdb_making::{coded, count_config, keys_of};
 use fdb_mutations::Mutation;
 use fdb_runtime::{Blank, ClusterName, Config, Database, NoGate, Session};
 use std::alloc::Global;
@@ -73,8 +74,8 @@ const NINE: &[(u8, u8)] = &[
     (b'i', 9),
 ];
 
-// Three shards, which hold three of nine pairs each. Limits end within a shard, between two, and behind several. The own
-// writes hide what the first shard gives at first, from either end, so that more than one page is asked for.
+// Three shards, which hold three of nine pairs each. Limits end within a shard, between two, and behind several. The
+// own writes hide what the first shard gives at first, from either end, so that more than one page is asked for.
 static THREE_SHARDS: Case = Case {
     pairs: NINE,
     committed: &[

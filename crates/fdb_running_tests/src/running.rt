@@ -1,9 +1,9 @@
 // What the tests of databases that run in threads share.
 ghost use Rattle.std.specs.Prelude.{◌≡◌};
 
-use crate::making::{are_pairs, both, made_of};
-use fdb_core::{CheckFault, serial_check};
+use fdb_check::{CheckFault, serial_check};
 use fdb_keys::{Key, KeyRange, Refusal, Refused};
+use fdb_making::{are_pairs, both, made_of};
 use fdb_mutations::Mutation;
 use fdb_runtime::{ClusterName, Config, Database, Receipt, Record, Session, Spot};
 use std::alloc::Global;

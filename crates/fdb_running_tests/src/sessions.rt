@@ -1,13 +1,14 @@
 // One session or several, on one thread.
 ghost use Rattle.std.specs.Prelude.{◌≡◌};
 
-use crate::making::{are_pairs, coded, count_config, same};
+use crate::asserting::same;
 use crate::running::{
     Asked, Done, Host, Named, add_read, add_write, byte_of, move_keys, reads_just, receipt_of,
     two_sessions, write,
 };
 use fdb_book::Blank;
 use fdb_keys::Refusal;
+use fdb_making::{are_pairs, coded, count_config};
 use fdb_mutations::Mutation;
 use fdb_runtime::{ClusterName, Config, Database, NoGate, Receipt, Record, Session};
 use fdb_txn::Spot;

@@ -1,7 +1,8 @@
 // What `docs/embedding.md` shows: a transfer between two accounts, and how a database is started and closed.
 ghost use Rattle.std.specs.Prelude.{◌≡◌};
 
-use crate::making::{coded, same};
+use crate::asserting::same;
+use fdb_making::coded;
 use fdb_runtime::{
     Blank, ClusterName, Config, Database, Items, Key, Mutation, NoGate, Record, Refusal, Session,
 };

@@ -12,8 +12,8 @@ use Rattle.fdb_book.specs.Fronts.{IsPrefix}
 use Rattle.fdb_proxy.specs.declared.config.Config.{Config}
 use Rattle.fdb_client.specs.declared.program.Transcript.{Transcript}
 use Rattle.fdb_client.specs.Programs.{is_read_only, commit_request_of}
-use Rattle.fdb_core.specs.headline.RealTime.{spot_version}
-use Rattle.fdb_core.specs.refinement.client.Sessions.{OfOpen}
+use Rattle.fdb_roles.specs.Spots.{spot_version}
+use Rattle.fdb_roles.specs.Sessions.{OfOpen}
 use Rattle.fdb_runtime.specs.Commits.{HasReceipt, HasTranscript, CommitEnds, CommitAnswers, open_fault}
 use Rattle.fdb_runtime.specs.Commits.{is_read_only_spot}
 use Rattle.fdb_runtime.specs.Endings.{Ends}

@@ -18,7 +18,7 @@ use Rattle.fdb_txn.specs.book.Places.{place_of, place_at}
 use Rattle.fdb_txn.specs.book.Transactions.{Transaction}
 use Rattle.fdb_txn.specs.Limits.{place_limit}
 use Rattle.fdb_book.specs.Fronts.{IsPrefix}
-use Rattle.fdb_book.proofs.FactLemmas.{last-at}
+use Rattle.fdb_book.proofs.Exports.{last-at}
 use Rattle.fdb_resolver.specs.declared.part.Part.{Part}
 use Rattle.fdb_log.specs.declared.message.LogAck.{LogAck}
 use Rattle.fdb_log.specs.declared.message.LogMsg.{LogMsg}
@@ -34,17 +34,13 @@ use Rattle.fdb_proxy.specs.CommitProxies.{messages_fault, messages_of, done_faul
 use Rattle.fdb_proxy.specs.Logging.{answers_by}
 use Rattle.fdb_proxy.specs.Parting.{IsPartOf}
 use Rattle.fdb_proxy.specs.Verdicts.{moves_through, verdicts_on, outcomes_on}
-use Rattle.fdb_core.specs.headline.Answers.{IsByRule}
-use Rattle.fdb_core.specs.headline.ProxyLaws.{IsLastEntry}
-use Rattle.fdb_core.specs.headline.ProxyStages.{IsCommitProxyAt, IsStageAt, IsSaid}
-use Rattle.fdb_core.proofs.checking.ReplayLemmas.{place-there}
-use Rattle.fdb_core.proofs.common.FaultLemmas.{answers-fault, given-fault}
-use Rattle.fdb_core.proofs.headline.ProxyLaws.{requests_come_and_go, new_proxies_have_no_entry, proxies_hear_logs}
-use Rattle.fdb_core.proofs.headline.ProxyLaws.{proxies_hear_verdicts, proxies_decide_by_the_rule}
-use Rattle.fdb_core.proofs.headline.ProxyLaws.{messages_are_of_the_entry, proxies_answer_by_the_rule}
-use Rattle.fdb_core.proofs.headline.ProxyLaws.{answers_are_by_the_rule}
-use Rattle.fdb_core.proofs.refinement.BookLemmas.{take-next, seen-before-last}
-use Rattle.fdb_core.proofs.refinement.log.Ties.{made-at}
+use Rattle.fdb_roles.specs.Outcomes.{IsByRule}
+use Rattle.fdb_roles.specs.ProxyLaws.{IsLastEntry}
+use Rattle.fdb_roles.specs.ProxyStages.{IsCommitProxyAt, IsStageAt, IsSaid}
+use Rattle.fdb_roles.proofs.Exports.{place-there, answers-fault, given-fault, requests_come_and_go}
+use Rattle.fdb_roles.proofs.Exports.{new_proxies_have_no_entry, proxies_hear_logs, proxies_hear_verdicts}
+use Rattle.fdb_roles.proofs.Exports.{proxies_decide_by_the_rule, messages_are_of_the_entry, proxies_answer_by_the_rule}
+use Rattle.fdb_roles.proofs.Exports.{answers_are_by_the_rule, take-next, seen-before-last, made-at}
 use Rattle.fdb_runtime.specs.CommitProxiesAtFronts.{CommitProxyAtFront, IsThere, AreLastParts, hear_fault}
 use Rattle.fdb_runtime.specs.CommitProxiesAtFronts.{AreLastMessages, AreOutcomes}
 use Rattle.fdb_runtime.specs.Messages.{IsLastPart, IsLastMessage, VerdictsAtFront, AreLastVerdicts}

@@ -14,23 +14,19 @@ use Rattle.fdb_txn.specs.declared.entry.Move.{Move}
 use Rattle.fdb_txn.specs.book.Book.{last_version}
 use Rattle.fdb_txn.specs.book.History.{AreEntries, IsSealed}
 use Rattle.fdb_txn.specs.book.Transactions.{Transaction, NamesWrites}
-use Rattle.fdb_txn.proofs.book.HistoryLemmas.{entries_go_on}
+use Rattle.fdb_txn.proofs.Exports.{entries_go_on}
 use Rattle.fdb_book.specs.Appending.{goes_on, ids_fault, append_fault, Appends}
 use Rattle.fdb_book.specs.Ids.{repeated_place}
 use Rattle.fdb_sequencer.specs.declared.ticket.Ticket.{Ticket}
 use Rattle.fdb_sequencer.specs.Moves.{Dated, dated}
 use Rattle.fdb_sequencer.specs.Sequencer.{Sequencer, planned, plan_fault, accept_fault, accepting, unlearnt_by}
 use Rattle.fdb_sequencer.specs.Sequencer.{fresh, next_version, report_fault, reporting, move_fault, moving}
-use Rattle.fdb_sequencer.proofs.TicketLemmas.{planned_are_accepted}
+use Rattle.fdb_sequencer.proofs.Exports.{planned_are_accepted}
 use Rattle.fdb_proxy.specs.declared.config.Config.{Config}
-use Rattle.fdb_core.specs.headline.RoleLaws.{AreLastOf, IsSequencerAt}
-use Rattle.fdb_core.specs.machine.SequencerSteps.{dated_moves}
-use Rattle.fdb_core.specs.refinement.commit_proxy.Ties.{entry_of}
-use Rattle.fdb_core.proofs.common.FaultLemmas.{answers-fault, given-fault}
-use Rattle.fdb_core.proofs.headline.RoleLaws.{sequencer_goes_on}
-use Rattle.fdb_core.proofs.headline.RoleStartLaws.{sequencer_starts, sequencer_reports, sequencer_moves}
-use Rattle.fdb_core.proofs.refinement.BookLemmas.{last-push}
-use Rattle.fdb_core.proofs.refinement.sequencer.Moves.{dated_moves-push}
+use Rattle.fdb_roles.specs.AtBook.{AreLastOf, IsSequencerAt}
+use Rattle.fdb_roles.specs.Entries.{dated_moves, entry_of}
+use Rattle.fdb_roles.proofs.Exports.{answers-fault, given-fault, sequencer_goes_on, sequencer_starts, sequencer_reports}
+use Rattle.fdb_roles.proofs.Exports.{sequencer_moves, last-push, dated_moves-push}
 use Rattle.fdb_runtime.specs.Issuing.{IsAppendRefused}
 
 abbrev pub ReadBelow : ℕ → List Transaction → Type 0

@@ -1,6 +1,8 @@
 -- What shards in a row give of a range, one after another.
-use Rattle.std.proofs.Common.{◌≡◌, ◌∙◌, refl, sym, ap, ap₂, subst, ◌<◌, ◌≤◌, ℕ, ◌-◌, Bool, true, false, ◌&&◌, ◌||◌, not, arith}
-use Rattle.std.proofs.Common.{List, [], ◌∷◌, ◌++◌, length, take, drop, get_or, Bor, Option, Some, None, Result, Ok, Err, ⊎_elim}
+use Rattle.std.proofs.Common.{◌≡◌, ◌∙◌, refl, sym, ap, ap₂, subst, ◌<◌, ◌≤◌, ℕ, ◌-◌, Bool, true, false, ◌&&◌, ◌||◌, not}
+use Rattle.std.proofs.Common.{arith}
+use Rattle.std.proofs.Common.{List, [], ◌∷◌, ◌++◌, length, take, drop, get_or, Bor, Option, Some, None, Result, Ok, Err}
+use Rattle.std.proofs.Common.{⊎_elim}
 use Rattle.std.specs.Prelude.{nat_lt, if◌then◌else◌}
 use Rattle.std.specs.List.{filter}
 use Rattle.std.specs.Option.{option_or}
@@ -14,24 +16,22 @@ use Rattle.fdb_keys.specs.Points.{Point, point_lt}
 use Rattle.fdb_keys.specs.Ranges.{Range, in_range, is_within}
 use Rattle.fdb_keys.specs.declared.refusal.Refusal.{Refusal}
 use Rattle.fdb_keys.specs.declared.refusal.Refusal.TheVariants.{KeyOutsideLegalRange, Unknown}
-use Rattle.fdb_keys.proofs.ClippingLemmas.{in_clipped-points}
-use Rattle.fdb_keys.proofs.PointOrder.{le_chain, lt_le_chain, lt_chain, lt_one_way}
-use Rattle.fdb_keys.proofs.RangesLemmas.{in_range_parts, in_range_from}
-use Rattle.fdb_keys.proofs.WithinLemmas.{within-points}
-use Rattle.fdb_interval.proofs.BreaksLemmas.{all_imply}
+use Rattle.fdb_keys.proofs.Exports.{in_clipped-points, le_chain, lt_le_chain, lt_chain, lt_one_way, in_range_parts}
+use Rattle.fdb_keys.proofs.Exports.{in_range_from, within-points}
+use Rattle.fdb_interval.proofs.Exports.{all_imply}
 use Rattle.fdb_mutations.specs.Maps.{Map}
 use Rattle.fdb_mutations.specs.Pairs.{first_of, pairs_in, wanted}
-use Rattle.fdb_mutations.proofs.OrderedLemmas.{parted, filter_all, filter_both, filter_none, ordered-filter}
-use Rattle.fdb_mutations.proofs.PairsLemmas.{ordered-pairs_in, all_in-pairs_in, pairs_in-part}
+use Rattle.fdb_mutations.proofs.Exports.{parted, filter_all, filter_both, filter_none, ordered-filter, ordered-pairs_in}
+use Rattle.fdb_mutations.proofs.Exports.{all_in-pairs_in, pairs_in-part}
 use Rattle.fdb_storage.specs.Shards.{read_fault}
 use Rattle.fdb_proxy.specs.declared.config.Config.{Config}
 use Rattle.fdb_client.specs.Pages.{IsPage}
-use Rattle.fdb_client.specs.declared.snapshot.Page.{Page}
-use Rattle.fdb_core.specs.refinement.shard.Reads.{left_of, AreFew}
-use Rattle.fdb_core.proofs.common.FaultLemmas.{gives}
-use Rattle.fdb_core.proofs.refinement.shard.Pages.{first-again, first-left, first-full, first-none, page-first}
+use Rattle.fdb_mutations.specs.declared.page.Page.{Page}
+use Rattle.fdb_roles.specs.Wanted.{left_of, AreFew}
+use Rattle.fdb_roles.proofs.Exports.{gives, first-again, first-left, first-full, first-none, page-first}
 use Rattle.fdb_runtime.specs.LentShards.{LentShards, lent_shards, range_fault}
-use Rattle.fdb_runtime.specs.LentShards.{is_held, AreInARow, HoldAll, pairs_at, pairs_held, next_fault, row_fault, row_begin}
+use Rattle.fdb_runtime.specs.LentShards.{is_held, AreInARow, HoldAll, pairs_at, pairs_held, next_fault, row_fault}
+use Rattle.fdb_runtime.specs.LentShards.{row_begin}
 use Rattle.fdb_runtime.specs.LentShards.{lending_fault}
 use Rattle.fdb_runtime.specs.ShardsAtFronts.{ShardAtFront}
 use Rattle.fdb_runtime.specs.ShardViews.{run_of}
@@ -311,7 +311,8 @@ module _ (config : Config) (own it : LentShards) (shards : List ShardAtFront) (i
   gives-page range limit count is_reverse found page within counted first cut =
       let run = run_of config own.version own.front in
       let all = pairs_in run range is_reverse in
-      let same : pairs_held run range is_reverse shards ≡ all = all-held run range own.range is_reverse shards within holds in
+      let same : pairs_held run range is_reverse shards ≡ all = all-held run range own.range is_reverse shards within
+      holds in
       let parts = cut all (first ∙ ap₂ (λ (n : ℕ) (pairs : List (Point × List ℕ)). first_of n pairs) counted same) in
       gives (range_fault it range) page (IsPage (run_of config it.version it.front) range limit is_reverse)
       (subst (λ (seen : LentShards). range_fault seen range ≡ None) is (rw within refl))

@@ -1,14 +1,14 @@
-pub mod CommitLemmas
-pub mod CommitProxyLemmas
-pub mod LentShardLemmas
-pub mod TurnLemmas
-pub mod ReadingLemmas
-pub mod ReplyLemmas
-pub mod ResolverLemmas
-pub mod IssueLemmas
-pub mod LogLemmas
-pub mod SessionLemmas
-pub mod SettlingLemmas
-pub mod ShardLemmas
-pub mod ShardViewLemmas
-pub mod TicketingLemmas
+mod CommitLemmas
+mod CommitProxyLemmas
+mod LentShardLemmas
+mod TurnLemmas
+mod ReadingLemmas
+mod ReplyLemmas
+mod ResolverLemmas
+mod IssueLemmas
+mod LogLemmas
+mod SessionLemmas
+mod SettlingLemmas
+mod ShardLemmas
+mod ShardViewLemmas
+mod TicketingLemmas

@@ -16,10 +16,8 @@ use Rattle.fdb_log.specs.declared.message.LogMsg.{LogMsg}
 use Rattle.fdb_log.specs.Logs.{Log, push_fault, tag_fault, HasTaken, HasPopped, HasFailed}
 use Rattle.fdb_storage.specs.LogMessages.{log_message}
 use Rattle.fdb_proxy.specs.declared.config.Config.{Config}
-use Rattle.fdb_core.specs.headline.RoleLaws.{IsLogAt}
-use Rattle.fdb_core.proofs.headline.RoleLaws.{log_goes_on}
-use Rattle.fdb_core.proofs.headline.RoleStartLaws.{log_pops}
-use Rattle.fdb_core.proofs.refinement.resolver.AtBook.{follows}
+use Rattle.fdb_roles.specs.AtBook.{IsLogAt}
+use Rattle.fdb_roles.proofs.Exports.{log_goes_on, log_pops, follows}
 use Rattle.fdb_runtime.specs.Messages.{LogMsgAtFront, IsLastMessage}
 use Rattle.fdb_runtime.specs.RolesAtFronts.{LogAtFront}
 use Rattle.fdb_runtime.specs.Turns.{front_fault, HasOneMore, AnswersInTurn}

@@ -7,12 +7,12 @@ use Rattle.fdb_keys.specs.Points.{Point}
 use Rattle.fdb_keys.specs.Ranges.{Range, in_range, is_within}
 use Rattle.fdb_keys.specs.declared.refusal.Refusal.{Refusal}
 use Rattle.fdb_keys.specs.declared.refusal.Refusal.TheVariants.{NoMemory}
-use Rattle.fdb_keys.proofs.WithinLemmas.{within-points}
+use Rattle.fdb_keys.proofs.Exports.{within-points}
 use Rattle.fdb_txn.specs.declared.entry.Entry.{Entry}
 use Rattle.fdb_storage.specs.Shards as shards
 use Rattle.fdb_client.specs.Programs.{program, decided}
 use Rattle.fdb_client.specs.declared.program.Transcript.{Transcript}
-use Rattle.fdb_core.specs.refinement.client.Sessions.{OfOpen}
+use Rattle.fdb_roles.specs.Sessions.{OfOpen}
 use Rattle.fdb_runtime.specs.LentShards.{LentShards, lending_fault, range_fault}
 use Rattle.fdb_runtime.specs.Reading.{RefusedBy}
 use Rattle.fdb_runtime.specs.ShardViews.{ShardView, key_fault}

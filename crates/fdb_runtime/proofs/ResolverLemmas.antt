@@ -16,9 +16,8 @@ use Rattle.fdb_resolver.specs.declared.part.Part.{Part}
 use Rattle.fdb_resolver.specs.declared.verdict.Verdicts.{Verdicts}
 use Rattle.fdb_resolver.specs.Resolvers.{Resolver, part_fault, IsAnswer, HasTaken, HasFailed}
 use Rattle.fdb_proxy.specs.Verdicts.{moves_through, verdicts_on}
-use Rattle.fdb_core.specs.refinement.resolver.Resolving.{IsResolverAt}
-use Rattle.fdb_core.proofs.headline.RoleLaws.{resolver_goes_on}
-use Rattle.fdb_core.proofs.refinement.resolver.AtBook.{is-part, follows}
+use Rattle.fdb_roles.specs.AtBook.{IsResolverAt}
+use Rattle.fdb_roles.proofs.Exports.{resolver_goes_on, is-part, follows}
 use Rattle.fdb_runtime.specs.Messages.{PartAtFront, IsLastPart, VerdictsAtFront, AreLastVerdicts, position_after}
 use Rattle.fdb_runtime.specs.RolesAtFronts.{ResolverAtFront}
 use Rattle.fdb_runtime.specs.Turns.{front_fault, HasOneMore, AnswersInTurn}

@@ -12,9 +12,8 @@ use Rattle.fdb_txn.specs.book.Book.{last_version}
 use Rattle.fdb_txn.specs.book.History.{AreEntries, AreLinked}
 use Rattle.fdb_book.specs.Fronts.{IsPrefix}
 use Rattle.fdb_client.specs.declared.program.Transcript.{Transcript}
-use Rattle.fdb_core.specs.headline.Headline.{AnsweredOn}
-use Rattle.fdb_core.proofs.headline.FrontLaws.{fronts_have_one_run}
-use Rattle.fdb_core.proofs.refinement.RunLaws.{entries-linked, front-version}
+use Rattle.fdb_roles.specs.Spots.{AnsweredOn}
+use Rattle.fdb_roles.proofs.Exports.{fronts_have_one_run, entries-linked, front-version}
 use Rattle.fdb_runtime.specs.Sessions.{IsOpenAt}
 
 -- a front begins with itself

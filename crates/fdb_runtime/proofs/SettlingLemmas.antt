@@ -14,18 +14,15 @@ use Rattle.fdb_txn.specs.book.Once.{NoIdTwice}
 use Rattle.fdb_txn.specs.book.Places.{place_in, place_of, place_at}
 use Rattle.fdb_txn.specs.book.Transactions.{Transaction}
 use Rattle.fdb_txn.specs.rules.Admission.{is_fresh, committed}
-use Rattle.fdb_txn.proofs.book.HistoryLemmas.{books_are_entries, places_are_found_in_the_book}
-use Rattle.fdb_book.proofs.FactLemmas.{last-version}
+use Rattle.fdb_txn.proofs.Exports.{books_are_entries, places_are_found_in_the_book}
+use Rattle.fdb_book.proofs.Exports.{last-version}
 use Rattle.fdb_book.specs.Fronts.{IsPrefix}
 use Rattle.fdb_proxy.specs.declared.outcome.Outcome.{Outcome}
 use Rattle.fdb_proxy.specs.declared.outcome.Outcome.TheVariants as outcome
 use Rattle.fdb_client.specs.declared.program.Transcript.{Transcript}
 use Rattle.fdb_client.specs.Programs.{commit_request_of}
-use Rattle.fdb_core.specs.headline.Answers.{IsByRule}
-use Rattle.fdb_core.proofs.common.AllLemmas.{all-at}
-use Rattle.fdb_core.proofs.common.ListLemmas.{front-at}
-use Rattle.fdb_core.proofs.headline.CommittedLaws.{reads_of_the_committed_stand}
-use Rattle.fdb_core.proofs.refinement.RunLaws.{entries-below}
+use Rattle.fdb_roles.specs.Outcomes.{IsByRule}
+use Rattle.fdb_roles.proofs.Exports.{all-at, front-at, reads_of_the_committed_stand, entries-below}
 use Rattle.fdb_runtime.specs.Receipts.{OutcomeAtFront, IsOutcome, IsReceipt, IsToldOf, IsTurnedDown}
 use Rattle.fdb_runtime.specs.Receipts.{transaction_in, spot_told, settle_fault}
 use Rattle.fdb_runtime.specs.Sessions.{IsOpenAt}

@@ -17,10 +17,8 @@ use Rattle.fdb_log.specs.declared.peek.Peek.{Peek}
 use Rattle.fdb_log.specs.Logs.{peek_of, peek_fault as log_fault}
 use Rattle.fdb_storage.specs.Shards.{Shard, apply_fault, IsNewShard, HasApplied, HasFailed}
 use Rattle.fdb_proxy.specs.declared.config.Config.{Config}
-use Rattle.fdb_core.specs.headline.RoleLaws.{IsShardAt}
-use Rattle.fdb_core.proofs.common.FaultLemmas.{given-fault, gives}
-use Rattle.fdb_core.proofs.headline.RoleLaws.{shard_goes_on_by_its_log}
-use Rattle.fdb_core.proofs.headline.RoleStartLaws.{shard_starts}
+use Rattle.fdb_roles.specs.AtBook.{IsShardAt}
+use Rattle.fdb_roles.proofs.Exports.{given-fault, gives, shard_goes_on_by_its_log, shard_starts}
 use Rattle.fdb_runtime.specs.Messages.{PeekAtFront, IsGivenAt}
 use Rattle.fdb_runtime.specs.ShardsAtFronts.{ShardAtFront, IsThere, HasGoneOn, peek_fault, front_through}
 

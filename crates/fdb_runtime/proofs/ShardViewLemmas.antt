@@ -7,7 +7,7 @@ use Rattle.std.proofs.lemmas.Bool.{cases_lt}
 use Rattle.fdb_keys.specs.Answers.{Answers}
 use Rattle.fdb_keys.specs.Points.{Point}
 use Rattle.fdb_keys.specs.Ranges.{Range, in_range, is_within}
-use Rattle.fdb_keys.proofs.WithinLemmas.{within-points}
+use Rattle.fdb_keys.proofs.Exports.{within-points}
 use Rattle.fdb_mutations.specs.Maps.{Map}
 use Rattle.fdb_mutations.specs.Pairs.{first_of, pairs_in}
 use Rattle.fdb_txn.specs.declared.entry.Entry.{Entry}
@@ -16,14 +16,10 @@ use Rattle.fdb_txn.specs.book.History.{AreEntries}
 use Rattle.fdb_book.specs.Fronts.{IsPrefix}
 use Rattle.fdb_storage.specs.Shards as shards
 use Rattle.fdb_storage.specs.Shards.{value_at}
-use Rattle.fdb_storage.specs.declared.page.Page as stored
 use Rattle.fdb_proxy.specs.declared.config.Config.{Config}
 use Rattle.fdb_client.specs.Pages.{IsPage}
-use Rattle.fdb_client.specs.declared.snapshot.Page.{Page}
-use Rattle.fdb_core.proofs.common.FaultLemmas.{answers-fault, gives}
-use Rattle.fdb_core.proofs.headline.FrontLaws.{fronts_have_one_run}
-use Rattle.fdb_core.proofs.refinement.RunLaws.{entries-linked}
-use Rattle.fdb_core.proofs.refinement.shard.Pages.{page-first}
+use Rattle.fdb_mutations.specs.declared.page.Page.{Page}
+use Rattle.fdb_roles.proofs.Exports.{answers-fault, gives, fronts_have_one_run, entries-linked, page-first}
 use Rattle.fdb_runtime.specs.ShardsAtFronts.{ShardAtFront, IsThere}
 use Rattle.fdb_runtime.specs.ShardViews.{ShardView, HasTheRunOf, range_fault, run_map, served}
 
@@ -51,7 +47,7 @@ module _ (config : Config) (view : ShardView) (there : IsThere config view.kept)
       ∙ ap (λ (map : Map). get map x) (one (subst (λ (last : ℕ). view.version ≤ last) at.version until))
 
   -- the first pairs of what it has are those of the serial map
-  pub first-are : (range : Range) (limit : ℕ) (is_reverse : Bool) (found : stored.Page) → range_fault view range ≡ None
+  pub first-are : (range : Range) (limit : ℕ) (is_reverse : Bool) (found : Page) → range_fault view range ≡ None
       → shards.IsPage view.kept.shard range view.version limit is_reverse found
       → (found.pairs ≡ first_of limit (pairs_in (run_map config view) range is_reverse))
       × (found.more ≡ nat_lt (length found.pairs) (length (pairs_in (run_map config view) range is_reverse)))
@@ -62,13 +58,12 @@ module _ (config : Config) (view : ShardView) (there : IsThere config view.kept)
       ((within-points range shard.range).0 may.0 x inside)))
 
   -- so a page of it is one of the serial map
-  pub page-is : (range : Range) (limit : ℕ) (is_reverse : Bool) (found : stored.Page) → range_fault view range ≡ None
+  pub page-is : (range : Range) (limit : ℕ) (is_reverse : Bool) (found : Page) → range_fault view range ≡ None
       → shards.IsPage view.kept.shard range view.version limit is_reverse found
-      → IsPage (run_map config view) range limit is_reverse (record { pairs = found.pairs; more = found.more })
+      → IsPage (run_map config view) range limit is_reverse found
   page-is range limit is_reverse found none is =
       let first = first-are range limit is_reverse found none is in
-      page-first (run_map config view) range limit is_reverse (record { pairs = found.pairs; more = found.more })
-      first.0 first.1
+      page-first (run_map config view) range limit is_reverse found first.0 first.1
 
 -- Of the shard's parts what is said of the whole view: a range is refused alike,
 pub fault-is : (at : ShardAtFront) (own view : ShardView) (range : Range) → at ≡ own.kept → own ≡ view
@@ -80,24 +75,23 @@ fault-is at own view range is also =
 -- and its pairs are given alike
 module _ (config : Config) (at : ShardAtFront) (own view : ShardView) (is : at ≡ own.kept) (also : own ≡ view)
     (there : IsThere config at) (one : HasTheRunOf config own.version own.kept.front own.front) where
-  pub gives-page : (range : Range) (limit : ℕ) (is_reverse : Bool) (found : stored.Page)
-      → Answers {T = stored.Page} (Ok found) (shards.range_fault at.shard range own.version)
+  pub gives-page : (range : Range) (limit : ℕ) (is_reverse : Bool) (found : Page)
+      → Answers {T = Page} (Ok found) (shards.range_fault at.shard range own.version)
       (shards.IsPage at.shard range own.version limit is_reverse)
-      → Answers {T = Page} (Ok (record { pairs = found.pairs; more = found.more })) (range_fault view range)
+      → Answers {T = Page} (Ok found) (range_fault view range)
       (IsPage (run_map config view) range limit is_reverse)
   gives-page range limit is_reverse found answers =
-      let page : Page = record { pairs = found.pairs; more = found.more } in
       let given = answers-fault (shards.range_fault at.shard range own.version) found
       (shards.IsPage at.shard range own.version limit is_reverse) answers in
       let none : range_fault view range ≡ None = sym (fault-is at own view range is also) ∙ given.0 in
-      gives (range_fault view range) page (IsPage (run_map config view) range limit is_reverse) none
-      (subst (λ (it : ShardView). IsPage (run_map config it) range limit is_reverse page) also
+      gives (range_fault view range) found (IsPage (run_map config view) range limit is_reverse) none
+      (subst (λ (it : ShardView). IsPage (run_map config it) range limit is_reverse found) also
       (page-is config own (subst (IsThere config) is there) one range limit is_reverse found
       (sym (fault-is at own own range is refl) ∙ given.0)
       (subst (λ (it : ShardAtFront). shards.IsPage it.shard range own.version limit is_reverse found) is given.1)))
 
-  pub gives-first : (range : Range) (limit : ℕ) (is_reverse : Bool) (found : stored.Page)
-      → Answers {T = stored.Page} (Ok found) (shards.range_fault at.shard range own.version)
+  pub gives-first : (range : Range) (limit : ℕ) (is_reverse : Bool) (found : Page)
+      → Answers {T = Page} (Ok found) (shards.range_fault at.shard range own.version)
       (shards.IsPage at.shard range own.version limit is_reverse)
       → (range_fault view range ≡ None)
       × (found.pairs ≡ first_of limit (pairs_in (run_map config view) range is_reverse))

@@ -10,26 +10,26 @@ use Rattle.std.proofs.lemmas.Bool.{true≢false}
 use Rattle.std.proofs.lemmas.Bool.Decides.{Decides-and, Decides-eqb}
 use Rattle.std.proofs.lemmas.List.{take-append-drop, drop-append-le}
 use Rattle.std.proofs.lemmas.Option.{same_Some}
-use Rattle.fdb_keys.specs.Equality.{items_eq_decides}
+use Rattle.fdb_keys.proofs.Exports.{items_eq_decides}
 use Rattle.fdb_keys.specs.Answers.{Answers}
 use Rattle.fdb_keys.specs.declared.refusal.Refusal.{Refusal}
 use Rattle.fdb_keys.specs.declared.refusal.Refusal.TheVariants.{NoMemory, WrongState}
-use Rattle.fdb_txn.specs.Equality.{sealed_eq, sealed_eq_decides}
+use Rattle.fdb_txn.specs.Equality.{sealed_eq}
+use Rattle.fdb_txn.proofs.Exports.{sealed_eq_decides}
 use Rattle.fdb_txn.specs.declared.entry.Entry.{Entry}
 use Rattle.fdb_txn.specs.book.History.{AreEntries}
 use Rattle.fdb_txn.specs.book.Transactions.{Transaction}
 use Rattle.fdb_book.specs.Fronts.{IsPrefix}
 use Rattle.fdb_sequencer.specs.declared.ticket.Ticket.{Ticket}
-use Rattle.fdb_sequencer.specs.Equality.{dated_eq, dated_eq_decides}
+use Rattle.fdb_sequencer.specs.Equality.{dated_eq}
+use Rattle.fdb_sequencer.proofs.Exports.{dated_eq_decides}
 use Rattle.fdb_sequencer.specs.Moves.{Dated, dated}
 use Rattle.fdb_proxy.specs.declared.config.Config.{Config}
 use Rattle.fdb_proxy.specs.CommitProxies.{CommitProxy, IsTicketFor, is_sealed, learn_fault}
 use Rattle.fdb_proxy.specs.CommitProxies.{HasLearntTicket, HasFailed}
-use Rattle.fdb_core.specs.headline.ProxyStages.{IsCommitProxyAt}
-use Rattle.fdb_core.specs.machine.SequencerSteps.{dated_moves}
-use Rattle.fdb_core.specs.refinement.commit_proxy.Ties.{entry_of}
-use Rattle.fdb_core.proofs.headline.ProxyLaws.{proxies_learn_their_tickets}
-use Rattle.fdb_core.proofs.refinement.BookLemmas.{take-take}
+use Rattle.fdb_roles.specs.ProxyStages.{IsCommitProxyAt}
+use Rattle.fdb_roles.specs.Entries.{dated_moves, entry_of}
+use Rattle.fdb_roles.proofs.Exports.{proxies_learn_their_tickets, take-take}
 use Rattle.fdb_runtime.specs.CommitProxiesAtFronts.{IsThere}
 use Rattle.fdb_runtime.specs.Ticketing.{is_of_entry, IsTicketOf, are_left, AnswersTicket}
 use Rattle.fdb_runtime.proofs.CommitProxyLemmas.{front-is, before-count}

@@ -9,7 +9,7 @@ use Rattle.fdb_log.specs.declared.message.LogMsg.{LogMsg}
 use Rattle.fdb_proxy.specs.declared.config.Config.{Config}
 use Rattle.fdb_proxy.specs.declared.outcome.Outcome.{Outcome}
 use Rattle.fdb_proxy.specs.CommitProxies.{CommitProxy, ProxyWithRoom, verdict_fault}
-use Rattle.fdb_core.specs.headline.ProxyStages.{IsCommitProxyAt}
+use Rattle.fdb_roles.specs.ProxyStages.{IsCommitProxyAt}
 use Rattle.fdb_runtime.specs.Messages.{IsLastPart, IsLastMessage, VerdictsAtFront}
 use Rattle.fdb_runtime.specs.Receipts.{IsOutcome}
 

@@ -11,8 +11,8 @@ use Rattle.fdb_txn.specs.declared.spot.Spot.TheVariants as spot
 use Rattle.fdb_proxy.specs.declared.config.Config.{Config}
 use Rattle.fdb_client.specs.Programs.{is_read_only}
 use Rattle.fdb_client.specs.declared.program.Transcript.{Transcript}
-use Rattle.fdb_core.specs.headline.RealTime.{spot_version}
-use Rattle.fdb_core.specs.machine.ClientSteps.{submit_fault}
+use Rattle.fdb_roles.specs.Spots.{spot_version}
+use Rattle.fdb_roles.specs.Sessions.{submit_fault}
 use Rattle.fdb_runtime.specs.Receipts.{ReceiptAtFront, IsTurnedDown}
 use Rattle.fdb_runtime.specs.Sessions.{Session}
 

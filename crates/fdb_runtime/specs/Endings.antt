@@ -8,7 +8,7 @@ use Rattle.fdb_client.specs.declared.finished.Finished.{Finished}
 use Rattle.fdb_client.specs.declared.finished.Finished.TheVariants as finished
 use Rattle.fdb_client.specs.declared.program.Transcript.{Transcript}
 use Rattle.fdb_client.specs.Programs.{is_read_only, commit_request_of}
-use Rattle.fdb_core.specs.machine.ClientSteps.{submit_fault}
+use Rattle.fdb_roles.specs.Sessions.{submit_fault}
 use Rattle.fdb_runtime.specs.declared.session_state.settling.Ended.{Ended}
 use Rattle.fdb_runtime.specs.declared.session_state.settling.Ended.TheVariants.{Acknowledged, ToCommit}
 use Rattle.fdb_runtime.specs.Receipts.{IsReceipt, read_only_receipt}

@@ -7,7 +7,7 @@ use Rattle.fdb_keys.specs.Points.{Point, point_lt}
 use Rattle.fdb_keys.specs.Ranges.{Range, in_range, is_within}
 use Rattle.fdb_keys.specs.declared.refusal.Refusal.{Refusal}
 use Rattle.fdb_keys.specs.declared.refusal.Refusal.TheVariants.{KeyOutsideLegalRange, Unknown}
-use Rattle.fdb_keys.proofs.WithinLemmas.{within-points}
+use Rattle.fdb_keys.proofs.Exports.{within-points}
 use Rattle.fdb_mutations.specs.Maps.{Map}
 use Rattle.fdb_mutations.specs.Pairs.{pairs_in}
 use Rattle.fdb_txn.specs.declared.entry.Entry.{Entry}

@@ -15,7 +15,7 @@ use Rattle.fdb_proxy.specs.declared.config.Config.{Config}
 use Rattle.fdb_proxy.specs.declared.position.Position.{Position}
 use Rattle.fdb_proxy.specs.Parting.{IsPartOf}
 use Rattle.fdb_proxy.specs.Verdicts.{moves_through, verdicts_on}
-use Rattle.fdb_core.specs.headline.RoleLaws.{IsLogAt}
+use Rattle.fdb_roles.specs.AtBook.{IsLogAt}
 
 -- the position of an entry behind others
 abbrev pub position_after : List Entry → Entry → Position

@@ -15,9 +15,8 @@ use Rattle.fdb_proxy.specs.declared.outcome.Outcome.{Outcome}
 use Rattle.fdb_proxy.specs.declared.outcome.Outcome.TheVariants.{Commit, Conflict, Old}
 use Rattle.fdb_client.specs.Programs.{commit_request_of}
 use Rattle.fdb_client.specs.declared.program.Transcript.{Transcript}
-use Rattle.fdb_core.specs.headline.Answers.{IsByRule}
-use Rattle.fdb_core.specs.headline.Headline.{IsSerializedAtSpot}
-use Rattle.fdb_core.specs.headline.RealTime.{spot_version, IsAfterVersion}
+use Rattle.fdb_roles.specs.Outcomes.{IsByRule}
+use Rattle.fdb_roles.specs.Spots.{IsSerializedAtSpot, spot_version, IsAfterVersion}
 
 -- a transcript with its spot in the book that a front shows
 pub record ReceiptAtFront : Type 0 where

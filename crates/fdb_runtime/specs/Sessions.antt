@@ -10,8 +10,7 @@ use Rattle.fdb_txn.specs.declared.spot.Spot.{Spot}
 use Rattle.fdb_txn.specs.book.Book.{seen_of, last_version}
 use Rattle.fdb_txn.specs.rules.SerialMap.{serial_map_at}
 use Rattle.fdb_client.specs.declared.program.Transcript.{Transcript}
-use Rattle.fdb_core.specs.headline.Headline.{AnsweredOn}
-use Rattle.fdb_core.specs.headline.RealTime.{spot_version}
+use Rattle.fdb_roles.specs.Spots.{AnsweredOn, spot_version}
 use Rattle.fdb_runtime.specs.Receipts.{GrantAtFront, ReceiptAtFront, OutcomeAtFront}
 use Rattle.fdb_runtime.specs.Receipts.{IsToldOf, spot_told, settle_fault}
 

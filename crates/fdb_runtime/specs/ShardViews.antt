@@ -7,7 +7,7 @@ use Rattle.fdb_keys.specs.Ranges.{Range, is_within}
 use Rattle.fdb_keys.specs.declared.refusal.Refusal.{Refusal}
 use Rattle.fdb_keys.specs.declared.refusal.Refusal.TheVariants.{Failed, KeyOutsideLegalRange}
 use Rattle.fdb_keys.specs.declared.refusal.Refusal.TheVariants.{TransactionTooOld, FutureVersion}
-use Rattle.fdb_keys.proofs.WithinLemmas.{within-points}
+use Rattle.fdb_keys.proofs.Exports.{within-points}
 use Rattle.fdb_mutations.specs.Maps.{Map}
 use Rattle.fdb_txn.specs.declared.entry.Entry.{Entry}
 use Rattle.fdb_txn.specs.book.Book.{seen_of, last_version}

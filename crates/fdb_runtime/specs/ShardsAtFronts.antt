@@ -5,7 +5,7 @@ use Rattle.fdb_keys.specs.declared.refusal.Refusal.TheVariants.{Stale}
 use Rattle.fdb_txn.specs.declared.entry.Entry.{Entry}
 use Rattle.fdb_storage.specs.Shards.{Shard, apply_fault, HasApplied}
 use Rattle.fdb_proxy.specs.declared.config.Config.{Config}
-use Rattle.fdb_core.specs.headline.RoleLaws.{IsShardAt}
+use Rattle.fdb_roles.specs.AtBook.{IsShardAt}
 use Rattle.fdb_runtime.specs.Messages.{PeekAtFront}
 
 pub record ShardAtFront : Type 0 where

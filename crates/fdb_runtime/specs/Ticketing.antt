@@ -11,8 +11,8 @@ use Rattle.fdb_sequencer.specs.declared.ticket.Ticket.{Ticket}
 use Rattle.fdb_sequencer.specs.Equality.{dated_eq}
 use Rattle.fdb_sequencer.specs.Moves.{Dated}
 use Rattle.fdb_proxy.specs.CommitProxies.{CommitProxy, is_sealed, learn_fault, HasLearntTicket, HasFailed}
-use Rattle.fdb_core.specs.headline.ProxyLaws.{IsLastEntry}
-use Rattle.fdb_core.specs.machine.SequencerSteps.{dated_moves}
+use Rattle.fdb_roles.specs.ProxyLaws.{IsLastEntry}
+use Rattle.fdb_roles.specs.Entries.{dated_moves}
 use Rattle.fdb_runtime.specs.CommitProxiesAtFronts.{CommitProxyAtFront}
 
 -- the ticket is that of the entry with the number, which has the batch

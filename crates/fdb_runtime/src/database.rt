@@ -112,9 +112,9 @@ impl<B: ClusterName + Send + Sync + 'static> Database<B> {
         Ok(session)
     }
 
-    /// Hands the keys of the range over to the resolver with the number, from the version of the next entry on. It waits
-    /// for the sequencer alone, and changes nothing that a session is told but which transactions are turned down for
-    /// what another resolver said.
+    /// Hands the keys of the range over to the resolver with the number, from the version of the next entry on. It
+    /// waits for the sequencer alone, and changes nothing that a session is told but which transactions are turned down
+    /// for what another resolver said.
     ///
     /// Refused as `BadConfig` where there is no such resolver or the range is empty, as `MovesFull` after 65,536 moves,
     /// and as `NoMemory`; then nothing changes. It takes O(1) time.

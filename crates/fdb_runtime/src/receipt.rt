@@ -1,6 +1,6 @@
 ghost use Rattle.std.specs.Prelude.{◌≡◌, ◌≤◌, suc, length};
 ghost use Rattle.fdb_txn.specs.book.Book.{last_version};
-ghost use Rattle.fdb_core.specs.headline.RealTime.{spot_version};
+ghost use Rattle.fdb_roles.specs.Spots.{spot_version};
 ghost use Rattle.fdb_txn.specs.book.History.{IsBook, AreEntries};
 ghost use Rattle.fdb_runtime.specs.Receipts.{IsReceipt};
 
@@ -8,7 +8,7 @@ use crate::name::ClusterName;
 use crate::sealed_front::SealedFront;
 use fdb_book::Front;
 use fdb_client::Transcript;
-use fdb_core::Placed;
+use fdb_roles::Placed;
 use fdb_txn::Spot;
 use std::marker::Model;
 

@@ -61,8 +61,8 @@ impl<B: ClusterName> Model for Record<B> {
 }
 
 impl<B: ClusterName> Record<B> {
-    /// What shards have that were lent for every key. Refused as `KeyOutsideLegalRange` where they were lent for another
-    /// range, and as `NoMemory`. It takes the time of `LentShards::pairs`.
+    /// What shards have that were lent for every key. Refused as `KeyOutsideLegalRange` where they were lent for
+    /// another range, and as `NoMemory`. It takes the time of `LentShards::pairs`.
     pub(crate) fn of(lent: &LentShards<B>) -> Result<Self, Refusal>
         ensures { Answers result (record_fault lent.now.range) (λ it. it ≡ record {
           front = lent.now.front;

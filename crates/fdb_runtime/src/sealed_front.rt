@@ -96,10 +96,10 @@ impl<B: ClusterName> SealedFront<B> {
     }
 
     /// Appends an entry to the book behind the front, which has it last from then on, and gives a share of the longer
-    /// front to hand on. Refused as `Chain` where the entry doesn't go on from the front or has a transaction that didn't
-    /// read below it, as `Repeated` where an id stands in the front or earlier in the entry, as `BookFull`, as
-    /// `NoMemory`, and as `Taken` where another entry stands in the book; then the front is as it was. It takes
-    /// O(b log s) for b transactions of the entry and s sessions, at a front that is no share of another.
+    /// front to hand on. Refused as `Chain` where the entry doesn't go on from the front or has a transaction that
+    /// didn't read below it, as `Repeated` where an id stands in the front or earlier in the entry, as `BookFull`, as
+    /// `NoMemory`, and as `Taken` where another entry stands in the book; then the front is as it was. It takes O(b log
+    /// s) for b transactions of the entry and s sessions, at a front that is no share of another.
     pub(crate) fn append(
         &mut self,
         alloc: Global,

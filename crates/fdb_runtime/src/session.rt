@@ -8,7 +8,7 @@ ghost use Rattle.fdb_client.specs.Programs.{commit_request_of};
 ghost use Rattle.fdb_client.specs.TxnState.{with_op};
 ghost use Rattle.fdb_client.specs.declared.program.Op.TheVariants as operation;
 ghost use Rattle.fdb_client.specs.declared.program.Reply.TheVariants as answer;
-ghost use Rattle.fdb_core.specs.refinement.client.Sessions.{OfOpen};
+ghost use Rattle.fdb_roles.specs.Sessions.{OfOpen};
 ghost use Rattle.fdb_runtime.specs.Commits.{CommitAnswers};
 ghost use Rattle.fdb_runtime.specs.Reading.{HasRead};
 ghost use Rattle.fdb_runtime.specs.Sessions.{learning, with_current};
@@ -166,8 +166,8 @@ impl<B: ClusterName> Session<B> {
     /// nobody, and is promised nothing else. It waits for the key's shard, unless the own writes decide the key.
     ///
     /// Refused as `NoTransaction` where none is open, as `TransactionTooOld` where the shard doesn't serve the version
-    /// any more, as `Closed` once the database is closed, as `Failed`, and as `NoMemory`; then nothing changes. It takes
-    /// the time of one `Shard::get` under the shard's lock, and of a share of a front.
+    /// any more, as `Closed` once the database is closed, as `Failed`, and as `NoMemory`; then nothing changes. It
+    /// takes the time of one `Shard::get` under the shard's lock, and of a share of a front.
     pub fn get<R: Wait>(
         &mut self,
         rt: &R,
@@ -202,7 +202,8 @@ impl<B: ClusterName> Session<B> {
     /// Refused as `get` is; then nothing changes. Each shard is asked for no more than the limit still needs, in the
     /// order in which the pairs are given, and asked again as often as the own writes hide what it gave. It takes O(s)
     /// time for each asking of s shards, O(log n) comparisons of the n keys of each shard that is asked, and O(log v)
-    /// for the v versions of each pair that it gives, of one more, and of each key between them at which nothing stands.
+    /// for the v versions of each pair that it gives, of one more, and of each key between them at which nothing
+    /// stands.
     pub fn get_range<R: Wait>(
         &mut self,
         rt: &R,

@@ -15,7 +15,7 @@ ghost use Rattle.fdb_client.specs.declared.program.Transcript.{Transcript as ATr
 ghost use Rattle.fdb_client.specs.declared.program.Op.TheVariants as operation;
 ghost use Rattle.fdb_client.specs.declared.program.Reply.TheVariants as answer;
 ghost use Rattle.fdb_runtime.specs.Sessions.{longer, begin_fault, beginning, learning, with_current};
-ghost use Rattle.fdb_core.specs.refinement.client.Sessions.{OfOpen};
+ghost use Rattle.fdb_roles.specs.Sessions.{OfOpen};
 
 use crate::messages::grant_message::GrantMessage;
 use crate::name::ClusterName;

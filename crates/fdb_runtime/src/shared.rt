@@ -30,8 +30,8 @@ pub(crate) mod shard;
 pub(crate) mod slot;
 pub(crate) mod waiting;
 
-/// What all threads of a database and its sessions share. Each lock in it is taken with no other one held, but for those
-/// of shards by who reads several: they are taken in the order of the shards.
+/// What all threads of a database and its sessions share. Each lock in it is taken with no other one held, but for
+/// those of shards by who reads several: they are taken in the order of the shards.
 #[derive(Drop)]
 pub(crate) struct Shared<B: ClusterName> {
     pub(crate) alloc: Global,

@@ -1,3 +1,5 @@
-pub mod HandingLemmas
-pub mod MoveLemmas
-pub mod TicketLemmas
+pub mod Exports
+mod EqualityLemmas
+mod HandingLemmas
+mod MoveLemmas
+mod TicketLemmas

@@ -6,13 +6,14 @@ use Rattle.std.proofs.lemmas.Bool.{and_parts, and_from, cases_Bool, ltb-true, le
 use Rattle.std.proofs.lemmas.Bool.{eq-eqb}
 use Rattle.std.proofs.lemmas.Grind.{common_steps}
 use Rattle.fdb_keys.specs.declared.refusal.Refusal.TheVariants.{Stale}
-use Rattle.fdb_keys.specs.Equality.{items_eq_decides}
+use Rattle.fdb_keys.proofs.Exports.{items_eq_decides}
 use Rattle.fdb_txn.specs.declared.entry.Move.{Move}
-use Rattle.fdb_txn.specs.Equality.{move_eq, move_eq_decides}
+use Rattle.fdb_txn.specs.Equality.{move_eq}
+use Rattle.fdb_txn.proofs.Exports.{move_eq_decides, all-append, books_are_entries}
 use Rattle.fdb_txn.specs.book.History.{AreEntries}
-use Rattle.fdb_txn.proofs.book.HistoryLemmas.{all-append, books_are_entries}
 use Rattle.fdb_sequencer.specs.declared.ticket.Ticket.{Ticket}
-use Rattle.fdb_sequencer.specs.Equality.{dated_eq, dated_eq_decides}
+use Rattle.fdb_sequencer.specs.Equality.{dated_eq}
+use Rattle.fdb_sequencer.proofs.EqualityLemmas.{dated_eq_decides}
 use Rattle.fdb_txn.specs.Limits.{ticket_limit, version_limit, greatest_advance}
 use Rattle.fdb_sequencer.specs.Moves.{moves_at}
 use Rattle.fdb_sequencer.specs.Sequencer.{Sequencer, moves_in, next_version, planned, plan_fault, is_planned}

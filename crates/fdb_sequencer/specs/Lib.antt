@@ -5,4 +5,3 @@ pub mod MoveFields
 pub mod Moves
 pub mod Sequencer
 pub mod TicketLaws
-pub use Rattle.fdb_keys.specs.Answers

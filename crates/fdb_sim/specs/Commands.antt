@@ -7,7 +7,8 @@ use Rattle.clap.specs.declared.builder.value_parser.ValueParser.{ValueParser}
 use Rattle.clap.specs.declared.error.kind.ErrorKind.{ErrorKind}
 use Rattle.clap.specs.declared.error.kind.ErrorKind.TheVariants as kind
 use Rattle.fdb_play.specs.Random.{RunPrints}
-use Rattle.fdb_play.specs.play.Scripts.{Knows, Plays, Printed, printed_line}
+use Rattle.fdb_play.specs.play.Scripts.{Knows, Plays, Printed}
+use Rattle.fdb_print.specs.Stops.{printed_line}
 use Rattle.fdb_load.specs.declared.load.Load.{Load}
 use Rattle.fdb_load.specs.Reports.{PrintsEnd}
 use Rattle.fdb_sim.specs.command.Options.{IsWorkloadParser, commands}
@@ -61,8 +62,8 @@ ObeysBy app words input old new status =
     ⊎ (DrawsSteps app words old new status
     ⊎ (RunsThreads app words old new status ⊎ AreRefused app words old new status))
 
--- Words play the script of the input exactly where they ask for `run`, draw steps or run threads where they ask for that,
--- and else end by their fault, unless memory runs out.
+-- Words play the script of the input exactly where they ask for `run`, draw steps or run threads where they ask for
+-- that, and else end by their fault, unless memory runs out.
 abbrev pub Obeys : List Text → Option (List ℕ) → Option (List ℕ) → Option (List ℕ) → Option (List ℕ)
     → Option (List ℕ) → ℕ → Type 0
 Obeys words input old new err_old err_new status =

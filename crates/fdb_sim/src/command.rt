@@ -1,7 +1,7 @@
 ghost use Rattle.std.specs.Prelude.{◌≡◌, ◌≤◌, IfOk, IfErr, OnOk, map};
 ghost use Rattle.std.specs.Io.KnownBytes.{Appends};
 ghost use Rattle.clap.specs.Words.{kind_of};
-ghost use Rattle.fdb_play.specs.Streams.{IsLimitedError, IsStreamError};
+ghost use Rattle.fdb_print.specs.Streams.{IsLimitedError, IsStreamError};
 ghost use Rattle.fdb_play.specs.Random.{RunPrints};
 ghost use Rattle.fdb_play.specs.play.Scripts.{Printed};
 ghost use Rattle.fdb_sim.specs.Commands.{EndsBy, LackMemory, Obeys, out_of_memory};
@@ -27,8 +27,9 @@ const BAD_WORDS: u8 = 2;
 const HELPED: u8 = 0;
 
 /// Runs the command that the words give, which are those after the program's own name, and answers the
-/// status. `run` runs the script that the reader gives, `random` steps that are drawn from a seed, and `threads` clients
-/// of a database in threads; each prints to `out`, and how far the latter two are goes to `err` where it is asked for.
+/// status. `run` runs the script that the reader gives, `random` steps that are drawn from a seed, and `threads`
+/// clients of a database in threads; each prints to `out`, and how far the latter two are goes to `err` where it is
+/// asked for.
 ///
 /// Words that ask for help print it to `out`, with status 0. Others that give no command print what is wrong
 /// with them to `err`, with status 2 and nothing on `out`. Where memory runs out while they are read it does so too,

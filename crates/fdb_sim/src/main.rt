@@ -26,7 +26,8 @@ fn main(rt: HostRuntime) -> ExitCode {
     run_process(&rt, &rt)
 }
 
-// Runs the process's words, with what threads are started and waited for by, and says on the standard error what it failed on.
+// Runs the process's words, with what threads are started and waited for by, and says on the standard error what it
+// failed on.
 fn run_process<R: Threads + Wait + Clock + Copy + Send + Sync + 'static>(
     rt: &HostRuntime,
     threads: &R,

@@ -15,7 +15,7 @@ use Rattle.fdb_keys.specs.Ranges.{Range, in_range}
 use Rattle.fdb_mutations.specs.declared.mutation.Mutation.{Mutation}
 use Rattle.fdb_mutations.specs.Mutations.{named, new_value, value_after}
 use Rattle.fdb_mutations.specs.Naming.{NamedKeys, OneKey, KeysIn, is_named}
-use Rattle.fdb_mutations.proofs.Effects.{ranges_are_cleared}
+use Rattle.fdb_mutations.proofs.Exports.{ranges_are_cleared}
 use Rattle.fdb_txn.specs.declared.tag_msg.TagMsg.{TagMsg}
 use Rattle.fdb_txn.specs.rules.Messages.{mutations_in, value_with}
 use Rattle.fdb_log.specs.Peeks.{RiseAfter, through_after}

@@ -19,7 +19,7 @@ use Rattle.fdb_keys.specs.Ranges.{Range, in_range}
 use Rattle.fdb_mutations.specs.declared.mutation.Mutation.TheVariants.{Set}
 use Rattle.fdb_mutations.specs.Maps.{Map}
 use Rattle.fdb_mutations.specs.Mutations.{effect}
-use Rattle.fdb_mutations.proofs.Effects.{at_every_point}
+use Rattle.fdb_mutations.proofs.Exports.{at_every_point}
 use Rattle.fdb_mutations.specs.Pairs.{pairs_within}
 use Rattle.fdb_storage.specs.CutMaps.{set_by, has_key}
 use Rattle.fdb_storage.specs.VersionMaps.{VersionedKeys, value_of}

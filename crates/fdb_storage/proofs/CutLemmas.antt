@@ -10,7 +10,7 @@ use Rattle.fdb_keys.specs.Ranges.{Range, in_range}
 use Rattle.fdb_mutations.specs.declared.mutation.Mutation.{Mutation}
 use Rattle.fdb_mutations.specs.Maps.{Map}
 use Rattle.fdb_mutations.specs.Mutations.{effect, value_after}
-use Rattle.fdb_mutations.proofs.Effects.{at_every_point, effect-clipped}
+use Rattle.fdb_mutations.proofs.Exports.{at_every_point, effect-clipped}
 use Rattle.fdb_txn.specs.declared.tag_msg.TagMsg.{TagMsg}
 use Rattle.fdb_txn.specs.rules.Messages.{mutations_in, value_with, value_in}
 use Rattle.fdb_storage.specs.CutMaps.{cut_effect, cut_with}

@@ -1,18 +1,19 @@
-pub mod AppliedLemmas
-pub mod BetweenLemmas
-pub mod ChangesLemmas
-pub mod CopiedLemmas
-pub mod CutLemmas
-pub mod FaultLemmas
-pub mod ForgottenLemmas
-pub mod LentLemmas
-pub mod LogMessagesLemmas
-pub mod PagesLemmas
-pub mod PairsLemmas
-pub mod TagLemmas
-pub mod VersionCountLemmas
-pub mod VersionListLemmas
-pub mod VersionPutLemmas
-pub mod VersionSearchLemmas
-pub mod VersionTrimLemmas
-pub mod VersionsLemmas
+pub mod Exports
+mod AppliedLemmas
+mod BetweenLemmas
+mod ChangesLemmas
+mod CopiedLemmas
+mod CutLemmas
+mod FaultLemmas
+mod ForgottenLemmas
+mod LentLemmas
+mod LogMessagesLemmas
+mod PagesLemmas
+mod PairsLemmas
+mod TagLemmas
+mod VersionCountLemmas
+mod VersionListLemmas
+mod VersionPutLemmas
+mod VersionSearchLemmas
+mod VersionTrimLemmas
+mod VersionsLemmas

@@ -13,12 +13,12 @@ use Rattle.fdb_txn.specs.book.Book.{Seen, nothing, add_entry, seen_of, last_vers
 use Rattle.fdb_txn.specs.book.History.{AreEntries}
 use Rattle.fdb_txn.specs.laws.SerialMapLaws.{version_after}
 use Rattle.fdb_txn.specs.rules.Messages.{Body, committed_in, meets_range, message_for, messages_for, messages_after}
-use Rattle.fdb_txn.proofs.rules.MessagesLemmas.{entries-split, messages_go_on}
+use Rattle.fdb_txn.proofs.Exports.{entries-split, messages_go_on}
 use Rattle.fdb_keys.specs.Ranges.{Range}
 use Rattle.fdb_txn.specs.rules.Splits.{piece}
 use Rattle.fdb_log.specs.declared.message.Tagged.{Tagged}
 use Rattle.fdb_log.specs.Messages.{log_of, has_tag, sent_to, above}
-use Rattle.fdb_log.proofs.AboveLemmas.{above-keeps, above-drops}
+use Rattle.fdb_log.proofs.Exports.{above-keeps, above-drops}
 use Rattle.fdb_storage.specs.LogMessages.{tagged, is_for_log, LogsAreSentTheMessages, MessagesAboveAVersion}
 use Rattle.fdb_storage.proofs.TagLemmas.{has-tag}
 

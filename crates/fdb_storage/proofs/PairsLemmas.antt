@@ -15,9 +15,7 @@ use Rattle.fdb_keys.specs.Points.{Point}
 use Rattle.fdb_keys.specs.Ranges.{Range, in_range}
 use Rattle.fdb_mutations.specs.Maps.{Map}
 use Rattle.fdb_mutations.specs.Pairs.{pairs_within, pairs_in}
-use Rattle.fdb_mutations.proofs.MapsLemmas.{get-pairs, entries-sorted}
-use Rattle.fdb_mutations.proofs.PairsLemmas.{same_values}
-use Rattle.fdb_mutations.proofs.OrderedLemmas.{all-passes}
+use Rattle.fdb_mutations.proofs.Exports.{get-pairs, entries-sorted, same_values, all-passes}
 use Rattle.fdb_storage.specs.declared.version_list.VersionedValue.{VersionedValue}
 use Rattle.fdb_storage.specs.VersionLists.{value_up_to}
 use Rattle.fdb_storage.specs.KeyPages.{pair_of}

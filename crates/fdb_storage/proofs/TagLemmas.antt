@@ -15,7 +15,7 @@ use Rattle.fdb_mutations.specs.declared.mutation.Mutation.{Mutation}
 use Rattle.fdb_mutations.specs.Mutations.{names}
 use Rattle.fdb_txn.specs.rules.Messages.{meets_range}
 use Rattle.fdb_txn.specs.rules.Splits.{piece}
-use Rattle.fdb_txn.proofs.rules.MessagesLemmas.{meets_at_some_point}
+use Rattle.fdb_txn.proofs.Exports.{meets_at_some_point}
 use Rattle.fdb_storage.specs.ShardMaps.{shards_of, tags_of, TagsAreTheShards}
 
 -- the numbers below n that pass a test, and then n if it does

@@ -4,7 +4,8 @@ use Rattle.std.proofs.Common.{Bool, true, false, ◌&&◌, not}
 use Rattle.std.proofs.Common.{List, [], ◌∷◌, ◌++◌, length, nat_le, is_some, if◌then◌else◌, Option, None, arith, ⊎_elim}
 use Rattle.std.proofs.lemmas.Bool.{cond-true, cond-false, cases_lt, cases_Bool, le-leb, lt-leb, leb-true}
 use Rattle.fdb_storage.specs.declared.version_list.VersionedValue.{VersionedValue}
-use Rattle.fdb_storage.specs.VersionLists.{value_up_to, newest_of, AreUpTo, AreAbove, AreRising, AreChanges, IsVersionList}
+use Rattle.fdb_storage.specs.VersionLists.{value_up_to, newest_of, AreUpTo, AreAbove, AreRising, AreChanges}
+use Rattle.fdb_storage.specs.VersionLists.{IsVersionList}
 use Rattle.fdb_storage.specs.VersionLists.{same_value, changes_at, count_between, kept_from}
 use Rattle.fdb_storage.proofs.VersionListLemmas.{value_from, value-above, value_up_to-between, value_up_to-after}
 use Rattle.fdb_storage.proofs.VersionListLemmas.{rising-back, changes-back, all-of_both, same_value_decides}
@@ -59,7 +60,8 @@ count-split test low middle (suc v) under within =
     let split = count-split test low middle v under (omega arith) in
     ap₂ (λ (n : ℕ) (reached : Bool). n + one_if (reached && test (suc v))) split (le-leb low v (omega arith))
     ∙ three (count_between test low middle) (count_between test middle v) (one_if (test (suc v)))
-    ∙ ap (λ (reached : Bool). count_between test low middle + (count_between test middle v + one_if (reached && test (suc v))))
+    ∙ ap (λ (reached : Bool). count_between test low middle + (count_between test middle v + one_if
+    (reached && test (suc v))))
     (sym (le-leb middle v (omega arith))))
     (λ (reached : suc v ≤ middle).
     whole (omega arith) (count_between test low (suc v)) (count-nothing test middle (suc v) reached)
@@ -137,7 +139,8 @@ count-first before next later low high w is from within differ above counted =
     there =
         count-same test (changes_at (λ (v : ℕ). value_from next.value v later)) (suc w) high
         (λ v at under.
-        ap₂ (λ (after ago : Option (List ℕ)). not (same_value after ago)) (reached (suc v) (omega arith)) (reached v at))
+        ap₂ (λ (after ago : Option (List ℕ)). not (same_value after ago)) (reached (suc v) (omega arith))
+        (reached v at))
         ∙ counted
 
     one_more : (n : ℕ) → 1 + n ≡ suc n
@@ -159,7 +162,8 @@ count-changes before (next ∷ later) low high rising changes above up_to =
     by_version zero is counted = absurd (omega (arith, is, above))
     by_version (suc w) is counted =
         let after : AreAbove (suc w) later = subst (λ (v : ℕ). AreAbove v later) is rising.0 in
-        count-first before next later low high w is (omega (arith, is, above)) (omega (arith, is, up_to)) changes.0 after
+        count-first before next later low high w is (omega (arith, is, above))
+        (omega (arith, is, up_to)) changes.0 after
         (counted w after)
 
 -- with what stands at the floor

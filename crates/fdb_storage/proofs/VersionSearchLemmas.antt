@@ -9,7 +9,8 @@ use Rattle.fdb_storage.specs.declared.version_list.VersionedValue.{VersionedValu
 use Rattle.fdb_storage.specs.VersionLists.{AreUpTo, AreAbove, AreRising}
 
 -- ---- versions up to one, and those above it, by a search
-rising-at : (values : List VersionedValue) → AreRising values → (i j : ℕ) (d : VersionedValue) → i ≤ j → j < length values
+rising-at : (values : List VersionedValue) → AreRising values → (i j : ℕ) (d : VersionedValue) → i ≤ j
+    → j < length values
     → (get_or values i d).version ≤ (get_or values j d).version
 rising-at [] rising i j d order within = absurd (omega arith)
 rising-at (next ∷ later) rising zero zero d order within = omega arith

@@ -107,7 +107,8 @@ left floor through above list up_to =
     ended : is_some (newest_of through) ≡ true → (through ≡ []) ⊎ EndsWith through
         → IsLeft floor (through ++ above) (drop (unseen through) (through ++ above))
     ended there (inl none) =
-        absurd (both_ways (is_some (newest_of through)) (ap (λ (some : List VersionedValue). is_some (newest_of some)) none) there)
+        absurd (both_ways (is_some (newest_of through)) (ap (λ (some : List VersionedValue). is_some
+        (newest_of some)) none) there)
     ended there (inr parts) =
         subst (λ (some : List VersionedValue). IsLeft floor (some ++ above) (drop (unseen some) (some ++ above)))
         (sym parts.are)
@@ -125,11 +126,13 @@ pub record IsTrimmed (floor : ℕ) (old new : List VersionedValue) : Type 0 wher
       → length new ≡ kept_from (λ (v : ℕ). value_up_to v old) floor through
 
 pub trimmed : (floor count : ℕ) (old through above : List VersionedValue) → IsVersionList old → old ≡ through ++ above
-    → AreUpTo floor through → AreAbove floor above → count ≡ one_if (is_some (newest_of through)) → count ≤ length through
+    → AreUpTo floor through → AreAbove floor above → count ≡ one_if (is_some (newest_of through))
+    → count ≤ length through
     → IsTrimmed floor old (drop (length through - count) old)
 trimmed floor count old through above list are up_to are_above is few =
     subst (λ (some : List VersionedValue). IsTrimmed floor some (drop (length through - count) some)) (sym are)
-    (subst (λ (n : ℕ). IsTrimmed floor (through ++ above) (drop (length through - n) (through ++ above))) (sym is) (record {
+    (subst (λ (n : ℕ). IsTrimmed floor (through ++ above) (drop (length through - n) (through
+    ++ above))) (sym is) (record {
       list = rest.list;
       kept = rest.kept;
       fewest = λ high from within.

@@ -12,7 +12,7 @@ use Rattle.fdb_mutations.specs.Pairs.{pairs_in, first_of}
 use Rattle.fdb_txn.specs.rules.Messages.{value_with}
 use Rattle.fdb_txn.specs.Turn.{turn_fault}
 use Rattle.fdb_log.specs.declared.peek.Peek.{Peek}
-use Rattle.fdb_storage.specs.declared.page.Page.{Page}
+use Rattle.fdb_mutations.specs.declared.page.Page.{Page}
 use Rattle.fdb_storage.specs.VersionLists.{kept_from}
 use Rattle.fdb_storage.specs.VersionMaps.{VersionedKeys, value_of, EndBy, HaveLegalKeys}
 

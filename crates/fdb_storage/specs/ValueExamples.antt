@@ -9,7 +9,7 @@ use Rattle.fdb_mutations.specs.PairExamples.{pair}
 use Rattle.fdb_txn.specs.declared.tag_msg.TagMsg.{TagMsg}
 use Rattle.fdb_txn.specs.rules.Messages.{Body}
 use Rattle.fdb_log.specs.declared.peek.Peek.{Peek}
-use Rattle.fdb_storage.specs.declared.page.Page.{Page}
+use Rattle.fdb_mutations.specs.declared.page.Page.{Page}
 use Rattle.fdb_storage.specs.Examples.{span}
 use Rattle.fdb_storage.specs.Replays.{covered, messages_of, replay_fault}
 use Rattle.fdb_storage.specs.declared.version_list.VersionedValue.{VersionedValue}

@@ -5,7 +5,6 @@ mod applying;
 mod copying;
 mod cut_map;
 pub mod laws;
-mod page;
 mod paging;
 mod replaying;
 mod shard;
@@ -13,7 +12,7 @@ mod shard_map;
 mod version_list;
 mod version_map;
 
-pub use page::Page;
+pub use fdb_mutations::Page;
 pub use replaying::replay;
 pub use shard::Shard;
 pub use shard_map::ShardMap;

@@ -12,10 +12,10 @@ ghost use Rattle.fdb_storage.specs.VersionMaps.{HaveLegalKeys};
 ghost use Rattle.fdb_storage.specs.KeyPages.{pairs_of, first_more};
 ghost use Rattle.fdb_storage.specs.VersionMaps.{AreSorted};
 
-use crate::page::Page;
 use crate::version_list::VersionList;
 use bytes::Bytes;
 use fdb_keys::{Items, Key, KeyRange, Refusal};
+use fdb_mutations::Page;
 use std::alloc::{AllocError, Global};
 use std::collections::BTreeMap;
 

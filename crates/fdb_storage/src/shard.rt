@@ -1,12 +1,11 @@
 use crate::applying::apply_messages;
 use crate::copying::copy_part;
-use crate::page::Page;
 use crate::paging::page_of;
 use crate::version_map::VersionMap;
 use bytes::Bytes;
 use fdb_keys::{Key, KeyRange, Refusal};
 use fdb_log::Peek;
-use fdb_mutations::{PlainMap, copied};
+use fdb_mutations::{Page, PlainMap, copied};
 use fdb_txn::check_turn;
 use std::alloc::Global;
 use std::marker::Model;
@@ -202,8 +201,8 @@ impl Shard {
         self.floor
     }
 
-    /// Whether memory ran out in `apply`: then every call that may be refused is, as `Failed`, but an `apply` of another
-    /// tag's messages. It takes no memory, and O(1) time.
+    /// Whether memory ran out in `apply`: then every call that may be refused is, as `Failed`, but an `apply` of
+    /// another tag's messages. It takes no memory, and O(1) time.
     pub fn is_failed(&self) -> bool
         ensures { result ≡ self.now.is_failed }
     {

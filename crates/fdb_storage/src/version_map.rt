@@ -155,8 +155,8 @@ impl VersionMap {
         }
     }
 
-    // Drops the versions of the key that no version from the floor on shows, once they are half of them. Whether none is
-    // left.
+    // Drops the versions of the key that no version from the floor on shows, once they are half of them. Whether none
+    // is left.
     fn trim_versions(&mut self, key: &Bytes, floor: u64) -> bool
         ensures forgotten { HaveForgotten floor self.old.keys.entries self.new.keys.entries }
         ensures none { IsTrue result → versions_at self.new.keys.entries key.now ≡ [] }

@@ -1,1 +1,1 @@
-pub mod BoundLemmas
+mod BoundLemmas

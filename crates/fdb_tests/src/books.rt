@@ -1,10 +1,11 @@
 // Calls with known answers.
 ghost use Rattle.std.specs.Prelude.{◌≡◌};
 
-use crate::making::{ask, ask_both, ask_mut, code_of, numbers_of, push, same, seal, shared};
+use crate::asserting::same;
 use fdb_book::laws::fronts_are_books;
 use fdb_book::{Blank, Book, BookName, Front, agree, append, append_and_share, empty};
 use fdb_keys::{Items, RangeSet, Refusal, Refused};
+use fdb_making::{ask, ask_both, ask_mut, code_of, numbers_of, push, seal, shared};
 use fdb_txn::{Batch, Entry, PLACE_LIMIT, TxnId};
 use std::alloc::Global;
 use std::cmp::Ordering;
@@ -49,9 +50,9 @@ const AFTER_REFUSALS: [Append; 4] = [
     (2, [200, 100, 100], &[(0, 0)], (0, 0, Some(2))),
 ];
 
-// Appends to one front of a book of three, which goes on by those that aren't refused: the entry's version, its previous
-// version and its read version; the ids; the refusal's numbers, zeros where there is none; how many entries the front
-// shows then.
+// Appends to one front of a book of three, which goes on by those that aren't refused: the entry's version, its
+// previous version and its read version; the ids; the refusal's numbers, zeros where there is none; how many entries
+// the front shows then.
 type GoneOn = ([u64; 3], &'static [(u32, u64)], (u32, u64), usize);
 
 const ONE_FRONT: &[GoneOn] = &[
@@ -282,8 +283,8 @@ fn entries_are_appended_to_books_of_two(rt: HostRuntime) -> Result<(), Fail> {
     Ok(())
 }
 
-// Appends to the front itself. Says the refusal's numbers, how many entries the front shows then, and how it agrees with
-// its share, if there is one.
+// Appends to the front itself. Says the refusal's numbers, how many entries the front shows then, and how it agrees
+// with its share, if there is one.
 fn go_on_itself<B: BookName>(
     alloc: Global,
     book: &Book<B>,

@@ -6,10 +6,11 @@ mod steps;
 
 use self::cut_snapshot::CutSnapshot;
 use self::steps::{Asked, Change, Text};
-use crate::making::{are_ranges, ask, coded, filled, made_of, same, text_of};
+use crate::asserting::same;
 use bytes::Bytes;
 use fdb_client::{ConflictSet, Finished, PlainSnapshot, Snapshot, Txn};
 use fdb_keys::{Items, Key, KeyRange, Refusal, Refused};
+use fdb_making::{are_ranges, ask, coded, filled, made_of, text_of};
 use fdb_mutations::{Mutation, PlainMap};
 use fdb_txn::{Sealed, TxnId};
 use std::alloc::Global;

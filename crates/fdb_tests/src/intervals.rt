@@ -3,9 +3,10 @@ ghost use Rattle.std.specs.Prelude.{◌≤◌, IfOk};
 ghost use Rattle.fdb_keys.specs.Points.{Point};
 ghost use Rattle.fdb_interval.specs.Versions.{version_at};
 
-use crate::making::{both, made_of, same};
+use crate::asserting::same;
 use fdb_interval::LastCommit;
 use fdb_keys::{KeyRange, Refusal};
+use fdb_making::{both, made_of};
 use std::alloc::Global;
 
 type Text = &'static [u8];

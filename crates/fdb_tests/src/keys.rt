@@ -1,9 +1,10 @@
 // Keys, ranges and sets of ranges with known answers.
-use crate::making::{
-    after, are_ranges, both, code_of, equals_copy, has_bounds, keys_of, made_of, same, set_of,
-    shared, text_of,
-};
+use crate::asserting::same;
 use fdb_keys::{Items, Key, KeyRange, RangeSet, Refusal, Refused, TreeRangeSet, is_before};
+use fdb_making::{
+    after, are_ranges, both, code_of, equals_copy, has_bounds, keys_of, made_of, set_of, shared,
+    text_of,
+};
 use std::alloc::Global;
 
 type Text = &'static [u8];

@@ -1,9 +1,10 @@
 // Mutations and plain maps with known answers.
-use crate::making::{
-    apply, ask, ask_both, code_of, equals_copy, filled, has_bounds, made_of, same, text_of,
-};
+use crate::asserting::same;
 use bytes::Bytes;
 use fdb_keys::{Items, Key, KeyRange, Refusal};
+use fdb_making::{
+    apply, ask, ask_both, code_of, equals_copy, filled, has_bounds, made_of, text_of,
+};
 use fdb_mutations::{Mutation, PlainMap, one_more, page_of};
 use std::alloc::Global;
 

@@ -2,10 +2,9 @@
 ghost use Rattle.std.specs.Prelude.{◌≡◌, ◌<◌, ◌≤◌, All, IfOk};
 ghost use Rattle.fdb_owners.specs.Ownership.{resolvers_of};
 
-use crate::making::{
-    are_ranges, ask, ask_mut, both, code_of, keys_of, made_of, push, same, set_of,
-};
+use crate::asserting::same;
 use fdb_keys::{Items, Key, KeyRange, RangeSet, Refusal};
+use fdb_making::{are_ranges, ask, ask_mut, both, code_of, keys_of, made_of, push, set_of};
 use fdb_owners::{Owned, Owners};
 use fdb_txn::Move;
 use std::alloc::Global;

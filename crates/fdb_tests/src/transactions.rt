@@ -2,11 +2,12 @@
 ghost use Rattle.std.specs.Prelude.{◌≡◌, All, None, IfOk};
 ghost use Rattle.fdb_mutations.specs.Mutations.{mutation_fault};
 
-use crate::making::{
-    are_ranges, ask, ask_both, both, code_of, equals_copy, has_bounds, keys_of, legal_set, made_of,
-    one_set, push, same, seal, set_of, shared, text_of,
-};
+use crate::asserting::same;
 use fdb_keys::{Items, Key, KeyRange, RangeSet, Refusal};
+use fdb_making::{
+    are_ranges, ask, ask_both, both, code_of, equals_copy, has_bounds, keys_of, legal_set, made_of,
+    one_set, push, seal, set_of, shared, text_of,
+};
 use fdb_mutations::Mutation;
 use fdb_txn::{
     Batch, Entry, Move, PLACE_LIMIT, Room, Sealed, Splits, Spot, TxnId, check_size, check_turn,

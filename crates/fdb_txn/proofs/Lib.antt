@@ -1,5 +1,7 @@
-pub mod CloneLemmas
-pub mod NumberMaps
-pub mod RoomLemmas
-pub mod book
-pub mod rules
+pub mod Exports
+mod CloneLemmas
+mod EqualityLemmas
+mod NumberMaps
+mod RoomLemmas
+mod book
+mod rules

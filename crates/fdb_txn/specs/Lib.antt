@@ -5,9 +5,3 @@ pub mod Turn
 pub mod book
 pub mod laws
 pub mod rules
-pub use Rattle.fdb_keys.specs.Answers
-pub use Rattle.fdb_keys.specs.Insertion
-pub use Rattle.fdb_keys.specs.Points
-pub use Rattle.fdb_keys.specs.Ranges
-pub use Rattle.fdb_mutations.specs.Maps
-pub use Rattle.fdb_mutations.specs.Mutations

@@ -9,8 +9,8 @@ use fdb_mutations::Mutation;
 use std::alloc::Global;
 use std::marker::Model;
 
-/// A transaction that is ready to be judged: what it read and what it will write. Its copies share its mutations, and its
-/// sets if there was memory for that when it was sealed; then a copy takes O(1) time.
+/// A transaction that is ready to be judged: what it read and what it will write. Its copies share its mutations, and
+/// its sets if there was memory for that when it was sealed; then a copy takes O(1) time.
 #[derive(Clone, Drop, PartialEq, Eq)]
 pub struct Sealed {
     id: TxnId,

@@ -48,8 +48,8 @@ pub(crate) fn size_of(reads: &RangeSet, writes: &RangeSet, mutations: &[Mutation
 }
 
 /// Whether a transaction of these sets and mutations may be sealed: refused as `TransactionTooLarge` where it has more
-/// than 10,000,000 bytes, those of both bounds of each range and of the mutations. It takes no memory, and O(n) time for
-/// n ranges and mutations.
+/// than 10,000,000 bytes, those of both bounds of each range and of the mutations. It takes no memory, and O(n) time
+/// for n ranges and mutations.
 pub fn check_size(
     reads: &RangeSet,
     writes: &RangeSet,

@@ -1,5 +1,6 @@
 -- Where a shard has the serial map.
-use Rattle.std.proofs.Common.{◌≡◌, ◌∙◌, sym, ap, subst, ◌↔◌, ℕ, suc, ◌+◌, ◌≤◌, arith, true, false, nat_lt, List, [], ◌∷◌}
+use Rattle.std.proofs.Common.{◌≡◌, ◌∙◌, sym, ap, subst, ◌↔◌, ℕ, suc, ◌+◌, ◌≤◌, arith, true, false, nat_lt, List, []}
+use Rattle.std.proofs.Common.{◌∷◌}
 use Rattle.std.proofs.Common.{take, length, Option, Some, None, Result, Ok, Err, MatchResult, inl, inr, ⊎_elim, refl}
 use Rattle.std.specs.List.{AllByRecursion, slice_get}
 use Rattle.std.specs.Prelude.{OnOk, IfErr}
@@ -12,19 +13,19 @@ use Rattle.fdb_keys.specs.Ranges.{Range, in_range}
 use Rattle.fdb_mutations.specs.Maps.{Map}
 use Rattle.fdb_mutations.specs.Pairs.{pairs_in}
 use Rattle.fdb_mutations.specs.PairLaws.{AgreeIn}
-use Rattle.fdb_mutations.proofs.PairsLemmas.{find-within, same_values}
+use Rattle.fdb_mutations.proofs.Exports.{find-within, same_values}
 use Rattle.fdb_storage.specs.Shards.{Shard, HasCopied, value_at}
 use Rattle.fdb_txn.specs.declared.entry.Entry.{Entry}
 use Rattle.fdb_txn.specs.book.Book.{last_version, seen_of, seen_before}
 use Rattle.fdb_txn.specs.book.History.{AreEntries}
 use Rattle.fdb_txn.specs.rules.SerialMap.{serial_map, serial_map_at}
 use Rattle.fdb_core.specs.declared.roles.shard.ShardRole.{ShardRole}
-use Rattle.fdb_core.specs.declared.world.CheckFault.{CheckFault}
+use Rattle.fdb_check.specs.declared.fault.CheckFault.{CheckFault}
 use Rattle.fdb_core.specs.check.Checking.{HaveHeld}
-use Rattle.fdb_core.specs.declared.world.CheckFault.TheVariants.{NoMemory}
+use Rattle.fdb_check.specs.declared.fault.CheckFault.TheVariants.{NoMemory}
 use Rattle.fdb_core.specs.check.Holding.{HasTheMap, HoldsTheRun, HasTheMapThere, ShardDiffers, StopsByShard, is_between}
-use Rattle.fdb_core.proofs.common.AllLemmas.{all-both}
-use Rattle.fdb_core.proofs.checking.RunningLemmas.{IsUntil, map-here, last-next, until-next, until-end}
+use Rattle.fdb_roles.proofs.Exports.{all-both}
+use Rattle.fdb_check.proofs.Exports.{IsUntil, map-here, last-next, until-next, until-end}
 
 -- maps with the same pairs in a range have the same values there
 same_pairs : (map other : Map) (range : Range) → pairs_in map range false ≡ pairs_in other range false
@@ -64,7 +65,8 @@ module _ (splits : List Point) (book : List Entry) (entries : AreEntries (suc (l
       → HasTheMapThere from until map role
   there-holds from until map next is_last same role holds works between =
       subst (λ (m : Map). HasTheMap m role.core)
-      (here until next role (subst (λ (v : ℕ). is_between v until role ≡ true) is_last between) ∙ sym same) (holds works)
+      (here until next role (subst (λ (v : ℕ). is_between v until role ≡ true) is_last between)
+      ∙ sym same) (holds works)
 
   -- a fault that is found between two entries is one of the check
   pub stops-shards : (shards : List ShardRole) (from : ℕ) (until : Option ℕ) (map : Map) (fault : CheckFault)

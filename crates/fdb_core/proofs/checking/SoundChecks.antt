@@ -10,18 +10,17 @@ use Rattle.fdb_txn.specs.Limits.{shard_limit}
 use Rattle.fdb_txn.specs.book.Book.{last_version}
 use Rattle.fdb_core.specs.declared.cluster.Cluster.{Cluster}
 use Rattle.fdb_core.specs.declared.roles.shard.ShardRole.{ShardRole}
-use Rattle.fdb_core.specs.declared.world.CheckFault.{CheckFault}
-use Rattle.fdb_core.specs.declared.world.CheckFault.TheVariants.{NoMemory}
+use Rattle.fdb_check.specs.declared.fault.CheckFault.{CheckFault}
+use Rattle.fdb_check.specs.declared.fault.CheckFault.TheVariants.{NoMemory}
 use Rattle.fdb_core.specs.check.Checking.{Finds}
-use Rattle.fdb_core.specs.check.Spots.{IsFirstOther}
+use Rattle.fdb_check.specs.Spots.{IsFirstOther}
 use Rattle.fdb_core.specs.check.Holding.{HoldsTheRun, ShardDiffers}
-use Rattle.fdb_core.specs.headline.Headline.{IsSerialized}
+use Rattle.fdb_roles.specs.Spots.{IsSerialized}
 use Rattle.fdb_core.specs.refinement.Cluster.{machine_of, Refines}
 use Rattle.fdb_core.specs.refinement.Restoring.{Tied, with_roles}
-use Rattle.fdb_core.specs.invariant.Invariant.{Invariant, IsSerializedIn}
-use Rattle.fdb_core.proofs.common.AllLemmas.{all-at}
+use Rattle.fdb_machine.specs.invariant.Invariant.{Invariant, IsSerializedIn}
+use Rattle.fdb_roles.proofs.Exports.{all-at, entries-rising, serial-front}
 use Rattle.fdb_core.proofs.refinement.RestoringLemmas.{restores-at, restores-count}
-use Rattle.fdb_core.proofs.refinement.RunLaws.{entries-rising, serial-front}
 
 module _ (k : Cluster) (tied : Tied k) where
   abbrev splits : List Point
@@ -34,7 +33,8 @@ module _ (k : Cluster) (tied : Tied k) where
   shard-holds : (i : ℕ) (role : ShardRole) → slice_get k.shards.items i ≡ Some role
       → HoldsTheRun splits k.book.items role
   shard-holds i role there works x inside =
-      let its = refines.logs.each_shard i role (restores-at _ _ k.shards.items tied.roles.shards.items tied.shards i role
+      let its = refines.logs.each_shard i role (restores-at _ _ k.shards.items tied.roles.shards.items tied.shards i
+      role
       there works) in
       let reached : role.core.version ≤ last_version (take role.applied k.book.items) =
       subst (λ (v : ℕ). role.core.version ≤ v) its.version (le_refl role.core.version) in

@@ -10,7 +10,7 @@ use Rattle.fdb_keys.specs.Points.{Point}
 use Rattle.fdb_txn.specs.declared.entry.Entry.{Entry}
 use Rattle.fdb_txn.specs.book.Book.{seen_of, last_version, seen_before}
 use Rattle.fdb_txn.specs.book.History.{AreEntries}
-use Rattle.fdb_txn.proofs.book.HistoryLemmas.{entries_go_on}
+use Rattle.fdb_txn.proofs.Exports.{entries_go_on}
 use Rattle.fdb_log.specs.declared.message.LogMsg.{LogMsg}
 use Rattle.fdb_log.specs.Logs.{popped_through}
 use Rattle.fdb_log.specs.Messages.{above}
@@ -22,13 +22,13 @@ use Rattle.fdb_proxy.specs.declared.config.Config.{Config}
 use Rattle.fdb_core.specs.declared.roles.log.LogRole.{LogRole}
 use Rattle.fdb_core.specs.declared.roles.resolver.ResolverRole.{ResolverRole}
 use Rattle.fdb_core.specs.declared.roles.shard.ShardRole.{ShardRole}
-use Rattle.fdb_core.specs.machine.Machine.{is_set}
+use Rattle.fdb_machine.specs.machine.Machine.{is_set}
 use Rattle.fdb_core.specs.refinement.Cluster.{BookRefines, messages_on}
-use Rattle.fdb_core.specs.headline.ProxyStages.{ArePartsOf}
+use Rattle.fdb_roles.specs.ProxyStages.{ArePartsOf}
 use Rattle.fdb_core.specs.refinement.log.Ties.{LogRefines, ShardRefines, LogsRefine}
-use Rattle.fdb_core.specs.refinement.resolver.Resolving.{IsResolverAt, ResolverRefines, ResolversRefine, PartsRefine}
-use Rattle.fdb_core.proofs.common.ListLemmas.{front-at, last-at}
-use Rattle.fdb_core.proofs.refinement.BookLemmas.{seen-front}
+use Rattle.fdb_core.specs.refinement.resolver.Resolving.{ResolverRefines, ResolversRefine, PartsRefine}
+use Rattle.fdb_roles.specs.AtBook.{IsResolverAt}
+use Rattle.fdb_roles.proofs.Exports.{front-at, last-at, seen-front}
 
 module _ (book : List Entry) (entry : Entry) where
   -- the parts of one more entry

@@ -1,43 +1,33 @@
 -- The roles that took nothing, what they keep of no entries, and what a legal configuration says.
-use Rattle.std.proofs.Common.{◌≡◌, ◌∙◌, refl, sym, ap, ap₂, subst, ℕ, zero, suc, ◌+◌, ◌<◌, ◌≤◌, List, [], ◌∷◌, ◌++◌}
-use Rattle.std.proofs.Common.{length, map, replicate, Bool, true, false, if◌then◌else◌, Option, Some, None, unwrap_or}
-use Rattle.std.proofs.Common.{slice_get, length-append, arith}
-use Rattle.std.specs.Prelude.{◌&&◌, nat_le, nat_lt}
+use Rattle.std.proofs.Common.{◌≡◌, ◌∙◌, refl, sym, ap, ap₂, subst, ℕ, zero, suc, ◌+◌, List, [], ◌∷◌, ◌++◌, length, map}
+use Rattle.std.proofs.Common.{replicate, false, Some, slice_get, length-append, arith}
 use Rattle.std.proofs.lemmas.List.{length-replicate}
 use Rattle.std.specs.List.{AllByRecursion}
-use Rattle.std.specs.Option.{option_or}
-use Rattle.std.proofs.lemmas.Bool.{and_parts, leb-true, ltb-true}
 use Rattle.fdb_keys.specs.Points.{Point}
-use Rattle.fdb_keys.specs.declared.refusal.Refusal.TheVariants.{BadConfig}
-use Rattle.fdb_keys.specs.declared.refusal.Refusal.{Refusal}
-use Rattle.fdb_txn.specs.Limits.{resolver_limit, proxy_limit, log_limit, shard_limit, book_limit}
-use Rattle.fdb_txn.specs.rules.Splits.{are_splits, piece, splits_fault}
-use Rattle.fdb_sequencer.specs.Sequencer.{is_count}
-use Rattle.fdb_proxy.specs.Askers.{Asker}
-use Rattle.fdb_proxy.specs.Configs.{config_fault, has_legal_counts}
+use Rattle.fdb_txn.specs.rules.Splits.{piece}
+use Rattle.fdb_sequencer.specs.Moves.{Dated}
+use Rattle.fdb_sequencer.specs.Sequencer.{fresh}
 use Rattle.fdb_log.specs.Logs.{IsNewLog}
 use Rattle.fdb_log.specs.Messages.{log_of}
 use Rattle.fdb_storage.specs.Shards.{IsNewShard}
+use Rattle.fdb_proxy.specs.Askers.{Asker}
 use Rattle.fdb_proxy.specs.declared.config.Config.{Config}
+use Rattle.fdb_proxy.specs.CommitProxies.{CommitProxy as Core, IsNewProxy}
+use Rattle.fdb_roles.specs.Lists.{Each}
+use Rattle.fdb_roles.proofs.Exports.{each-push, new-log, new-shard, new_proxies_have_no_entry, none-unlearnt}
 use Rattle.fdb_core.specs.declared.roles.log.LogRole.{LogRole}
 use Rattle.fdb_core.specs.declared.roles.shard.ShardRole.{ShardRole}
 use Rattle.fdb_core.specs.declared.roles.commit_proxy.CommitProxyRole.{CommitProxyRole}
 use Rattle.fdb_core.specs.declared.roles.resolver.ResolverRole.{ResolverRole}
-use Rattle.fdb_core.specs.machine.Worlds.{idle_proxy}
-use Rattle.fdb_core.specs.refinement.Cluster.{IsLegal, CommitProxiesRefine, SequencerRefines, GrvProxiesRefine}
-use Rattle.fdb_core.specs.refinement.Cluster.{HasSeenNone, sessions_of}
-use Rattle.fdb_sequencer.specs.Moves.{Dated}
-use Rattle.fdb_sequencer.specs.Sequencer.{fresh}
-use Rattle.fdb_proxy.specs.CommitProxies.{CommitProxy as Core, IsNewProxy}
+use Rattle.fdb_machine.specs.machine.Worlds.{idle_proxy}
+use Rattle.fdb_core.specs.refinement.Cluster.{CommitProxiesRefine, SequencerRefines, GrvProxiesRefine, HasSeenNone}
+use Rattle.fdb_core.specs.refinement.Cluster.{sessions_of}
 use Rattle.fdb_core.specs.refinement.commit_proxy.Ties.{CommitProxyRefines, IsNewCommitProxy, StageRefines, known_to}
 use Rattle.fdb_core.specs.refinement.commit_proxy.Ties.{seen_as}
-use Rattle.fdb_core.specs.refinement.log.Ties.{Each, LogRefines, ShardRefines, TagRefines, LogsRefine, logs_taken}
+use Rattle.fdb_core.specs.refinement.log.Ties.{LogRefines, ShardRefines, TagRefines, LogsRefine, logs_taken}
 use Rattle.fdb_core.specs.refinement.log.Ties.{progress_of}
 use Rattle.fdb_core.specs.refinement.resolver.Resolving.{ResolversRefine, taken_by}
 use Rattle.fdb_core.specs.refinement.Starts.{AreNewLogs, AreNewShards, IsNewResolver}
-use Rattle.fdb_core.proofs.common.ListLemmas.{each-push}
-use Rattle.fdb_core.proofs.refinement.log.Fronts.{new-log, new-shard}
-use Rattle.fdb_core.proofs.headline.ProxyLaws.{new_proxies_have_no_entry}
 
 -- what is made of items of which the same is made is so many of it
 pub all-same : {A B : Type 0} (f : A → B) (made : B) (n : ℕ) (xs : List A) → length xs ≡ n
@@ -148,12 +138,6 @@ sequencer-start config proxies resolvers all_proxies all_resolvers = record {
   made = refl;
 }
 
--- has no moves for any proxy
-pub none-unlearnt : (proxies i : ℕ) → unwrap_or (slice_get (replicate {A = List Dated} proxies []) i) [] ≡ []
-none-unlearnt zero i = refl
-none-unlearnt (suc n) zero = refl
-none-unlearnt (suc n) (suc i) = none-unlearnt n i
-
 -- a commit proxy of a new core, at which nobody waits
 pub commit_proxy-start : (index : ℕ) (config : Config) (role : CommitProxyRole)
     → IsNewProxy index config role.core.proxy
@@ -221,49 +205,3 @@ grv_proxies-start config asked is = rw is (record {
     nobody zero i there at = cc
     nobody (suc n) zero there at = let same : [] ≡ there = cc in subst (AllByRecursion HasSeenNone) same tt
     nobody (suc n) (suc i) there at = nobody n i there at
-
--- a number that is one
-count-of : (limit n : ℕ) → is_count limit n ≡ true → (0 < n) × (n ≤ limit)
-count-of limit n is =
-    let parts = and_parts (nat_le 1 n) (nat_le n limit) is in
-    let some = leb-true 1 n parts.0 in
-    (omega (arith, some), leb-true n limit parts.1)
-
--- splits that are so few
-few-of : (most : ℕ) (splits : List Point) → splits_fault most splits ≡ None
-    → (length splits < most) × (are_splits splits ≡ true)
-few-of most splits none =
-    let parts = and_parts (nat_lt (length splits) most) (are_splits splits) (legal_where (nat_lt (length splits) most
-    && are_splits splits) none) in
-    (ltb-true (length splits) most parts.0, parts.1)
-  where
-    legal_where : (test : Bool) → (if test then None else Some BadConfig) ≡ None → test ≡ true
-    legal_where true none = refl
-    legal_where false none = cc
-
--- a configuration without a fault is legal
-pub legal-from : (config : Config) → config_fault config ≡ None → IsLegal config
-legal-from config none =
-    let parts = both (has_legal_counts config) (splits_fault resolver_limit config.resolver_splits)
-    (splits_fault shard_limit config.shard_splits) none in
-    let books = and_parts (is_count proxy_limit config.proxies && is_count log_limit config.logs)
-    (is_count book_limit config.book) parts.0 in
-    let proxies = and_parts (is_count proxy_limit config.proxies) (is_count log_limit config.logs) books.0 in
-    let logs = count-of log_limit config.logs proxies.1 in
-    let shards = few-of shard_limit config.shard_splits parts.2 in
-    record {
-      few_proxies = (count-of proxy_limit config.proxies proxies.0).1;
-      few_resolvers = (few-of resolver_limit config.resolver_splits parts.1).0;
-      some_log = logs.0;
-      few_logs = logs.1;
-      splits = shards.1;
-      few_shards = shards.0;
-      book = (count-of book_limit config.book books.1).1;
-    }
-  where
-    both : (test : Bool) (first second : Option Refusal)
-        → (if test then option_or first second else Some BadConfig) ≡ None
-        → (test ≡ true) × (first ≡ None) × (second ≡ None)
-    both true None second none = (refl, refl, none)
-    both true (Some why) second none = cc
-    both false first second none = cc

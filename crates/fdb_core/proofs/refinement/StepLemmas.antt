@@ -5,15 +5,15 @@ use Rattle.fdb_keys.specs.declared.refusal.Refusal.{Refusal}
 use Rattle.fdb_keys.specs.declared.refusal.Refusal.TheVariants.{NoMemory, Unknown, Failed, Stale, NotYet}
 use Rattle.fdb_txn.specs.declared.entry.Entry.{Entry}
 use Rattle.fdb_core.specs.declared.cluster.Cluster.{Cluster}
-use Rattle.fdb_core.specs.declared.step.Answered.{Answered}
-use Rattle.fdb_core.specs.declared.step.Step.{Step}
-use Rattle.fdb_core.specs.machine.Failures.{uses_failed, unless_failed}
-use Rattle.fdb_core.specs.machine.Machine.{Machine, Transition, in_turn, refused_where}
-use Rattle.fdb_core.specs.machine.Steps.{next, answer_of, after, ran_out, ByTest}
+use Rattle.fdb_machine.specs.declared.step.Answered.{Answered}
+use Rattle.fdb_machine.specs.declared.step.Step.{Step}
+use Rattle.fdb_machine.specs.machine.Failures.{uses_failed, unless_failed}
+use Rattle.fdb_machine.specs.machine.Machine.{Machine, Transition, in_turn, refused_where}
+use Rattle.fdb_machine.specs.machine.Steps.{next, answer_of, after, ran_out, ByTest}
 use Rattle.fdb_core.specs.refinement.Cluster.{machine_of}
 use Rattle.fdb_core.specs.refinement.Restoring.{Tied, failures_of}
 use Rattle.fdb_core.specs.refinement.Steps.{Stepped, LeftOrFailed, Takes, transition_of}
-use Rattle.fdb_core.proofs.common.FaultLemmas.{Unless, by_test-map}
+use Rattle.fdb_machine.proofs.Exports.{Unless, by_test-map}
 use Rattle.fdb_core.proofs.refinement.RestoringLemmas.{restored, same-machine}
 
 -- the cluster is as it was, but for room that was made
@@ -63,7 +63,8 @@ fails old step uses there =
     ap (λ (used : Bool). unless_failed used (next (machine_of old) step)) uses ∙ there.refused
 
 -- A step that the machine accepts answers what the machine answers, and goes on to what the machine goes on to.
-pub accepted : (step : Step) {old new : Cluster} {given : Answered} {to : Transition} → transition_of old step ≡ Ok to → given ≡ to.answer → machine_of new ≡ to.next → failures_of new ≡ failures_of old
+pub accepted : (step : Step) {old new : Cluster} {given : Answered} {to : Transition} → transition_of old step ≡ Ok to
+    → given ≡ to.answer → machine_of new ≡ to.next → failures_of new ≡ failures_of old
     → Tied new → Takes old step (Ok given) new
 accepted step {old} is answer machine failed tied = record {
   answer = ap (λ (it : Answered). Ok it) answer ∙ sym (ap answer_of is);
@@ -78,7 +79,8 @@ pub accepted-restored : (old new : Cluster) (step : Step) (before : Tied old) (l
     → next (machine_of (restored old before)) step ≡ Ok to → given ≡ to.answer
     → machine_of (restored new later) ≡ to.next → failures_of new ≡ failures_of old → Takes old step (Ok given) new
 accepted-restored old new step before later {given} {to} unused is answer machine failed =
-    accepted step (works old step (Ok to) unused (ap (λ (m : Machine). next m step) (sym (same-machine old before)) ∙ is)) answer
+    accepted step (works old step (Ok to) unused (ap (λ (m : Machine). next m step) (sym (same-machine old before))
+    ∙ is)) answer
     (sym (same-machine new later) ∙ machine) failed later
 
 -- And what refuses it there refuses it.

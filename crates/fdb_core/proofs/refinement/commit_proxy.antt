@@ -1,5 +1,4 @@
 pub mod Answering
-pub mod BatchStages
 pub mod CoreDeciding
 pub mod CoreSealing
 pub mod CoreStages

@@ -1,4 +1,3 @@
 pub mod Failing
-pub mod Fronts
 pub mod Pushing
 pub mod Ties

@@ -1,3 +1,2 @@
-pub mod AtBook
 pub mod Failing
 pub mod Resolving

@@ -4,25 +4,12 @@ use Rattle.std.specs.List.{AllByRecursion}
 use Rattle.fdb_keys.specs.Points.{Point}
 use Rattle.fdb_txn.specs.declared.entry.Entry.{Entry}
 use Rattle.fdb_txn.specs.book.Book.{last_version}
-use Rattle.fdb_core.specs.declared.roles.client.Placed.{Placed}
+use Rattle.fdb_roles.specs.declared.placed.Placed.{Placed}
+use Rattle.fdb_roles.specs.Spots.{IsSerialized}
+use Rattle.fdb_check.specs.Checking.{Stops}
 use Rattle.fdb_core.specs.declared.roles.shard.ShardRole.{ShardRole}
-use Rattle.fdb_core.specs.declared.world.CheckFault.{CheckFault}
-use Rattle.fdb_core.specs.declared.world.CheckFault.TheVariants.{NoMemory}
+use Rattle.fdb_check.specs.declared.fault.CheckFault.{CheckFault}
 use Rattle.fdb_core.specs.check.Holding.{HoldsTheRun, StopsByShard}
-use Rattle.fdb_core.specs.check.Spots.{IsFirstOther}
-use Rattle.fdb_core.specs.headline.Headline.{IsSerialized}
-
--- memory ran out, or the fault names the first one in the order of spots that isn't serialized at its spot
-abbrev pub Stops : List Point → List Entry → List Placed → CheckFault → Type 0
-Stops splits book placed fault = (fault ≡ NoMemory) ⊎ IsFirstOther book (IsSerialized splits book) placed fault
-
--- What a check of transcripts finds: that each is serialized at its spot, or the first one that isn't. Or memory runs
--- out.
-abbrev pub FindsSerialized : Result ℕ CheckFault → List Point → List Entry → List Placed → Type 0
-FindsSerialized result splits book placed =
-    MatchResult result
-    (λ count. (count ≡ length placed) × AllByRecursion (IsSerialized splits book) placed)
-    (Stops splits book placed)
 
 -- each shard whose version lies below that of the last of the first n entries has the run's values there
 abbrev pub HaveHeld : List Point → List Entry → List ShardRole → ℕ → Type 0

@@ -1,6 +1,6 @@
 -- What shards have, beside the run.
-use Rattle.std.specs.Prelude.{◌≡◌, ℕ, Bool, true, false, ◌&&◌, nat_lt, nat_le, List, Option, Some, None, Result, MatchResult}
-use Rattle.std.specs.Prelude.{◌⊎◌, slice_get}
+use Rattle.std.specs.Prelude.{◌≡◌, ℕ, Bool, true, false, ◌&&◌, nat_le, List, Option, Some, Result, MatchResult, ◌⊎◌}
+use Rattle.std.specs.Prelude.{slice_get}
 use Rattle.std.specs.List.{AllByRecursion}
 use Rattle.std.specs.FinMap.{get}
 use Rattle.fdb_keys.specs.Points.{Point}
@@ -10,9 +10,10 @@ use Rattle.fdb_txn.specs.declared.entry.Entry.{Entry}
 use Rattle.fdb_txn.specs.book.Book.{seen_of}
 use Rattle.fdb_txn.specs.rules.SerialMap.{serial_map_at}
 use Rattle.fdb_storage.specs.Shards.{Shard, value_at}
+use Rattle.fdb_check.specs.Versions.{is_below}
 use Rattle.fdb_core.specs.declared.roles.shard.ShardRole.{ShardRole}
-use Rattle.fdb_core.specs.declared.world.CheckFault.{CheckFault}
-use Rattle.fdb_core.specs.declared.world.CheckFault.TheVariants as fault
+use Rattle.fdb_check.specs.declared.fault.CheckFault.{CheckFault}
+use Rattle.fdb_check.specs.declared.fault.CheckFault.TheVariants as fault
 
 -- at its version the shard has the map's values in its range
 abbrev pub HasTheMap : Map → Shard → Type 0
@@ -23,11 +24,6 @@ abbrev pub HoldsTheRun : List Point → List Entry → ShardRole → Type 0
 HoldsTheRun splits book role =
     role.core.is_failed ≡ false
     → HasTheMap (serial_map_at splits role.core.version (seen_of book).places) role.core
-
--- the version is below the end, where there is one
-abbrev pub is_below : ℕ → Option ℕ → Bool
-is_below version None = true
-is_below version (Some end) = nat_lt version end
 
 -- the shard's version is from one on and below another, where there is one
 abbrev pub is_between : ℕ → Option ℕ → ShardRole → Bool

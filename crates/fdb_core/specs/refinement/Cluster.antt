@@ -1,23 +1,22 @@
 -- The cluster of a world as the machine, and what ties the roles' own lists to it.
-use Rattle.std.specs.Prelude.{◌≡◌, ℕ, ◌+◌, ◌<◌, ◌≤◌, Bool, true, List, take, map, length, Option, Some, None, slice_get}
+use Rattle.std.specs.Prelude.{◌≡◌, ℕ, ◌+◌, ◌<◌, ◌≤◌, Bool, List, map, length, Option, Some, None, slice_get}
 use Rattle.std.specs.Prelude.{if◌then◌else◌, suc}
 use Rattle.std.specs.List.{AllByRecursion}
 use Rattle.fdb_txn.specs.declared.entry.Entry.{Entry}
 use Rattle.fdb_txn.specs.declared.entry.Move.{Move}
 use Rattle.fdb_txn.specs.book.History.{AreEntries}
-use Rattle.fdb_sequencer.specs.Sequencer.{Sequencer}
-use Rattle.fdb_proxy.specs.declared.config.Config.{Config}
-use Rattle.fdb_proxy.specs.Askers.{Asker}
-use Rattle.fdb_txn.specs.Limits.{resolver_limit, proxy_limit, log_limit, shard_limit, book_limit}
-use Rattle.fdb_txn.specs.rules.Splits.{are_splits}
-use Rattle.fdb_core.specs.declared.cluster.Cluster.{Cluster}
-use Rattle.fdb_core.specs.declared.roles.commit_proxy.CommitProxyRole.{CommitProxyRole}
 use Rattle.fdb_txn.specs.book.Book.{Seen, last_version, seen_before}
+use Rattle.fdb_sequencer.specs.Sequencer.{Sequencer}
 use Rattle.fdb_log.specs.declared.message.LogMsg.{LogMsg}
 use Rattle.fdb_storage.specs.LogMessages.{log_messages}
-use Rattle.fdb_core.specs.machine.Machine.{Machine, is_set}
-use Rattle.fdb_core.specs.machine.SequencerSteps.{moves_in}
-use Rattle.fdb_core.specs.machine.Sessions.{EachOpen}
+use Rattle.fdb_proxy.specs.declared.config.Config.{Config}
+use Rattle.fdb_proxy.specs.Askers.{Asker}
+use Rattle.fdb_roles.specs.Entries.{moves_in}
+use Rattle.fdb_roles.specs.Legal.{IsLegal}
+use Rattle.fdb_core.specs.declared.cluster.Cluster.{Cluster}
+use Rattle.fdb_core.specs.declared.roles.commit_proxy.CommitProxyRole.{CommitProxyRole}
+use Rattle.fdb_machine.specs.machine.Machine.{Machine, is_set}
+use Rattle.fdb_machine.specs.machine.Sessions.{EachOpen}
 use Rattle.fdb_core.specs.refinement.commit_proxy.Ties.{ReadsWithin, CommitProxyRefines, Known, known_to, seen_as}
 use Rattle.fdb_core.specs.refinement.resolver.Resolving.{ResolversRefine, PartsRefine, taken_by}
 use Rattle.fdb_core.specs.refinement.log.Ties.{logs_taken, progress_of, LogsRefine}
@@ -44,20 +43,6 @@ machine_of k =
       committed = k.sequencer.committed;
       acknowledged = k.acknowledged.items;
     }
-
--- each entry's version is above that of the entry before it
-abbrev pub IsRising : List Entry → Type 0
-IsRising book = (i : ℕ) (entry : Entry) → slice_get book i ≡ Some entry → last_version (take i book) < entry.version
-
--- the numbers of roles are legal, and the splits are splits
-pub record IsLegal (config : Config) : Type 0 where
-  pub few_proxies : config.proxies ≤ proxy_limit
-  pub few_resolvers : length config.resolver_splits < resolver_limit
-  pub some_log : 0 < config.logs
-  pub few_logs : config.logs ≤ log_limit
-  pub splits : are_splits config.shard_splits ≡ true
-  pub few_shards : length config.shard_splits < shard_limit
-  pub book : config.book ≤ book_limit
 
 -- the messages of entry i for the logs
 abbrev pub messages_on : Config → ℕ → Seen → Entry → List LogMsg

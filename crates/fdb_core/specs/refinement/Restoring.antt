@@ -6,7 +6,7 @@ use Rattle.fdb_core.specs.declared.roles.commit_proxy.CommitProxyRole.{CommitPro
 use Rattle.fdb_core.specs.declared.roles.log.LogRole.{LogRole}
 use Rattle.fdb_core.specs.declared.roles.resolver.ResolverRole.{ResolverRole}
 use Rattle.fdb_core.specs.declared.roles.shard.ShardRole.{ShardRole}
-use Rattle.fdb_core.specs.machine.Failures.{Failures}
+use Rattle.fdb_machine.specs.machine.Failures.{Failures}
 use Rattle.fdb_core.specs.refinement.Cluster.{Refines}
 use Rattle.fdb_core.specs.refinement.commit_proxy.Ties.{seen_as}
 use Rattle.fdb_core.specs.refinement.log.Ties.{progress_of}
@@ -72,8 +72,8 @@ with_roles k roles = record k {
   shards = roles.shards;
 }
 
--- What holds of a world's cluster between two steps: with the roles that failed as they were before, it is what the book
--- says.
+-- What holds of a world's cluster between two steps: with the roles that failed as they were before, it is what the
+-- book says.
 pub record Tied (k : Cluster) : Type 0 where
   pub roles : Roles
   pub commit_proxies : Restores proxy_failed SameProxy k.commit_proxies.items roles.commit_proxies.items

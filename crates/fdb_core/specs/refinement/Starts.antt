@@ -7,7 +7,7 @@ use Rattle.fdb_storage.specs.Shards.{IsNewShard}
 use Rattle.fdb_core.specs.declared.roles.log.LogRole.{LogRole}
 use Rattle.fdb_core.specs.declared.roles.resolver.ResolverRole.{ResolverRole}
 use Rattle.fdb_core.specs.declared.roles.shard.ShardRole.{ShardRole}
-use Rattle.fdb_core.specs.refinement.log.Ties.{Each}
+use Rattle.fdb_roles.specs.Lists.{Each}
 use Rattle.fdb_core.specs.refinement.resolver.Resolving.{ResolverRefines}
 
 -- the first n of so many logs for so many tags, which took nothing

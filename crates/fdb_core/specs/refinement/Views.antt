@@ -3,8 +3,8 @@ use Rattle.fdb_core.specs.declared.roles.commit_proxy.Sender.{Sender as CodeSend
 use Rattle.fdb_core.specs.declared.roles.commit_proxy.Sender.TheVariants as code_sender
 use Rattle.fdb_core.specs.declared.roles.client.session.SessionState.{SessionState as CodeState}
 use Rattle.fdb_core.specs.declared.roles.client.session.SessionState.TheVariants as code_state
-use Rattle.fdb_core.specs.machine.Sessions.{SessionState, Idle as Free, Asking, Open, Waiting}
-use Rattle.fdb_core.specs.machine.Roles.{Sender, FromResolver, FromLog}
+use Rattle.fdb_machine.specs.machine.Sessions.{SessionState, Idle as Free, Asking, Open, Waiting}
+use Rattle.fdb_machine.specs.machine.Roles.{Sender, FromResolver, FromLog}
 
 abbrev pub sender_of : CodeSender → Sender
 sender_of (code_sender.Resolver resolver) = FromResolver resolver

@@ -1,3 +1,3 @@
+pub mod Noting
 pub mod Reading
-pub mod Sessions
 pub mod Submitting

@@ -1,18 +1,18 @@
 // The shards beside the serial map.
 ghost use Rattle.std.specs.Prelude.{◌≡◌, ◌<◌, ◌≤◌, ◌+◌, ◌↔◌, ◌⊎◌, suc, List, length, IsTrue, IfOk, MatchResult};
 ghost use Rattle.fdb_txn.specs.Limits.{shard_limit};
-ghost use Rattle.fdb_core.specs.check.Holding.{is_below, HoldsTheRun, HasTheMap, HasTheMapThere, StopsByShard};
+ghost use Rattle.fdb_core.specs.check.Holding.{HoldsTheRun, HasTheMap, HasTheMapThere, StopsByShard};
+ghost use Rattle.fdb_check.specs.Versions.{is_below};
 ghost use Rattle.fdb_core.specs.check.Holding.{ChecksShards};
 ghost use Rattle.fdb_keys.specs.Points.{Point};
 ghost use Rattle.fdb_txn.specs.book.History.{AreEntries};
 ghost use Rattle.fdb_core.specs.check.Checking.{HaveHeld};
-ghost use Rattle.fdb_core.specs.check.Judged.{AreJudged};
-ghost use Rattle.fdb_core.specs.check.Running.{HasComeTo};
+ghost use Rattle.fdb_check.specs.Judged.{AreJudged};
+ghost use Rattle.fdb_check.specs.Running.{HasComeTo};
 
 use crate::book::last_version;
-use crate::check::run::{Run, new_run, run_entry};
 use crate::roles::shard::ShardRole;
-use crate::world::CheckFault;
+use fdb_check::{CheckFault, Run, new_run, run_entry};
 use fdb_keys::{Items, Refusal};
 use fdb_mutations::PlainMap;
 use fdb_proxy::Outcome;

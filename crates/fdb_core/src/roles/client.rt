@@ -1,16 +1,5 @@
 // What a session keeps of its transactions.
+pub(crate) mod note;
 pub(crate) mod read;
 pub(crate) mod session;
 pub(crate) mod sessions;
-
-use fdb_client::Transcript;
-use fdb_txn::Spot;
-
-/// An acknowledged transaction with where it stands.
-#[derive(Drop)]
-pub struct Placed {
-    /// Where the transaction stands.
-    pub spot: Spot,
-    /// Its operations with their replies.
-    pub transcript: Transcript,
-}

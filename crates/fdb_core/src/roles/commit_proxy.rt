@@ -7,7 +7,7 @@ ghost use Rattle.std.specs.Prelude.{◌≡◌, length};
 ghost use Rattle.fdb_keys.specs.Answers.{Answers};
 ghost use Rattle.fdb_proxy.specs.Configs.{config_fault};
 ghost use Rattle.fdb_core.specs.refinement.commit_proxy.Ties.{IsNewCommitProxy};
-ghost use Rattle.fdb_core.specs.refinement.log.Ties.{Each};
+ghost use Rattle.fdb_roles.specs.Lists.{Each};
 
 use crate::roles::client::sessions::Sessions;
 use crate::roles::commit_proxy::sealing::seal_first;
@@ -60,13 +60,13 @@ impl CommitProxyRole {
     ghost use Rattle.fdb_proxy.specs.Configs.{config_fault};
     ghost use Rattle.fdb_proxy.specs.Requests.{place_of};
     ghost use Rattle.fdb_proxy.specs.Verdicts.{is_needed};
-    ghost use Rattle.fdb_core.specs.machine.CommitProxySteps.{is_idle, is_resolving, is_logging, is_reported, awaits};
-    ghost use Rattle.fdb_core.specs.machine.CommitProxySteps.{with_received};
-    ghost use Rattle.fdb_core.specs.machine.Machine.{first_missing};
-    ghost use Rattle.fdb_core.specs.machine.Roles.{FromResolver, FromLog};
+    ghost use Rattle.fdb_machine.specs.machine.CommitProxySteps.{is_idle, is_resolving, is_logging, is_reported};
+    ghost use Rattle.fdb_machine.specs.machine.CommitProxySteps.{awaits, with_received};
+    ghost use Rattle.fdb_machine.specs.machine.Machine.{first_missing};
+    ghost use Rattle.fdb_machine.specs.machine.Roles.{FromResolver, FromLog};
     ghost use Rattle.fdb_core.specs.refinement.commit_proxy.Ties.{Known, seen_as, CommitProxyRefines, IsNewCommitProxy};
-    ghost use Rattle.fdb_core.specs.headline.ProxyStages.{IsSaid};
-    ghost use Rattle.fdb_core.specs.machine.Sessions.{open_at};
+    ghost use Rattle.fdb_roles.specs.ProxyStages.{IsSaid};
+    ghost use Rattle.fdb_machine.specs.machine.Sessions.{open_at};
     ghost use Rattle.fdb_core.specs.refinement.client.Submitting.{Submits};
     ghost use Rattle.fdb_core.specs.refinement.commit_proxy.Ties.{IsNextTicket, Seals, Decides, IsDone};
     ghost use Rattle.fdb_core.specs.refinement.commit_proxy.Ties.{IsLeftUnsealed};
@@ -165,8 +165,8 @@ impl CommitProxyRole {
     }
 
     /// Decides the batch. Answers what becomes of each place, and the messages for the logs. Refused as `WrongState`
-    /// unless the batch waits for verdicts, as `NotYet` with the least resolver that is asked about some place and whose
-    /// verdicts haven't come, and as `NoMemory`. Then nothing changes.
+    /// unless the batch waits for verdicts, as `NotYet` with the least resolver that is asked about some place and
+    /// whose verdicts haven't come, and as `NoMemory`. Then nothing changes.
     pub(crate) fn decide(&mut self) -> Result<(Items<Outcome>, Items<LogMsg>), Refusal>
         ensures wrong { (config : Config) (book : List Entry) (known : Known)
             → CommitProxyRefines config book known self.old → is_resolving (seen_as self.old).stage ≡ false

@@ -2,9 +2,9 @@
 ghost use Rattle.std.specs.Prelude.{◌≡◌, [], fold, map, replicate, IfOk, IsOk, OnOk};
 ghost use Rattle.std.specs.List.{list_any};
 ghost use Rattle.fdb_proxy.specs.Askers.{Asker};
-ghost use Rattle.fdb_core.specs.machine.GrvProxySteps.{has_no_number};
-ghost use Rattle.fdb_core.specs.machine.Sessions.{Sessions, serve};
-ghost use Rattle.fdb_core.specs.refinement.client.Sessions.{AreKnown};
+ghost use Rattle.fdb_machine.specs.machine.GrvProxySteps.{has_no_number};
+ghost use Rattle.fdb_machine.specs.machine.Sessions.{Sessions, serve};
+ghost use Rattle.fdb_machine.specs.machine.Acting.{AreKnown};
 
 use crate::roles::client::sessions::Sessions;
 use fdb_proxy::GrvCore;

@@ -1,7 +1,7 @@
 // A resolver of the world.
 ghost use Rattle.std.specs.Prelude.{◌≡◌, ◌<◌, ◌≤◌, ◌+◌, ◌++◌, length, slice_get, IfOk};
 ghost use Rattle.std.specs.Vec.{vec_len, vec_capacity};
-ghost use Rattle.fdb_core.specs.refinement.log.Ties.{Each};
+ghost use Rattle.fdb_roles.specs.Lists.{Each};
 ghost use Rattle.fdb_core.specs.refinement.Starts.{IsNewResolver};
 
 use fdb_keys::{Items, Refusal};
@@ -17,7 +17,8 @@ pub(crate) struct ResolverRole {
 }
 
 impl ResolverRole {
-    ghost use Rattle.std.specs.Prelude.{◌≡◌, ◌<◌, ◌-◌, ◌+◌, ◌^◌, ◌++◌, suc, [], ◌∷◌, ℕ, List, length, None, Some, IfOk, OnErr};
+    ghost use Rattle.std.specs.Prelude.{◌≡◌, ◌<◌, ◌-◌, ◌+◌, ◌^◌, ◌++◌, suc, [], ◌∷◌, ℕ, List, length, None, Some, IfOk};
+    ghost use Rattle.std.specs.Prelude.{OnErr};
     ghost use Rattle.std.specs.Prelude.{slice_get};
     ghost use Rattle.fdb_keys.specs.Answers.{Answers};
     ghost use Rattle.fdb_keys.specs.Points.{Point};
@@ -27,7 +28,8 @@ impl ResolverRole {
     ghost use Rattle.fdb_proxy.specs.Parting.{IsPartOf};
     ghost use Rattle.fdb_proxy.specs.Verdicts.{moves_through};
     ghost use Rattle.fdb_resolver.specs.Parts.{IsPart};
-    ghost use Rattle.fdb_core.specs.refinement.resolver.Resolving.{ResolverRefines, IsResolverAt, TakesNext, IsLeftBy};
+    ghost use Rattle.fdb_core.specs.refinement.resolver.Resolving.{ResolverRefines, TakesNext, IsLeftBy};
+    ghost use Rattle.fdb_roles.specs.AtBook.{IsResolverAt};
 
     /// The resolver with the number, which took nothing.
     pub(crate) fn new(alloc: Global, index: u32) -> Self

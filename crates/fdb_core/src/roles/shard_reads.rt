@@ -6,7 +6,8 @@ ghost use Rattle.fdb_keys.specs.Ranges.{ranges_meet};
 ghost use Rattle.fdb_keys.specs.Texts.{is_bound};
 ghost use Rattle.fdb_core.specs.declared.roles.shard.ShardRole.{ShardRole as Role};
 ghost use Rattle.fdb_mutations.specs.Pairs.{pairs_in, first_of};
-ghost use Rattle.fdb_core.specs.refinement.shard.Reads.{range_fault, run_map, left_of, AreFew, pairs_held};
+ghost use Rattle.fdb_core.specs.refinement.shard.Reads.{range_fault, run_map, pairs_held};
+ghost use Rattle.fdb_roles.specs.Wanted.{left_of, AreFew};
 
 use crate::roles::shard::ShardRole;
 use bytes::Bytes;

@@ -2,26 +2,27 @@
 ghost use Rattle.std.specs.Prelude.{◌≡◌, ◌+◌, ◌≤◌, ◌++◌, [], ◌∷◌, ℕ, true, Some, slice_get, vec_len, vec_capacity};
 ghost use Rattle.fdb_txn.specs.declared.spot.Spot.TheVariants as spot;
 ghost use Rattle.fdb_core.specs.declared.roles.commit_proxy.CommitProxyRole.{CommitProxyRole};
-ghost use Rattle.fdb_core.specs.declared.step.Answered.TheVariants as answered;
-ghost use Rattle.fdb_core.specs.invariant.Invariant.{Invariant};
-ghost use Rattle.fdb_core.specs.declared.step.Step.TheVariants as step;
+ghost use Rattle.fdb_machine.specs.declared.step.Answered.TheVariants as answered;
+ghost use Rattle.fdb_machine.specs.invariant.Invariant.{Invariant};
+ghost use Rattle.fdb_machine.specs.declared.step.Step.TheVariants as step;
 ghost use Rattle.fdb_core.specs.refinement.Cluster.{machine_of};
 ghost use Rattle.fdb_core.specs.refinement.Restoring.{Tied, proxy_failed};
+ghost use Rattle.fdb_core.specs.refinement.client.Noting.{step_with};
 ghost use Rattle.fdb_core.specs.refinement.client.Reading.{step_of};
 ghost use Rattle.fdb_core.specs.refinement.Steps.{Takes};
 
 use crate::cluster::Cluster;
-use crate::roles::client::Placed;
+use crate::roles::client::note::Note;
 use crate::roles::client::read::Read;
 use crate::roles::shard_reads::ShardReads;
-use crate::step::Answered;
 use fdb_client::{Finished, Transcript};
-use fdb_keys::{KeyRange, Refusal};
-use fdb_mutations::Mutation;
+use fdb_keys::Refusal;
+use fdb_machine::Answered;
+use fdb_roles::Placed;
 use fdb_txn::Spot;
 
 impl Cluster {
-    #[tactic(auto, unfolding(crate::specs::machine::ClientSteps::reads))]
+    #[tactic(auto, unfolding(fdb_machine::specs::machine::ClientSteps::reads))]
     pub(crate) fn read(
         &mut self,
         session: u32,
@@ -45,34 +46,15 @@ impl Cluster {
         self.sessions.read(session, &reads, read, snapshot)
     }
 
-    #[tactic(auto, unfolding(crate::specs::machine::ClientSteps::writes))]
-    pub(crate) fn write(&mut self, session: u32, mutation: &Mutation) -> Result<Answered, Refusal>
+    pub(crate) fn note(&mut self, session: u32, note: Note<'_>) -> Result<Answered, Refusal>
         requires { Tied self.old }
-        ensures { Takes self.old (step.Write session mutation.now) result self.new }
+        ensures { Takes self.old (step_with session note.entry) result self.new }
     {
-        self.sessions.write(session, mutation)?;
+        self.sessions.note(session, note)?;
         Ok(Answered::Done)
     }
 
-    #[tactic(auto, unfolding(crate::specs::machine::ClientSteps::adds_read))]
-    pub(crate) fn add_read(&mut self, session: u32, range: &KeyRange) -> Result<Answered, Refusal>
-        requires { Tied self.old }
-        ensures { Takes self.old (step.AddRead session range.now) result self.new }
-    {
-        self.sessions.add_read(session, range)?;
-        Ok(Answered::Done)
-    }
-
-    #[tactic(auto, unfolding(crate::specs::machine::ClientSteps::adds_write))]
-    pub(crate) fn add_write(&mut self, session: u32, range: &KeyRange) -> Result<Answered, Refusal>
-        requires { Tied self.old }
-        ensures { Takes self.old (step.AddWrite session range.now) result self.new }
-    {
-        self.sessions.add_write(session, range)?;
-        Ok(Answered::Done)
-    }
-
-    #[tactic(auto, unfolding(crate::specs::machine::ClientSteps::submits))]
+    #[tactic(auto, unfolding(fdb_machine::specs::machine::ClientSteps::submits))]
     pub(crate) fn submit(&mut self, session: u32, proxy: u32) -> Result<Answered, Refusal>
         requires tied { Tied self.old }
         requires named { Invariant (machine_of self.old) }
@@ -95,7 +77,7 @@ impl Cluster {
 
     // The session submits at a commit proxy that has failed. A transaction that wrote nothing uses no proxy, so it is
     // acknowledged all the same.
-    #[tactic(auto, unfolding(crate::specs::machine::ClientSteps::submits))]
+    #[tactic(auto, unfolding(fdb_machine::specs::machine::ClientSteps::submits))]
     fn submit_past(&mut self, session: u32) -> Result<Answered, Refusal>
         requires { Tied self.old }
         ensures { (proxy : ℕ) (role : CommitProxyRole) → slice_get self.old.commit_proxies.items proxy ≡ Some role

@@ -2,9 +2,9 @@
 ghost use Rattle.std.specs.Prelude.{◌≡◌, ◌+◌, ◌≤◌, ◌⊎◌, ◌++◌, [], ◌∷◌, false, None, Err, OnOk, OnErr, MatchResult};
 ghost use Rattle.std.specs.Prelude.{vec_len, vec_capacity};
 ghost use Rattle.fdb_keys.specs.declared.refusal.Refusal.TheVariants.{NoMemory};
-ghost use Rattle.fdb_core.specs.invariant.Invariant.{Invariant};
-ghost use Rattle.fdb_core.specs.declared.step.Step.TheVariants as step;
-ghost use Rattle.fdb_core.specs.machine.CommitProxySteps.{taken_by_sender};
+ghost use Rattle.fdb_machine.specs.invariant.Invariant.{Invariant};
+ghost use Rattle.fdb_machine.specs.declared.step.Step.TheVariants as step;
+ghost use Rattle.fdb_machine.specs.machine.CommitProxySteps.{taken_by_sender};
 ghost use Rattle.fdb_core.specs.refinement.Cluster.{machine_of};
 ghost use Rattle.fdb_core.specs.refinement.Restoring.{Tied};
 ghost use Rattle.fdb_core.specs.refinement.commit_proxy.Receiving.{IsReceiver, IsUnknown};
@@ -16,9 +16,9 @@ use crate::cluster::Cluster;
 use crate::roles::commit_proxy::Sender;
 use crate::roles::commit_proxy::replying::{place_all, reply_all, tell_all};
 use crate::roles::sequencer::{issue, take_report};
-use crate::step::Answered;
 use fdb_keys::{Items, Refusal};
 use fdb_log::{LogAck, LogMsg};
+use fdb_machine::Answered;
 use fdb_resolver::Part;
 use fdb_sequencer::Ticket;
 use fdb_txn::Entry;
@@ -154,7 +154,7 @@ impl Cluster {
         Ok(Answered::Done)
     }
 
-    #[tactic(auto, unfolding(crate::specs::machine::CommitProxySteps::decides))]
+    #[tactic(auto, unfolding(fdb_machine::specs::machine::CommitProxySteps::decides))]
     pub(crate) fn decide(&mut self, proxy: u32) -> Result<Answered, Refusal>
         requires { Tied self.old }
         ensures { Takes self.old (step.Decide proxy) result self.new }
@@ -173,7 +173,7 @@ impl Cluster {
         Ok(Answered::Decided(outcomes))
     }
 
-    #[tactic(auto, unfolding(crate::specs::machine::CommitProxySteps::reports))]
+    #[tactic(auto, unfolding(fdb_machine::specs::machine::CommitProxySteps::reports))]
     pub(crate) fn report(&mut self, proxy: u32) -> Result<Answered, Refusal>
         requires { Tied self.old }
         ensures { Takes self.old (step.Report proxy) result self.new }
@@ -193,7 +193,7 @@ impl Cluster {
         Ok(Answered::Version(self.sequencer.committed()))
     }
 
-    #[tactic(auto, unfolding(crate::specs::machine::CommitProxySteps::answers))]
+    #[tactic(auto, unfolding(fdb_machine::specs::machine::CommitProxySteps::answers))]
     pub(crate) fn answer(&mut self, proxy: u32) -> Result<Answered, Refusal>
         requires tied { Tied self.old }
         requires named { Invariant (machine_of self.old) }

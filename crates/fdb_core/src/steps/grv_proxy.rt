@@ -1,17 +1,17 @@
 // Sessions ask a read-version proxy, which serves them.
-ghost use Rattle.fdb_core.specs.invariant.Invariant.{Invariant};
-ghost use Rattle.fdb_core.specs.declared.step.Step.TheVariants as step;
+ghost use Rattle.fdb_machine.specs.invariant.Invariant.{Invariant};
+ghost use Rattle.fdb_machine.specs.declared.step.Step.TheVariants as step;
 ghost use Rattle.fdb_core.specs.refinement.Cluster.{machine_of};
 ghost use Rattle.fdb_core.specs.refinement.Restoring.{Tied};
 ghost use Rattle.fdb_core.specs.refinement.Steps.{Takes};
 
 use crate::cluster::Cluster;
 use crate::roles::grv_proxy::{are_used_up, serve_all};
-use crate::step::Answered;
 use fdb_keys::Refusal;
+use fdb_machine::Answered;
 
 impl Cluster {
-    #[tactic(auto, unfolding(crate::specs::machine::GrvProxySteps::asks))]
+    #[tactic(auto, unfolding(fdb_machine::specs::machine::GrvProxySteps::asks))]
     pub(crate) fn ask(&mut self, session: u32, proxy: u32) -> Result<Answered, Refusal>
         requires { Tied self.old }
         ensures { Takes self.old (step.Ask session proxy) result self.new }
@@ -28,7 +28,7 @@ impl Cluster {
         Ok(Answered::Done)
     }
 
-    #[tactic(auto, unfolding(crate::specs::machine::GrvProxySteps::grants))]
+    #[tactic(auto, unfolding(fdb_machine::specs::machine::GrvProxySteps::grants))]
     pub(crate) fn grant(&mut self, proxy: u32) -> Result<Answered, Refusal>
         requires tied { Tied self.old }
         requires named { Invariant (machine_of self.old) }

@@ -1,14 +1,14 @@
 // A log takes its message of an entry.
-ghost use Rattle.fdb_core.specs.declared.step.Step.TheVariants as step;
+ghost use Rattle.fdb_machine.specs.declared.step.Step.TheVariants as step;
 ghost use Rattle.fdb_core.specs.refinement.Restoring.{Tied};
 ghost use Rattle.fdb_core.specs.refinement.Steps.{Takes};
 
 use crate::cluster::Cluster;
-use crate::step::Answered;
 use fdb_keys::Refusal;
+use fdb_machine::Answered;
 
 impl Cluster {
-    #[tactic(auto, unfolding(crate::specs::machine::RoleSteps::pushes))]
+    #[tactic(auto, unfolding(fdb_machine::specs::machine::RoleSteps::pushes))]
     pub(crate) fn push(&mut self, entry: u32, log: u32) -> Result<Answered, Refusal>
         requires { Tied self.old }
         ensures { Takes self.old (step.Push entry log) result self.new }

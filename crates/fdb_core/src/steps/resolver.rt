@@ -1,14 +1,14 @@
 // A resolver takes its part of an entry.
-ghost use Rattle.fdb_core.specs.declared.step.Step.TheVariants as step;
+ghost use Rattle.fdb_machine.specs.declared.step.Step.TheVariants as step;
 ghost use Rattle.fdb_core.specs.refinement.Restoring.{Tied};
 ghost use Rattle.fdb_core.specs.refinement.Steps.{Takes};
 
 use crate::cluster::Cluster;
-use crate::step::Answered;
 use fdb_keys::Refusal;
+use fdb_machine::Answered;
 
 impl Cluster {
-    #[tactic(auto, unfolding(crate::specs::machine::RoleSteps::resolves))]
+    #[tactic(auto, unfolding(fdb_machine::specs::machine::RoleSteps::resolves))]
     pub(crate) fn resolve(&mut self, entry: u32, resolver: u32) -> Result<Answered, Refusal>
         requires { Tied self.old }
         ensures { Takes self.old (step.Resolve entry resolver) result self.new }

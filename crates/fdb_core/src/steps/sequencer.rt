@@ -1,15 +1,15 @@
 // Keys go over to another resolver.
-ghost use Rattle.fdb_core.specs.declared.step.Step.TheVariants as step;
+ghost use Rattle.fdb_machine.specs.declared.step.Step.TheVariants as step;
 ghost use Rattle.fdb_core.specs.refinement.Restoring.{Tied};
 ghost use Rattle.fdb_core.specs.refinement.Steps.{Takes};
 
 use crate::cluster::Cluster;
-use crate::step::Answered;
 use fdb_keys::{KeyRange, Refusal};
+use fdb_machine::Answered;
 use fdb_txn::Move;
 
 impl Cluster {
-    #[tactic(auto, unfolding(crate::specs::machine::SequencerSteps::moves))]
+    #[tactic(auto, unfolding(fdb_machine::specs::machine::SequencerSteps::moves))]
     pub(crate) fn move_to(&mut self, range: &KeyRange, to: u32) -> Result<Answered, Refusal>
         requires { Tied self.old }
         ensures { Takes self.old (step.Move range.now to) result self.new }

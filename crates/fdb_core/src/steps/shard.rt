@@ -1,14 +1,14 @@
 // A shard applies what its log has, forgets old versions, and has its log drop what it applied.
-ghost use Rattle.fdb_core.specs.declared.step.Step.TheVariants as step;
+ghost use Rattle.fdb_machine.specs.declared.step.Step.TheVariants as step;
 ghost use Rattle.fdb_core.specs.refinement.Restoring.{Tied};
 ghost use Rattle.fdb_core.specs.refinement.Steps.{Takes};
 
 use crate::cluster::Cluster;
-use crate::step::Answered;
 use fdb_keys::Refusal;
+use fdb_machine::Answered;
 
 impl Cluster {
-    #[tactic(auto, unfolding(crate::specs::machine::RoleSteps::pulls))]
+    #[tactic(auto, unfolding(fdb_machine::specs::machine::RoleSteps::pulls))]
     pub(crate) fn pull(&mut self, shard: u32, limit: u32) -> Result<Answered, Refusal>
         requires { Tied self.old }
         ensures { Takes self.old (step.Pull shard limit) result self.new }
@@ -32,7 +32,7 @@ impl Cluster {
         Ok(Answered::Version(role.core.version()))
     }
 
-    #[tactic(auto, unfolding(crate::specs::machine::RoleSteps::forgets))]
+    #[tactic(auto, unfolding(fdb_machine::specs::machine::RoleSteps::forgets))]
     pub(crate) fn forget(&mut self, shard: u32, version: u64) -> Result<Answered, Refusal>
         requires { Tied self.old }
         ensures { Takes self.old (step.Forget shard version) result self.new }
@@ -49,7 +49,7 @@ impl Cluster {
         Ok(Answered::Version(role.core.floor()))
     }
 
-    #[tactic(auto, unfolding(crate::specs::machine::RoleSteps::pops))]
+    #[tactic(auto, unfolding(fdb_machine::specs::machine::RoleSteps::pops))]
     pub(crate) fn pop(&mut self, shard: u32) -> Result<Answered, Refusal>
         requires { Tied self.old }
         ensures { Takes self.old (step.Pop shard) result self.new }

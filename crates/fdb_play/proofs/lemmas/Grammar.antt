@@ -3,7 +3,7 @@ use Rattle.std.proofs.Common.{◌≡◌, ◌≢◌, ◌+◌, ◌*◌, ◌==◌, 
 use Rattle.std.proofs.Common.{sym, subst, ◌∙◌, if◌then◌else◌, codes}
 use Rattle.std.specs.Cmp.Lexicographic.{bytes_decides}
 use Rattle.std.proofs.lemmas.Bool.{both_ways}
-use Rattle.fdb_core.specs.declared.step.Step.{Step}
+use Rattle.fdb_machine.specs.declared.step.Step.{Step}
 use Rattle.fdb_keys.specs.declared.refusal.Refusal.{Refusal}
 use Rattle.fdb_play.specs.script.Faults.{Reads}
 use Rattle.fdb_play.specs.script.Grammar.{WritesSmall, WritesOne, WritesNumberAnd, WritesRest, WritesStep, WritesLine}
@@ -14,7 +14,8 @@ use Rattle.fdb_play.specs.declared.script.fault.Fault.{Fault}
 use Rattle.fdb_play.specs.declared.script.line.Line.{Line}
 use Rattle.fdb_play.specs.declared.script.line.Line.TheVariants as given
 use Rattle.fdb_play.specs.declared.script.step_line.Kind.{Kind}
-use Rattle.fdb_play.specs.declared.script.step_line.Kind.TheVariants.{Ask, Grant, Get, SnapshotGet, Range, SnapshotRange}
+use Rattle.fdb_play.specs.declared.script.step_line.Kind.TheVariants.{Ask, Grant, Get, SnapshotGet, Range}
+use Rattle.fdb_play.specs.declared.script.step_line.Kind.TheVariants.{SnapshotRange}
 use Rattle.fdb_play.specs.declared.script.step_line.Kind.TheVariants.{Write, AddRead, AddWrite, Submit, Seal, Resolve}
 use Rattle.fdb_play.specs.declared.script.step_line.Kind.TheVariants.{Verdict, Decide, Push, Logged, Report, Answer}
 use Rattle.fdb_play.specs.declared.script.step_line.Kind.TheVariants.{Pull, Forget, Pop, Move}

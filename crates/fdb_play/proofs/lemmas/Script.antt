@@ -5,18 +5,19 @@ use Rattle.fdb_keys.specs.declared.refusal.Refusal.{Refusal}
 use Rattle.fdb_keys.specs.Answers.{Answers}
 use Rattle.fdb_proxy.specs.declared.config.Config.{Config}
 use Rattle.fdb_proxy.specs.Configs.{config_fault}
-use Rattle.fdb_core.specs.machine.Failures.{State}
-use Rattle.fdb_core.specs.machine.Worlds.{first_state}
+use Rattle.fdb_machine.specs.machine.Failures.{State}
+use Rattle.fdb_machine.specs.machine.Worlds.{first_state}
 use Rattle.std.specs.Prelude.{IfOk, OnOk, IfErr, IfSome, codes}
 use Rattle.std.specs.Io.KnownBytes.{IsAtEnd, Appends}
 use Rattle.std.specs.declared.io.Error.{Error}
 use Rattle.fdb_keys.specs.declared.refusal.Refusal.TheVariants.{NoMemory}
 use Rattle.fdb_play.specs.script.Configs.{WritesConfig, line_fault}
-use Rattle.fdb_play.specs.declared.play.stop.Stop.{Stop}
-use Rattle.fdb_play.specs.declared.play.stop.Stop.TheVariants as stop
+use Rattle.fdb_print.specs.declared.stop.Stop.{Stop}
+use Rattle.fdb_print.specs.declared.stop.Stop.TheVariants as stop
 use Rattle.fdb_play.specs.script.Lines.{lines_of, LosesLine, IsInputFault}
 use Rattle.fdb_play.specs.play.Scripts.{Plays, PlaysFrom, PlaysOn, IsChecked, AnswersLine, Unconfigured, StopsAt}
-use Rattle.fdb_play.specs.play.Scripts.{printed_line, refused_line, is_silent, Reaches, Says, Knows, Printed, stop_text}
+use Rattle.fdb_play.specs.play.Scripts.{is_silent, Reaches, Says, Knows, Printed}
+use Rattle.fdb_print.specs.Stops.{printed_line, refused_line, stop_text}
 
 refused-at : {T : Type 0} (fault : Option Refusal) (config : Config) (why : Refusal) (P : T → Type 0) (number : ℕ)
     (lines : List (List ℕ))

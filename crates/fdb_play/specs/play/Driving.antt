@@ -1,13 +1,13 @@
 -- The steps that drive a batch in flight to its end.
 use Rattle.std.specs.Prelude.{◌≡◌, ℕ, zero, suc, List, [], ◌∷◌, ◌++◌, Option, Result, Ok, Err, ◌⊎◌}
 use Rattle.fdb_keys.specs.declared.refusal.Refusal.{Refusal}
-use Rattle.fdb_core.specs.declared.in_flight.InFlight.{InFlight}
-use Rattle.fdb_core.specs.declared.step.Answered.{Answered}
-use Rattle.fdb_core.specs.declared.step.Step.{Step}
-use Rattle.fdb_core.specs.declared.step.Step.TheVariants.{Resolve, Verdict, Decide, Push, Logged, Report, Answer}
-use Rattle.fdb_core.specs.machine.InFlight.{in_flight}
-use Rattle.fdb_core.specs.machine.Failures.{State}
-use Rattle.fdb_core.specs.machine.Worlds.{IsStep}
+use Rattle.fdb_machine.specs.declared.in_flight.InFlight.{InFlight}
+use Rattle.fdb_machine.specs.declared.step.Answered.{Answered}
+use Rattle.fdb_machine.specs.declared.step.Step.{Step}
+use Rattle.fdb_machine.specs.declared.step.Step.TheVariants.{Resolve, Verdict, Decide, Push, Logged, Report, Answer}
+use Rattle.fdb_machine.specs.machine.InFlight.{in_flight}
+use Rattle.fdb_machine.specs.machine.Failures.{State}
+use Rattle.fdb_machine.specs.machine.Worlds.{IsStep}
 
 -- the steps of each role of a kind, from role 0 on
 abbrev pub for_each : (ℕ → List Step) → ℕ → List Step

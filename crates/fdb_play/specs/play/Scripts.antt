@@ -5,20 +5,19 @@ use Rattle.std.specs.Io.KnownBytes.{Appends}
 use Rattle.std.specs.Fmt.{decimal}
 use Rattle.fdb_keys.specs.declared.refusal.Refusal.{Refusal}
 use Rattle.fdb_keys.specs.declared.refusal.Refusal.TheVariants.{NoMemory}
-use Rattle.fdb_txn.specs.declared.txn_id.TxnId.{TxnId}
 use Rattle.fdb_proxy.specs.declared.config.Config.{Config}
 use Rattle.fdb_proxy.specs.Configs.{config_fault}
-use Rattle.fdb_core.specs.declared.step.Answered.{Answered}
-use Rattle.fdb_core.specs.declared.step.Step.{Step}
-use Rattle.fdb_core.specs.machine.Failures.{State}
-use Rattle.fdb_core.specs.machine.Worlds.{IsStep, first_state}
+use Rattle.fdb_machine.specs.declared.step.Answered.{Answered}
+use Rattle.fdb_machine.specs.declared.step.Step.{Step}
+use Rattle.fdb_machine.specs.machine.Failures.{State}
+use Rattle.fdb_machine.specs.machine.Worlds.{IsStep, first_state}
+use Rattle.fdb_print.specs.Stops.{refused_line, printed_line, bad_line, stop_text}
 use Rattle.fdb_play.specs.declared.script.line.Line.{Line}
 use Rattle.fdb_play.specs.declared.script.line.Line.TheVariants as given
 use Rattle.fdb_play.specs.declared.script.step_line.Kind.{Kind}
 use Rattle.fdb_play.specs.declared.script.step_line.Kind.TheVariants.{Answer}
-use Rattle.fdb_play.specs.declared.play.stop.Stop.{Stop}
-use Rattle.fdb_play.specs.declared.play.stop.Stop.TheVariants as stop
-use Rattle.fdb_play.specs.print.Answers.{refusal_text, result_text}
+use Rattle.fdb_print.specs.declared.stop.Stop.{Stop}
+use Rattle.fdb_play.specs.print.Answers.{result_text}
 use Rattle.fdb_play.specs.script.Configs.{WritesConfig, line_fault}
 use Rattle.fdb_play.specs.print.Sets.{shown_text}
 use Rattle.fdb_play.specs.play.Driving.{Drives}
@@ -26,21 +25,10 @@ use Rattle.fdb_play.specs.play.Showing.{lent}
 use Rattle.fdb_play.specs.script.Grammar.{WritesLine, read_fault, step_fault}
 use Rattle.fdb_play.specs.script.Lines.{lines_of}
 
--- a text as a line that is printed
-abbrev pub printed_line : List ℕ → List ℕ
-printed_line text = text ++ 10 ∷ []
-
 -- a line that prints nothing is empty or begins with '#'
 abbrev pub is_silent : List ℕ → Bool
 is_silent [] = true
 is_silent (byte ∷ bytes) = byte == 35
-
--- what is printed of a line outside the grammar, by its number
-abbrev pub bad_line : ℕ → List ℕ
-bad_line number = printed_line (codes "bad line " ++ decimal number)
-
-abbrev pub refused_line : Refusal → List ℕ
-refused_line refusal = printed_line (refusal_text refusal)
 
 -- the script ends before its check, and this is printed last
 abbrev pub Ends : List ℕ → List ℕ → ℕ → Type 0
@@ -135,13 +123,6 @@ Plays number (line ∷ lines) printed status =
     ((is_silent line ≡ true) × Plays (suc number) lines printed status)
     ⊎ (((is_silent line ≡ false) × Configures (suc number) line lines printed status)
     ⊎ RunsOut printed status)
-
--- what is printed where a script stops before its end, unless it stops by an error of the input or the output
-abbrev pub stop_text : Stop → Option (List ℕ)
-stop_text (stop.BadLine number) = Some (bad_line number)
-stop_text (stop.Refused refusal) = Some (refused_line refusal)
-stop_text stop.NoMemory = Some (refused_line NoMemory)
-stop_text (stop.Io error) = None
 
 -- the writer's known bytes grew by a text with the property
 abbrev pub Printed : Option (List ℕ) → Option (List ℕ) → (List ℕ → Type 0) → Type 0

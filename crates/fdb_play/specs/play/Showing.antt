@@ -3,8 +3,8 @@ use Rattle.std.specs.Prelude.{ℕ, Option, Some, None, Result, Ok, Err}
 use Rattle.fdb_keys.specs.declared.refusal.Refusal.{Refusal}
 use Rattle.fdb_keys.specs.declared.refusal.Refusal.TheVariants.{NoTransaction}
 use Rattle.fdb_client.specs.declared.program.Transcript.{Transcript}
-use Rattle.fdb_core.specs.machine.Failures.{State}
-use Rattle.fdb_core.specs.machine.Sessions.{open_at}
+use Rattle.fdb_machine.specs.machine.Failures.{State}
+use Rattle.fdb_machine.specs.machine.Sessions.{open_at}
 
 -- an open transaction, if there is one
 abbrev pub opened : Option Transcript → Result Transcript Refusal

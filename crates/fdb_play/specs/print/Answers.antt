@@ -1,29 +1,20 @@
 -- What a step prints: what it answered, or why it was refused.
-use Rattle.std.specs.Prelude.{ℕ, List, [], ◌++◌, length, codes, Option, Some, None, Result, Ok, Err}
+use Rattle.std.specs.Prelude.{ℕ, List, ◌++◌, length, codes, Option, Some, None, Result, Ok, Err}
 use Rattle.std.specs.List.{flat_map, enumerate_from}
 use Rattle.std.specs.Fmt.{decimal}
 use Rattle.fdb_keys.specs.declared.refusal.Refusal.{Refusal}
-use Rattle.fdb_keys.specs.declared.refusal.Refusal.TheVariants.{TransactionTooOld, NotCommitted, NotYet}
-use Rattle.fdb_keys.specs.Refusals.{code_of, name_of}
+use Rattle.fdb_keys.specs.declared.refusal.Refusal.TheVariants.{TransactionTooOld, NotCommitted}
+use Rattle.fdb_keys.specs.Refusals.{code_of}
 use Rattle.fdb_resolver.specs.declared.verdict.Verdict.{Verdict}
 use Rattle.fdb_resolver.specs.declared.verdict.Verdict.TheVariants as verdict
 use Rattle.fdb_proxy.specs.declared.outcome.Outcome.{Outcome}
 use Rattle.fdb_proxy.specs.declared.outcome.Outcome.TheVariants as outcome
-use Rattle.fdb_core.specs.declared.step.Answered.{Answered}
-use Rattle.fdb_core.specs.declared.step.Answered.TheVariants as answered
+use Rattle.fdb_machine.specs.declared.step.Answered.{Answered}
+use Rattle.fdb_machine.specs.declared.step.Answered.TheVariants as answered
+use Rattle.fdb_print.specs.Refusals.{refusal_text}
 use Rattle.fdb_play.specs.declared.script.step_line.Kind.{Kind}
 use Rattle.fdb_play.specs.declared.script.step_line.Kind.TheVariants.{Pull, Forget, Pop}
 use Rattle.fdb_play.specs.print.Texts.{text_of}
-
--- what stands after the name: of `NotYet` the number of what has not come
-abbrev pub awaited_text : Refusal → List ℕ
-awaited_text (NotYet number) = codes " " ++ decimal number
-awaited_text refusal = []
-
--- a refusal: its number, its name and what stands after that
-abbrev pub refusal_text : Refusal → List ℕ
-refusal_text refusal = codes "refused " ++ decimal (code_of refusal) ++ codes " " ++ name_of refusal
-    ++ awaited_text refusal
 
 -- a number and what belongs to it, as an item of a list
 abbrev pub item_text : ℕ → List ℕ → List ℕ

@@ -5,7 +5,7 @@ use Rattle.fdb_keys.specs.Ranges.{Range}
 use Rattle.fdb_keys.specs.declared.refusal.Refusal.{Refusal}
 use Rattle.fdb_client.specs.Programs.{program, replies_of, read_ranges, write_ranges}
 use Rattle.fdb_client.specs.declared.program.Transcript.{Transcript}
-use Rattle.fdb_play.specs.print.Answers.{refusal_text}
+use Rattle.fdb_print.specs.Refusals.{refusal_text}
 use Rattle.fdb_play.specs.print.Texts.{text_of}
 
 -- a range as an item of a list: its bounds

@@ -4,8 +4,8 @@ use Rattle.std.specs.Str.Parse.{IsNumeral, digits_value}
 use Rattle.fdb_keys.specs.Ranges.{Range}
 use Rattle.fdb_keys.specs.Texts.{key_fault, range_fault}
 use Rattle.fdb_keys.specs.declared.refusal.Refusal.{Refusal}
-use Rattle.fdb_core.specs.declared.step.Step.{Step}
-use Rattle.fdb_core.specs.declared.step.Step.TheVariants as made
+use Rattle.fdb_machine.specs.declared.step.Step.{Step}
+use Rattle.fdb_machine.specs.declared.step.Step.TheVariants as made
 use Rattle.fdb_mutations.specs.declared.mutation.Mutation.{Mutation}
 use Rattle.fdb_mutations.specs.declared.mutation.Mutation.TheVariants.{Set, Clear, ClearRange, Add, And, Or, Xor, Max}
 use Rattle.fdb_mutations.specs.declared.mutation.Mutation.TheVariants.{Min, ByteMin, ByteMax, CompareAndClear}
@@ -14,9 +14,11 @@ use Rattle.fdb_mutations.specs.Naming.{NamedKeys, OneKey, KeysIn}
 use Rattle.fdb_play.specs.declared.script.line.Line.{Line}
 use Rattle.fdb_play.specs.declared.script.line.Line.TheVariants as given
 use Rattle.fdb_play.specs.declared.script.step_line.Kind.{Kind}
-use Rattle.fdb_play.specs.declared.script.step_line.Kind.TheVariants.{Ask, Grant, Get, SnapshotGet, SnapshotRange, Write}
+use Rattle.fdb_play.specs.declared.script.step_line.Kind.TheVariants.{Ask, Grant, Get, SnapshotGet, SnapshotRange}
+use Rattle.fdb_play.specs.declared.script.step_line.Kind.TheVariants.{Write}
 use Rattle.fdb_play.specs.declared.script.step_line.Kind.TheVariants.{AddRead, AddWrite, Submit, Seal, Resolve, Verdict}
-use Rattle.fdb_play.specs.declared.script.step_line.Kind.TheVariants.{Decide, Push, Logged, Report, Answer, Pull, Forget}
+use Rattle.fdb_play.specs.declared.script.step_line.Kind.TheVariants.{Decide, Push, Logged, Report, Answer, Pull}
+use Rattle.fdb_play.specs.declared.script.step_line.Kind.TheVariants.{Forget}
 use Rattle.fdb_play.specs.declared.script.step_line.Kind.TheVariants.{Pop, Move}
 use Rattle.fdb_play.specs.declared.script.step_line.Kind.TheVariants as line_kind
 use Rattle.fdb_play.specs.declared.script.keys.RangeRead.{RangeRead}

@@ -1,7 +1,8 @@
 -- The first words of lines.
 use Rattle.std.specs.Prelude.{ℕ, List, codes}
 use Rattle.fdb_play.specs.declared.script.step_line.Kind.{Kind}
-use Rattle.fdb_play.specs.declared.script.step_line.Kind.TheVariants.{Ask, Grant, Get, SnapshotGet, Range, SnapshotRange}
+use Rattle.fdb_play.specs.declared.script.step_line.Kind.TheVariants.{Ask, Grant, Get, SnapshotGet, Range}
+use Rattle.fdb_play.specs.declared.script.step_line.Kind.TheVariants.{SnapshotRange}
 use Rattle.fdb_play.specs.declared.script.step_line.Kind.TheVariants.{Write, AddRead, AddWrite, Submit, Seal, Resolve}
 use Rattle.fdb_play.specs.declared.script.step_line.Kind.TheVariants.{Verdict, Decide, Push, Logged, Report, Answer}
 use Rattle.fdb_play.specs.declared.script.step_line.Kind.TheVariants.{Pull, Forget, Pop, Move}

@@ -5,8 +5,8 @@ use Rattle.std.specs.Str.Lines.{lines, strip_carriage_return}
 use Rattle.std.specs.Io.Buffered.{reader_remaining}
 use Rattle.std.specs.declared.io.Error.{Error}
 use Rattle.fdb_play.specs.declared.script.lines.Lines.{Lines}
-use Rattle.fdb_play.specs.declared.play.stop.Stop.{Stop}
-use Rattle.fdb_play.specs.declared.play.stop.Stop.TheVariants.{BadLine, Refused, NoMemory, Io}
+use Rattle.fdb_print.specs.declared.stop.Stop.{Stop}
+use Rattle.fdb_print.specs.declared.stop.Stop.TheVariants.{BadLine, Refused, NoMemory, Io}
 
 -- the lines of a text, which are those of `str::lines`: each ends with an LF, before which one CR is dropped, and what
 -- stands after the last LF is a line where it isn't empty

@@ -1,5 +1,5 @@
 // A batch in flight, driven through the steps that it still has before it.
-ghost use Rattle.fdb_core.specs.machine.InFlight.{in_flight};
+ghost use Rattle.fdb_machine.specs.machine.InFlight.{in_flight};
 ghost use Rattle.fdb_play.specs.play.Driving.{AreTried, Drives, DrivesWhole, for_each, log_steps, resolver_steps};
 
 use fdb_core::{Answered, InFlight, Step, World};

@@ -2,25 +2,25 @@ ghost use Rattle.std.specs.Prelude.{◌≡◌, ◌<◌, ◌≤◌, ◌++◌, ℕ
 ghost use Rattle.std.specs.Prelude.{string_bytes, codes};
 ghost use Rattle.std.specs.Io.KnownBytes.{Appends};
 ghost use Rattle.fdb_proxy.specs.Configs.{config_fault};
-ghost use Rattle.fdb_core.specs.machine.Worlds.{first_state};
-ghost use Rattle.fdb_play.specs.Streams.{FailsWith, IsLimitedError, IsStreamError};
+ghost use Rattle.fdb_machine.specs.machine.Worlds.{first_state};
+ghost use Rattle.fdb_print.specs.Streams.{FailsWith, IsLimitedError, IsStreamError};
 ghost use Rattle.fdb_play.specs.script.Configs.{WritesConfig, line_fault};
 ghost use Rattle.fdb_play.specs.script.Lines.{left, line_text, line_number};
-ghost use Rattle.fdb_play.specs.play.Scripts.{is_silent, printed_line, AnswersLine, PlaysOn, PlaysFrom, Plays};
+ghost use Rattle.fdb_play.specs.play.Scripts.{is_silent, AnswersLine, PlaysOn, PlaysFrom, Plays};
+ghost use Rattle.fdb_print.specs.Stops.{printed_line};
 ghost use Rattle.fdb_play.specs.play.Scripts.{Unconfigured, StopsAt, Printed, Knows, Says, Reaches};
 
 use crate::play::driving::drive;
 use crate::play::showing::push_shown;
-use crate::play::stop::Stop;
 use crate::print::answers::{push_refusal, push_result};
-use crate::print::endings::{print_check, print_stop};
+use crate::print::endings::print_check;
 use crate::script::config_line::read_config;
 use crate::script::fault::Fault;
 use crate::script::line::{Line, read_line};
 use crate::script::lines::Lines;
 use crate::script::step_line::Kind;
-use crate::streams::{Limited, Sink, Source};
 use fdb_core::{Config, World};
+use fdb_print::{Limited, Sink, Source, Stop, print_stop};
 use std::alloc::Global;
 use std::io;
 

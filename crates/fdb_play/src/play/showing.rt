@@ -1,6 +1,6 @@
 // The sets of an open transaction. Showing them is no step: the world stays as it is.
 ghost use Rattle.std.specs.Prelude.{◌≡◌, ◌++◌, Ok, Err, MatchResult, OnOk, string_bytes};
-ghost use Rattle.fdb_play.specs.play.Scripts.{printed_line};
+ghost use Rattle.fdb_print.specs.Stops.{printed_line};
 ghost use Rattle.fdb_play.specs.play.Showing.{lent};
 ghost use Rattle.fdb_play.specs.print.Sets.{shown_text};
 

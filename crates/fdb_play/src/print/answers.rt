@@ -5,14 +5,14 @@ ghost use Rattle.fdb_keys.specs.Refusals.{code_of};
 ghost use Rattle.fdb_play.specs.print.Answers.{granted_text, value_text, pair_text, pairs_text, verdict_name};
 ghost use Rattle.fdb_play.specs.print.Answers.{verdicts_text, outcome_name, outcomes_text, version_text, told_text};
 ghost use Rattle.fdb_play.specs.print.Answers.{clients_text, answer_text, result_text};
-ghost use Rattle.fdb_play.specs.play.Scripts.{printed_line, refused_line};
+ghost use Rattle.fdb_print.specs.Stops.{printed_line, refused_line};
 
-use crate::print::refusals::RefusalLine;
 use crate::print::texts::push_text;
 use crate::script::step_line::Kind;
 use bytes::Bytes;
 use fdb_core::{Answered, Outcome, Verdict};
 use fdb_keys::{Key, Refusal};
+use fdb_print::RefusalLine;
 use std::alloc::AllocError;
 
 /// Appends what a step of this kind prints, as a line.

@@ -1,5 +1,5 @@
 // Who watches a run. What is drawn and answered doesn't depend on it.
-use crate::streams::Sink;
+use fdb_print::Sink;
 use std::io;
 use std::time::{Clock, Duration, Instant};
 

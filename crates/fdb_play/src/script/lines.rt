@@ -3,8 +3,7 @@ ghost use Rattle.std.specs.Io.KnownBytes.{Keeps, IsAtEnd};
 ghost use Rattle.std.specs.Str.Lines.{strip_carriage_return};
 ghost use Rattle.fdb_play.specs.script.Lines.{without_line_end};
 
-use crate::play::stop::Stop;
-use crate::streams::Source;
+use fdb_print::{Source, Stop};
 use std::alloc::{AllocError, Global};
 use std::io;
 use std::io::{BufRead, BufReader, Read};

@@ -82,8 +82,8 @@ impl<B: ClusterName> CommitProxyAt<B> {
     }
 
     /// The first 4,096 of those that wait, in order, become the batch in flight, all of them where there are no more.
-    /// Answers it, and shares its transactions. Refused as `Failed`, as `WrongState` where a batch is in flight already,
-    /// and as `NoMemory`, and then nothing changes but the room.
+    /// Answers it, and shares its transactions. Refused as `Failed`, as `WrongState` where a batch is in flight
+    /// already, and as `NoMemory`, and then nothing changes but the room.
     pub(crate) fn seal(&mut self) -> Result<Batch, Refusal>
         ensures answers { Answers result (seal_fault self.old.core.proxy)
             (λ batch. (batch ≡ take place_limit self.old.core.proxy.waiting)

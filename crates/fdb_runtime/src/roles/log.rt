@@ -23,7 +23,7 @@ pub(crate) struct LogAt<B: ClusterName> {
 
 impl<B: ClusterName> Model for LogAt<B> {
     ghost use Rattle.std.specs.Prelude.{◌≡◌, ◌<◌, false};
-    ghost use Rattle.fdb_core.specs.headline.RoleLaws.{IsLogAt};
+    ghost use Rattle.fdb_roles.specs.AtBook.{IsLogAt};
     ghost use Rattle.fdb_runtime.specs.RolesAtFronts.{LogAtFront};
 
     ghost Value = { LogAtFront };

@@ -23,7 +23,7 @@ pub(crate) struct ResolverAt<B: ClusterName> {
 
 impl<B: ClusterName> Model for ResolverAt<B> {
     ghost use Rattle.std.specs.Prelude.{◌≡◌, ◌<◌, suc, false, length};
-    ghost use Rattle.fdb_core.specs.refinement.resolver.Resolving.{IsResolverAt};
+    ghost use Rattle.fdb_roles.specs.AtBook.{IsResolverAt};
     ghost use Rattle.fdb_runtime.specs.RolesAtFronts.{ResolverAtFront};
 
     ghost Value = { ResolverAtFront };

@@ -6,9 +6,8 @@ ghost use Rattle.fdb_txn.specs.book.Transactions.{Transaction};
 ghost use Rattle.fdb_book.specs.Appending.{append_fault};
 ghost use Rattle.fdb_sequencer.specs.Sequencer.{new_fault, fresh, plan_fault, planned, accept_fault, accepting};
 ghost use Rattle.fdb_sequencer.specs.Sequencer.{report_fault, reporting, move_fault, moving};
-ghost use Rattle.fdb_core.specs.headline.RoleLaws.{AreLastOf};
-ghost use Rattle.fdb_core.specs.machine.SequencerSteps.{dated_moves};
-ghost use Rattle.fdb_core.specs.refinement.commit_proxy.Ties.{entry_of};
+ghost use Rattle.fdb_roles.specs.AtBook.{AreLastOf};
+ghost use Rattle.fdb_roles.specs.Entries.{dated_moves, entry_of};
 ghost use Rattle.fdb_runtime.specs.Issuing.{AnswersIssue};
 
 use crate::name::ClusterName;
@@ -29,7 +28,7 @@ pub(crate) struct SequencerAt<B: ClusterName> {
 
 impl<B: ClusterName> Model for SequencerAt<B> {
     ghost use Rattle.std.specs.Prelude.{◌≡◌, suc, length};
-    ghost use Rattle.fdb_core.specs.headline.RoleLaws.{IsSequencerAt};
+    ghost use Rattle.fdb_roles.specs.AtBook.{IsSequencerAt};
     ghost use Rattle.fdb_runtime.specs.RolesAtFronts.{SequencerAtFront};
 
     ghost Value = { SequencerAtFront };
@@ -65,8 +64,8 @@ impl<B: ClusterName> SequencerAt<B> {
     /// Refused as `SequencerCore::plan` refuses; then as `Chain` where a transaction of the batch read at the ticket's
     /// version or above it, as `Repeated` where an id stands in the book or earlier in the batch, as `BookFull`, as
     /// `NoMemory`, and as `Taken`, where someone else appended to the book. Then nothing changes, and the batch is
-    /// dropped. It takes O(m + b log s) for m moves that the proxy hasn't had, b transactions of the batch and s sessions
-    /// with a transaction in the book.
+    /// dropped. It takes O(m + b log s) for m moves that the proxy hasn't had, b transactions of the batch and s
+    /// sessions with a transaction in the book.
     pub(crate) fn issue(
         &mut self,
         alloc: Global,

@@ -5,7 +5,7 @@ ghost use Rattle.fdb_txn.specs.book.Book.{last_version};
 ghost use Rattle.fdb_txn.specs.book.History.{AreEntries};
 ghost use Rattle.fdb_txn.specs.rules.Splits.{piece};
 ghost use Rattle.fdb_storage.specs.Shards.{IsNewShard, HasFailed, HasForgotten, forget_fault, read_fault};
-ghost use Rattle.fdb_core.specs.headline.RoleLaws.{IsShardAt};
+ghost use Rattle.fdb_roles.specs.AtBook.{IsShardAt};
 ghost use Rattle.fdb_runtime.specs.ShardsAtFronts.{peek_fault, shorter_fault, HasGoneOn};
 
 use crate::messages::peek_message::PeekMessage;

@@ -2,7 +2,7 @@
 ghost use Rattle.std.specs.Prelude.{◌≡◌, ◌⊎◌, max, false, length, None};
 ghost use Rattle.fdb_keys.specs.declared.refusal.Refusal.TheVariants.{BookFull, CommitUnknownResult};
 ghost use Rattle.fdb_book.specs.Fronts.{IsPrefix};
-ghost use Rattle.fdb_core.specs.headline.RealTime.{spot_version};
+ghost use Rattle.fdb_roles.specs.Spots.{spot_version};
 ghost use Rattle.fdb_client.specs.Programs.{is_read_only};
 ghost use Rattle.fdb_runtime.specs.Commits.{CommitEnds, is_shown};
 ghost use Rattle.fdb_runtime.specs.Sessions.{IsOpenAt};

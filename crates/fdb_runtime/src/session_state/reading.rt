@@ -8,7 +8,7 @@ ghost use Rattle.fdb_storage.specs.Shards.{key_fault};
 ghost use Rattle.fdb_client.specs.Programs.{program, decided};
 ghost use Rattle.fdb_client.specs.declared.program.Op.TheVariants as operation;
 ghost use Rattle.fdb_client.specs.declared.program.Reply.TheVariants as answer;
-ghost use Rattle.fdb_core.specs.refinement.client.Sessions.{OfOpen};
+ghost use Rattle.fdb_roles.specs.Sessions.{OfOpen};
 ghost use Rattle.fdb_runtime.specs.LentShards.{lent_shards, lending_fault};
 ghost use Rattle.fdb_runtime.specs.Reading.{HasRead, own_writes_decide, RefusedBy};
 
@@ -98,9 +98,9 @@ impl<B: ClusterName> SessionState<B> {
 
     /// The pairs of the range after the open transaction's own writes, on the serial map of the session's front at the
     /// read version, as `Txn::get_range` gives them, noted with the operation. The shards are asked one after another.
-    /// Refused as `NoTransaction` where none is open, as `NoMemory`, and as `LentShards::new` refuses to lend the shards
-    /// for the range at that version. Then nothing changes. It takes what `Txn::get_range` takes, with pages of the
-    /// shards.
+    /// Refused as `NoTransaction` where none is open, as `NoMemory`, and as `LentShards::new` refuses to lend the
+    /// shards for the range at that version. Then nothing changes. It takes what `Txn::get_range` takes, with pages of
+    /// the shards.
     pub(crate) fn get_range_at(
         &mut self,
         alloc: Global,

@@ -7,9 +7,8 @@ ghost use Rattle.fdb_keys.specs.declared.refusal.Refusal.TheVariants.{CommitUnkn
 ghost use Rattle.fdb_mutations.specs.Maps.{Map};
 ghost use Rattle.fdb_txn.specs.book.Book.{last_version};
 ghost use Rattle.fdb_book.specs.Fronts.{IsPrefix};
-ghost use Rattle.fdb_core.specs.headline.Headline.{AnsweredOn};
-ghost use Rattle.fdb_core.specs.headline.RealTime.{spot_version};
-ghost use Rattle.fdb_core.specs.refinement.client.Sessions.{OfOpen, Finishes};
+ghost use Rattle.fdb_roles.specs.Spots.{AnsweredOn, spot_version};
+ghost use Rattle.fdb_roles.specs.Sessions.{OfOpen, Finishes};
 ghost use Rattle.fdb_runtime.specs.Endings.{ended_on, Ends, MayEndOn, MaySettle};
 ghost use Rattle.fdb_runtime.specs.Receipts.{IsOutcome, IsReceipt, IsToldOf, IsTurnedDown};
 ghost use Rattle.fdb_runtime.specs.Receipts.{spot_told, settle_fault, transaction_told};

@@ -20,7 +20,8 @@ module _ (workloads : ValueParser) where
   text_of name words = option_and_then (λ found. one_of name found.1) (subcommand_of (commands workloads) words)
 
   abbrev workload_of : List Text → Option Text
-  workload_of words = option_and_then (λ found. first_of (codes "workload") found.1) (subcommand_of (commands workloads) words)
+  workload_of words = option_and_then (λ found. first_of (codes "workload") found.1)
+      (subcommand_of (commands workloads) words)
 
   run_is_one : faults (codes "run" ∷ []) ≡ []
   unfolding clap_on_literals

@@ -1,5 +1,6 @@
 -- What the words ask for, as clap's matches have it.
-use Rattle.std.specs.Prelude.{◌≡◌, ◌⊎◌, IsErrAnd, ◌≢◌, ◌<◌, ◌^◌, ℕ, Bool, List, Option, Some, true, false, codes, Result, IfOk, if◌then◌else◌}
+use Rattle.std.specs.Prelude.{◌≡◌, ◌⊎◌, IsErrAnd, ◌≢◌, ◌<◌, ◌^◌, ℕ, Bool, List, Option, Some, true, false, codes}
+use Rattle.std.specs.Prelude.{Result, IfOk, if◌then◌else◌}
 use Rattle.std.specs.Option.{option_map_or}
 use Rattle.std.specs.Str.{bytes_eq}
 use Rattle.std.specs.Str.Parse.{IsNumeral, digits_value, without_leading_plus}

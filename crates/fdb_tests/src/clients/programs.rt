@@ -2,12 +2,11 @@
 // applied, and marks at the keys.
 use super::cut_snapshot::CutSnapshot;
 use super::marks::{Marks, only, span};
-use super::steps::{Asked, Change, KEYS, Step, Text};
+use super::steps::{Asked, Change, KEYS, Step, Text, draw_step, draw_value};
 use super::{add_read, add_write, begin, get, mutation_of, range};
-use crate::making::{apply, both, made_of};
-use crate::random::Random;
 use fdb_client::Txn;
 use fdb_keys::{Key, KeyRange, Refusal};
+use fdb_making::{Random, apply, both, made_of};
 use fdb_mutations::PlainMap;
 use std::alloc::Global;
 
@@ -103,7 +102,8 @@ impl Plain {
         random: &mut Random,
     ) -> Result<bool, Refusal> {
         for _ in 0..12 {
-            if !self.step(txn, base, alloc, random.step())? {
+            let step = draw_step(random);
+            if !self.step(txn, base, alloc, step)? {
                 return Ok(false);
             }
         }
@@ -119,7 +119,7 @@ fn fill_both(
     random: &mut Random,
 ) -> Result<(), Refusal> {
     for key in KEYS {
-        let change = Change::Set(key, random.value());
+        let change = Change::Set(key, draw_value(random));
         if random.coin() {
             apply(map, mutation_of(alloc, change))?;
             apply(copy, mutation_of(alloc, change))?;

@@ -1,5 +1,5 @@
 // What is done with an open transaction, as plain data: in known programs, and in programs that are made from a seed.
-use crate::random::Random;
+use fdb_making::Random;
 
 pub(super) type Text = &'static [u8];
 
@@ -48,63 +48,61 @@ fn text(number: u8) -> Text {
     }
 }
 
-impl Random {
-    fn key(&mut self) -> Text {
-        text(self.below(10))
-    }
+fn draw_key(random: &mut Random) -> Text {
+    text(random.below(10))
+}
 
-    // A value or an operand: one of three, so that compared values are often the same.
-    pub(super) fn value(&mut self) -> u8 {
-        self.below(3)
-    }
+// A value or an operand: one of three, so that compared values are often the same.
+pub(super) fn draw_value(random: &mut Random) -> u8 {
+    random.below(3)
+}
 
-    // It ends behind j at the furthest, and may be empty.
-    fn span(&mut self) -> (Text, Text) {
-        let (one, other) = (self.below(11), self.below(11));
-        (text(one.min(other)), text(one.max(other)))
-    }
+// It ends behind j at the furthest, and may be empty.
+fn draw_span(random: &mut Random) -> (Text, Text) {
+    let (one, other) = (random.below(11), random.below(11));
+    (text(one.min(other)), text(one.max(other)))
+}
 
-    fn change(&mut self) -> Change {
-        match self.below(5) {
-            0 => Change::Set(self.key(), self.value()),
-            1 => Change::Clear(self.key()),
-            2 => {
-                let (begin, end) = self.span();
-                Change::ClearRange(begin, end)
-            }
-            3 => Change::Add(self.key(), self.value()),
-            _ => Change::CompareAndClear(self.key(), self.value()),
+fn draw_change(random: &mut Random) -> Change {
+    match random.below(5) {
+        0 => Change::Set(draw_key(random), draw_value(random)),
+        1 => Change::Clear(draw_key(random)),
+        2 => {
+            let (begin, end) = draw_span(random);
+            Change::ClearRange(begin, end)
         }
+        3 => Change::Add(draw_key(random), draw_value(random)),
+        _ => Change::CompareAndClear(draw_key(random), draw_value(random)),
     }
+}
 
-    fn asked(&mut self) -> Asked {
-        let (begin, end) = self.span();
-        Asked {
-            begin,
-            end,
-            limit: u32::from(self.below(4)),
-            reverse: self.coin(),
-            is_snapshot: self.coin(),
+fn draw_asked(random: &mut Random) -> Asked {
+    let (begin, end) = draw_span(random);
+    Asked {
+        begin,
+        end,
+        limit: u32::from(random.below(4)),
+        reverse: random.coin(),
+        is_snapshot: random.coin(),
+    }
+}
+
+// Half of the steps are writes.
+pub(super) fn draw_step(random: &mut Random) -> Step {
+    match random.below(10) {
+        0..=4 => Step::Write(draw_change(random)),
+        5 => Step::Get {
+            key: draw_key(random),
+            is_snapshot: random.coin(),
+        },
+        6..=7 => Step::Range(draw_asked(random)),
+        8 => {
+            let (begin, end) = draw_span(random);
+            Step::AddRead(begin, end)
         }
-    }
-
-    // Half of the steps are writes.
-    pub(super) fn step(&mut self) -> Step {
-        match self.below(10) {
-            0..=4 => Step::Write(self.change()),
-            5 => Step::Get {
-                key: self.key(),
-                is_snapshot: self.coin(),
-            },
-            6..=7 => Step::Range(self.asked()),
-            8 => {
-                let (begin, end) = self.span();
-                Step::AddRead(begin, end)
-            }
-            _ => {
-                let (begin, end) = self.span();
-                Step::AddWrite(begin, end)
-            }
+        _ => {
+            let (begin, end) = draw_span(random);
+            Step::AddWrite(begin, end)
         }
     }
 }

@@ -7,8 +7,7 @@ use Rattle.std.proofs.lemmas.Bool.{and_from, not-true, not-false, ltb-false, lt-
 use Rattle.std.proofs.lemmas.Bool.Decides.{Decides-below_and, Decides-like}
 use Rattle.fdb_keys.specs.Points.{Point, point_lt}
 use Rattle.fdb_keys.specs.Ranges.{Range, in_range, in_set}
-use Rattle.fdb_keys.proofs.PointOrder.{lt-itself, le_lt_chain}
-use Rattle.fdb_keys.proofs.RangesLemmas.{in_range_parts, in_range_from}
+use Rattle.fdb_keys.proofs.Exports.{lt-itself, le_lt_chain, in_range_parts, in_range_from}
 use Rattle.fdb_txn.specs.book.Book.{Stamped, Place}
 use Rattle.fdb_txn.specs.rules.Owners.{window, first_owner, owner, span_begin, is_asked}
 use Rattle.fdb_txn.specs.rules.Admission.{has_points, is_fresh, admits, all_below, committed}

@@ -9,7 +9,7 @@ use Rattle.std.proofs.lemmas.Bool.{lt-leb, eqb-true, eq-eqb}
 use Rattle.std.proofs.lemmas.List.MinMax.{IsStrictWeakOrder-by_number}
 use Rattle.fdb_keys.specs.Points.{Point, point_lt}
 use Rattle.fdb_keys.specs.Ranges.{Range, in_range, in_set}
-use Rattle.fdb_keys.proofs.PointOrder.{point_order}
+use Rattle.fdb_keys.proofs.Exports.{point_order}
 use Rattle.fdb_txn.specs.book.Book.{Stamped}
 use Rattle.fdb_txn.specs.rules.Owners.{first_owner, owner, bounds, version_corners, owned, span_begin, asked_at}
 use Rattle.fdb_txn.specs.rules.Admission.{overlaps_at}

@@ -11,11 +11,11 @@ use Rattle.std.proofs.lemmas.List.{map-append}
 use Rattle.std.proofs.lemmas.List.Sums.{fold-append}
 use Rattle.fdb_keys.specs.Points.{Point}
 use Rattle.fdb_keys.specs.Ranges.{Range, in_range}
-use Rattle.fdb_keys.proofs.RangesLemmas.{HaveCommonPoint, common_from_meet, meet_from_common}
+use Rattle.fdb_keys.proofs.Exports.{HaveCommonPoint, common_from_meet, meet_from_common}
 use Rattle.fdb_mutations.specs.declared.mutation.Mutation.{Mutation}
 use Rattle.fdb_mutations.specs.Maps.{Map}
 use Rattle.fdb_mutations.specs.Mutations.{names, named_range, new_value, effect, effects, value_after}
-use Rattle.fdb_mutations.proofs.Effects.{at_every_point, in_named_range}
+use Rattle.fdb_mutations.proofs.Exports.{at_every_point, in_named_range}
 use Rattle.fdb_txn.specs.declared.entry.Entry.{Entry}
 use Rattle.fdb_txn.specs.book.Transactions.{Transaction}
 use Rattle.fdb_txn.specs.book.Book.{Stamped, Place, Seen, nothing, add_moves, placed, add_places, add_entry, seen_of}

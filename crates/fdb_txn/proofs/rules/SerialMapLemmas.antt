@@ -10,7 +10,7 @@ use Rattle.fdb_keys.specs.Ranges.{in_set}
 use Rattle.fdb_mutations.specs.declared.mutation.Mutation.{Mutation}
 use Rattle.fdb_mutations.specs.Maps.{Map}
 use Rattle.fdb_mutations.specs.Mutations.{names, new_value, effect, effects}
-use Rattle.fdb_mutations.proofs.Effects.{at_every_point}
+use Rattle.fdb_mutations.proofs.Exports.{at_every_point}
 use Rattle.fdb_txn.specs.book.Transactions.{some_names}
 use Rattle.fdb_txn.specs.book.Book.{Place}
 use Rattle.fdb_txn.specs.rules.Owners.{owner}

@@ -12,8 +12,7 @@ use Rattle.fdb_keys.specs.Points.{Point, point_lt}
 use Rattle.fdb_keys.specs.Ranges.{in_range}
 use Rattle.fdb_keys.specs.Limits.{bound_limit}
 use Rattle.fdb_keys.specs.Texts.{is_after_ff, is_bound, range_fault}
-use Rattle.fdb_keys.proofs.PointOrder.{lt_chain, lt_one_way}
-use Rattle.fdb_keys.proofs.RangesLemmas.{in_range_parts, in_range_from}
+use Rattle.fdb_keys.proofs.Exports.{lt_chain, lt_one_way, in_range_parts, in_range_from}
 use Rattle.fdb_txn.specs.rules.Owners.{first_owner}
 use Rattle.fdb_txn.proofs.rules.CornersLemmas.{empty_is_first}
 use Rattle.fdb_txn.specs.rules.Splits.{rise_after, end_of_keys, piece_after, piece, PiecesPartTheKeys}

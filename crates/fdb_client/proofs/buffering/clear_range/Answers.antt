@@ -2,7 +2,7 @@ use Rattle.std.proofs.Common.{◌≡◌, ◌∙◌, ap, List, None, cond}
 use Rattle.std.specs.List.{list_any}
 use Rattle.fdb_keys.specs.Points.{Point, point_eq}
 use Rattle.fdb_keys.specs.Ranges.{Range, in_set}
-use Rattle.fdb_keys.proofs.ApartLemmas.{in_with_range}
+use Rattle.fdb_keys.proofs.Exports.{in_with_range}
 use Rattle.fdb_client.specs.OwnWrites.{keys_between}
 use Rattle.fdb_client.proofs.ClearedLemmas.{left_at-cleared}
 use Rattle.fdb_client.proofs.LeftAtLemmas.{found}

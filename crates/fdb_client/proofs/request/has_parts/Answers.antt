@@ -1,8 +1,9 @@
 use Rattle.std.proofs.Common.{◌≡◌, ◌∙◌, sym, ap, refl, not}
 use Rattle.std.proofs.lemmas.Bool.{both_ways, not-false}
-use Rattle.fdb_keys.specs.Equality.{range_set_eq_decides, items_eq_decides}
-use Rattle.fdb_mutations.specs.Equality.{mutation_eq, mutation_eq_decides}
-use Rattle.fdb_txn.specs.Equality.{txn_id_eq_decides}
+use Rattle.fdb_keys.proofs.Exports.{range_set_eq_decides, items_eq_decides}
+use Rattle.fdb_mutations.specs.Equality.{mutation_eq}
+use Rattle.fdb_mutations.proofs.Exports.{mutation_eq_decides}
+use Rattle.fdb_txn.proofs.Exports.{txn_id_eq_decides}
 use Rattle.fdb_txn.specs.book.Transactions.{Transaction}
 use Rattle.fdb_client.proofs.request.has_parts.Goals as goal
 

@@ -1,5 +1,6 @@
 -- Why the shards refuse a read, and what the read comes to for the machine, some of whose shards may have failed.
-use Rattle.std.proofs.Common.{◌≡◌, ◌∙◌, ◌<◌, refl, sym, ap, ℕ, suc, Bool, true, false, not, ◌&&◌, List, [], length, map, arith}
+use Rattle.std.proofs.Common.{◌≡◌, ◌∙◌, ◌<◌, refl, sym, ap, ℕ, suc, Bool, true, false, not, ◌&&◌, List, [], length, map}
+use Rattle.std.proofs.Common.{arith}
 use Rattle.std.proofs.Common.{Option, Some, None, Result, Ok, Err, slice_get, if◌then◌else◌}
 use Rattle.std.specs.Prelude.{nat_lt}
 use Rattle.std.specs.List.{list_any}
@@ -9,7 +10,7 @@ use Rattle.fdb_keys.specs.declared.refusal.Refusal.{Refusal}
 use Rattle.fdb_keys.specs.declared.refusal.Refusal.TheVariants.{Failed, FutureVersion, TransactionTooOld, Unknown}
 use Rattle.fdb_keys.specs.Points.{Point}
 use Rattle.fdb_txn.specs.rules.Owners.{first_owner}
-use Rattle.fdb_txn.proofs.rules.AskedLemmas.{owner-exists}
+use Rattle.fdb_txn.proofs.Exports.{owner-exists}
 use Rattle.fdb_client.specs.declared.program.Op.{Op}
 use Rattle.fdb_client.specs.declared.program.Op.TheVariants as op
 use Rattle.fdb_client.specs.declared.program.Transcript.{Transcript}
@@ -17,19 +18,19 @@ use Rattle.fdb_client.specs.Programs.{program, decided}
 use Rattle.fdb_storage.specs.Shards.{serving_fault}
 use Rattle.fdb_core.specs.declared.cluster.Cluster.{Cluster}
 use Rattle.fdb_core.specs.declared.roles.shard.ShardRole.{ShardRole}
-use Rattle.fdb_core.specs.machine.ClientSteps.{reads, answered_by, read_fault, fault_after, reply_after, add_operation}
-use Rattle.fdb_core.specs.machine.ClientSteps.{shard_begins}
-use Rattle.fdb_core.specs.machine.ClientSteps as machine
-use Rattle.fdb_core.specs.machine.Failures.{Failures, asks_failed, reads_failed, unless_failed}
-use Rattle.fdb_core.specs.machine.Machine.{Machine, Transition, is_set, refused_by}
-use Rattle.fdb_core.specs.machine.RoleSteps.{shard_fault}
-use Rattle.fdb_core.specs.machine.Sessions.{open_at}
+use Rattle.fdb_machine.specs.machine.ClientSteps.{reads, answered_by, read_fault, fault_after, reply_after}
+use Rattle.fdb_machine.specs.machine.ClientSteps.{add_operation, shard_begins}
+use Rattle.fdb_machine.specs.machine.ClientSteps as machine
+use Rattle.fdb_machine.specs.machine.Failures.{Failures, asks_failed, reads_failed, unless_failed}
+use Rattle.fdb_machine.specs.machine.Machine.{Machine, Transition, is_set, refused_by}
+use Rattle.fdb_machine.specs.machine.RoleSteps.{shard_fault}
+use Rattle.fdb_machine.specs.machine.Sessions.{open_at}
 use Rattle.fdb_core.specs.refinement.Cluster.{machine_of}
 use Rattle.fdb_core.specs.refinement.log.Ties.{progress_of}
-use Rattle.fdb_core.specs.refinement.shard.RangeFaults.{of-range, unrefused}
+use Rattle.fdb_core.specs.refinement.shard.RangeFaults.{unrefused}
+use Rattle.fdb_machine.proofs.Exports.{of-range, reads-transition, reads-refused}
 use Rattle.fdb_core.specs.refinement.shard.Reads.{ShardReads, key_fault, range_fault, point_fault}
-use Rattle.fdb_core.proofs.common.AllLemmas.{within-item}
-use Rattle.fdb_core.proofs.machine.Transitions.{reads-transition, reads-refused}
+use Rattle.fdb_roles.proofs.Exports.{within-item}
 
 -- a version that isn't served is too old or not there yet
 served-known : (version floor greatest : ℕ) → serving_fault version floor greatest ≡ Some Unknown → ⊥
@@ -166,7 +167,8 @@ module _ (m : Machine) (failed : Failures) (session : ℕ) (operation : Op) (tra
         next = add_operation m session transcript operation reply;
       })
   read-accepted faultless =
-      let neither = unrefused (asks_failed m failed transcript operation) (fault_after m transcript operation) faultless in
+      let neither = unrefused (asks_failed m failed transcript operation)
+      (fault_after m transcript operation) faultless in
       asked-is
       ∙ ap (λ (asks : Bool). unless_failed asks (reads m session operation)) neither.0
       ∙ reads-transition m session operation transcript opened neither.1

@@ -21,15 +21,15 @@ use Rattle.fdb_client.specs.Programs.{program, copy, reply_on}
 use Rattle.fdb_storage.specs.Shards.{value_at}
 use Rattle.fdb_core.specs.declared.cluster.Cluster.{Cluster}
 use Rattle.fdb_core.specs.declared.roles.shard.ShardRole.{ShardRole}
-use Rattle.fdb_core.specs.declared.step.Answered.{Answered}
-use Rattle.fdb_core.specs.machine.ClientSteps.{answered_by, reply_after}
-use Rattle.fdb_core.specs.machine.Failures.{Failures}
-use Rattle.fdb_core.specs.machine.Sessions.{Sessions, Open, open_at, with_state}
-use Rattle.fdb_core.specs.machine.Steps.{ran_out}
+use Rattle.fdb_machine.specs.declared.step.Answered.{Answered}
+use Rattle.fdb_machine.specs.machine.ClientSteps.{answered_by, reply_after}
+use Rattle.fdb_machine.specs.machine.Failures.{Failures}
+use Rattle.fdb_machine.specs.machine.Sessions.{Sessions, Open, open_at, with_state}
+use Rattle.fdb_machine.specs.machine.Steps.{ran_out}
 use Rattle.fdb_core.specs.refinement.Cluster.{machine_of}
 use Rattle.fdb_core.specs.refinement.shard.Reads.{ShardReads, AreReadable, run_map}
-use Rattle.fdb_core.proofs.common.FaultLemmas.{answers-fault, unless-fault, Unless}
-use Rattle.fdb_core.proofs.refinement.RunLaws.{entries-rising, serial-front}
+use Rattle.fdb_machine.proofs.Exports.{unless-fault, Unless}
+use Rattle.fdb_roles.proofs.Exports.{answers-fault, entries-rising, serial-front}
 use Rattle.fdb_core.proofs.refinement.client.ReadFaults.{reads_of, failed_shards, fault_at, read_refusal, read_step}
 use Rattle.fdb_core.proofs.refinement.client.ReadFaults.{fault-known, read_fault-is, read-refused, read-accepted}
 
@@ -72,7 +72,8 @@ are_readable k version splits entries as_many each = record {
       };
 }
 
-module _ (k : Cluster) (failed : Failures) (session : ℕ) (operation : Op) (transcript : Transcript) (sessions : Sessions)
+module _ (k : Cluster) (failed : Failures) (session : ℕ) (operation : Op) (transcript : Transcript)
+    (sessions : Sessions)
   where
     -- the sessions with the operation and a reply noted
     abbrev pub HasNoted : Reply → Type 0

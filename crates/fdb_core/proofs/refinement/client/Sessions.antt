@@ -1,8 +1,8 @@
 -- The ties between the machine and the roles' own lists, kept through the steps of sessions.
-use Rattle.std.proofs.Common.{◌≡◌, ◌∙◌, refl, sym, ap, ap₂, subst, ℕ, List, map, None, Some, Ok, Vec, Global}
+use Rattle.std.proofs.Common.{◌≡◌, ◌∙◌, refl, sym, ap, ap₂, subst, ℕ, List, map, None, Some, Ok, Err, Vec, Global}
 use Rattle.std.proofs.Common.{slice_get, slice_set}
-use Rattle.fdb_keys.specs.Ranges.{Range}
-use Rattle.fdb_mutations.specs.declared.mutation.Mutation.{Mutation}
+use Rattle.fdb_keys.specs.Answers.{Answers}
+use Rattle.fdb_keys.specs.declared.refusal.Refusal.{Refusal}
 use Rattle.fdb_mutations.specs.Mutations.{mutation_fault}
 use Rattle.fdb_client.specs.TxnState.{with_op}
 use Rattle.fdb_client.specs.declared.program.Op.{Op}
@@ -11,21 +11,26 @@ use Rattle.fdb_client.specs.declared.program.Reply.{Reply}
 use Rattle.fdb_client.specs.declared.program.Reply.TheVariants as reply
 use Rattle.fdb_client.specs.declared.program.Transcript.{Transcript}
 use Rattle.fdb_proxy.specs.Askers.{Asker}
-use Rattle.fdb_core.specs.machine.ClientSteps.{notes, writes, adds_read, adds_write}
-use Rattle.fdb_core.specs.machine.Sessions.{Sessions, EachOpen, Open, open_at, with_state}
+use Rattle.fdb_machine.specs.machine.ClientSteps.{notes, writes, adds_read, adds_write}
+use Rattle.fdb_machine.specs.machine.Sessions.{Sessions, EachOpen, Open, open_at, with_state}
 use Rattle.fdb_core.specs.refinement.Cluster.{machine_of, sessions_of, GrvProxiesRefine, Refines}
 use Rattle.fdb_core.specs.refinement.commit_proxy.Ties.{ReadsWithin}
 use Rattle.fdb_core.specs.refinement.Restoring.{Tied}
 use Rattle.fdb_core.specs.refinement.Steps.{Takes, transition_of}
-use Rattle.fdb_core.proofs.machine.SessionLemmas.{open-has, open-put}
+use Rattle.fdb_roles.specs.Sessions.{OfOpen}
+use Rattle.fdb_machine.specs.machine.Steps.{ran_out}
+use Rattle.fdb_core.specs.declared.roles.client.note.Note.{Note}
+use Rattle.fdb_core.specs.declared.roles.client.note.Note.TheVariants as note
+use Rattle.fdb_core.specs.refinement.client.Noting.{noted_as, note_fault, step_with}
+use Rattle.fdb_machine.proofs.Exports.{Unless, unless-fault, unless-lacked, open-has, open-put, open-refused}
 use Rattle.fdb_core.proofs.refinement.log.Ties.{set-same}
 use Rattle.fdb_core.proofs.refinement.RestoringLemmas.{keeps-roles, restored}
 use Rattle.fdb_core.proofs.refinement.StepLemmas.{IsKept, accepted, kept}
 use Rattle.fdb_core.specs.declared.cluster.Cluster.{Cluster}
-use Rattle.fdb_core.specs.declared.roles.client.Placed.{Placed}
-use Rattle.fdb_core.specs.declared.step.Answered.TheVariants as answered
-use Rattle.fdb_core.specs.declared.step.Step.{Step}
-use Rattle.fdb_core.specs.declared.step.Step.TheVariants as step
+use Rattle.fdb_roles.specs.declared.placed.Placed.{Placed}
+use Rattle.fdb_machine.specs.declared.step.Answered.TheVariants as answered
+use Rattle.fdb_machine.specs.declared.step.Step.{Step}
+use Rattle.fdb_machine.specs.declared.step.Step.TheVariants as step
 
 -- an open transaction with one more operation reads within the same version
 pub opened-with_op : (committed : ℕ) (sessions : Sessions) (session : ℕ) (transcript : Transcript) (op : Op)
@@ -99,20 +104,29 @@ module _ (k : Cluster) (before : Tied k) (session : ℕ) (sessions : Sessions) w
       (opened-with_op k.sequencer.committed k.sessions session there.0 operation reply.Done before.refines.opened
       there.1))))
 
-  pub read-added : (range : Range) → Noted (op.AddRead range)
-      → Takes k (step.AddRead session range) (Ok answered.Done) (record k { sessions = sessions })
-  unfolding adds_read
-  read-added range there =
-      noted (op.AddRead range) (step.AddRead session range) there (rw there.1 refl)
+  -- and so does a step that notes something
+  pub note-taken : (it : Note) → note_fault it ≡ None → Noted (noted_as it)
+      → Takes k (step_with session it) (Ok answered.Done) (record k { sessions = sessions })
+  unfolding writes adds_read adds_write
+  note-taken (note.Write mutation) faultless there =
+      noted (op.Write mutation.now) (step.Write session mutation.now) there (rw (there.1, faultless) refl)
+  note-taken (note.AddRead range) faultless there =
+      noted (op.AddRead range.now) (step.AddRead session range.now) there (rw there.1 refl)
+  note-taken (note.AddWrite range) faultless there =
+      noted (op.AddWrite range.now) (step.AddWrite session range.now) there (rw there.1 refl)
 
-  pub write-added : (range : Range) → Noted (op.AddWrite range)
-      → Takes k (step.AddWrite session range) (Ok answered.Done) (record k { sessions = sessions })
-  unfolding adds_write
-  write-added range there =
-      noted (op.AddWrite range) (step.AddWrite session range) there (rw there.1 refl)
-
-  pub written : (mutation : Mutation) → mutation_fault mutation ≡ None → Noted (op.Write mutation)
-      → Takes k (step.Write session mutation) (Ok answered.Done) (record k { sessions = sessions })
-  unfolding writes
-  written mutation faultless there =
-      noted (op.Write mutation) (step.Write session mutation) there (rw (there.1, faultless) refl)
+-- What isn't noted is a refused step, unless memory ran out.
+pub note-refused : (k : Cluster) (session : ℕ) (it : Note) (why : Refusal) (P : Transcript → Unit {0} → Type 0)
+    → OfOpen {T = Unit {0}} (open_at k.sessions session) (Err why)
+    (λ transcript. Answers {T = Unit {0}} (Err why) (note_fault it) (P transcript))
+    → Unless (ran_out (Err why)) (transition_of k (step_with session it) ≡ Err why)
+unfolding writes adds_read adds_write
+note-refused k session (note.Write mutation) why P answers =
+    open-refused (Unit {0}) (open_at k.sessions session) why _ _ answers
+    (λ transcript is. unless-fault (mutation_fault mutation.now) why _ _ is (λ faulty. rw faulty refl))
+note-refused k session (note.AddRead range) why P answers =
+    open-refused (Unit {0}) (open_at k.sessions session) why _ _ answers
+    (λ transcript lacks. unless-lacked why _ lacks)
+note-refused k session (note.AddWrite range) why P answers =
+    open-refused (Unit {0}) (open_at k.sessions session) why _ _ answers
+    (λ transcript lacks. unless-lacked why _ lacks)

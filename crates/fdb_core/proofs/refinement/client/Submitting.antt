@@ -8,11 +8,10 @@ use Rattle.std.proofs.lemmas.List.{map-append}
 use Rattle.fdb_txn.specs.declared.entry.Entry.{Entry}
 use Rattle.fdb_proxy.specs.declared.config.Config.{Config}
 use Rattle.fdb_proxy.specs.CommitProxies.{CommitProxy as Core, submitting}
-use Rattle.fdb_core.specs.declared.roles.client.Placed.{Placed}
-use Rattle.fdb_core.specs.headline.ProxyStages.{IsCommitProxyAt}
+use Rattle.fdb_roles.specs.declared.placed.Placed.{Placed}
+use Rattle.fdb_roles.specs.ProxyStages.{IsCommitProxyAt}
 use Rattle.fdb_core.specs.refinement.commit_proxy.Ties.{Known, StageRefines, stage_of, received_at, acknowledged_at}
-use Rattle.fdb_core.proofs.common.AllLemmas.{all-push}
-use Rattle.fdb_core.proofs.headline.ProxyLaws.{stays}
+use Rattle.fdb_roles.proofs.Exports.{all-push, stays, map-at, map-set}
 use Rattle.fdb_core.proofs.refinement.log.Ties.{set-same}
 use Rattle.fdb_txn.specs.book.Transactions.{Transaction}
 use Rattle.fdb_txn.specs.declared.spot.Spot.TheVariants as spot
@@ -24,24 +23,20 @@ use Rattle.fdb_client.specs.Programs.{commit_request_of, is_read_only}
 use Rattle.fdb_proxy.specs.Requests.{place_of}
 use Rattle.fdb_core.specs.declared.cluster.Cluster.{Cluster}
 use Rattle.fdb_core.specs.declared.roles.commit_proxy.CommitProxyRole.{CommitProxyRole}
-use Rattle.fdb_core.specs.declared.step.Answered.TheVariants as answered
-use Rattle.fdb_core.specs.invariant.Invariant.{Invariant}
-use Rattle.fdb_core.specs.machine.ClientSteps.{submits, submit_fault}
-use Rattle.fdb_core.specs.declared.step.Step.TheVariants as step
-use Rattle.fdb_core.specs.machine.Failures.{Failures, submits_failed, uses_failed}
-use Rattle.fdb_core.specs.machine.Machine.{Machine, is_set}
-use Rattle.fdb_core.specs.machine.Roles.{CommitProxy}
-use Rattle.fdb_core.specs.machine.Sessions.{EachOpen, Idle, Sessions, Waiting, open_at, with_state}
+use Rattle.fdb_machine.specs.declared.step.Answered.TheVariants as answered
+use Rattle.fdb_machine.specs.invariant.Invariant.{Invariant}
+use Rattle.fdb_machine.specs.machine.ClientSteps.{submits}
+use Rattle.fdb_roles.specs.Sessions.{submit_fault, OfOpen, Finishes}
+use Rattle.fdb_machine.specs.declared.step.Step.TheVariants as step
+use Rattle.fdb_machine.specs.machine.Failures.{Failures, submits_failed, uses_failed}
+use Rattle.fdb_machine.specs.machine.Machine.{Machine, is_set}
+use Rattle.fdb_machine.specs.machine.Roles.{CommitProxy}
+use Rattle.fdb_machine.specs.machine.Sessions.{EachOpen, Idle, Sessions, Waiting, open_at, with_state}
 use Rattle.fdb_core.specs.refinement.Cluster.{machine_of, CommitProxiesRefine, Refines}
 use Rattle.fdb_core.specs.refinement.Restoring.{Tied, failures_of, proxy_failed}
 use Rattle.fdb_core.specs.refinement.commit_proxy.Ties.{CommitProxyRefines, known_to, ReadsWithin, seen_as}
-use Rattle.fdb_core.specs.refinement.client.Sessions.{OfOpen, Finishes}
-use Rattle.fdb_core.proofs.common.ListLemmas.{map-at, map-set}
-use Rattle.fdb_core.proofs.invariant.IdLemmas.{submits-unrepeated}
-use Rattle.fdb_core.proofs.machine.FinishLemmas.{finished-read_only, finished-to_commit}
-use Rattle.fdb_core.proofs.machine.OpenLemmas.{open-given}
-use Rattle.fdb_core.proofs.machine.SessionLemmas.{open-has}
-use Rattle.fdb_core.proofs.machine.Transitions.{submits-to_commit}
+use Rattle.fdb_machine.proofs.Exports.{submits-unrepeated, finished-read_only, finished-to_commit, open-given, open-has}
+use Rattle.fdb_machine.proofs.Exports.{submits-to_commit}
 use Rattle.fdb_core.proofs.refinement.RestoringLemmas.{flags-same, keeps-roles, restored}
 use Rattle.fdb_core.proofs.refinement.StepLemmas.{IsKept}
 use Rattle.fdb_core.proofs.refinement.client.Sessions.{refines-sessions}

@@ -24,23 +24,21 @@ use Rattle.fdb_proxy.specs.declared.outcome.Outcome.TheVariants as outcome
 use Rattle.fdb_proxy.specs.Logging.{answers_by}
 use Rattle.fdb_proxy.specs.Verdicts.{outcomes_on}
 use Rattle.fdb_core.specs.declared.cluster.Cluster.{Cluster}
-use Rattle.fdb_core.specs.declared.roles.client.Placed.{Placed}
+use Rattle.fdb_roles.specs.declared.placed.Placed.{Placed}
 use Rattle.fdb_core.specs.declared.roles.commit_proxy.CommitProxyRole.{CommitProxyRole}
-use Rattle.fdb_core.specs.declared.step.Answered.TheVariants as answered
-use Rattle.fdb_core.specs.headline.Sessions.{is_of, times_waiting_at}
-use Rattle.fdb_core.specs.invariant.Invariant.{Invariant}
-use Rattle.fdb_core.specs.invariant.Places.{waits_as}
-use Rattle.fdb_core.specs.machine.CommitProxySteps.{answers, is_idle, is_reported, placed_from, replies_from}
-use Rattle.fdb_core.specs.machine.Machine.{Machine}
-use Rattle.fdb_core.specs.machine.Roles.{CommitProxy, Idle}
-use Rattle.fdb_core.specs.machine.Sessions.{Session, new_session, tell_all}
+use Rattle.fdb_machine.specs.declared.step.Answered.TheVariants as answered
+use Rattle.fdb_machine.specs.headline.Sessions.{is_of, times_waiting_at}
+use Rattle.fdb_machine.specs.invariant.Invariant.{Invariant}
+use Rattle.fdb_machine.specs.invariant.Places.{waits_as}
+use Rattle.fdb_machine.specs.machine.CommitProxySteps.{answers, is_idle, is_reported, placed_from, replies_from}
+use Rattle.fdb_machine.specs.machine.Machine.{Machine}
+use Rattle.fdb_machine.specs.machine.Roles.{CommitProxy, Idle}
+use Rattle.fdb_machine.specs.machine.Sessions.{Session, new_session, tell_all}
 use Rattle.fdb_core.specs.refinement.Cluster.{machine_of, CommitProxiesRefine, Refines}
-use Rattle.fdb_core.specs.refinement.client.Sessions.{HaveActed}
+use Rattle.fdb_machine.specs.machine.Acting.{HaveActed}
 use Rattle.fdb_core.specs.refinement.commit_proxy.Ties.{CommitProxyRefines, Known, known_to, IsDone, seen_as}
-use Rattle.fdb_core.proofs.checking.BodyLemmas.{length-answers, length-outcomes_on}
-use Rattle.fdb_core.proofs.common.ListLemmas.{map-at, map-set}
-use Rattle.fdb_core.proofs.common.SumLemmas.{counted, sum-at}
-use Rattle.fdb_core.proofs.invariant.SoundLemmas.{sessions-stand}
+use Rattle.fdb_roles.proofs.Exports.{length-answers, length-outcomes_on, map-at, map-set}
+use Rattle.fdb_machine.proofs.Exports.{counted, sum-at, sessions-stand}
 use Rattle.fdb_core.proofs.refinement.commit_proxy.Ties.{busy-entry, commit_proxies-put, reported-is}
 use Rattle.fdb_core.proofs.refinement.commit_proxy.CoreStages.{exactly-map}
 

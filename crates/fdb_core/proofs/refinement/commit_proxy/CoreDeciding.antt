@@ -33,17 +33,14 @@ use Rattle.fdb_proxy.specs.Resolving as resolving
 use Rattle.fdb_proxy.specs.Resolving.{with_verdicts, are_on, are_on_part, has_not_come, asks}
 use Rattle.fdb_proxy.specs.Verdicts.{verdicts_from, verdicts_on, moves_through, is_needed, outcomes_on}
 use Rattle.fdb_core.specs.declared.roles.commit_proxy.CommitProxyRole.{CommitProxyRole}
-use Rattle.fdb_core.specs.machine.CommitProxySteps.{awaits, with_received, is_resolving, is_logging}
-use Rattle.fdb_core.specs.machine.Machine.{is_set, first_missing}
-use Rattle.fdb_core.specs.machine.Roles.{CommitProxy, FromResolver, Resolving, Logging}
-use Rattle.fdb_core.specs.headline.ProxyStages.{IsCommitProxyAt, IsBatchOf, IsResolving, IsSaid}
+use Rattle.fdb_machine.specs.machine.CommitProxySteps.{awaits, with_received, is_resolving, is_logging}
+use Rattle.fdb_machine.specs.machine.Machine.{is_set, first_missing}
+use Rattle.fdb_machine.specs.machine.Roles.{CommitProxy, FromResolver, Resolving, Logging}
+use Rattle.fdb_roles.specs.ProxyStages.{IsCommitProxyAt, IsBatchOf, IsResolving, IsSaid}
 use Rattle.fdb_core.specs.refinement.commit_proxy.Ties.{CommitProxyRefines, Known}
 use Rattle.fdb_core.specs.refinement.commit_proxy.Ties.{Decides, stage_of, received_at, seen_as}
-use Rattle.fdb_core.proofs.common.AllLemmas.{within-item}
-use Rattle.fdb_core.proofs.common.FaultLemmas.{answers-by}
-use Rattle.fdb_core.proofs.common.ListLemmas.{map-set}
-use Rattle.fdb_core.proofs.headline.ProxyLaws.{proxies_hear_verdicts, proxies_decide_by_the_rule}
-use Rattle.fdb_core.proofs.refinement.commit_proxy.BatchStages.{asked, outcomes-decided, messages-decided}
+use Rattle.fdb_roles.proofs.Exports.{within-item, answers-by, map-set, proxies_hear_verdicts}
+use Rattle.fdb_roles.proofs.Exports.{proxies_decide_by_the_rule, asked, outcomes-decided, messages-decided}
 use Rattle.fdb_core.proofs.refinement.commit_proxy.Fronts.{StageTold, stage-told, last-told, said-front, entries-front}
 use Rattle.fdb_core.proofs.refinement.commit_proxy.CoreStages.{exactly-by, awaited, same-test, staged, seen-staged}
 

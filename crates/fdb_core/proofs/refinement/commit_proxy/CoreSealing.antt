@@ -10,7 +10,7 @@ use Rattle.fdb_txn.specs.declared.entry.Entry.{Entry}
 use Rattle.fdb_txn.specs.book.Book.{seen_of, last_version}
 use Rattle.fdb_txn.specs.book.History.{AreEntries}
 use Rattle.fdb_txn.specs.book.Transactions.{Transaction}
-use Rattle.fdb_txn.proofs.book.HistoryLemmas.{entries_go_on}
+use Rattle.fdb_txn.proofs.Exports.{entries_go_on}
 use Rattle.fdb_resolver.specs.declared.part.Part.{Part}
 use Rattle.fdb_sequencer.specs.declared.ticket.Ticket.{Ticket}
 use Rattle.fdb_sequencer.specs.Moves.{Dated, dated}
@@ -26,16 +26,15 @@ use Rattle.fdb_proxy.specs.Deciding.{Said}
 use Rattle.fdb_proxy.specs.Parting.{AreParts}
 use Rattle.fdb_proxy.specs.Verdicts.{moves_through}
 use Rattle.fdb_core.specs.declared.roles.commit_proxy.CommitProxyRole.{CommitProxyRole}
-use Rattle.fdb_core.specs.machine.CommitProxySteps.{is_idle, with_batch}
-use Rattle.fdb_core.specs.machine.Roles.{Resolving}
-use Rattle.fdb_core.specs.machine.SequencerSteps.{dated_moves}
+use Rattle.fdb_machine.specs.machine.CommitProxySteps.{is_idle, with_batch}
+use Rattle.fdb_machine.specs.machine.Roles.{Resolving}
+use Rattle.fdb_roles.specs.Entries.{dated_moves, entry_of}
 use Rattle.fdb_core.specs.refinement.commit_proxy.Ties.{CommitProxyRefines, Known, StageRefines, IsNextTicket}
-use Rattle.fdb_core.specs.refinement.commit_proxy.Ties.{HasBatch, Seals, ReadsWithin, entry_of, stage_of, seen_as}
-use Rattle.fdb_core.proofs.common.AllLemmas.{all-take, all-drop}
-use Rattle.fdb_core.proofs.refinement.commit_proxy.BatchStages.{IsLearnt, is-learnt, ticket-fits, ticket-learns}
+use Rattle.fdb_core.specs.refinement.commit_proxy.Ties.{HasBatch, Seals, ReadsWithin, stage_of, seen_as}
+use Rattle.fdb_roles.proofs.Exports.{all-take, all-drop, IsLearnt, is-learnt, ticket-fits, ticket-learns}
+use Rattle.fdb_roles.proofs.Exports.{requests_come_and_go, dated_moves-append, dated_moves-push, entries-behind}
+use Rattle.fdb_roles.proofs.Exports.{ticket-after}
 use Rattle.fdb_core.proofs.refinement.commit_proxy.Ties.{idle-seen}
-use Rattle.fdb_core.proofs.headline.ProxyLaws.{requests_come_and_go}
-use Rattle.fdb_core.proofs.refinement.sequencer.Moves.{dated_moves-append, dated_moves-push, entries-behind, ticket-after}
 
 -- fronts and rests of what is made of a list
 pub map-take : {A B : Type 0} (f : A → B) (n : ℕ) (xs : List A) → map f (take n xs) ≡ take n (map f xs)

@@ -26,14 +26,13 @@ use Rattle.fdb_proxy.specs.Logging as logging
 use Rattle.fdb_proxy.specs.Logging.{answers_by, with_acknowledgement}
 use Rattle.fdb_proxy.specs.Verdicts.{outcomes_on}
 use Rattle.fdb_core.specs.declared.roles.commit_proxy.CommitProxyRole.{CommitProxyRole}
-use Rattle.fdb_core.specs.machine.CommitProxySteps.{awaits, with_received, is_logging, is_reported}
-use Rattle.fdb_core.specs.machine.Machine.{is_set, first_missing}
-use Rattle.fdb_core.specs.machine.Roles.{Logging, Reported, FromLog}
-use Rattle.fdb_core.specs.headline.ProxyStages.{IsCommitProxyAt, IsBatchOf, IsLogging}
+use Rattle.fdb_machine.specs.machine.CommitProxySteps.{awaits, with_received, is_logging, is_reported}
+use Rattle.fdb_machine.specs.machine.Machine.{is_set, first_missing}
+use Rattle.fdb_machine.specs.machine.Roles.{Logging, Reported, FromLog}
+use Rattle.fdb_roles.specs.ProxyStages.{IsCommitProxyAt, IsBatchOf, IsLogging}
 use Rattle.fdb_core.specs.refinement.commit_proxy.Ties.{CommitProxyRefines, Known, StageRefines}
 use Rattle.fdb_core.specs.refinement.commit_proxy.Ties.{IsDone, stage_of, received_at, acknowledged_at, seen_as}
-use Rattle.fdb_core.proofs.common.FaultLemmas.{given-fault}
-use Rattle.fdb_core.proofs.headline.ProxyLaws.{proxies_hear_logs, stays}
+use Rattle.fdb_roles.proofs.Exports.{given-fault, proxies_hear_logs, stays}
 use Rattle.fdb_core.proofs.refinement.commit_proxy.Fronts.{StageTold, stage-told}
 
 -- what a call gave that was answered has what follows from it where there is no fault

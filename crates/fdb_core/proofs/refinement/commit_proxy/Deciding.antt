@@ -21,16 +21,16 @@ use Rattle.fdb_proxy.specs.Verdicts.{is_needed, outcomes_on}
 use Rattle.fdb_core.specs.declared.cluster.Cluster.{Cluster}
 use Rattle.fdb_core.specs.declared.roles.commit_proxy.CommitProxyRole.{CommitProxyRole}
 use Rattle.fdb_core.specs.declared.roles.log.LogRole.{LogRole}
-use Rattle.fdb_core.specs.declared.step.Answered.TheVariants as answered
-use Rattle.fdb_core.specs.machine.CommitProxySteps.{decides, is_idle, is_resolving}
-use Rattle.fdb_core.specs.machine.Machine.{is_set, first_missing}
-use Rattle.fdb_core.specs.machine.Roles.{Stage, Idle, Resolving, Logging, Reported}
+use Rattle.fdb_machine.specs.declared.step.Answered.TheVariants as answered
+use Rattle.fdb_machine.specs.machine.CommitProxySteps.{decides, is_idle, is_resolving}
+use Rattle.fdb_machine.specs.machine.Machine.{is_set, first_missing}
+use Rattle.fdb_machine.specs.machine.Roles.{Stage, Idle, Resolving, Logging, Reported}
 use Rattle.fdb_core.specs.refinement.Cluster.{machine_of, messages_on, Refines}
 use Rattle.fdb_core.specs.refinement.commit_proxy.Ties.{CommitProxyRefines, Known, known_to, Decides, seen_as}
 use Rattle.fdb_core.specs.refinement.log.Ties.{logs_taken}
-use Rattle.fdb_core.specs.machine.Steps.{ran_out}
-use Rattle.fdb_core.proofs.common.FaultLemmas.{Unless, answers-fault, unless, unless-fault}
-use Rattle.fdb_core.proofs.common.ListLemmas.{set-here, set-other, map-at, map-set}
+use Rattle.fdb_machine.specs.machine.Steps.{ran_out}
+use Rattle.fdb_machine.proofs.Exports.{Unless, unless, unless-fault}
+use Rattle.fdb_roles.proofs.Exports.{answers-fault, set-here, set-other, map-at, map-set}
 use Rattle.fdb_core.proofs.refinement.commit_proxy.Ties.{commit_proxies-put, busy-entry}
 
 -- the messages of an entry more, which is decided

@@ -1,6 +1,6 @@
 -- Steps of a commit proxy that works, where others may have failed.
 use Rattle.std.proofs.Common.{◌≡◌, ◌∙◌, refl, sym, ap, subst, ℕ, Bool, true, false, not, List, map, Option, Some, None}
-use Rattle.std.proofs.Common.{Ok, Err, slice_get}
+use Rattle.std.proofs.Common.{Ok, Err, slice_get, get_or}
 use Rattle.std.specs.Global.{Vec}
 use Rattle.std.specs.Vec.{with_item}
 use Rattle.std.proofs.lemmas.Option.{slice_get_within}
@@ -12,14 +12,14 @@ use Rattle.fdb_core.specs.declared.roles.commit_proxy.CommitProxyRole.{CommitPro
 use Rattle.fdb_core.specs.declared.roles.log.LogRole.{LogRole}
 use Rattle.fdb_core.specs.declared.roles.resolver.ResolverRole.{ResolverRole}
 use Rattle.fdb_core.specs.declared.roles.shard.ShardRole.{ShardRole}
-use Rattle.fdb_core.specs.declared.step.Answered.{Answered}
-use Rattle.fdb_core.specs.declared.step.Step.{Step}
-use Rattle.fdb_core.specs.machine.CommitProxySteps.{seals, decides, reports, answers, is_idle, is_resolving, is_logging}
-use Rattle.fdb_core.specs.machine.CommitProxySteps.{is_reported}
-use Rattle.fdb_core.specs.machine.Failures.{tells_failed, uses_failed, unless_failed}
-use Rattle.fdb_core.specs.machine.Machine.{Transition, refused_where, waits_for}
-use Rattle.fdb_core.specs.machine.Roles.{CommitProxy, Sender, Stage, Idle, Resolving, Logging, Reported}
-use Rattle.fdb_core.specs.machine.Steps.{next}
+use Rattle.fdb_machine.specs.declared.step.Answered.{Answered}
+use Rattle.fdb_machine.specs.declared.step.Step.{Step}
+use Rattle.fdb_machine.specs.machine.CommitProxySteps.{seals, decides, reports, answers, is_idle, is_resolving}
+use Rattle.fdb_machine.specs.machine.CommitProxySteps.{is_logging, is_reported}
+use Rattle.fdb_machine.specs.machine.Failures.{tells_failed, uses_failed, unless_failed}
+use Rattle.fdb_machine.specs.machine.Machine.{Machine, Transition, refused_where, waits_for}
+use Rattle.fdb_machine.specs.machine.Roles.{CommitProxy, Sender, Stage, Idle, Resolving, Logging, Reported}
+use Rattle.fdb_machine.specs.machine.Steps.{next}
 use Rattle.fdb_core.specs.refinement.Cluster.{machine_of, Refines}
 use Rattle.fdb_core.specs.refinement.Restoring.{Tied, Roles, Restores, SameProxy, SameResolver, SameLog, SameShard}
 use Rattle.fdb_core.specs.refinement.Restoring.{failures_of, proxy_failed, resolver_failed, log_failed, shard_failed}
@@ -27,10 +27,11 @@ use Rattle.fdb_core.specs.refinement.Restoring.{with_roles}
 use Rattle.fdb_core.specs.refinement.Steps.{Takes}
 use Rattle.fdb_core.specs.refinement.commit_proxy.Receiving.{IsReceiver}
 use Rattle.fdb_core.specs.refinement.commit_proxy.Ties.{known_to, seen_as}
-use Rattle.fdb_core.proofs.common.ListLemmas.{map-at, set-here}
-use Rattle.fdb_core.proofs.refinement.commit_proxy.Receiving.{proxy-same}
+use Rattle.fdb_roles.proofs.Exports.{map-at, one-item, set-here}
+use Rattle.fdb_core.proofs.refinement.commit_proxy.Receiving.{proxy-same, receiver-there}
 use Rattle.fdb_core.proofs.refinement.commit_proxy.Ties.{busy-entry}
-use Rattle.fdb_core.proofs.refinement.RestoringLemmas.{flag-at, restored, restores-at, restores-like, restores-set, flags-same}
+use Rattle.fdb_core.proofs.refinement.RestoringLemmas.{flag-at, restored, restores-at, restores-like, restores-set}
+use Rattle.fdb_core.proofs.refinement.RestoringLemmas.{flags-same, same-machine}
 use Rattle.fdb_core.proofs.refinement.StepLemmas.{IsKept, NamesWhatIsThere, accepted-restored}
 
 -- a proxy that works is what it was
@@ -210,3 +211,39 @@ pub told-flag : (k : Cluster) (entry : ℕ) (sender : Sender) (proxy : ℕ)
 told-flag k entry sender proxy found role at =
     ap (tells_failed (machine_of k) (failures_of k)) found.its
     ∙ flag-at proxy_failed k.commit_proxies.items proxy role at
+
+-- who was found is found with the roles as they were before some failed
+pub still-found : (k : Cluster) (tied : Tied k) (entry : ℕ) (sender : Sender) (proxy : ℕ)
+    → IsReceiver (machine_of k) entry sender proxy → IsReceiver (machine_of (restored k tied)) entry sender proxy
+still-found k tied entry sender proxy found =
+    subst (λ (m : Machine). IsReceiver m entry sender proxy) (sym (same-machine k tied)) found
+
+-- What holds where something of an entry comes to its proxy, which works: of the cluster as it is, and as it was before
+-- roles failed.
+pub record ComesTo (k : Cluster) (tied : Tied k) (entry : ℕ) (sender : Sender) (proxy : ℕ) (role : CommitProxyRole)
+    : Type 0 where
+  pub here : slice_get k.commit_proxies.items proxy ≡ Some role
+  pub works : proxy_failed role ≡ false
+  pub unused : tells_failed (machine_of k) (failures_of k) (slice_get k.entry_proxies.items entry) ≡ false
+  pub was : slice_get tied.roles.commit_proxies.items proxy ≡ Some role
+  pub found : IsReceiver (machine_of (restored k tied)) entry sender proxy
+
+-- it holds where the proxy that was found is tested, and then read once more
+pub comes-to : (k : Cluster) (tied : Tied k) (entry : ℕ) (sender : Sender) (proxy : ℕ) (tested role : CommitProxyRole)
+    → IsReceiver (machine_of k) entry sender proxy → tested ≡ get_or k.commit_proxies.items proxy tested
+    → role ≡ get_or k.commit_proxies.items proxy role → proxy_failed tested ≡ false
+    → ComesTo k tied entry sender proxy role
+comes-to k tied entry sender proxy tested role found tests reads works = record {
+  here = here;
+  works = working;
+  unused = told-flag k entry sender proxy found role here ∙ working;
+  was = proxy-was k tied proxy role here working;
+  found = still-found k tied entry sender proxy found;
+}
+  where
+    here : slice_get k.commit_proxies.items proxy ≡ Some role
+    here = receiver-there k entry sender proxy role found reads
+
+    working : proxy_failed role ≡ false
+    working = ap proxy_failed (sym (one-item k.commit_proxies.items proxy tested role
+        (slice_get_within k.commit_proxies.items proxy role here) tests here)) ∙ works

@@ -6,7 +6,7 @@ use Rattle.fdb_txn.specs.declared.entry.Entry.{Entry}
 use Rattle.fdb_txn.specs.book.Book.{Seen, seen_before}
 use Rattle.fdb_txn.specs.book.History.{AreEntries}
 use Rattle.fdb_txn.specs.book.Transactions.{Transaction}
-use Rattle.fdb_txn.proofs.rules.MessagesLemmas.{entries-split}
+use Rattle.fdb_txn.proofs.Exports.{entries-split}
 use Rattle.fdb_resolver.specs.declared.verdict.Verdicts.{Verdicts}
 use Rattle.fdb_proxy.specs.declared.config.Config.{Config}
 use Rattle.fdb_proxy.specs.declared.logging.Logging.{Logging as Decided}
@@ -19,11 +19,10 @@ use Rattle.fdb_proxy.specs.Logging.{answers_by}
 use Rattle.fdb_proxy.specs.Parting.{AreParts}
 use Rattle.fdb_proxy.specs.Verdicts.{moves_through, verdicts_on, outcomes_on}
 use Rattle.fdb_core.specs.declared.roles.commit_proxy.CommitProxyRole.{CommitProxyRole}
-use Rattle.fdb_core.specs.headline.ProxyLaws.{IsLastEntry}
-use Rattle.fdb_core.specs.headline.ProxyStages.{IsBatchOf, IsResolving, IsLogging, IsStageAt, IsSaid}
+use Rattle.fdb_roles.specs.ProxyLaws.{IsLastEntry}
+use Rattle.fdb_roles.specs.ProxyStages.{IsBatchOf, IsResolving, IsLogging, IsStageAt, IsSaid}
 use Rattle.fdb_core.specs.refinement.commit_proxy.Ties.{CommitProxyRefines, Known, StageRefines}
-use Rattle.fdb_core.proofs.common.ListLemmas.{front-at}
-use Rattle.fdb_core.proofs.refinement.BookLemmas.{seen-front}
+use Rattle.fdb_roles.proofs.Exports.{front-at, seen-front}
 
 -- the batch in flight, if there is one, is that of entry i of the book
 abbrev pub StageTold : Config → List Entry → Bool → ℕ → List Transaction → CoreStage → Type 0

@@ -6,7 +6,7 @@ use Rattle.fdb_sequencer.specs.Moves.{Dated, dated}
 use Rattle.fdb_proxy.specs.declared.config.Config.{Config}
 use Rattle.fdb_core.specs.declared.roles.commit_proxy.CommitProxyRole.{CommitProxyRole}
 use Rattle.fdb_core.specs.refinement.commit_proxy.Ties.{CommitProxyRefines, Known}
-use Rattle.fdb_core.proofs.refinement.sequencer.Moves.{dated_moves-push}
+use Rattle.fdb_roles.proofs.Exports.{dated_moves-push}
 
 -- it hasn't had the moves of the new entry
 pub commit_proxy-push : (config : Config) (book : List Entry) (entry : Entry) (known : Known) (role : CommitProxyRole)

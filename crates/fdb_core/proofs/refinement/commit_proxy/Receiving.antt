@@ -17,22 +17,20 @@ use Rattle.fdb_core.specs.declared.cluster.Cluster.{Cluster}
 use Rattle.fdb_core.specs.declared.roles.commit_proxy.CommitProxyRole.{CommitProxyRole}
 use Rattle.fdb_core.specs.declared.roles.log.LogRole.{LogRole}
 use Rattle.fdb_core.specs.declared.roles.resolver.ResolverRole.{ResolverRole}
-use Rattle.fdb_core.specs.declared.step.Answered.TheVariants as answered
-use Rattle.fdb_core.specs.machine.CommitProxySteps.{taken_by_sender, receives, awaits, with_received}
-use Rattle.fdb_core.specs.machine.Machine.{Machine}
-use Rattle.fdb_core.specs.machine.Roles.{CommitProxy, Sender, FromResolver, FromLog}
+use Rattle.fdb_machine.specs.declared.step.Answered.TheVariants as answered
+use Rattle.fdb_machine.specs.machine.CommitProxySteps.{taken_by_sender, receives, awaits, with_received}
+use Rattle.fdb_machine.specs.machine.Machine.{Machine}
+use Rattle.fdb_machine.specs.machine.Roles.{CommitProxy, Sender, FromResolver, FromLog}
 use Rattle.fdb_core.specs.refinement.Cluster.{machine_of, Refines}
-use Rattle.fdb_core.specs.headline.ProxyStages.{IsSaid}
+use Rattle.fdb_roles.specs.ProxyStages.{IsSaid}
 use Rattle.fdb_core.specs.refinement.commit_proxy.Ties.{CommitProxyRefines, known_to, seen_as}
 use Rattle.fdb_core.specs.refinement.log.Ties.{logs_taken}
 use Rattle.fdb_core.specs.refinement.commit_proxy.Receiving.{IsReceiver, IsUnknown}
 use Rattle.fdb_core.specs.refinement.resolver.Resolving.{ResolverRefines, taken_by}
-use Rattle.fdb_core.proofs.common.AllLemmas.{within-item}
-use Rattle.fdb_core.proofs.common.FaultLemmas.{given-fault, refused-fault}
-use Rattle.fdb_core.proofs.common.ListLemmas.{map-at, map-set}
+use Rattle.fdb_roles.proofs.Exports.{within-item, given-fault, refused-fault, map-at, map-set}
 use Rattle.fdb_core.proofs.refinement.commit_proxy.Ties.{commit_proxies-put}
 use Rattle.fdb_core.proofs.refinement.StepLemmas.{NamesWhatIsThere}
-use Rattle.fdb_core.specs.machine.Failures.{unless_failed}
+use Rattle.fdb_machine.specs.machine.Failures.{unless_failed}
 
 -- nothing stands past the end of a list
 pub past-end : {A : Type 0} (xs : List A) (i : ℕ) → length xs ≤ i → slice_get xs i ≡ None

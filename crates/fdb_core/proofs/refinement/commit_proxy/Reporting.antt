@@ -10,13 +10,13 @@ use Rattle.fdb_txn.specs.declared.entry.Entry.{Entry}
 use Rattle.fdb_proxy.specs.CommitProxies.{waiting_for}
 use Rattle.fdb_core.specs.declared.cluster.Cluster.{Cluster}
 use Rattle.fdb_core.specs.declared.roles.commit_proxy.CommitProxyRole.{CommitProxyRole}
-use Rattle.fdb_core.specs.declared.step.Answered.TheVariants as answered
-use Rattle.fdb_core.specs.machine.CommitProxySteps.{reports, is_idle, is_logging}
-use Rattle.fdb_core.specs.machine.Machine.{Machine, first_missing}
-use Rattle.fdb_core.specs.machine.Roles.{CommitProxy, Stage, Idle, Resolving, Logging, Reported}
+use Rattle.fdb_machine.specs.declared.step.Answered.TheVariants as answered
+use Rattle.fdb_machine.specs.machine.CommitProxySteps.{reports, is_idle, is_logging}
+use Rattle.fdb_machine.specs.machine.Machine.{Machine, first_missing}
+use Rattle.fdb_machine.specs.machine.Roles.{CommitProxy, Stage, Idle, Resolving, Logging, Reported}
 use Rattle.fdb_core.specs.refinement.Cluster.{machine_of, CommitProxiesRefine, Refines}
 use Rattle.fdb_core.specs.refinement.commit_proxy.Ties.{CommitProxyRefines, known_to, seen_as}
-use Rattle.fdb_core.proofs.common.ListLemmas.{map-at, map-set}
+use Rattle.fdb_roles.proofs.Exports.{map-at, map-set}
 use Rattle.fdb_core.proofs.refinement.commit_proxy.Ties.{busy-entry, commit_proxies-set, commit_proxy-raised}
 use Rattle.fdb_core.proofs.refinement.commit_proxy.Ties.{commit_proxy-reported, seen-reported}
 

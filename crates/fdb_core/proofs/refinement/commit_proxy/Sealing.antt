@@ -12,7 +12,7 @@ use Rattle.fdb_txn.specs.declared.entry.Move.{Move}
 use Rattle.fdb_txn.specs.book.Book.{Seen, seen_before, last_version}
 use Rattle.fdb_txn.specs.book.History.{AreEntries}
 use Rattle.fdb_txn.specs.book.Transactions.{Transaction, NamesWrites}
-use Rattle.fdb_client.proofs.WriteSetLemmas.{commit_request_of-names}
+use Rattle.fdb_client.proofs.Exports.{commit_request_of-names}
 use Rattle.fdb_client.specs.Programs.{commit_request_of}
 use Rattle.fdb_resolver.specs.declared.part.Part.{Part}
 use Rattle.fdb_sequencer.specs.declared.ticket.Ticket.{Ticket}
@@ -23,20 +23,19 @@ use Rattle.fdb_proxy.specs.Verdicts.{moves_through}
 use Rattle.fdb_core.specs.declared.cluster.Cluster.{Cluster}
 use Rattle.fdb_core.specs.declared.roles.commit_proxy.CommitProxyRole.{CommitProxyRole}
 use Rattle.fdb_core.specs.declared.roles.resolver.ResolverRole.{ResolverRole}
-use Rattle.fdb_core.specs.machine.CommitProxySteps.{seals, is_idle, with_batch}
+use Rattle.fdb_machine.specs.machine.CommitProxySteps.{seals, is_idle, with_batch}
 use Rattle.fdb_core.specs.refinement.Cluster.{machine_of, CommitProxiesRefine, Refines, SequencerRefines}
 use Rattle.fdb_core.specs.refinement.commit_proxy.Ties.{CommitProxyRefines, Known, known_to, IsNextTicket, Seals}
-use Rattle.fdb_core.specs.headline.ProxyStages.{ArePartsOf}
-use Rattle.fdb_core.specs.refinement.commit_proxy.Ties.{ReadsWithin, entry_of, seen_as}
+use Rattle.fdb_roles.specs.ProxyStages.{ArePartsOf}
+use Rattle.fdb_core.specs.refinement.commit_proxy.Ties.{ReadsWithin, seen_as}
+use Rattle.fdb_roles.specs.Entries.{entry_of}
 use Rattle.fdb_core.specs.refinement.resolver.Resolving.{taken_by}
-use Rattle.fdb_core.proofs.common.AllLemmas.{all-map, all-take}
-use Rattle.fdb_core.proofs.refinement.BookLemmas.{last-push, seen-before-last}
-use Rattle.fdb_core.proofs.common.ListLemmas.{map-at}
+use Rattle.fdb_roles.proofs.Exports.{all-map, all-take, last-push, seen-before-last, map-at, handed-own, handed-other}
+use Rattle.fdb_roles.proofs.Exports.{handed-count, moves_in-push}
 use Rattle.fdb_core.proofs.refinement.commit_proxy.Receiving.{past-end}
 use Rattle.fdb_core.proofs.refinement.commit_proxy.Ties.{commit_proxies-set}
-use Rattle.fdb_core.proofs.refinement.sequencer.Moves.{handed-own, handed-other, handed-count, moves_in-push}
 use Rattle.fdb_core.proofs.refinement.commit_proxy.Pushes.{commit_proxy-push}
-use Rattle.fdb_core.proofs.machine.Sealing.{sealed_entry, sealed_proxy}
+use Rattle.fdb_machine.proofs.Exports.{sealed_entry, sealed_proxy}
 
 -- what the sequencer gives for the next entry
 abbrev pub ticket_for : Cluster → ℕ → ℕ → Ticket

@@ -6,7 +6,7 @@ use Rattle.std.proofs.lemmas.Bool.{true≢false}
 use Rattle.std.proofs.Math.Nat.{le_trans}
 use Rattle.std.proofs.lemmas.List.{length-set}
 use Rattle.fdb_txn.specs.declared.entry.Entry.{Entry}
-use Rattle.fdb_txn.proofs.book.HistoryLemmas.{all-weaken}
+use Rattle.fdb_txn.proofs.Exports.{all-weaken}
 use Rattle.fdb_client.specs.Programs.{commit_request_of}
 use Rattle.fdb_sequencer.specs.declared.ticket.Ticket.{Ticket}
 use Rattle.fdb_proxy.specs.declared.config.Config.{Config}
@@ -15,13 +15,13 @@ use Rattle.fdb_proxy.specs.declared.stage.Stage.TheVariants as core
 use Rattle.fdb_proxy.specs.CommitProxies.{CommitProxy as Core, HasFailed, sealing, is_idle as has_no_batch}
 use Rattle.fdb_proxy.specs.Flags.{first_unset}
 use Rattle.fdb_core.specs.declared.roles.commit_proxy.CommitProxyRole.{CommitProxyRole}
-use Rattle.fdb_core.specs.machine.CommitProxySteps.{is_idle, is_logging, is_reported}
-use Rattle.fdb_core.specs.machine.Machine.{first_missing}
-use Rattle.fdb_core.specs.machine.Roles.{Stage, Idle, Logging, Reported}
+use Rattle.fdb_machine.specs.machine.CommitProxySteps.{is_idle, is_logging, is_reported}
+use Rattle.fdb_machine.specs.machine.Machine.{first_missing}
+use Rattle.fdb_machine.specs.machine.Roles.{Stage, Idle, Logging, Reported}
 use Rattle.fdb_core.specs.refinement.Cluster.{CommitProxiesRefine}
 use Rattle.fdb_core.specs.refinement.commit_proxy.Ties.{CommitProxyRefines, Known, StageRefines, ReadsWithin}
 use Rattle.fdb_core.specs.refinement.commit_proxy.Ties.{IsLeftUnsealed, acknowledged_at, received_at, seen_as, stage_of}
-use Rattle.fdb_core.proofs.readings.SessionLists.{item-after-set}
+use Rattle.fdb_machine.proofs.Exports.{item-after-set}
 use Rattle.fdb_core.proofs.refinement.commit_proxy.Fronts.{StageTold, stage-told}
 
 -- another one stands at a number, and the others go on

@@ -9,12 +9,12 @@ use Rattle.fdb_sequencer.specs.declared.ticket.Ticket.{Ticket}
 use Rattle.fdb_proxy.specs.CommitProxies.{CommitProxy as Core, HasFailed, sealing, is_idle as has_no_batch}
 use Rattle.fdb_core.specs.declared.cluster.Cluster.{Cluster}
 use Rattle.fdb_core.specs.declared.roles.commit_proxy.CommitProxyRole.{CommitProxyRole}
-use Rattle.fdb_core.specs.declared.step.Step.TheVariants as step
+use Rattle.fdb_machine.specs.declared.step.Step.TheVariants as step
 use Rattle.fdb_core.specs.refinement.Cluster.{machine_of, Refines, CommitProxiesRefine}
 use Rattle.fdb_core.specs.refinement.Restoring.{Tied, failures_of, proxy_failed}
 use Rattle.fdb_core.specs.refinement.Steps.{LeftOrFailed}
 use Rattle.fdb_core.specs.refinement.commit_proxy.Ties.{IsLeftUnsealed, known_to, seen_as}
-use Rattle.fdb_core.proofs.common.ListLemmas.{map-set}
+use Rattle.fdb_roles.proofs.Exports.{map-set}
 use Rattle.fdb_core.proofs.refinement.client.Submitting.{nobody-more}
 use Rattle.fdb_core.proofs.refinement.commit_proxy.Failing.{proxy-flags, proxy-tied, proxy-was}
 use Rattle.fdb_core.proofs.refinement.commit_proxy.Ties.{commit_proxies-put, seen-unsealed}

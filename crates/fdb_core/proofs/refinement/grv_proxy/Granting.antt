@@ -7,23 +7,22 @@ use Rattle.std.proofs.lemmas.List.{length-set}
 use Rattle.fdb_keys.specs.declared.refusal.Refusal.TheVariants.{Exhausted}
 use Rattle.fdb_proxy.specs.declared.config.Config.{Config}
 use Rattle.fdb_proxy.specs.Askers.{Asker, granted}
-use Rattle.fdb_core.specs.declared.step.Answered.TheVariants as answered
-use Rattle.fdb_core.specs.machine.GrvProxySteps.{asks, grants, has_no_number}
-use Rattle.fdb_core.specs.machine.Machine.{Machine}
-use Rattle.fdb_core.specs.machine.Sessions.{Session, Sessions, Asking, new_session, session_of, with_state, is_busy}
-use Rattle.fdb_core.specs.machine.Sessions.{serve}
+use Rattle.fdb_machine.specs.declared.step.Answered.TheVariants as answered
+use Rattle.fdb_machine.specs.machine.GrvProxySteps.{asks, grants, has_no_number}
+use Rattle.fdb_machine.specs.machine.Machine.{Machine}
+use Rattle.fdb_machine.specs.machine.Sessions.{Session, Sessions, Asking, new_session, session_of, with_state, is_busy}
+use Rattle.fdb_machine.specs.machine.Sessions.{serve}
 use Rattle.fdb_core.specs.refinement.Cluster.{GrvProxiesRefine, HasSeenNone, sessions_of}
 use Rattle.std.specs.FinMap.{get}
 use Rattle.std.specs.Option.{is_some}
 use Rattle.std.proofs.lemmas.Bool.{eq-eqb}
 use Rattle.std.proofs.lemmas.Bool.Decides.{eqb_tells}
-use Rattle.fdb_core.specs.headline.Sessions.{times_asking_at}
-use Rattle.fdb_core.specs.invariant.Invariant.{Invariant}
-use Rattle.fdb_core.specs.invariant.Places.{asks_as}
-use Rattle.fdb_core.specs.refinement.client.Sessions.{AreKnown}
-use Rattle.fdb_core.proofs.common.ListLemmas.{each-set}
-use Rattle.fdb_core.proofs.common.SumLemmas.{counted, sum-at}
-use Rattle.fdb_core.proofs.invariant.SoundLemmas.{sessions-stand}
+use Rattle.fdb_machine.specs.headline.Sessions.{times_asking_at}
+use Rattle.fdb_machine.specs.invariant.Invariant.{Invariant}
+use Rattle.fdb_machine.specs.invariant.Places.{asks_as}
+use Rattle.fdb_machine.specs.machine.Acting.{AreKnown}
+use Rattle.fdb_roles.proofs.Exports.{each-set}
+use Rattle.fdb_machine.proofs.Exports.{counted, sum-at, sessions-stand}
 
 -- others ask at a proxy, who have seen none either
 pub grv_proxies-set : (config : Config) (asked : List (List Asker)) (i : ℕ) (there : List Asker)

@@ -6,11 +6,11 @@ use Rattle.fdb_txn.specs.declared.entry.Entry.{Entry}
 use Rattle.fdb_log.specs.Logs.{Log, HasFailed}
 use Rattle.fdb_core.specs.declared.cluster.Cluster.{Cluster}
 use Rattle.fdb_core.specs.declared.roles.log.LogRole.{LogRole}
-use Rattle.fdb_core.specs.declared.step.Step.TheVariants as step
+use Rattle.fdb_machine.specs.declared.step.Step.TheVariants as step
 use Rattle.fdb_core.specs.refinement.Cluster.{machine_of}
 use Rattle.fdb_core.specs.refinement.Restoring.{Tied, failures_of, log_failed}
 use Rattle.fdb_core.specs.refinement.Steps.{LeftOrFailed}
-use Rattle.fdb_core.proofs.common.ListLemmas.{map-set}
+use Rattle.fdb_roles.proofs.Exports.{map-set}
 use Rattle.fdb_core.proofs.refinement.log.Pushing.{log-same}
 use Rattle.fdb_core.proofs.refinement.StepLemmas.{IsKept}
 use Rattle.fdb_core.proofs.refinement.RestoringLemmas.{restored, restores-at, restores-set, restores-failed, flags-same}

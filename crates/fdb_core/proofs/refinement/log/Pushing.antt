@@ -17,18 +17,17 @@ use Rattle.fdb_log.specs.Messages.{log_of}
 use Rattle.fdb_storage.specs.LogMessages.{log_message}
 use Rattle.fdb_core.specs.declared.cluster.Cluster.{Cluster}
 use Rattle.fdb_core.specs.declared.roles.log.LogRole.{LogRole}
-use Rattle.fdb_core.specs.declared.step.Answered.TheVariants as answered
-use Rattle.fdb_core.specs.machine.Machine.{Machine, is_set}
-use Rattle.fdb_core.specs.machine.RoleSteps.{pushes}
+use Rattle.fdb_machine.specs.declared.step.Answered.TheVariants as answered
+use Rattle.fdb_machine.specs.machine.Machine.{Machine, is_set}
+use Rattle.fdb_machine.specs.machine.RoleSteps.{pushes}
 use Rattle.fdb_core.proofs.refinement.StepLemmas.{NamesWhatIsThere, in-turn}
 use Rattle.fdb_core.specs.refinement.Cluster.{machine_of, messages_on, Refines}
 use Rattle.fdb_core.specs.refinement.log.Ties.{LogRefines, LogsRefine, logs_taken}
-use Rattle.fdb_core.proofs.common.AllLemmas.{within-item}
-use Rattle.fdb_core.proofs.machine.Transitions.{pushes-transition}
-use Rattle.fdb_core.proofs.common.ListLemmas.{set-here, each-set}
-use Rattle.fdb_core.proofs.refinement.log.Ties.{kept-tag, log-next, made-at, push_fault-turn, turn_fault, in_turn-now}
+use Rattle.fdb_roles.proofs.Exports.{within-item, set-here, each-set, kept-tag, log-next, made-at, entries-rising}
+use Rattle.fdb_roles.proofs.Exports.{versions-ordered}
+use Rattle.fdb_machine.proofs.Exports.{pushes-transition}
+use Rattle.fdb_core.proofs.refinement.log.Ties.{push_fault-turn, turn_fault, in_turn-now}
 use Rattle.fdb_core.proofs.refinement.log.Ties.{push-refused, push-undecided, set-same, tags-taken, prev-is}
-use Rattle.fdb_core.proofs.refinement.RunLaws.{entries-rising, versions-ordered}
 
 module _ (k : Cluster) (before : Refines k) (i l : ℕ) (entry : Entry) (role : LogRole)
     (there : slice_get k.book.items i ≡ Some entry) (at : slice_get k.logs.items l ≡ Some role) where
@@ -137,7 +136,7 @@ module _ (k : Cluster) (before : Refines k) (i l : ℕ) (entry : Entry) (role : 
               omega (arith, tie.1, low, is.version, reached, rises)
 
           refined : LogRefines k.config k.book.items l new
-          refined = log-next k.config k.book.items l role entry message core its
+          refined = log-next k.config k.book.items l role.core role.taken entry message core its
               (ap (slice_get k.book.items) due ∙ there) unpopped
               (message-is ∙ ap (λ (n : ℕ). log_message k.config.resolver_splits k.config.shard_splits k.config.logs l n
               (seen_before k.book.items n) entry) (sym due)) taken

@@ -1,130 +1,42 @@
 -- The logs and the shards, kept tied through the steps.
-use Rattle.std.proofs.Common.{◌≡◌, ◌∙◌, refl, sym, ap, ap₂, subst, ℕ, zero, suc, ◌+◌, ◌-◌, ◌<◌, ◌≤◌, min}
-use Rattle.std.proofs.Common.{le_of_lt, le_trans, Bool, true, false, List, [], ◌∷◌, ◌++◌, length, take, drop, map}
-use Rattle.std.proofs.Common.{Option, Some, None, arith, ◌⊎◌, inl, inr, ⊎_elim}
+use Rattle.std.proofs.Common.{◌≡◌, ◌∙◌, refl, sym, ap, ap₂, subst, ℕ, zero, suc, ◌+◌, ◌-◌, ◌<◌, ◌≤◌, min, le_of_lt}
+use Rattle.std.proofs.Common.{le_trans, Bool, true, false, List, [], ◌∷◌, ◌++◌, length, take, drop, Option, Some, None}
+use Rattle.std.proofs.Common.{arith, ◌⊎◌, inl, inr, ⊎_elim}
 use Rattle.std.specs.Prelude.{◌==◌, not, nat_lt, Result, Err, if◌then◌else◌}
-use Rattle.std.specs.List.{slice_get, slice_set, range_with_len}
-use Rattle.std.proofs.lemmas.Bool.{cases_Bool, cases_lt, and_parts, both_ways, cond-false, eq-eqb, eqb-true}
-use Rattle.std.proofs.lemmas.Bool.{false_from_ne_true, lt-ltb, ltb-true, ltb-false}
-use Rattle.std.proofs.lemmas.List.{length-take, length-drop, length-set, take_all}
-use Rattle.std.proofs.lemmas.List.Elements.{filter-append}
-use Rattle.std.proofs.lemmas.List.FromFn.{get_or-map-range_with_len, length-map-range_with_len}
-use Rattle.std.proofs.lemmas.List.Sums.{fold-append}
-use Rattle.std.proofs.lemmas.Option.{get_or_from_slice_get, slice_get_within}
+use Rattle.std.specs.List.{slice_get, slice_set}
+use Rattle.std.proofs.lemmas.Bool.{cases_Bool, cases_lt, both_ways, cond-false, eq-eqb, eqb-true, false_from_ne_true}
+use Rattle.std.proofs.lemmas.Bool.{lt-ltb, ltb-true, ltb-false}
+use Rattle.std.proofs.lemmas.List.{length-take, length-drop, length-set}
+use Rattle.std.proofs.lemmas.Option.{slice_get_within}
 use Rattle.std.proofs.Math.Seq.{take-add}
 use Rattle.fdb_keys.specs.Points.{Point}
 use Rattle.fdb_keys.specs.Ranges.{Range}
 use Rattle.fdb_keys.specs.declared.refusal.Refusal.{Refusal}
 use Rattle.fdb_keys.specs.declared.refusal.Refusal.TheVariants.{NotYet, Stale, Failed, Unknown}
 use Rattle.fdb_txn.specs.declared.entry.Entry.{Entry}
-use Rattle.fdb_txn.specs.declared.tag_msg.TagMsg.{TagMsg}
-use Rattle.fdb_txn.specs.book.Book.{seen_of, last_version, seen_before}
+use Rattle.fdb_txn.specs.book.Book.{seen_of, last_version}
 use Rattle.fdb_txn.specs.book.History.{AreEntries}
 use Rattle.fdb_txn.specs.laws.SerialMapLaws.{version_after}
-use Rattle.fdb_txn.specs.rules.Messages.{message_for, messages_for, messages_after}
+use Rattle.fdb_txn.specs.rules.Messages.{messages_for, messages_after}
 use Rattle.fdb_txn.specs.rules.Splits.{piece}
-use Rattle.fdb_txn.proofs.rules.MessagesLemmas.{messages_go_on}
 use Rattle.fdb_log.specs.declared.message.LogMsg.{LogMsg}
-use Rattle.fdb_log.specs.Logs.{Log, keeps, kept, popped_through, push_fault, given_after, peek_of, HasTaken}
-use Rattle.fdb_log.specs.Logs.{HasPopped}
-use Rattle.fdb_log.specs.Messages.{log_of, tag_message, above}
-use Rattle.fdb_log.proofs.AboveLemmas.{above-keeps}
-use Rattle.fdb_storage.specs.LogMessages.{log_message}
+use Rattle.fdb_log.specs.Logs.{Log, keeps, kept, popped_through, push_fault, given_after, peek_of, HasPopped}
+use Rattle.fdb_log.specs.Messages.{log_of, above}
 use Rattle.fdb_storage.specs.Shards.{Shard, HasApplied}
-use Rattle.fdb_storage.proofs.LogMessagesLemmas.{logs_are_sent_the_messages}
 use Rattle.fdb_proxy.specs.declared.config.Config.{Config}
+use Rattle.fdb_roles.specs.AtBook.{IsShardAt}
+use Rattle.fdb_roles.specs.Entries.{IsRising}
+use Rattle.fdb_roles.specs.Lists.{Each}
+use Rattle.fdb_roles.proofs.Exports.{each-set, entries-take, count-messages, gives-messages, gives-through}
+use Rattle.fdb_roles.proofs.Exports.{shard-applied, kept-popped, entries-linked, entries-rising, front-version}
+use Rattle.fdb_roles.proofs.Exports.{versions-ordered, versions-apart, take-both}
 use Rattle.fdb_core.specs.declared.roles.log.LogRole.{LogRole}
 use Rattle.fdb_core.specs.declared.roles.shard.ShardRole.{ShardRole}
-use Rattle.fdb_core.specs.headline.RoleLaws.{IsShardAt}
-use Rattle.fdb_core.specs.machine.Machine.{Machine, Transition, refused_where, is_set}
-use Rattle.fdb_core.specs.machine.RoleSteps.{pushes}
-use Rattle.fdb_core.specs.refinement.Cluster.{IsRising}
-use Rattle.fdb_core.specs.refinement.log.Ties.{Each, LogRefines, ShardRefines, TagRefines}
-use Rattle.fdb_core.proofs.common.ListLemmas.{each-set}
-use Rattle.fdb_core.proofs.refinement.BookLemmas.{take-next, take-take, entries-take}
-use Rattle.fdb_core.proofs.refinement.log.Fronts.{count-messages, gives-messages, gives-through, shard-applied}
-use Rattle.fdb_core.proofs.refinement.log.Fronts.{same-keeps, kept-popped}
-use Rattle.fdb_core.proofs.refinement.RunLaws.{entries-linked, entries-rising, front-version, versions-ordered}
-use Rattle.fdb_core.proofs.refinement.RunLaws.{versions-apart}
-
--- a front of a front, whichever is shorter
-pub take-both : {A : Type 0} (n m : ℕ) (xs : List A) → take n (take m xs) ≡ take (min n m) xs
-take-both n m xs = ⊎_elim
-    (λ shorter. take-take xs n m (le_of_lt shorter) ∙ ap (λ (k : ℕ). take k xs)
-    (let is : n ≡ min n m = omega (arith, shorter) in is))
-    (λ longer. take_all n (take m xs) (let count = length-take m xs in omega (arith, count, longer))
-    ∙ ap (λ (k : ℕ). take k xs) (let is : m ≡ min n m = omega (arith, longer) in is))
-    (cases_lt n m)
-
--- with one more entry there is one more message above a version that the entries before reach
-kept-next : (splits : List Point) (range : Range) (book : List Entry) (i : ℕ) (entry : Entry) (low : ℕ)
-    → slice_get book i ≡ Some entry → low < entry.version
-    → above low (messages_for splits range (take i book))
-    ++ message_for splits range (seen_before book i) entry ∷ []
-    ≡ above low (messages_for splits range (take (i + 1) book))
-kept-next splits range book i entry low there later =
-    ap (λ (last : List TagMsg). above low (messages_for splits range (take i book)) ++ last)
-    (sym (above-keeps low message [] later))
-    ∙ sym (filter-append (λ (it : TagMsg). nat_lt low it.version) (messages_for splits range (take i book))
-    (message ∷ []))
-    ∙ ap (above low)
-    (sym (messages_go_on splits range (take i book) (entry ∷ []))
-    ∙ ap (messages_for splits range) (sym (take-next book i entry there)
-    ∙ ap (λ (n : ℕ). take n book) count))
-  where
-    message : TagMsg
-    message = message_for splits range (seen_before book i) entry
-
-    count : suc i ≡ i + 1
-    count = omega arith
-
--- what a log keeps is of a tag that there is, and that is its own
-pub kept-tag : (log : Log) (tag : ℕ) → keeps log tag ≡ true → (tag < log.tags) × (log_of log.logs tag ≡ log.log)
-kept-tag log tag is =
-    let parts = and_parts (nat_lt tag log.tags) (log_of log.logs tag == log.log) is in
-    (ltb-true tag log.tags parts.0, eqb-true (log_of log.logs tag) log.log parts.1)
+use Rattle.fdb_machine.specs.machine.Machine.{Machine, Transition, refused_where, is_set}
+use Rattle.fdb_machine.specs.machine.RoleSteps.{pushes}
+use Rattle.fdb_core.specs.refinement.log.Ties.{LogRefines, ShardRefines, TagRefines}
 
 module _ (config : Config) (book : List Entry) where
-  -- a log takes the message of its next entry
-  pub log-next : (l : ℕ) (role : LogRole) (entry : Entry) (message : LogMsg) (new : Log)
-      → LogRefines config book l role → slice_get book role.taken ≡ Some entry
-      → ((tag : ℕ) → keeps role.core tag ≡ true → popped_through role.core tag < entry.version)
-      → message ≡ log_message config.resolver_splits config.shard_splits config.logs l role.taken
-      (seen_before book role.taken) entry
-      → HasTaken role.core message new
-      → LogRefines config book l (record { core = new; taken = role.taken + 1 })
-  log-next l role entry message new before there unpopped is taken = record {
-    number = taken.same.log ∙ before.number;
-    logs = taken.same.logs ∙ before.logs;
-    tags = taken.same.tags ∙ before.tags;
-    works = taken.works;
-    within = let inside = slice_get_within book role.taken entry there in omega (arith, inside);
-    last = taken.last ∙ ap (λ (it : LogMsg). it.version) is ∙ sym last;
-    kept = λ tag keeps_it.
-        let kept_before : keeps role.core tag ≡ true = sym (same-keeps role.core new tag taken.same) ∙ keeps_it in
-        let own = kept-tag role.core tag kept_before in
-        let number : log_of config.logs tag ≡ l = ap (λ (n : ℕ). log_of n tag) (sym before.logs) ∙ own.1
-        ∙ before.number in
-        let there_is : tag < suc (length config.shard_splits) = subst (λ (n : ℕ). tag < n) before.tags own.0 in
-        taken.kept tag kept_before
-        ∙ ap₂ (λ (old : List TagMsg) (one : TagMsg). old ++ one ∷ []) (before.kept tag kept_before)
-        (ap (tag_message tag)
-        (is ∙ ap (λ (log : ℕ). log_message config.resolver_splits config.shard_splits config.logs log role.taken
-        (seen_before book role.taken) entry) (sym number))
-        ∙ logs_are_sent_the_messages config.resolver_splits config.shard_splits config.logs tag role.taken
-        (seen_before book role.taken) entry there_is)
-        ∙ kept-next config.resolver_splits (piece config.shard_splits tag) book role.taken entry
-        (popped_through role.core tag) there (unpopped tag kept_before)
-        ∙ ap (λ (low : ℕ). above low (messages_for config.resolver_splits (piece config.shard_splits tag)
-        (take (role.taken + 1) book))) (sym (taken.popped tag));
-  }
-    where
-      last : last_version (take (role.taken + 1) book) ≡ entry.version
-      last =
-          let count : role.taken + 1 ≡ suc role.taken = omega arith in
-          ap (λ (n : ℕ). last_version (take n book)) count ∙ ap last_version (take-next book role.taken entry there)
-          ∙ fold-append (λ (before : ℕ) (e : Entry). e.version) 0 (take role.taken book) (entry ∷ [])
-
   -- and drops what a tag was popped through
   pub log-popped : (l : ℕ) (role : LogRole) (tag through : ℕ) (new : Log)
       → LogRefines config book l role → HasPopped role.core tag through new
@@ -436,15 +348,6 @@ tags-popped logs shards s old new log popped there at applied
         ))
         (λ elsewhere. before t shard before-it its-log elsewhere.1)
         (set-cases logs (log_of (length logs) s) popped (log_of (length logs) t) its-log number)
-
--- one of as many numbers has its place in what is made of them
-pub made-at : {A : Type 0} (f : ℕ → A) (n i : ℕ) (x : A)
-    → slice_get (map f (range_with_len 0 n)) i ≡ Some x → x ≡ f i
-made-at {A} f n i x there =
-    let within : i < n = subst (λ (count : ℕ). i < count) (length-map-range_with_len f 0 n)
-    (slice_get_within (map f (range_with_len 0 n)) i x there) in
-    sym (get_or_from_slice_get (map f (range_with_len 0 n)) i x (f i) there)
-    ∙ get_or-map-range_with_len f 0 n i i (f i) within (omega arith)
 
 -- an item that is put where it stands changes nothing
 pub set-same : {A : Type 0} (xs : List A) (i : ℕ) (x : A) → slice_get xs i ≡ Some x → slice_set xs i x ≡ xs

@@ -15,16 +15,16 @@ use Rattle.fdb_resolver.specs.Rule.{AreVerdicts, versions_with}
 use Rattle.fdb_resolver.specs.Resolvers.{Resolver, HasFailed, IsAnswer}
 use Rattle.fdb_core.specs.declared.cluster.Cluster.{Cluster}
 use Rattle.fdb_core.specs.declared.roles.resolver.ResolverRole.{ResolverRole}
-use Rattle.fdb_core.specs.declared.step.Step.TheVariants as step
-use Rattle.fdb_core.specs.machine.Machine.{Machine}
-use Rattle.fdb_core.specs.machine.RoleSteps.{resolves}
+use Rattle.fdb_machine.specs.declared.step.Step.TheVariants as step
+use Rattle.fdb_machine.specs.machine.Machine.{Machine}
+use Rattle.fdb_machine.specs.machine.RoleSteps.{resolves}
 use Rattle.fdb_core.specs.refinement.Cluster.{machine_of, Refines}
 use Rattle.fdb_core.specs.refinement.Restoring.{Tied, failures_of, resolver_failed}
 use Rattle.fdb_core.specs.refinement.Steps.{LeftOrFailed}
-use Rattle.fdb_core.specs.refinement.resolver.Resolving.{ResolverRefines, IsResolverAt, HaveBeenSent}
+use Rattle.fdb_core.specs.refinement.resolver.Resolving.{ResolverRefines, HaveBeenSent}
+use Rattle.fdb_roles.specs.AtBook.{IsResolverAt}
 use Rattle.fdb_core.specs.refinement.resolver.Resolving.{IsLeftBy}
-use Rattle.fdb_core.proofs.common.AllLemmas.{within-item}
-use Rattle.fdb_core.proofs.common.ListLemmas.{each-set, map-set, one-item, read-there, set-here}
+use Rattle.fdb_roles.proofs.Exports.{within-item, each-set, map-set, one-item, read-there, set-here}
 use Rattle.fdb_core.proofs.refinement.RestoringLemmas.{restored, restores-at, restores-set, restores-failed, flags-same}
 use Rattle.fdb_core.proofs.refinement.resolver.Resolving.{ToResolve}
 use Rattle.fdb_core.proofs.refinement.StepLemmas.{NamesWhatIsThere, in-turn}
@@ -113,7 +113,8 @@ resolver-left k tied entry r role later at works left = ⊎_elim by-core by-fail
       tied = record {
         roles = tied.roles;
         commit_proxies = tied.commit_proxies;
-        resolvers = restores-failed _ _ k.resolvers.items tied.roles.resolvers.items tied.resolvers r role later at works
+        resolvers = restores-failed _ _ k.resolvers.items tied.roles.resolvers.items tied.resolvers r role later at
+            works
             failed.fails (left.taken, left.sent);
         logs = tied.logs;
         shards = tied.shards;

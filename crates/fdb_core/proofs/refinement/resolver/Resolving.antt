@@ -21,17 +21,15 @@ use Rattle.fdb_proxy.specs.Parting.{IsPartOf}
 use Rattle.fdb_proxy.specs.Verdicts.{moves_through, verdicts_on}
 use Rattle.fdb_core.specs.declared.roles.resolver.ResolverRole.{ResolverRole}
 use Rattle.fdb_core.specs.declared.cluster.Cluster.{Cluster}
-use Rattle.fdb_core.specs.declared.step.Answered.TheVariants as answered
-use Rattle.fdb_core.specs.machine.RoleSteps.{resolves}
+use Rattle.fdb_machine.specs.declared.step.Answered.TheVariants as answered
+use Rattle.fdb_machine.specs.machine.RoleSteps.{resolves}
 use Rattle.fdb_core.specs.refinement.Cluster.{machine_of, Refines}
-use Rattle.fdb_core.specs.headline.ProxyStages.{ArePartsOf}
-use Rattle.fdb_core.specs.refinement.resolver.Resolving.{IsResolverAt, ResolverRefines, ResolversRefine, TakesNext, taken_by}
-use Rattle.fdb_core.proofs.common.AllLemmas.{within-item}
-use Rattle.fdb_core.proofs.common.FaultLemmas.{answers-fault, hands-on}
-use Rattle.fdb_core.proofs.common.ListLemmas.{each-set, front-at, last-at, map-at, map-set, one-item}
-use Rattle.fdb_core.proofs.machine.Transitions.{resolves-transition}
-use Rattle.fdb_core.proofs.refinement.BookLemmas.{entries-take, take-next}
-use Rattle.fdb_core.proofs.refinement.resolver.AtBook.{follows, are-parts, may-take, takes}
+use Rattle.fdb_roles.specs.ProxyStages.{ArePartsOf}
+use Rattle.fdb_core.specs.refinement.resolver.Resolving.{ResolverRefines, ResolversRefine, TakesNext, taken_by}
+use Rattle.fdb_roles.specs.AtBook.{IsResolverAt}
+use Rattle.fdb_roles.proofs.Exports.{within-item, answers-fault, hands-on, each-set, front-at, last-at, map-at, map-set}
+use Rattle.fdb_roles.proofs.Exports.{one-item, entries-take, take-next, follows, are-parts, may-take, takes}
+use Rattle.fdb_machine.proofs.Exports.{resolves-transition}
 
 module _ (splits : List Point) (before : List Entry) (entry : Entry) (i index : ℕ) (old : ResolverRole)
     (at : IsResolverAt splits before i old.core) (entries : AreEntries (suc (length splits)) 0 (before ++ entry ∷ []))

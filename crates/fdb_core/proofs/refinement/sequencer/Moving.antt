@@ -8,14 +8,14 @@ use Rattle.fdb_keys.specs.declared.refusal.Refusal.{Refusal}
 use Rattle.fdb_keys.specs.declared.refusal.Refusal.TheVariants.{BadConfig, MovesFull}
 use Rattle.fdb_txn.specs.declared.entry.Move.{Move}
 use Rattle.fdb_sequencer.specs.Sequencer.{Sequencer, move_fault, moving}
-use Rattle.fdb_sequencer.proofs.TicketLemmas.{pending_exist}
+use Rattle.fdb_sequencer.proofs.Exports.{pending_exist}
 use Rattle.fdb_core.specs.declared.cluster.Cluster.{Cluster}
 use Rattle.fdb_core.specs.refinement.Restoring.{Tied}
 use Rattle.fdb_core.specs.refinement.Cluster.{machine_of, Refines, SequencerRefines}
-use Rattle.fdb_core.specs.machine.Machine.{Transition, refused_where}
-use Rattle.fdb_core.specs.machine.SequencerSteps.{moves}
+use Rattle.fdb_machine.specs.machine.Machine.{Transition, refused_where}
+use Rattle.fdb_machine.specs.machine.SequencerSteps.{moves}
 use Rattle.fdb_txn.specs.Limits.{move_limit}
-use Rattle.fdb_core.proofs.common.FaultLemmas.{answers-fault}
+use Rattle.fdb_roles.proofs.Exports.{answers-fault}
 use Rattle.fdb_core.proofs.refinement.StepLemmas.{IsKept, kept}
 
 module _ (k : Cluster) (refines : Refines k) (range : Range) (to : ℕ) where

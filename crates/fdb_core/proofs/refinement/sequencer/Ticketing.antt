@@ -15,10 +15,10 @@ use Rattle.fdb_core.specs.declared.cluster.Cluster.{Cluster}
 use Rattle.fdb_core.specs.declared.roles.commit_proxy.CommitProxyRole.{CommitProxyRole}
 use Rattle.fdb_core.specs.refinement.Cluster.{machine_of, Refines}
 use Rattle.fdb_core.specs.refinement.commit_proxy.Ties.{seen_as}
-use Rattle.fdb_core.proofs.common.ListLemmas.{map-at}
+use Rattle.fdb_roles.proofs.Exports.{map-at}
 use Rattle.fdb_core.proofs.refinement.commit_proxy.Sealing.{ticket_for}
 use Rattle.fdb_txn.specs.book.Book.{last_version}
-use Rattle.fdb_core.specs.machine.CommitProxySteps.{seals, is_idle}
+use Rattle.fdb_machine.specs.machine.CommitProxySteps.{seals, is_idle}
 
 module _ (k : Cluster) (refines : Refines k) (proxy advance : ℕ) (role : CommitProxyRole)
     (there : slice_get k.commit_proxies.items proxy ≡ Some role) where

@@ -5,13 +5,13 @@ use Rattle.std.specs.Vec.{with_item}
 use Rattle.fdb_storage.specs.Shards.{Shard, HasFailed}
 use Rattle.fdb_core.specs.declared.cluster.Cluster.{Cluster}
 use Rattle.fdb_core.specs.declared.roles.shard.ShardRole.{ShardRole}
-use Rattle.fdb_core.specs.declared.step.Step.TheVariants as step
-use Rattle.fdb_core.specs.machine.Roles.{ShardProgress}
+use Rattle.fdb_machine.specs.declared.step.Step.TheVariants as step
+use Rattle.fdb_machine.specs.machine.Roles.{ShardProgress}
 use Rattle.fdb_core.specs.refinement.Cluster.{machine_of}
 use Rattle.fdb_core.specs.refinement.Restoring.{Tied, failures_of, shard_failed}
 use Rattle.fdb_core.specs.refinement.Steps.{LeftOrFailed}
 use Rattle.fdb_core.specs.refinement.log.Ties.{progress_of}
-use Rattle.fdb_core.proofs.common.ListLemmas.{map-set}
+use Rattle.fdb_roles.proofs.Exports.{map-set}
 use Rattle.fdb_core.proofs.refinement.shard.Steps.{shard-same}
 use Rattle.fdb_core.proofs.refinement.StepLemmas.{IsKept}
 use Rattle.fdb_core.proofs.refinement.RestoringLemmas.{restored, restores-at, restores-set, restores-failed, flags-same}

@@ -8,15 +8,14 @@ use Rattle.fdb_log.specs.Messages.{log_of}
 use Rattle.fdb_core.specs.declared.cluster.Cluster.{Cluster}
 use Rattle.fdb_core.specs.declared.roles.log.LogRole.{LogRole}
 use Rattle.fdb_core.specs.declared.roles.shard.ShardRole.{ShardRole}
-use Rattle.fdb_core.specs.machine.Failures.{pulls_failed}
-use Rattle.fdb_core.specs.machine.Machine.{Machine, is_set}
-use Rattle.fdb_core.specs.machine.Roles.{ShardProgress}
-use Rattle.fdb_core.specs.machine.RoleSteps.{pulls, pops}
+use Rattle.fdb_machine.specs.machine.Failures.{pulls_failed}
+use Rattle.fdb_machine.specs.machine.Machine.{Machine, is_set}
+use Rattle.fdb_machine.specs.machine.Roles.{ShardProgress}
+use Rattle.fdb_machine.specs.machine.RoleSteps.{pulls, pops}
 use Rattle.fdb_core.specs.refinement.Cluster.{machine_of}
 use Rattle.fdb_core.specs.refinement.Restoring.{Tied, failures_of, log_failed, shard_failed}
 use Rattle.fdb_core.specs.refinement.log.Ties.{progress_of, logs_taken}
-use Rattle.fdb_core.proofs.common.AllLemmas.{within-item}
-use Rattle.fdb_core.proofs.common.ListLemmas.{map-at, one-item, read-there}
+use Rattle.fdb_roles.proofs.Exports.{within-item, map-at, one-item, read-there}
 use Rattle.fdb_core.proofs.refinement.RestoringLemmas.{restores-at, restores-count, flag-at}
 use Rattle.fdb_core.proofs.refinement.StepLemmas.{NamesWhatIsThere}
 

@@ -15,29 +15,26 @@ use Rattle.fdb_keys.specs.Ranges.{Range, in_range, is_within, ranges_meet}
 use Rattle.fdb_keys.specs.Texts.{is_bound}
 use Rattle.fdb_keys.specs.declared.refusal.Refusal.{Refusal}
 use Rattle.fdb_keys.specs.declared.refusal.Refusal.TheVariants.{Failed, FutureVersion, TransactionTooOld}
-use Rattle.fdb_keys.proofs.ClippingLemmas.{in_clipped-points}
-use Rattle.fdb_keys.proofs.PointOrder.{lt_le_chain}
-use Rattle.fdb_keys.proofs.RangesLemmas.{in_range_parts, common_from_meet, meet_from_common}
-use Rattle.fdb_keys.proofs.WithinLemmas.{within-points}
+use Rattle.fdb_keys.proofs.Exports.{in_clipped-points, lt_le_chain, in_range_parts, common_from_meet, meet_from_common}
+use Rattle.fdb_keys.proofs.Exports.{within-points}
 use Rattle.fdb_mutations.specs.Pairs.{pairs_in}
-use Rattle.fdb_mutations.proofs.OrderedLemmas.{filter_none}
-use Rattle.fdb_mutations.proofs.PairsLemmas.{pairs_in-part, all_in-pairs_in}
-use Rattle.fdb_interval.proofs.BreaksLemmas.{all_imply}
+use Rattle.fdb_mutations.proofs.Exports.{filter_none, pairs_in-part, all_in-pairs_in}
+use Rattle.fdb_interval.proofs.Exports.{all_imply}
 use Rattle.fdb_txn.specs.rules.Owners.{first_owner}
 use Rattle.fdb_txn.specs.rules.Splits.{end_of_keys, piece}
-use Rattle.fdb_txn.proofs.rules.AskedLemmas.{owner-exists}
-use Rattle.fdb_txn.proofs.rules.SplitsLemmas.{pieces_part_the_keys}
+use Rattle.fdb_txn.proofs.Exports.{owner-exists, pieces_part_the_keys}
 use Rattle.fdb_storage.specs.Shards.{serving_fault, value_at, HasValuesOf}
 use Rattle.fdb_storage.specs.Shards as storage
 use Rattle.fdb_core.specs.declared.roles.shard.ShardRole.{ShardRole}
-use Rattle.fdb_core.specs.machine.ClientSteps.{fault_among, shard_begins}
-use Rattle.fdb_core.specs.machine.RoleSteps.{shard_fault}
+use Rattle.fdb_machine.specs.machine.ClientSteps.{fault_among, shard_begins}
+use Rattle.fdb_machine.specs.machine.RoleSteps.{shard_fault}
 use Rattle.fdb_core.specs.refinement.log.Ties.{progress_of}
-use Rattle.fdb_core.specs.refinement.shard.RangeFaults.{of-range, too-old-range, served-range, held_by_one}
-use Rattle.fdb_core.specs.refinement.shard.RangeFaults.{begin-point, point-begin, failed_by_one, unrefused}
+use Rattle.fdb_core.specs.refinement.shard.RangeFaults.{held_by_one}
+use Rattle.fdb_machine.proofs.Exports.{of-range, too-old-range, served-range, begin-point, point-begin}
+use Rattle.fdb_core.specs.refinement.shard.RangeFaults.{failed_by_one, unrefused}
 use Rattle.fdb_core.specs.refinement.shard.Reads.{ShardReads, AreReadable, has_failed_at, point_fault, range_fault}
 use Rattle.fdb_core.specs.refinement.shard.Reads.{run_map, pairs_held}
-use Rattle.fdb_core.proofs.common.AllLemmas.{within-item}
+use Rattle.fdb_roles.proofs.Exports.{within-item}
 
 -- an item that passes a test, with its number, where the list has one
 some-at : {A : Type 0} (p : A → Bool) (xs : List A) → list_any p xs ≡ true
@@ -266,7 +263,8 @@ module _ (reads : ShardReads) (readable : AreReadable reads) where
         else (if list_any (is_behind_floor reads.version range) reads.shards then Some TransactionTooOld
         else (if list_any (is_ahead_of reads.version range) reads.shards then Some FutureVersion else None)))
     range_fault-is =
-        ap₂ (λ (failed : Bool) (fault : Option Refusal). if failed then Some Failed else fault) some_failed served_fault-is
+        ap₂ (λ (failed : Bool) (fault : Option Refusal). if failed then Some Failed else fault) some_failed
+        served_fault-is
 
     module _ (served : range_fault reads range ≡ None) where
       -- a shard that holds some of a range that isn't refused works,
@@ -323,7 +321,8 @@ module _ (reads : ShardReads) (readable : AreReadable reads) where
         pairs-of-part is_reverse =
             pairs_in-part (run_map reads) range part (in_range (piece reads.config.shard_splits i))
             (λ x. part-of x
-            ∙ ap (λ (whole : Range). in_range range x && in_range whole x) (readable.each i role there).range) is_reverse
+            ∙ ap (λ (whole : Range). in_range range x && in_range whole x)
+            (readable.each i role there).range) is_reverse
 
       -- one that holds nothing of it has no pair of it
       pub none-held : (i : ℕ) (role : ShardRole) → slice_get reads.shards i ≡ Some role

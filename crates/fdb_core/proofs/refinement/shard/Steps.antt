@@ -17,17 +17,16 @@ use Rattle.fdb_storage.specs.Shards.{Shard, apply_fault, forget_fault, HasApplie
 use Rattle.fdb_core.specs.declared.cluster.Cluster.{Cluster}
 use Rattle.fdb_core.specs.declared.roles.log.LogRole.{LogRole}
 use Rattle.fdb_core.specs.declared.roles.shard.ShardRole.{ShardRole}
-use Rattle.fdb_core.specs.declared.step.Answered.TheVariants as answered
-use Rattle.fdb_core.specs.machine.Machine.{Machine}
-use Rattle.fdb_core.specs.machine.Roles.{ShardProgress}
-use Rattle.fdb_core.specs.machine.RoleSteps.{pulls, forgets, pops, version_of_shard}
+use Rattle.fdb_machine.specs.declared.step.Answered.TheVariants as answered
+use Rattle.fdb_machine.specs.machine.Machine.{Machine}
+use Rattle.fdb_machine.specs.machine.Roles.{ShardProgress}
+use Rattle.fdb_machine.specs.machine.RoleSteps.{pulls, forgets, pops, version_of_shard}
 use Rattle.fdb_core.specs.refinement.Cluster.{machine_of, Refines}
-use Rattle.fdb_core.specs.refinement.log.Ties.{LogRefines, LogsRefine, ShardRefines, TagRefines, logs_taken, progress_of}
-use Rattle.fdb_core.proofs.common.ListLemmas.{each-set}
+use Rattle.fdb_core.specs.refinement.log.Ties.{LogRefines, LogsRefine, ShardRefines, TagRefines, logs_taken}
+use Rattle.fdb_core.specs.refinement.log.Ties.{progress_of}
+use Rattle.fdb_roles.proofs.Exports.{each-set, shard-forgot, entries-rising, versions-ordered}
 use Rattle.fdb_core.proofs.refinement.log.Ties.{set-same, log-popped, shard-pulled, count, count-is, tags-applied}
 use Rattle.fdb_core.proofs.refinement.log.Ties.{tags-popped, shard-at, shard-refines}
-use Rattle.fdb_core.proofs.refinement.log.Fronts.{shard-forgot}
-use Rattle.fdb_core.proofs.refinement.RunLaws.{entries-rising, versions-ordered}
 
 -- what the machine does, once the shard and its log are found
 module _ (m : Machine) (s : ℕ) (progress : ShardProgress) (at : slice_get m.shards s ≡ Some progress) where

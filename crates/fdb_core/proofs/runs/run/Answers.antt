@@ -1,12 +1,11 @@
 use Rattle.std.proofs.Common.{◌≡◌, ◌∙◌, sym, ap, ◌+◌, ◌<◌, ◌≤◌, length, [], ◌∷◌, ◌++◌, take, List, subst, rules}
 use Rattle.std.proofs.lemmas.List.{take_all, take_more}
-use Rattle.fdb_core.specs.declared.step.Step.{Step}
-use Rattle.fdb_core.specs.headline.Traces.{IsTraceOf}
+use Rattle.fdb_machine.specs.declared.step.Step.{Step}
+use Rattle.fdb_machine.specs.headline.Traces.{IsTraceOf}
 use Rattle.fdb_proxy.specs.Configs.{config_fault}
-use Rattle.fdb_core.specs.machine.Worlds.{first_state}
-use Rattle.fdb_core.proofs.common.FaultLemmas.{answers-fault}
-use Rattle.fdb_core.proofs.headline.HeadlineLaws.{strictly_serializable}
-use Rattle.fdb_core.proofs.headline.RunsLemmas.{run-push}
+use Rattle.fdb_machine.specs.machine.Worlds.{first_state}
+use Rattle.fdb_roles.proofs.Exports.{answers-fault}
+use Rattle.fdb_machine.proofs.Exports.{strictly_serializable, run-push}
 use Rattle.fdb_core.proofs.runs.run.Goals as goal
 
 pub loop-step-init : goal.loop-step-init

@@ -1,6 +1,6 @@
 use Rattle.std.proofs.Common.{◌≡◌, take, None}
-use Rattle.fdb_core.specs.headline.Serving.{RolesKeep}
-use Rattle.fdb_core.specs.headline.Traces.{IsTraceOf}
+use Rattle.fdb_machine.specs.headline.Serving.{RolesKeep}
+use Rattle.fdb_machine.specs.headline.Traces.{IsTraceOf}
 use Rattle.fdb_proxy.specs.Configs.{config_fault}
 use Rattle.fdb_core.proofs.runs.run.Given as goal
 

@@ -6,9 +6,8 @@ use Rattle.fdb_client.specs.declared.finished.Finished.{Finished}
 use Rattle.fdb_client.specs.declared.program.Transcript.{Transcript}
 use Rattle.fdb_client.specs.Programs.{commit_request_of, is_read_only}
 use Rattle.fdb_proxy.specs.CommitProxies.{CommitProxy, submitting}
-use Rattle.fdb_core.specs.machine.ClientSteps.{submit_fault}
-use Rattle.fdb_core.specs.machine.Sessions.{Sessions, Idle, Waiting, open_at, with_state}
-use Rattle.fdb_core.specs.refinement.client.Sessions.{OfOpen, Finishes}
+use Rattle.fdb_roles.specs.Sessions.{submit_fault, OfOpen, Finishes}
+use Rattle.fdb_machine.specs.machine.Sessions.{Sessions, Idle, Waiting, open_at, with_state}
 
 -- The session's open transaction is finished. One that wrote nothing is handed out, and any other waits at the proxy,
 -- with its transcript. A refusal is one of the transaction, or that memory ran out, and leaves all as it was.

@@ -2,9 +2,9 @@
 use Rattle.std.specs.Prelude.{◌≡◌, ◌<◌, ℕ, length, Some, Err, slice_get}
 use Rattle.fdb_keys.specs.declared.refusal.Refusal.{Refusal}
 use Rattle.fdb_keys.specs.declared.refusal.Refusal.TheVariants.{Unknown}
-use Rattle.fdb_core.specs.machine.CommitProxySteps.{taken_by_sender, receives}
-use Rattle.fdb_core.specs.machine.Machine.{Machine}
-use Rattle.fdb_core.specs.machine.Roles.{Sender}
+use Rattle.fdb_machine.specs.machine.CommitProxySteps.{taken_by_sender, receives}
+use Rattle.fdb_machine.specs.machine.Machine.{Machine}
+use Rattle.fdb_machine.specs.machine.Roles.{Sender}
 
 -- the entry's proxy; the sender took the entry
 pub record IsReceiver (m : Machine) (entry : ℕ) (sender : Sender) (proxy : ℕ) : Type 0 where

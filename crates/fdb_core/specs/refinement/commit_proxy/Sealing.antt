@@ -4,12 +4,12 @@ use Rattle.fdb_sequencer.specs.declared.ticket.Ticket.{Ticket}
 use Rattle.fdb_sequencer.specs.Sequencer.{plan_fault, planned}
 use Rattle.fdb_core.specs.declared.cluster.Cluster.{Cluster}
 use Rattle.fdb_core.specs.declared.roles.commit_proxy.CommitProxyRole.{CommitProxyRole}
-use Rattle.fdb_core.specs.machine.CommitProxySteps.{is_idle}
+use Rattle.fdb_machine.specs.machine.CommitProxySteps.{is_idle}
 use Rattle.fdb_core.specs.refinement.Restoring.{proxy_failed}
 use Rattle.fdb_core.specs.refinement.commit_proxy.Ties.{seen_as}
 
--- The proxy works and has no batch in flight, the ticket is the one that the sequencer plans for it, and there is a place left in
--- the book.
+-- The proxy works and has no batch in flight, the ticket is the one that the sequencer plans for it, and there is a
+-- place left in the book.
 pub record IsTicketToSeal (k : Cluster) (proxy advance : ℕ) (ticket : Ticket) : Type 0 where
   pub role : CommitProxyRole
   pub there : slice_get k.commit_proxies.items proxy ≡ Some role

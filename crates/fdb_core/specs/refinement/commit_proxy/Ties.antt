@@ -26,12 +26,12 @@ use Rattle.fdb_proxy.specs.Parting.{AreParts}
 use Rattle.fdb_proxy.specs.Verdicts.{moves_through, outcomes_on}
 use Rattle.fdb_client.specs.declared.program.Transcript.{Transcript}
 use Rattle.fdb_client.specs.Programs.{commit_request_of}
+use Rattle.fdb_roles.specs.ProxyStages.{IsCommitProxyAt}
+use Rattle.fdb_roles.specs.Entries.{dated_moves, entry_of}
 use Rattle.fdb_core.specs.declared.roles.commit_proxy.CommitProxyRole.{CommitProxyRole}
-use Rattle.fdb_core.specs.headline.ProxyStages.{IsCommitProxyAt}
-use Rattle.fdb_core.specs.machine.CommitProxySteps.{with_batch}
-use Rattle.fdb_core.specs.machine.Roles.{CommitProxy, Stage, Idle, Resolving, Logging, Reported}
-use Rattle.fdb_core.specs.machine.SequencerSteps.{dated_moves}
-use Rattle.fdb_core.specs.machine.Worlds.{idle_proxy}
+use Rattle.fdb_machine.specs.machine.CommitProxySteps.{with_batch}
+use Rattle.fdb_machine.specs.machine.Roles.{CommitProxy, Stage, Idle, Resolving, Logging, Reported}
+use Rattle.fdb_machine.specs.machine.Worlds.{idle_proxy}
 
 -- How far the machine's commit proxy is, by the core's stage and whether the batch's version is reported. Between two
 -- steps no batch of a proxy that works is without an entry, and none has a ticket that it didn't learn. One that failed
@@ -115,11 +115,6 @@ pub record IsNextTicket (config : Config) (book : List Entry) (known : Known) (t
   pub later : last_version book < ticket.version
   pub moves : ticket.moves ≡ known.unlearnt ++ dated ticket.version ticket.pending
   pub targets : AllByRecursion (λ (move : Move). move.to < suc (length config.resolver_splits)) ticket.pending
-
--- the entry of a ticket
-abbrev pub entry_of : Ticket → List Transaction → Entry
-entry_of ticket batch =
-    record { version = ticket.version; prev = ticket.prev; moves = ticket.pending; batch = batch }
 
 -- The first of those who wait became the batch of the ticket's entry, and the parts of it are given.
 pub record Seals (config : Config) (book : List Entry) (known : Known) (ticket : Ticket) (old : CommitProxyRole)

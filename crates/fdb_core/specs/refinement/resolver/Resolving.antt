@@ -1,26 +1,17 @@
 -- What ties the resolvers, and what they are sent, to the book.
-use Rattle.std.specs.Prelude.{◌≡◌, ◌⊎◌, ◌-◌, ◌+◌, ◌≤◌, ℕ, false, List, [], ◌∷◌, ◌++◌, take, map, length, Some, slice_get}
+use Rattle.std.specs.Prelude.{◌≡◌, ◌⊎◌, ◌+◌, ◌≤◌, ℕ, List, [], ◌∷◌, ◌++◌, take, map, length, Some, slice_get}
 use Rattle.fdb_keys.specs.Points.{Point}
-use Rattle.fdb_interval.specs.Versions.{version_at}
 use Rattle.fdb_txn.specs.declared.entry.Entry.{Entry}
-use Rattle.fdb_txn.specs.book.Book.{seen_of, last_version, seen_before}
-use Rattle.fdb_txn.specs.rules.Owners.{window}
-use Rattle.fdb_txn.specs.rules.Resolvers.{IsStateOf}
+use Rattle.fdb_txn.specs.book.Book.{seen_of, seen_before}
 use Rattle.fdb_resolver.specs.declared.part.Part.{Part}
 use Rattle.fdb_resolver.specs.declared.verdict.Verdict.{Verdict}
 use Rattle.fdb_resolver.specs.declared.verdict.Verdicts.{Verdicts}
-use Rattle.fdb_resolver.specs.Resolvers.{Resolver, HasFailed}
+use Rattle.fdb_resolver.specs.Resolvers.{HasFailed}
 use Rattle.fdb_proxy.specs.Verdicts.{verdicts_on}
+use Rattle.fdb_roles.specs.ProxyStages.{ArePartsOf}
+use Rattle.fdb_roles.specs.Lists.{Each}
+use Rattle.fdb_roles.specs.AtBook.{IsResolverAt}
 use Rattle.fdb_core.specs.declared.roles.resolver.ResolverRole.{ResolverRole}
-use Rattle.fdb_core.specs.headline.ProxyStages.{ArePartsOf}
-use Rattle.fdb_core.specs.refinement.log.Ties.{Each}
-
--- Resolver i took these entries. From the begin of the window on it answers as the last versions of their places.
-pub record IsResolverAt (splits : List Point) (before : List Entry) (i : ℕ) (resolver : Resolver) : Type 0 where
-  pub index : resolver.index ≡ i
-  pub last : resolver.last ≡ last_version before
-  pub works : resolver.is_failed ≡ false
-  pub state : IsStateOf splits i (seen_of before).places (last_version before - window) (version_at resolver.versions)
 
 -- how many entries each resolver took
 abbrev pub taken_by : List ResolverRole → List ℕ

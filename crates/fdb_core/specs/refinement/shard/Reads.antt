@@ -1,6 +1,6 @@
 -- The shards, read at a version.
-use Rattle.std.specs.Prelude.{◌≡◌, ◌≤◌, ℕ, suc, ◌-◌, Bool, true, false, nat_eq, nat_lt, List, filter, map, take, length}
-use Rattle.std.specs.Prelude.{Option, Some, None, slice_get, if◌then◌else◌}
+use Rattle.std.specs.Prelude.{◌≡◌, ◌≤◌, ℕ, suc, Bool, true, false, List, filter, map, take, length, Option, Some}
+use Rattle.std.specs.Prelude.{slice_get, if◌then◌else◌}
 use Rattle.std.specs.FinMap.{get}
 use Rattle.std.specs.List.{list_any}
 use Rattle.fdb_keys.specs.declared.refusal.Refusal.{Refusal}
@@ -16,11 +16,12 @@ use Rattle.fdb_txn.specs.rules.SerialMap.{serial_map_at}
 use Rattle.fdb_txn.specs.rules.Splits.{are_splits, piece}
 use Rattle.fdb_storage.specs.Shards.{value_at}
 use Rattle.fdb_proxy.specs.declared.config.Config.{Config}
+use Rattle.fdb_roles.specs.Lists.{Each}
 use Rattle.fdb_core.specs.declared.roles.shard.ShardRole.{ShardRole}
-use Rattle.fdb_core.specs.machine.ClientSteps.{fault_among, shard_begins}
-use Rattle.fdb_core.specs.machine.Machine.{is_set}
-use Rattle.fdb_core.specs.machine.RoleSteps.{shard_fault}
-use Rattle.fdb_core.specs.refinement.log.Ties.{progress_of, Each}
+use Rattle.fdb_machine.specs.machine.ClientSteps.{fault_among, shard_begins}
+use Rattle.fdb_machine.specs.machine.Machine.{is_set}
+use Rattle.fdb_machine.specs.machine.RoleSteps.{shard_fault}
+use Rattle.fdb_core.specs.refinement.log.Ties.{progress_of}
 
 pub record ShardReads : Type 0 where
   pub version : ℕ
@@ -58,20 +59,12 @@ abbrev pub pairs_held : ShardReads → ℕ → Range → Bool → List (Point ×
 pairs_held reads i range is_reverse =
     filter (λ pair. in_range (piece reads.config.shard_splits i) pair.0) (pairs_in (run_map reads) range is_reverse)
 
--- no more than are wanted, where 0 stands for all
-abbrev pub AreFew : ℕ → List (Point × List ℕ) → Type 0
-AreFew wanted pairs = nat_eq wanted 0 ≡ false → length pairs ≤ wanted
-
--- how many are still wanted beside so many, where 0 stands for all
-abbrev pub left_of : ℕ → ℕ → Option ℕ
-left_of wanted count =
-    if nat_eq wanted 0 then Some 0 else (if nat_lt count wanted then Some (wanted - count) else None)
-
 -- A shard holds its piece of the keys, and answers from the run where it hasn't failed and serves the version.
 pub record IsReadable (reads : ShardReads) (i : ℕ) (role : ShardRole) : Type 0 where
   pub range : role.core.range ≡ piece reads.config.shard_splits i
   pub version : role.core.version ≡ last_version (take role.applied reads.book)
-  pub serves : role.core.is_failed ≡ false → (x : Point) → role.core.floor ≤ reads.version → reads.version ≤ role.core.version
+  pub serves : role.core.is_failed ≡ false → (x : Point) → role.core.floor ≤ reads.version
+      → reads.version ≤ role.core.version
       → in_range (piece reads.config.shard_splits i) x ≡ true → value_at role.core reads.version x
       ≡ get (run_map reads) x
 

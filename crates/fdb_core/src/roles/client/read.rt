@@ -3,12 +3,12 @@ ghost use Rattle.std.specs.Prelude.{◌≡◌, OnErr};
 ghost use Rattle.fdb_keys.specs.Answers.{Answers};
 ghost use Rattle.fdb_client.specs.TxnState.{with_op};
 ghost use Rattle.fdb_client.specs.Programs.{program, copy, reply_on};
-ghost use Rattle.fdb_core.specs.machine.ClientSteps.{answered_by, read_fault};
+ghost use Rattle.fdb_machine.specs.machine.ClientSteps.{answered_by, read_fault};
 ghost use Rattle.fdb_core.specs.refinement.client.Reading.{operation_of};
 
-use crate::step::Answered;
 use fdb_client::{Snapshot, Txn};
 use fdb_keys::{Key, KeyRange, Refusal};
+use fdb_machine::Answered;
 
 /// What is read: a key, or the first pairs of a range, or the last ones from its end, at most as many as the limit
 /// where that isn't 0.

@@ -1,8 +1,8 @@
+use crate::roles::client::note::{Note, note_by};
 use crate::roles::client::read::{Read, read_by};
-use crate::step::Answered;
 use fdb_client::{Finished, Snapshot, Txn};
-use fdb_keys::{KeyRange, Refusal};
-use fdb_mutations::Mutation;
+use fdb_keys::Refusal;
+use fdb_machine::Answered;
 use std::marker::Model;
 use std::mem;
 
@@ -24,7 +24,7 @@ pub(crate) struct Session {
 }
 
 impl Model for Session {
-    ghost use Rattle.fdb_core.specs.machine.Sessions.{Session};
+    ghost use Rattle.fdb_machine.specs.machine.Sessions.{Session};
     ghost use Rattle.fdb_core.specs.refinement.Views.{state_of};
 
     ghost Value = { Session };
@@ -36,16 +36,15 @@ impl Session {
     ghost use Rattle.std.specs.Prelude.{◌≡◌, None, Some, IfSome, OnOk, OnErr, if◌then◌else◌};
     ghost use Rattle.std.specs.Option.{option_copied};
     ghost use Rattle.fdb_keys.specs.Answers.{Answers};
-    ghost use Rattle.fdb_mutations.specs.Mutations.{mutation_fault};
     ghost use Rattle.fdb_client.specs.TxnState.{with_op};
     ghost use Rattle.fdb_client.specs.Programs.{program, copy, reply_on};
-    ghost use Rattle.fdb_client.specs.declared.program.Op.TheVariants as operation;
     ghost use Rattle.fdb_client.specs.declared.program.Reply.TheVariants as answer;
     ghost use Rattle.fdb_client.specs.declared.program.Transcript.{Transcript};
-    ghost use Rattle.fdb_core.specs.machine.ClientSteps.{answered_by, read_fault};
-    ghost use Rattle.fdb_core.specs.machine.Sessions.{Idle, Open, open_of, is_busy, at_state};
+    ghost use Rattle.fdb_machine.specs.machine.ClientSteps.{answered_by, read_fault};
+    ghost use Rattle.fdb_machine.specs.machine.Sessions.{Idle, Open, open_of, is_busy, at_state};
+    ghost use Rattle.fdb_core.specs.refinement.client.Noting.{noted_as, note_fault};
     ghost use Rattle.fdb_core.specs.refinement.client.Reading.{operation_of};
-    ghost use Rattle.fdb_core.specs.refinement.client.Sessions.{OfOpen, Finishes};
+    ghost use Rattle.fdb_roles.specs.Sessions.{OfOpen, Finishes};
     ghost use Rattle.fdb_core.specs.refinement.Views.{state_of};
 
     /// A session whose last transaction has the number, and which is at the state.
@@ -101,41 +100,15 @@ impl Session {
         }
     }
 
-    /// Its open transaction buffers a copy of the mutation.
-    pub(crate) fn write(&mut self, mutation: &Mutation) -> Result<(), Refusal>
-        ensures answers { OfOpen (open_of self.old.state) result (λ transcript. Answers result
-            (mutation_fault mutation.now)
+    /// Its open transaction notes it.
+    pub(crate) fn note(&mut self, note: Note<'_>) -> Result<(), Refusal>
+        ensures answers { OfOpen (open_of self.old.state) result (λ transcript. Answers result (note_fault note.entry)
             (λ _. self.new ≡ at_state self.old
-            (Open (with_op transcript (operation.Write mutation.now) answer.Done)))) }
+            (Open (with_op transcript (noted_as note.entry) answer.Done)))) }
         ensures err { OnErr result (self.new ≡ self.old) }
     {
         match &mut self.state {
-            SessionState::Open(txn) => txn.write_copy(mutation),
-            _ => Err(Refusal::NoTransaction),
-        }
-    }
-
-    /// Its open transaction adds a range to its read set.
-    pub(crate) fn add_read(&mut self, range: &KeyRange) -> Result<(), Refusal>
-        ensures answers { OfOpen (open_of self.old.state) result (λ transcript. Answers result None
-            (λ _. self.new ≡ at_state self.old (Open (with_op transcript (operation.AddRead range.now) answer.Done)))) }
-        ensures err { OnErr result (self.new ≡ self.old) }
-    {
-        match &mut self.state {
-            SessionState::Open(txn) => txn.add_read(range),
-            _ => Err(Refusal::NoTransaction),
-        }
-    }
-
-    /// Its open transaction adds a range to its write set.
-    pub(crate) fn add_write(&mut self, range: &KeyRange) -> Result<(), Refusal>
-        ensures answers { OfOpen (open_of self.old.state) result (λ transcript. Answers result None
-            (λ _. self.new ≡ at_state self.old
-            (Open (with_op transcript (operation.AddWrite range.now) answer.Done)))) }
-        ensures err { OnErr result (self.new ≡ self.old) }
-    {
-        match &mut self.state {
-            SessionState::Open(txn) => txn.add_write(range),
+            SessionState::Open(txn) => note_by(txn, note),
             _ => Err(Refusal::NoTransaction),
         }
     }

@@ -3,12 +3,12 @@ ghost use Rattle.std.specs.BTreeMap.{get as get_in, is_at};
 ghost use Rattle.std.specs.Option.{IsSome};
 ghost use Rattle.std.specs.Ordering.{nat_cmp};
 
+use crate::roles::client::note::Note;
 use crate::roles::client::read::Read;
 use crate::roles::client::session::{Session, SessionState};
-use crate::step::Answered;
 use fdb_client::{Finished, Snapshot, Transcript, Txn};
-use fdb_keys::{KeyRange, Refusal};
-use fdb_mutations::Mutation;
+use fdb_keys::Refusal;
+use fdb_machine::Answered;
 use fdb_proxy::GrvCore;
 use fdb_txn::TxnId;
 use std::alloc::{AllocError, Global};
@@ -24,7 +24,7 @@ pub(crate) struct Sessions {
 impl Model for Sessions {
     ghost use Rattle.std.specs.Coded.{coded_ℕ, codes};
     ghost use Rattle.std.specs.FinMap.{code, from_entries};
-    ghost use Rattle.fdb_core.specs.machine.Sessions.{Sessions};
+    ghost use Rattle.fdb_machine.specs.machine.Sessions.{Sessions};
 
     ghost Value = { Sessions };
 
@@ -38,17 +38,16 @@ impl Sessions {
     ghost use Rattle.std.specs.FinMap.{empty, get};
     ghost use Rattle.std.specs.Option.{option_copied, is_some};
     ghost use Rattle.fdb_keys.specs.Answers.{Answers};
-    ghost use Rattle.fdb_mutations.specs.Mutations.{mutation_fault};
     ghost use Rattle.fdb_client.specs.TxnState.{with_op};
     ghost use Rattle.fdb_client.specs.Programs.{program, copy, reply_on};
-    ghost use Rattle.fdb_client.specs.declared.program.Op.TheVariants as operation;
     ghost use Rattle.fdb_client.specs.declared.program.Reply.TheVariants as answer;
-    ghost use Rattle.fdb_core.specs.machine.ClientSteps.{answered_by, read_fault};
+    ghost use Rattle.fdb_machine.specs.machine.ClientSteps.{answered_by, read_fault};
+    ghost use Rattle.fdb_core.specs.refinement.client.Noting.{noted_as, note_fault};
     ghost use Rattle.fdb_core.specs.refinement.client.Reading.{operation_of};
-    ghost use Rattle.fdb_core.specs.refinement.client.Sessions.{OfOpen, Finishes};
-    ghost use Rattle.fdb_core.specs.machine.GrvProxySteps.{has_no_number};
-    ghost use Rattle.fdb_core.specs.machine.Sessions.{Idle, Asking, Open, Waiting, session_of, open_at, with_state};
-    ghost use Rattle.fdb_core.specs.machine.Sessions.{is_busy, next_number, serve, tell};
+    ghost use Rattle.fdb_roles.specs.Sessions.{OfOpen, Finishes};
+    ghost use Rattle.fdb_machine.specs.machine.GrvProxySteps.{has_no_number};
+    ghost use Rattle.fdb_machine.specs.machine.Sessions.{Idle, Asking, Open, Waiting, session_of, open_at, with_state};
+    ghost use Rattle.fdb_machine.specs.machine.Sessions.{is_busy, next_number, serve, tell};
     ghost use Rattle.fdb_core.specs.refinement.Views.{state_of};
 
     /// No session did anything yet. It takes no memory.
@@ -199,45 +198,17 @@ impl Sessions {
         known.read(snapshot, read, is_snapshot)
     }
 
-    /// The session's open transaction buffers a copy of the mutation, as `Txn::write` does. Refused as `NoTransaction`
-    /// where there is none.
-    pub(crate) fn write(&mut self, session: u32, mutation: &Mutation) -> Result<(), Refusal>
-        ensures answers { OfOpen (open_at self.old session) result (λ transcript. Answers result
-            (mutation_fault mutation.now)
+    /// The session's open transaction notes it, as `note_by` does. Refused as `NoTransaction` where there is none.
+    pub(crate) fn note(&mut self, session: u32, note: Note<'_>) -> Result<(), Refusal>
+        ensures answers { OfOpen (open_at self.old session) result (λ transcript. Answers result (note_fault note.entry)
             (λ _. self.new ≡ with_state self.old session
-            (Open (with_op transcript (operation.Write mutation.now) answer.Done)))) }
+            (Open (with_op transcript (noted_as note.entry) answer.Done)))) }
         ensures err { OnErr result (self.new ≡ self.old) }
     {
         let Some(known) = self.by_number.get_mut(&session) else {
             return Err(Refusal::NoTransaction);
         };
-        known.write(mutation)
-    }
-
-    /// The session's open transaction adds a range to its read set. Refused as `NoTransaction` where there is none.
-    pub(crate) fn add_read(&mut self, session: u32, range: &KeyRange) -> Result<(), Refusal>
-        ensures answers { OfOpen (open_at self.old session) result (λ transcript. Answers result None
-            (λ _. self.new ≡ with_state self.old session
-            (Open (with_op transcript (operation.AddRead range.now) answer.Done)))) }
-        ensures err { OnErr result (self.new ≡ self.old) }
-    {
-        let Some(known) = self.by_number.get_mut(&session) else {
-            return Err(Refusal::NoTransaction);
-        };
-        known.add_read(range)
-    }
-
-    /// The session's open transaction adds a range to its write set. Refused as `NoTransaction` where there is none.
-    pub(crate) fn add_write(&mut self, session: u32, range: &KeyRange) -> Result<(), Refusal>
-        ensures answers { OfOpen (open_at self.old session) result (λ transcript. Answers result None
-            (λ _. self.new ≡ with_state self.old session
-            (Open (with_op transcript (operation.AddWrite range.now) answer.Done)))) }
-        ensures err { OnErr result (self.new ≡ self.old) }
-    {
-        let Some(known) = self.by_number.get_mut(&session) else {
-            return Err(Refusal::NoTransaction);
-        };
-        known.add_write(range)
+        known.note(note)
     }
 
     /// Finishes the session's open transaction, which it has no more, and gives what is left to do of it. Refused as
@@ -253,8 +224,8 @@ impl Sessions {
         known.finish()
     }
 
-    /// The transaction's session, which did something before, is told what became of it, and has none any more. It takes
-    /// no memory.
+    /// The transaction's session, which did something before, is told what became of it, and has none any more. It
+    /// takes no memory.
     pub(crate) fn tell(&mut self, transcript: &Transcript)
         requires { is_some (get self.old transcript.now.id.session) ≡ true }
         ensures { self.new ≡ tell self.old transcript.now }

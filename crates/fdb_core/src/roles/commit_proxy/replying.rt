@@ -2,15 +2,15 @@
 ghost use Rattle.std.specs.Prelude.{◌≡◌, ◌+◌, ◌<◌, ◌≤◌, true, [], ◌∷◌, ◌++◌, length, map, vec_len, vec_capacity};
 ghost use Rattle.fdb_txn.specs.declared.txn_id.TxnId.{TxnId};
 ghost use Rattle.fdb_proxy.specs.declared.outcome.Outcome.{Outcome};
-ghost use Rattle.fdb_core.specs.machine.CommitProxySteps.{placed_from};
-ghost use Rattle.fdb_core.specs.machine.Sessions.{tell_all};
-ghost use Rattle.fdb_core.specs.refinement.client.Sessions.{HaveActed};
+ghost use Rattle.fdb_machine.specs.machine.CommitProxySteps.{placed_from};
+ghost use Rattle.fdb_machine.specs.machine.Sessions.{tell_all};
+ghost use Rattle.fdb_machine.specs.machine.Acting.{HaveActed};
 
-use crate::roles::client::Placed;
 use crate::roles::client::sessions::Sessions;
 use fdb_client::Transcript;
 use fdb_keys::Items;
 use fdb_proxy::Outcome;
+use fdb_roles::Placed;
 use fdb_txn::{Spot, TxnId};
 
 /// What each client is told, with its session. There is room for all of it.

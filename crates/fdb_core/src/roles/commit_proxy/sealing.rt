@@ -1,5 +1,6 @@
 // The first of those who wait at a commit proxy become a batch.
-ghost use Rattle.std.specs.Prelude.{◌≡◌, ◌+◌, ◌≤◌, ◌++◌, take, drop, vec_len, vec_capacity, None, IfOk, IfErr, OnOk, OnErr};
+ghost use Rattle.std.specs.Prelude.{◌≡◌, ◌+◌, ◌≤◌, ◌++◌, take, drop, vec_len, vec_capacity, None, IfOk, IfErr, OnOk};
+ghost use Rattle.std.specs.Prelude.{OnErr};
 ghost use Rattle.fdb_keys.specs.declared.refusal.Refusal.TheVariants.{NoMemory};
 ghost use Rattle.fdb_txn.specs.Limits.{place_limit};
 ghost use Rattle.fdb_proxy.specs.CommitProxies.{IsTicketFor, seal_fault, sealing, learn_fault};
@@ -13,9 +14,9 @@ use fdb_sequencer::Ticket;
 use fdb_txn::{Batch, PLACE_LIMIT};
 use std::alloc::{AllocError, Global};
 
-/// The first of those who wait, at most as many as a batch may have, become the batch of the ticket's entry at the core,
-/// and stay in the list. Answers the batch, the part of each resolver, and who waits on. Where that is refused, the list
-/// is as before, and the core is, too, or has failed while it learnt the ticket.
+/// The first of those who wait, at most as many as a batch may have, become the batch of the ticket's entry at the
+/// core, and stay in the list. Answers the batch, the part of each resolver, and who waits on. Where that is refused,
+/// the list is as before, and the core is, too, or has failed while it learnt the ticket.
 pub(crate) fn seal_first(
     alloc: Global,
     core: &mut CommitCore,

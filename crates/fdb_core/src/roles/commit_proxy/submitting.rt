@@ -2,7 +2,7 @@
 ghost use Rattle.std.specs.Prelude.{◌≡◌, ◌≤◌, ◌++◌, IfSome, None};
 ghost use Rattle.fdb_proxy.specs.CommitProxies.{submit_fault};
 ghost use Rattle.fdb_client.specs.Programs.{commit_request_of};
-ghost use Rattle.fdb_core.specs.machine.Sessions.{open_at};
+ghost use Rattle.fdb_machine.specs.machine.Sessions.{open_at};
 ghost use Rattle.fdb_core.specs.refinement.client.Submitting.{Submits};
 
 use crate::roles::client::sessions::Sessions;

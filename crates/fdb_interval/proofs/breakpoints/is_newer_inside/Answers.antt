@@ -1,4 +1,4 @@
-use Rattle.fdb_keys.proofs.PointOrder.{cmp_less}
+use Rattle.fdb_keys.proofs.Exports.{cmp_less}
 use Rattle.fdb_interval.proofs.BreaksLemmas.{rising_from_sorted}
 use Rattle.fdb_interval.proofs.breakpoints.is_newer_inside.Goals as goal
 

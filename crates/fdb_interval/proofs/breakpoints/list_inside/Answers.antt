@@ -1,4 +1,4 @@
-use Rattle.fdb_keys.proofs.PointOrder.{cmp_less}
+use Rattle.fdb_keys.proofs.Exports.{cmp_less}
 use Rattle.fdb_interval.proofs.breakpoints.list_inside.Goals as goal
 
 pub range-begin-items-requires : goal.range-begin-items-requires

@@ -1,4 +1,4 @@
-use Rattle.fdb_keys.specs.Equality.{items_eq_decides}
+use Rattle.fdb_keys.proofs.EqualityLemmas.{items_eq_decides}
 use Rattle.fdb_keys.proofs.laws.equal_items_are_the_same.Goals as goal
 
 pub returns : goal.returns

@@ -29,7 +29,8 @@ returns-in_err-at-clause-none c =
 pub returns-then-eq-clause-some : goal.returns-then-eq-clause-some
 returns-then-eq-clause-some c =
     let at = c.loop-steps in
-    let leads = name_after-leads c.args.pairs.now at.steps at.at c.in_ok-value_of.field-0.now c.in_ok-at.at at.auto.steps
+    let leads = name_after-leads c.args.pairs.now at.steps at.at c.in_ok-value_of.field-0.now c.in_ok-at.at
+    at.auto.steps
     at.invariant.at c.in_ok-value_of.ensures c.in_ok-at.ensures in
     let same = (bytes_decides c.in_ok-at.at c.name_of-first.result).0 (sym c.if-eq.ensures) in (
       omega arith,
@@ -43,7 +44,8 @@ returns-then-eq-clause-some c =
 pub loop-steps-preserved : goal.loop-steps-preserved
 loop-steps-preserved c =
     let at = c.loop-steps in
-    let leads = name_after-leads c.args.pairs.now at.steps at.at c.in_ok-value_of.field-0.now c.in_ok-at.at at.auto.steps
+    let leads = name_after-leads c.args.pairs.now at.steps at.at c.in_ok-value_of.field-0.now c.in_ok-at.at
+    at.auto.steps
     at.invariant.at c.in_ok-value_of.ensures c.in_ok-at.ensures in
     let less : at.steps + 1 - 1 ≡ at.steps = omega arith in
     let other : false ≡ pointwise nat_eq c.in_ok-at.at first_name

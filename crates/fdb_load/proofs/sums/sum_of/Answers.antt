@@ -14,4 +14,5 @@ returns-in_err-sum c =
     let large : 2 ^ 64 ≤ c.loop-pair.sum + number_of (get_or pairs index c.pair-item.result).1
     = omega (arith, c.in_err-sum.ensures, number) in
     c.from_residual-in_err-sum.ensures
-    ∙ sym (told_sum-too_large pairs index c.loop-pair.sum c.pair-item.result c.loop-pair-test.true c.loop-pair.invariant large)
+    ∙ sym (told_sum-too_large pairs index c.loop-pair.sum c.pair-item.result c.loop-pair-test.true c.loop-pair.invariant
+    large)

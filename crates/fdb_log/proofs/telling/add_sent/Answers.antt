@@ -42,7 +42,8 @@ loop-index-preserved c =
             long = ap length is ∙ length-set now it (body ++ one ∷ []) ∙ long;
             added =
                 subst (AreAdded kept one (take (index + 1) sent.tags) c.args.bodies.now.items) (sym is)
-                (added-more kept one sent.tags index it c.args.bodies.now.items now within reads c.loop-index.invariant.added body
+                (added-more kept one sent.tags index it c.args.bodies.now.items now within reads
+                c.loop-index.invariant.added body
                 first there kept_here (w.index_mut-body.ensures.value ∙ read-at now it body there));
           }
       | else-keeps w ↦
@@ -55,7 +56,8 @@ loop-index-preserved c =
                   added =
                       subst (λ vec. AreAdded kept one (take (index + 1) sent.tags) c.args.bodies.now.items vec.items)
                       (sym w.bodies-is)
-                      (added-left kept one sent.tags index it c.args.bodies.now.items now within reads c.loop-index.invariant.added
+                      (added-left kept one sent.tags index it c.args.bodies.now.items now within reads
+                      c.loop-index.invariant.added
                       (inr stood));
                 }
             | else-keeps-via-else-keeps v ↦
@@ -64,7 +66,8 @@ loop-index-preserved c =
                   added =
                       subst (λ vec. AreAdded kept one (take (index + 1) sent.tags) c.args.bodies.now.items vec.items)
                       (sym w.bodies-is)
-                      (added-left kept one sent.tags index it c.args.bodies.now.items now within reads c.loop-index.invariant.added
+                      (added-left kept one sent.tags index it c.args.bodies.now.items now within reads
+                      c.loop-index.invariant.added
                       (inl (sym v.if-keeps.ensures)));
                 }
           ]

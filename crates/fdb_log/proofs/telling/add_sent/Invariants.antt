@@ -7,6 +7,7 @@ abbrev pub invariant-loop-index : goal.invariant-loop-index
 invariant-loop-index l =
     record {
       long : length l.bodies.items ≡ l.keeper.tags;
-      added : AreAdded (is_kept l.keeper.log l.keeper.logs l.keeper.tags) (l.sent.place, l.sent.mutation) (take l.index l.sent.tags)
+      added : AreAdded (is_kept l.keeper.log l.keeper.logs l.keeper.tags) (l.sent.place, l.sent.mutation)
+          (take l.index l.sent.tags)
           l.initial.bodies.items l.bodies.items;
     }

@@ -1,4 +1,4 @@
-use Rattle.fdb_interval.proofs.BreaksLemmas.{rising_from_sorted}
+use Rattle.fdb_interval.proofs.Exports.{rising_from_sorted}
 use Rattle.fdb_owners.proofs.learning.put_all.Goals as goal
 
 pub returns-clause-rising : goal.returns-clause-rising

@@ -1,4 +1,4 @@
-use Rattle.fdb_interval.proofs.BreaksLemmas.{rising_from_sorted}
+use Rattle.fdb_interval.proofs.Exports.{rising_from_sorted}
 use Rattle.fdb_owners.proofs.learning.put_break.Goals as goal
 
 pub returns-in_err-insert-clause-rising : goal.returns-in_err-insert-clause-rising

@@ -3,7 +3,7 @@ use Rattle.std.proofs.lemmas.Bool.{eqb-true}
 use Rattle.std.proofs.Math.Bool.{or-false}
 use Rattle.fdb_keys.specs.Ranges.{Range, in_set}
 use Rattle.fdb_keys.specs.Points.{Point}
-use Rattle.fdb_txn.proofs.CloneLemmas.{same_set}
+use Rattle.fdb_txn.proofs.Exports.{same_set}
 use Rattle.fdb_owners.proofs.parts.add_all.Goals as goal
 
 -- a set without ranges has no point to add to

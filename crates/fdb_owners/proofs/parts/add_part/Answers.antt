@@ -16,7 +16,8 @@ returns-then-index-resolver c =
     let within : c.count_below-place.result < length parts = search rules in
     let same : (get_or parts c.count_below-place.result some).resolver ≡ c.args.resolver = search rules in
     answers-also c.add_at.result None _ _
-    (λ given added. added some ∙ grown-found c.args.resolver c.args.range.now parts c.count_below-place.result some counted
+    (λ given added. added some ∙ grown-found c.args.resolver c.args.range.now parts c.count_below-place.result some
+    counted
     within same) c.add_at.ensures
 
 pub returns : goal.returns

@@ -4,7 +4,7 @@ use Rattle.std.specs.Cmp.Lexicographic.{slice_cmp}
 use Rattle.std.specs.Ordering.{nat_cmp}
 use Rattle.std.specs.declared.ops.Bound.TheVariants.{Excluded}
 use Rattle.fdb_keys.specs.Points.{Point}
-use Rattle.fdb_keys.proofs.PointOrder.{cmp_less}
+use Rattle.fdb_keys.proofs.Exports.{cmp_less}
 use Rattle.fdb_interval.specs.Breakpoints.{Breaks, breaks_inside}
 use Rattle.fdb_owners.specs.declared.history.History.{History}
 use Rattle.fdb_owners.specs.declared.parts.Owned.{Owned}
@@ -56,7 +56,8 @@ loop-point-preserved c = record {
   way = way-next c.loop-point.history.now c.loop-point.begin.now c.loop-point.point-iterator c.next.new.self
       c.in-Some.point.now c.in-Some.next.now c.args.range.now.end c.in-Some.ensures.steps c.loop-point.invariant.way;
   same =
-      ap (λ (parts : List Owned). with_pieces c.in-Some.next.now c.args.span.since c.args.span.through c.in-Some.point.now
+      ap (λ (parts : List Owned). with_pieces c.in-Some.next.now c.args.span.since c.args.span.through
+      c.in-Some.point.now
       c.next.new.self c.args.range.now.end parts) c.in_ok-add_piece.ensures
       ∙ ap (λ (pieces : Breaks History). with_pieces c.loop-point.history.now c.args.span.since c.args.span.through
       c.loop-point.begin.now pieces c.args.range.now.end c.loop-point.parts.items) (sym c.in-Some.ensures.steps)

@@ -1,7 +1,7 @@
 use Rattle.std.proofs.Common.{◌≡◌, ◌∙◌, sym, subst, false, true, [], ℕ, Bool, ◌&&◌, rules}
 use Rattle.fdb_keys.specs.Points.{Point}
 use Rattle.fdb_keys.specs.Ranges.{in_range, is_empty_range}
-use Rattle.fdb_keys.proofs.InsertionLemmas.{in_range-empty}
+use Rattle.fdb_keys.proofs.Exports.{in_range-empty}
 use Rattle.fdb_owners.specs.Parts.{ArePartsOf, owned_from}
 use Rattle.fdb_owners.specs.Pieces.{history_at}
 use Rattle.fdb_owners.proofs.PartsLemmas.{parts-none}

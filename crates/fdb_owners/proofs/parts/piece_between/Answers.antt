@@ -4,8 +4,8 @@ use Rattle.fdb_keys.specs.declared.refusal.Refusal.{Refusal}
 use Rattle.fdb_keys.specs.Points.{Point, point_lt}
 use Rattle.fdb_keys.specs.Ranges.{Range}
 use Rattle.fdb_keys.specs.Texts.{is_bound, range_fault}
-use Rattle.fdb_keys.proofs.PointOrder.{lt_one_way}
-use Rattle.fdb_txn.proofs.rules.SplitsLemmas.{range-made}
+use Rattle.fdb_keys.proofs.Exports.{lt_one_way}
+use Rattle.fdb_txn.proofs.Exports.{range-made}
 use Rattle.fdb_owners.proofs.parts.piece_between.Goals as goal
 
 -- a range of two bounds is made by their texts, if there is memory

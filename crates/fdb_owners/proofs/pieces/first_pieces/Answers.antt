@@ -3,10 +3,9 @@ use Rattle.std.specs.List.{AllByRecursion}
 use Rattle.std.proofs.lemmas.List.{take_more, take_all, length-take-le}
 use Rattle.fdb_keys.specs.Points.{Point}
 use Rattle.fdb_keys.specs.Texts.{is_bound}
-use Rattle.fdb_keys.proofs.TextsLemmas.{is_bound-key}
-use Rattle.fdb_txn.proofs.book.HistoryLemmas.{all-append}
-use Rattle.fdb_interval.proofs.BreaksLemmas.{rising_from_sorted}
-use Rattle.fdb_interval.proofs.PartsLemmas.{put}
+use Rattle.fdb_keys.proofs.Exports.{is_bound-key}
+use Rattle.fdb_txn.proofs.Exports.{all-append}
+use Rattle.fdb_interval.proofs.Exports.{rising_from_sorted, put}
 use Rattle.fdb_owners.specs.declared.history.History.{History}
 use Rattle.fdb_owners.specs.Histories.{owner_in, IsHistory}
 use Rattle.fdb_interval.specs.Breakpoints.{value_from}

@@ -1,6 +1,6 @@
 use Rattle.std.proofs.Common.{◌∙◌, ap, [], ◌∷◌, ◌++◌, List}
 use Rattle.fdb_keys.specs.Ranges.{Range}
-use Rattle.fdb_txn.proofs.CloneLemmas.{same_set}
+use Rattle.fdb_txn.proofs.Exports.{same_set}
 use Rattle.fdb_owners.specs.declared.parts.Owned.{Owned}
 use Rattle.fdb_owners.proofs.spreading.sole_part.Goals as goal
 

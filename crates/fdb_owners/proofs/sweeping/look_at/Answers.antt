@@ -5,7 +5,7 @@ use Rattle.fdb_owners.specs.declared.history.History.{History}
 use Rattle.fdb_owners.specs.Histories.{AreFalling, owner_in}
 use Rattle.fdb_owners.proofs.SweepingLemmas.{falling-at, falling-before, taken-agrees, taken-kept, set-agrees, set-kept}
 use Rattle.fdb_owners.proofs.SweepingLemmas.{found-falling, IsPiece}
-use Rattle.fdb_interval.proofs.BreaksLemmas.{rising_from_sorted}
+use Rattle.fdb_interval.proofs.Exports.{rising_from_sorted}
 use Rattle.fdb_owners.proofs.sweeping.look_at.Goals as goal
 
 pub is_same_from-requires-clause-this : goal.is_same_from-requires-clause-this
@@ -57,7 +57,8 @@ returns-in-Some-clause-kept c resolvers last kept =
       breaks =
           subst (AllByRecursion (IsPiece resolvers last)) (sym (c.get_mut.follows.holds c.cut.new.self).0)
           (set-kept resolvers last c.args.point.now c.in-Some.history.now c.cut.new.self
-          (c.cut.ensures.history resolvers last) c.args.pieces.now.breaks.entries (sym c.in-Some.ensures.value) kept.breaks);
+          (c.cut.ensures.history resolvers last) c.args.pieces.now.breaks.entries
+          (sym c.in-Some.ensures.value) kept.breaks);
     }
 
 pub returns-then-is_same_from-clause-rising : goal.returns-then-is_same_from-clause-rising

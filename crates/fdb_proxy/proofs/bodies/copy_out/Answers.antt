@@ -2,7 +2,7 @@ use Rattle.std.proofs.Common.{◌≡◌, ◌∙◌, sym, ap, subst, ◌+◌, ◌
 use Rattle.std.specs.Prelude.{slice_set}
 use Rattle.std.proofs.lemmas.List.{length-set}
 use Rattle.fdb_log.specs.declared.message.Tagged.{Tagged}
-use Rattle.fdb_log.proofs.ToldLemmas.{read-at}
+use Rattle.fdb_log.proofs.Exports.{read-at}
 use Rattle.fdb_proxy.proofs.BodyLemmas.{AreGivenBelow, given-left, given-more}
 use Rattle.fdb_proxy.proofs.bodies.copy_out.Goals as goal
 use Rattle.fdb_proxy.proofs.bodies.copy_out.Goals.{then-is_for_log+in_ok-copy+in_ok-push, else-is_for_log}

@@ -1,7 +1,7 @@
 use Rattle.std.proofs.Common.{◌∙◌, ap, ◌<◌, List, [], ◌∷◌, ◌++◌, length, rules}
 use Rattle.std.specs.Prelude.{slice_set}
 use Rattle.fdb_log.specs.declared.message.Tagged.{Tagged}
-use Rattle.fdb_log.proofs.ToldLemmas.{read-at}
+use Rattle.fdb_log.proofs.Exports.{read-at}
 use Rattle.fdb_proxy.proofs.bodies.move_to.Goals as goal
 
 pub returns : goal.returns

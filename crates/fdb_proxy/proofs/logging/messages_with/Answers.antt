@@ -4,7 +4,7 @@ use Rattle.std.proofs.lemmas.List.{length-set}
 use Rattle.std.proofs.lemmas.List.FromFn.{map-range_with_len_more}
 use Rattle.fdb_log.specs.declared.message.LogMsg.{LogMsg}
 use Rattle.fdb_log.specs.declared.message.Tagged.{Tagged}
-use Rattle.fdb_log.proofs.ToldLemmas.{read-at, set-other}
+use Rattle.fdb_log.proofs.Exports.{read-at, set-other}
 use Rattle.fdb_storage.specs.LogMessages.{is_for_log}
 use Rattle.fdb_proxy.specs.Logging.{message_with}
 use Rattle.fdb_proxy.proofs.logging.messages_with.Goals as goal

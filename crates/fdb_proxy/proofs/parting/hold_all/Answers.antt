@@ -1,4 +1,5 @@
-use Rattle.std.proofs.Common.{◌≡◌, ◌∙◌, sym, ap, subst, refl, ◌<◌, List, [], ◌∷◌, ◌++◌, append_assoc, append-nil, length}
+use Rattle.std.proofs.Common.{◌≡◌, ◌∙◌, sym, ap, subst, refl, ◌<◌, List, [], ◌∷◌, ◌++◌, append_assoc, append-nil}
+use Rattle.std.proofs.Common.{length}
 use Rattle.std.proofs.Common.{true, rules, arith}
 use Rattle.std.specs.Vec.Iter.{into_iter_items}
 use Rattle.std.proofs.lemmas.List.{length-set, nil_from_length}
@@ -47,5 +48,6 @@ returns-clause-answers c i held before within below ends =
     ∙ ap (λ (rest : List Owned). given ++ rest) (sym none)
     ∙ c.loop-part.invariant.left in
     subst (λ (parts : List Owned).
-    EndsWithItem c.args.place c.args.head (with_parts c.args.kind parts i held) before (items_at c.loop-part.lists i)) all
+    EndsWithItem c.args.place c.args.head (with_parts c.args.kind parts i held) before
+    (items_at c.loop-part.lists i)) all
     (c.loop-part.invariant.held i held before within below ends)

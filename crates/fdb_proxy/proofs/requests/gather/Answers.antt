@@ -16,4 +16,5 @@ pub returns-then-len-le-PLACE_LIMIT-clause-first : goal.returns-then-len-le-PLAC
 returns-then-len-le-PLACE_LIMIT-clause-first c =
     let none : length c.args.front.now ≡ 0 = grind (arith, nat_tests, common_steps) in
     let few : length c.args.list.now.items ≤ place_limit = grind (arith, nat_tests, common_steps) in
-    rw (c.new.ensures, c.in_ok-share_all.ensures.all) (others_alone place_limit c.args.front.now c.args.list.now.items none few)
+    rw (c.new.ensures, c.in_ok-share_all.ensures.all) (others_alone place_limit c.args.front.now c.args.list.now.items
+    none few)

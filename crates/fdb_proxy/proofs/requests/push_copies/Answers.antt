@@ -1,6 +1,6 @@
 use Rattle.std.proofs.Common.{◌≡◌, arith}
 use Rattle.std.proofs.lemmas.Grind.{common_steps}
-use Rattle.fdb_txn.proofs.CloneLemmas.{same_sealed}
+use Rattle.fdb_txn.proofs.Exports.{same_sealed}
 use Rattle.fdb_proxy.proofs.requests.push_copies.Goals as goal
 
 pub loop-transaction-preserved : goal.loop-transaction-preserved

@@ -4,7 +4,8 @@ use Rattle.std.proofs.lemmas.Bool.Decides.{nat_tests}
 use Rattle.fdb_txn.specs.Limits.{place_limit}
 use Rattle.fdb_proxy.proofs.RequestLemmas.{first_alone}
 use Rattle.fdb_proxy.proofs.requests.share_front.Goals as goal
-use Rattle.fdb_proxy.proofs.requests.share_front.Goals.{then-is_empty-via-then-is_empty, then-is_empty-via-else-is_empty+then-count-eq-PLACE_LIMIT}
+use Rattle.fdb_proxy.proofs.requests.share_front.Goals.{then-is_empty-via-then-is_empty}
+use Rattle.fdb_proxy.proofs.requests.share_front.Goals.{then-is_empty-via-else-is_empty+then-count-eq-PLACE_LIMIT}
 
 pub returns-then-is_empty-clause-first : goal.returns-then-is_empty-clause-first
 returns-then-is_empty-clause-first c =
@@ -13,4 +14,5 @@ returns-then-is_empty-clause-first c =
       | then-is_empty-via-then-is_empty w ↦ inl (grind (arith, nat_tests, common_steps))
       | then-is_empty-via-else-is_empty+then-count-eq-PLACE_LIMIT w ↦ inr (grind (arith, nat_tests, common_steps))
     ] in
-    rw c.in-Some.is (first_alone place_limit c.in-Some.batch c.args.list.now.items c.as_slice-count.ensures.within alone)
+    rw c.in-Some.is (first_alone place_limit c.in-Some.batch c.args.list.now.items c.as_slice-count.ensures.within
+    alone)

@@ -3,8 +3,7 @@ use Rattle.std.proofs.lemmas.Bool.{lt-ltb, le-leb}
 use Rattle.std.proofs.lemmas.Result.{err_from_is_err_and}
 use Rattle.fdb_txn.specs.Limits.{log_limit, tag_limit}
 use Rattle.fdb_log.specs.Logs.{config_fault}
-use Rattle.fdb_core.proofs.common.FaultLemmas.{lacks-memory}
-use Rattle.fdb_core.proofs.refinement.StartLemmas.{legal-from}
+use Rattle.fdb_roles.proofs.Exports.{lacks-memory, legal-from}
 use Rattle.fdb_runtime.proofs.shared.make_logs.Goals as goal
 
 -- a log among so few logs of so few tags has no fault

@@ -1,7 +1,7 @@
 use Rattle.std.proofs.Common.{◌≡◌, ◌∙◌, List, ap}
 use Rattle.fdb_keys.specs.Points.{Point}
 use Rattle.fdb_txn.specs.rules.Splits.{piece, piece_fault}
-use Rattle.fdb_core.proofs.common.FaultLemmas.{answers-fault}
+use Rattle.fdb_roles.proofs.Exports.{answers-fault}
 use Rattle.fdb_runtime.proofs.shared.make_shards.Goals as goal
 
 pub new-requires-clause-its : goal.new-requires-clause-its

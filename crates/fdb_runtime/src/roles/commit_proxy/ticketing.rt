@@ -5,7 +5,7 @@ ghost use Rattle.std.specs.Option.{option_copied};
 ghost use Rattle.std.specs.Cmp.Lexicographic.{pointwise};
 ghost use Rattle.fdb_sequencer.specs.Equality.{dated_eq};
 ghost use Rattle.fdb_sequencer.specs.Moves.{Dated, dated};
-ghost use Rattle.fdb_core.specs.machine.SequencerSteps.{dated_moves};
+ghost use Rattle.fdb_roles.specs.Entries.{dated_moves};
 ghost use Rattle.fdb_runtime.specs.Ticketing.{is_of_entry, IsTicketOf, are_left};
 
 use crate::name::ClusterName;

@@ -5,7 +5,7 @@ ghost use Rattle.fdb_keys.specs.Answers.{Answers};
 ghost use Rattle.fdb_mutations.specs.Pairs.{first_of};
 ghost use Rattle.fdb_storage.specs.Shards.{read_fault};
 ghost use Rattle.fdb_txn.specs.book.Book.{last_version};
-ghost use Rattle.fdb_core.specs.refinement.shard.Reads.{left_of, AreFew};
+ghost use Rattle.fdb_roles.specs.Wanted.{left_of, AreFew};
 ghost use Rattle.fdb_runtime.specs.LentShards.{lent_shards, is_held, pairs_at, pairs_held, AreInARow};
 ghost use Rattle.fdb_runtime.specs.ShardViews.{run_of};
 
@@ -114,8 +114,8 @@ impl<'a, B: ClusterName> Reader<'a, B> {
         Ok(pairs)
     }
 
-    // Adds to pairs what the shards have of the range, so that they are so many at most unless that is 0. The shards are
-    // few, so it may call itself for each.
+    // Adds to pairs what the shards have of the range, so that they are so many at most unless that is 0. The shards
+    // are few, so it may call itself for each.
     fn add_pairs(
         &self,
         pairs: &mut Vec<(Key, Bytes)>,

@@ -92,9 +92,6 @@ impl<'a, B: ClusterName> Snapshot for ShardView<'a, B> {
     fn page(&self, range: &KeyRange, limit: u32, reverse: bool) -> Result<Page, Refusal> {
         let kept = self.kept;
         let found = kept.shard.page(range, self.version, limit, reverse)?;
-        Ok(Page {
-            pairs: found.pairs,
-            more: found.more,
-        })
+        Ok(found)
     }
 }

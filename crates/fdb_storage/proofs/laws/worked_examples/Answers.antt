@@ -10,7 +10,7 @@ use Rattle.fdb_mutations.specs.Maps.{Map}
 use Rattle.fdb_mutations.specs.Pairs.{pairs_in, first_of}
 use Rattle.fdb_txn.specs.rules.Messages.{value_with, value_in}
 use Rattle.fdb_storage.specs.Examples.{span}
-use Rattle.fdb_storage.specs.declared.page.Page.{Page}
+use Rattle.fdb_mutations.specs.declared.page.Page.{Page}
 use Rattle.fdb_storage.specs.Shards.{Shard, value_at, kept_of, HasValuesOf, IsNewShard, IsPage, HasApplied}
 use Rattle.fdb_storage.specs.Shards.{HasForgotten}
 use Rattle.fdb_storage.specs.ValueExamples.{changes, growing, peek, rewriting}

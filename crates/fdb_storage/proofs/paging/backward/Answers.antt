@@ -7,7 +7,7 @@ use Rattle.std.proofs.lemmas.Iterator.Consumers.{YieldsList-from_shown, YieldsLi
 use Rattle.std.proofs.lemmas.Iterator.Consumers.{map_from_collect}
 use Rattle.fdb_storage.specs.KeyPages.{is_live, lent_keys}
 use Rattle.fdb_storage.specs.VersionMaps.{VersionedKeys}
-use Rattle.fdb_mutations.proofs.MapsLemmas.{forward-bounds}
+use Rattle.fdb_mutations.proofs.Exports.{forward-bounds}
 use Rattle.fdb_storage.proofs.PagesLemmas.{found-backward}
 use Rattle.fdb_storage.proofs.paging.backward.Goals as goal
 

@@ -4,7 +4,7 @@ use Rattle.std.proofs.lemmas.Iterator.Consumers.{YieldsList-from_rest, YieldsLis
 use Rattle.std.proofs.lemmas.Iterator.Consumers.{map_from_collect}
 use Rattle.fdb_storage.specs.KeyPages.{is_live, lent_keys}
 use Rattle.fdb_storage.specs.VersionMaps.{VersionedKeys}
-use Rattle.fdb_mutations.proofs.MapsLemmas.{forward-bounds}
+use Rattle.fdb_mutations.proofs.Exports.{forward-bounds}
 use Rattle.fdb_storage.proofs.PagesLemmas.{found-forward}
 use Rattle.fdb_storage.proofs.paging.forward.Goals as goal
 

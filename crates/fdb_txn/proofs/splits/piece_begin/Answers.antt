@@ -2,7 +2,7 @@ use Rattle.std.proofs.Common.{◌≡◌, ◌∙◌, sym, ap, subst, refl, ℕ, �
 use Rattle.std.proofs.lemmas.Option.{slice_get_read}
 use Rattle.fdb_keys.specs.Points.{Point}
 use Rattle.fdb_keys.specs.Texts.{is_key}
-use Rattle.fdb_keys.proofs.TextsLemmas.{is_bound-key}
+use Rattle.fdb_keys.proofs.Exports.{is_bound-key}
 use Rattle.fdb_txn.specs.rules.Splits.{piece}
 use Rattle.fdb_txn.proofs.rules.SplitsLemmas.{empty-is_bound, first-begins, later-begins}
 use Rattle.fdb_txn.proofs.splits.piece_begin.Goals as goal

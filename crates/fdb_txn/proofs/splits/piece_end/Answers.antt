@@ -2,7 +2,7 @@ use Rattle.std.proofs.Common.{◌≡◌, ◌∙◌, sym, subst, refl, true, [], 
 use Rattle.std.proofs.lemmas.Option.{slice_get_read, slice_get_past}
 use Rattle.fdb_keys.specs.Points.{Point}
 use Rattle.fdb_keys.specs.Texts.{is_key}
-use Rattle.fdb_keys.proofs.TextsLemmas.{is_bound-key}
+use Rattle.fdb_keys.proofs.Exports.{is_bound-key}
 use Rattle.fdb_txn.proofs.rules.SplitsLemmas.{end-is_bound, ends-at, last-ends}
 use Rattle.fdb_txn.proofs.splits.piece_end.Goals as goal
 

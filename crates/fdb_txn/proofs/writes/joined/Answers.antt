@@ -8,7 +8,8 @@ use Rattle.fdb_txn.proofs.writes.joined.Goals as goal
 
 pub returns-clause-answers : goal.returns-clause-answers
 returns-clause-answers c =
-    let copy : c.in_ok-set.set ≡ c.args.writes.now = same_set c.args.writes.now c.in_ok-set.set c.in_ok-set.ensures.cases in
+    let copy : c.in_ok-set.set ≡ c.args.writes.now = same_set c.args.writes.now c.in_ok-set.set
+    c.in_ok-set.ensures.cases in
     let named : c.in_ok-ranges.ranges.items ≡ map named_range c.args.mutations.now = search rules in
     c.in_ok-add_all.ensures.list
     ∙ ap₂ with_ranges named copy
@@ -17,6 +18,7 @@ returns-clause-answers c =
 
 pub returns-clause-points : goal.returns-clause-points
 returns-clause-points c x =
-    let copy : c.in_ok-set.set ≡ c.args.writes.now = same_set c.args.writes.now c.in_ok-set.set c.in_ok-set.ensures.cases in
+    let copy : c.in_ok-set.set ≡ c.args.writes.now = same_set c.args.writes.now c.in_ok-set.set
+    c.in_ok-set.ensures.cases in
     c.in_ok-add_all.ensures.answers x
     ∙ ap₂ (λ (a b : Bool). a || b) (c.in_ok-ranges.ensures.points x) (ap (λ (l : List Range). in_set l x) copy)

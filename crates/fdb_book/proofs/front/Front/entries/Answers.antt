@@ -1,6 +1,6 @@
 use Rattle.std.proofs.Common.{◌∙◌, sym, ap, List, [], ◌∷◌, ◌++◌, take}
 use Rattle.fdb_txn.specs.declared.entry.Entry.{Entry}
-use Rattle.fdb_txn.proofs.CloneLemmas.{same_entry}
+use Rattle.fdb_txn.proofs.Exports.{same_entry}
 use Rattle.fdb_book.proofs.FactLemmas.{take-found}
 use Rattle.fdb_book.proofs.front.Front.entries.Goals as goal
 

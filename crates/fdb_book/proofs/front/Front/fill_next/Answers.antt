@@ -1,6 +1,6 @@
 use Rattle.std.proofs.Common.{◌≡◌, ◌∙◌, sym, subst, slice_get, Some, rules}
 use Rattle.once_cell.specs.Once.{cell_name}
-use Rattle.fdb_txn.specs.Equality.{entry_eq_decides}
+use Rattle.fdb_txn.proofs.Exports.{entry_eq_decides}
 use Rattle.fdb_book.proofs.FactLemmas.{next-first-of, next-at, read-shown}
 use Rattle.fdb_book.proofs.FoundLemmas.{decided-false}
 use Rattle.fdb_book.proofs.front.Front.fill_next.Goals as goal

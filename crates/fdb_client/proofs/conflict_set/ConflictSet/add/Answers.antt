@@ -1,6 +1,6 @@
 use Rattle.std.proofs.Common.{◌∙◌, ap}
 use Rattle.fdb_keys.specs.Insertion.{with_range}
-use Rattle.fdb_keys.proofs.ApartLemmas.{apart-with_range}
+use Rattle.fdb_keys.proofs.Exports.{apart-with_range}
 use Rattle.fdb_client.specs.Conflicts.{with_keys}
 use Rattle.fdb_client.proofs.ConflictLemmas.{keys-add, apart-made, made-also}
 use Rattle.fdb_client.proofs.conflict_set.ConflictSet.add.Goals as goal

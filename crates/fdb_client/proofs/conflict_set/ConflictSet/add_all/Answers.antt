@@ -1,6 +1,6 @@
 use Rattle.std.proofs.Common.{◌∙◌, ap}
 use Rattle.fdb_keys.specs.Insertion.{with_ranges}
-use Rattle.fdb_keys.proofs.ApartLemmas.{apart-with_ranges}
+use Rattle.fdb_keys.proofs.Exports.{apart-with_ranges}
 use Rattle.fdb_client.specs.Conflicts.{with_keys}
 use Rattle.fdb_client.proofs.ConflictLemmas.{keys-add_all, apart-made, made-also}
 use Rattle.fdb_client.proofs.conflict_set.ConflictSet.add_all.Goals as goal

@@ -1,6 +1,6 @@
 use Rattle.std.proofs.Common.{◌∙◌, ap}
 use Rattle.fdb_keys.specs.Insertion.{with_range}
-use Rattle.fdb_keys.proofs.ApartLemmas.{apart-with_range}
+use Rattle.fdb_keys.proofs.Exports.{apart-with_range}
 use Rattle.fdb_client.specs.Conflicts.{with_keys}
 use Rattle.fdb_client.proofs.ConflictLemmas.{keys-add, apart-made, made-also, made-where_ok}
 use Rattle.fdb_client.proofs.conflict_set.ConflictSet.add_beside.Goals as goal
@@ -9,7 +9,8 @@ pub invariant_of-self : goal.invariant_of-self
 invariant_of-self c =
     let ranges = c.self.inside.ranges in
     apart-made c.add_to_both.result ranges c.add_to_both.new.first (with_range c.args.range.now ranges) c.self.invariant
-    (apart-with_range c.args.range.now ranges c.self.invariant) (made-where_ok c.add_to_both.result _ c.add_to_both.ensures.answers) c.add_to_both.ensures.first_err
+    (apart-with_range c.args.range.now ranges c.self.invariant)
+    (made-where_ok c.add_to_both.result _ c.add_to_both.ensures.answers) c.add_to_both.ensures.first_err
 
 pub returns-clause-answers : goal.returns-clause-answers
 returns-clause-answers c =

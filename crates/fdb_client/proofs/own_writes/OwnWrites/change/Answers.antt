@@ -9,7 +9,8 @@ use Rattle.fdb_client.specs.declared.left.Left.{Left}
 use Rattle.fdb_client.specs.declared.left.Left.TheVariants.{Value, Changes}
 use Rattle.fdb_client.specs.LeftAt.{left_at}
 use Rattle.fdb_client.specs.OwnWrites.{left_after, kept_at}
-use Rattle.fdb_client.proofs.LeftAtLemmas.{blind-after, found, left_at-changed, changed-at, first-change, legal-put, either_way}
+use Rattle.fdb_client.proofs.LeftAtLemmas.{blind-after, found, left_at-changed, changed-at, first-change, legal-put}
+use Rattle.fdb_client.proofs.LeftAtLemmas.{either_way}
 use Rattle.fdb_client.proofs.LeftAtLemmas.{on_err, answers_also}
 use Rattle.fdb_client.proofs.own_writes.OwnWrites.change.Goals as goal
 

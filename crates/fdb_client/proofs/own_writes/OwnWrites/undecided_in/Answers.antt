@@ -3,7 +3,7 @@ use Rattle.std.specs.List.{AllByRecursion, list_any}
 use Rattle.fdb_keys.specs.Points.{Point, point_eq}
 use Rattle.fdb_keys.specs.Ranges.{Range, in_range, in_set}
 use Rattle.fdb_keys.specs.Texts.{is_key}
-use Rattle.fdb_keys.proofs.OutsideLemmas.{in_outside}
+use Rattle.fdb_keys.proofs.Exports.{in_outside}
 use Rattle.fdb_client.specs.LeftAt.{left_at}
 use Rattle.fdb_client.specs.OwnWrites.{is_value, keys_between}
 use Rattle.fdb_client.proofs.ClearedLemmas.{legal-between, undecided-point}

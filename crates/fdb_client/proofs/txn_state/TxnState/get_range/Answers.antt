@@ -32,4 +32,5 @@ returns-clause-answers g c =
     let after : Map = copy map (program now.transcript.ops) in
     let read = given c.in_ok-pairs.pairs (g.S.Snapshot.range_fault c.args.snapshot.now c.args.range.now) _
     c.in_ok-pairs.ensures in
-    rw read.0 (read.1 after (λ x. sym (left_at-value (program now.transcript.ops) now.own now.writes c.requires.written x map)))
+    rw read.0 (read.1 after (λ x. sym (left_at-value (program now.transcript.ops) now.own now.writes c.requires.written
+    x map)))

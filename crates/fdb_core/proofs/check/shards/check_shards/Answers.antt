@@ -1,6 +1,6 @@
 use Rattle.std.proofs.Common.{length, le_refl, None}
 use Rattle.fdb_core.specs.check.Holding.{HoldsTheRun}
-use Rattle.fdb_core.proofs.checking.RunningLemmas.{until-end, map-first}
+use Rattle.fdb_check.proofs.Exports.{until-end, map-first}
 use Rattle.fdb_core.proofs.checking.HoldingLemmas.{stops-shards, held-last, checks-last}
 use Rattle.fdb_core.proofs.check.shards.check_shards.Goals as goal
 

@@ -2,7 +2,7 @@ use Rattle.std.proofs.Common.{◌≡◌, ◌<◌, refl, sym, subst, ℕ, add-one
 use Rattle.std.specs.List.{AllByRecursion}
 use Rattle.std.proofs.lemmas.Option.{slice_get_read}
 use Rattle.fdb_core.specs.check.Holding.{HasTheMapThere}
-use Rattle.fdb_core.proofs.common.AllLemmas.{all-next}
+use Rattle.fdb_roles.proofs.Exports.{all-next}
 use Rattle.fdb_core.proofs.check.shards.compare_shards.Goals as goal
 
 pub loop-number-preserved : goal.loop-number-preserved

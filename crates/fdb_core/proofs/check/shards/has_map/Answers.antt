@@ -2,8 +2,8 @@ use Rattle.std.proofs.Common.{◌≡◌, ◌∙◌, sym, false}
 use Rattle.std.specs.FinMap.{empty}
 use Rattle.fdb_mutations.specs.Pairs.{pairs_in}
 use Rattle.fdb_storage.specs.Shards.{HasCopied, part_fault}
-use Rattle.fdb_client.proofs.AnsweredLemmas.{pairs_eq_decides}
-use Rattle.fdb_core.proofs.common.FaultLemmas.{answers-fault}
+use Rattle.fdb_client.proofs.Exports.{pairs_eq_decides}
+use Rattle.fdb_roles.proofs.Exports.{answers-fault}
 use Rattle.fdb_core.proofs.checking.HoldingLemmas.{has-map}
 use Rattle.fdb_core.proofs.check.shards.has_map.Goals as goal
 

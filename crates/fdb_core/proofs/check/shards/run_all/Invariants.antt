@@ -2,7 +2,7 @@ use Rattle.std.proofs.Common.{suc, length, List}
 use Rattle.fdb_keys.specs.Points.{Point}
 use Rattle.fdb_txn.specs.book.History.{AreEntries}
 use Rattle.fdb_core.specs.check.Checking.{HaveHeld}
-use Rattle.fdb_core.specs.check.Running.{HasComeTo}
+use Rattle.fdb_check.specs.Running.{HasComeTo}
 use Rattle.fdb_core.proofs.check.shards.run_all.Given as goal
 
 abbrev pub invariant-loop-index : goal.invariant-loop-index

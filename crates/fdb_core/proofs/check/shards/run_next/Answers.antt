@@ -4,8 +4,8 @@ use Rattle.std.proofs.lemmas.Option.{slice_get_read}
 use Rattle.std.proofs.lemmas.Result.{err_from_is_err_and}
 use Rattle.fdb_core.specs.check.Checking.{HaveHeld}
 use Rattle.fdb_core.specs.check.Holding.{HoldsTheRun}
-use Rattle.fdb_core.specs.check.Running.{HasComeTo}
-use Rattle.fdb_core.proofs.checking.RunningLemmas.{until-next, map-first}
+use Rattle.fdb_check.specs.Running.{HasComeTo}
+use Rattle.fdb_check.proofs.Exports.{until-next, map-first}
 use Rattle.fdb_core.proofs.checking.HoldingLemmas.{stops-shards, held-next, goes-next}
 use Rattle.fdb_core.proofs.check.shards.run_next.Goals as goal
 

@@ -9,18 +9,18 @@ use Rattle.fdb_txn.specs.declared.txn_id.TxnId.{TxnId}
 use Rattle.fdb_client.specs.declared.program.Transcript.{Transcript}
 use Rattle.fdb_proxy.specs.declared.outcome.Outcome.{Outcome}
 use Rattle.fdb_core.specs.declared.cluster.Cluster.{Cluster}
-use Rattle.fdb_core.specs.declared.roles.client.Placed.{Placed}
-use Rattle.fdb_core.specs.declared.step.Answered.TheVariants as answered
-use Rattle.fdb_core.specs.declared.step.Step.TheVariants as step
-use Rattle.fdb_core.specs.machine.Machine.{is_set}
-use Rattle.fdb_core.specs.machine.CommitProxySteps.{is_idle, placed_from}
-use Rattle.fdb_core.specs.machine.Sessions.{EachOpen, Sessions, tell_all}
+use Rattle.fdb_roles.specs.declared.placed.Placed.{Placed}
+use Rattle.fdb_machine.specs.declared.step.Answered.TheVariants as answered
+use Rattle.fdb_machine.specs.declared.step.Step.TheVariants as step
+use Rattle.fdb_machine.specs.machine.Machine.{is_set}
+use Rattle.fdb_machine.specs.machine.CommitProxySteps.{is_idle, placed_from}
+use Rattle.fdb_machine.specs.machine.Sessions.{EachOpen, Sessions, tell_all}
 use Rattle.fdb_core.specs.refinement.Cluster.{machine_of}
 use Rattle.fdb_core.specs.refinement.Restoring.{failures_of, proxy_failed}
-use Rattle.fdb_core.specs.refinement.client.Sessions.{HaveActed}
+use Rattle.fdb_machine.specs.machine.Acting.{HaveActed}
 use Rattle.fdb_core.specs.refinement.commit_proxy.Ties.{CommitProxyRefines, ReadsWithin, known_to, seen_as}
-use Rattle.fdb_core.proofs.common.ListLemmas.{map-at, one-item, read-there, set-here}
-use Rattle.fdb_core.proofs.machine.SessionLemmas.{open-told}
+use Rattle.fdb_roles.proofs.Exports.{map-at, one-item, read-there, set-here}
+use Rattle.fdb_machine.proofs.Exports.{open-told}
 use Rattle.fdb_core.proofs.refinement.client.Sessions.{refines-sessions}
 use Rattle.fdb_core.proofs.refinement.commit_proxy.Answering.{told_of, outcome_of, in-book, early, IsAnswered}
 use Rattle.fdb_core.proofs.refinement.commit_proxy.Answering.{answers-idle, have-acted}
@@ -129,7 +129,8 @@ returns-in_err-reserve c =
 -- what the call gives is the machine's answer
 finished : (c : After-finish)
     → AnswersExactly c.finish.result None (λ (given : List Transcript × List (TxnId × Outcome)).
-    IsAnswered (restored c.args.self.now c.requires.tied) c.args.proxy c.index-commit_proxy.result.now given.0 given.1 c.finish.new.self)
+    IsAnswered (restored c.args.self.now c.requires.tied) c.args.proxy c.index-commit_proxy.result.now given.0 given.1
+    c.finish.new.self)
 finished c =
     let k = c.args.self.now in
     let role = c.index-commit_proxy.result.now in
@@ -145,16 +146,19 @@ finished c =
 pub returns-in_err-transcripts : goal.returns-in_err-transcripts
 returns-in_err-transcripts c =
     absurd (subst (λ (result : Result (List Transcript × List (TxnId × Outcome)) Refusal).
-    AnswersExactly result None (λ given. IsAnswered (restored c.args.self.now c.requires.tied) c.args.proxy c.index-commit_proxy.result.now
+    AnswersExactly result None (λ given. IsAnswered (restored c.args.self.now c.requires.tied) c.args.proxy
+    c.index-commit_proxy.result.now
     given.0 given.1 c.finish.new.self)) c.in_err-transcripts.was
     (finished (goal.at.returns-in_err-transcripts c).After-finish))
 
 -- and what it gave is that
 module _ (c : In_ok-transcripts) where
-  done : IsAnswered (restored c.args.self.now c.requires.tied) c.args.proxy c.index-commit_proxy.result.now c.in_ok-transcripts.transcripts
+  done : IsAnswered (restored c.args.self.now c.requires.tied) c.args.proxy c.index-commit_proxy.result.now
+      c.in_ok-transcripts.transcripts
       c.in_ok-transcripts.answers c.finish.new.self
   done = subst (λ (result : Result (List Transcript × List (TxnId × Outcome)) Refusal).
-      AnswersExactly result None (λ it. IsAnswered (restored c.args.self.now c.requires.tied) c.args.proxy c.index-commit_proxy.result.now
+      AnswersExactly result None (λ it. IsAnswered (restored c.args.self.now c.requires.tied) c.args.proxy
+      c.index-commit_proxy.result.now
       it.0 it.1 c.finish.new.self)) c.in_ok-transcripts.was (finished (goal.at.In_ok-transcripts c).After-finish)
 
   -- there are as many as room was made for
@@ -181,7 +185,8 @@ tell_all-requires c =
 
 pub place_all-requires-clause-each : goal.place_all-requires-clause-each
 place_all-requires-clause-each c =
-    (done (goal.at.place_all-requires-clause-each c).In_ok-transcripts).each ∙ sym (ap length c.as_slice-answers.ensures)
+    (done (goal.at.place_all-requires-clause-each c).In_ok-transcripts).each
+    ∙ sym (ap length c.as_slice-answers.ensures)
 
 pub place_all-requires-clause-room : goal.place_all-requires-clause-room
 place_all-requires-clause-room c =

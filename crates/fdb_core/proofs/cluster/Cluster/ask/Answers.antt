@@ -3,14 +3,12 @@ use Rattle.std.proofs.Common.{slice_set, rules}
 use Rattle.std.specs.List.{AllByRecursion}
 use Rattle.std.specs.Vec.{with_item}
 use Rattle.fdb_proxy.specs.Askers.{Asker}
-use Rattle.fdb_core.specs.declared.step.Step.TheVariants as step
-use Rattle.fdb_core.specs.machine.Sessions.{Sessions, Asking}
+use Rattle.fdb_machine.specs.declared.step.Step.TheVariants as step
+use Rattle.fdb_machine.specs.machine.Sessions.{Sessions, Asking}
 use Rattle.fdb_core.specs.refinement.Cluster.{machine_of, HasSeenNone, sessions_of}
 use Rattle.fdb_core.specs.refinement.commit_proxy.Ties.{ReadsWithin}
-use Rattle.fdb_core.proofs.common.AllLemmas.{all-push}
-use Rattle.fdb_core.proofs.common.FaultLemmas.{unless-lacked}
-use Rattle.fdb_core.proofs.common.ListLemmas.{map-at, map-set, read-there}
-use Rattle.fdb_core.proofs.machine.SessionLemmas.{open-put}
+use Rattle.fdb_roles.proofs.Exports.{all-push, map-at, map-set, read-there}
+use Rattle.fdb_machine.proofs.Exports.{unless-lacked, open-put}
 use Rattle.fdb_core.proofs.refinement.grv_proxy.Granting.{grv_proxies-set, sessions-push, asks-transition}
 use Rattle.fdb_core.proofs.refinement.RestoringLemmas.{keeps-roles, restored}
 use Rattle.fdb_core.proofs.refinement.StepLemmas.{accepted, left}

@@ -1,11 +1,11 @@
 use Rattle.std.proofs.Common.{◌≡◌, ◌∙◌, refl, sym, ap, ◌<◌, length, false, Some, Err, slice_get, rules}
 use Rattle.fdb_core.specs.declared.roles.commit_proxy.CommitProxyRole.{CommitProxyRole}
-use Rattle.fdb_core.specs.declared.step.Step.TheVariants as step
-use Rattle.fdb_core.specs.machine.Machine.{is_set}
-use Rattle.fdb_core.specs.machine.Steps.{ran_out}
+use Rattle.fdb_machine.specs.declared.step.Step.TheVariants as step
+use Rattle.fdb_machine.specs.machine.Machine.{is_set}
+use Rattle.fdb_machine.specs.machine.Steps.{ran_out}
 use Rattle.fdb_core.specs.refinement.Restoring.{failures_of, proxy_failed}
-use Rattle.fdb_core.proofs.common.FaultLemmas.{unless-map}
-use Rattle.fdb_core.proofs.common.ListLemmas.{one-item, read-there}
+use Rattle.fdb_machine.proofs.Exports.{unless-map}
+use Rattle.fdb_roles.proofs.Exports.{one-item, read-there}
 use Rattle.fdb_core.proofs.refinement.commit_proxy.Deciding.{is-refused, in-pool, is-decided}
 use Rattle.fdb_core.proofs.refinement.commit_proxy.Failing.{decides-there, proxy-goes_on, proxy-kept, proxy-was}
 use Rattle.fdb_core.proofs.refinement.RestoringLemmas.{flag-at, restored}
@@ -94,6 +94,7 @@ returns c =
     let at = (goal.at.returns c).After-decide in
     proxy-goes_on k c.requires (step.Decide c.args.proxy) c.args.proxy c.index_mut.result.now c.decide.new.self _ _
     (here at) (working at) refl refl refl refl (unused at)
-    (is-decided (restored k c.requires) c.requires.refines c.args.proxy c.index_mut.result.now c.decide.new.self (was at)
+    (is-decided (restored k c.requires) c.requires.refines c.args.proxy c.index_mut.result.now c.decide.new.self
+    (was at)
     c.in_ok-outcomes.outcomes c.in_ok-outcomes.messages c.in_ok-outcomes.ensures.wrong c.in_ok-outcomes.ensures.decides
     c.index-2.result.now.entry (number found (here at) (was at)))

@@ -3,14 +3,14 @@ use Rattle.std.proofs.Common.{rules}
 use Rattle.std.specs.Vec.{with_item}
 use Rattle.fdb_storage.specs.Shards.{forget_fault, HasForgotten}
 use Rattle.fdb_core.specs.declared.roles.shard.ShardRole.{ShardRole}
-use Rattle.fdb_core.specs.declared.step.Answered.TheVariants as answered
-use Rattle.fdb_core.specs.declared.step.Step.TheVariants as step
-use Rattle.fdb_core.specs.machine.Roles.{ShardProgress}
+use Rattle.fdb_machine.specs.declared.step.Answered.TheVariants as answered
+use Rattle.fdb_machine.specs.declared.step.Step.TheVariants as step
+use Rattle.fdb_machine.specs.machine.Roles.{ShardProgress}
 use Rattle.fdb_core.specs.refinement.Cluster.{machine_of}
 use Rattle.fdb_core.specs.refinement.Restoring.{failures_of, shard_failed}
 use Rattle.fdb_core.specs.refinement.log.Ties.{progress_of}
-use Rattle.fdb_core.proofs.common.FaultLemmas.{given-fault, refused-fault, unless}
-use Rattle.fdb_core.proofs.common.ListLemmas.{one-item, read-there}
+use Rattle.fdb_machine.proofs.Exports.{unless}
+use Rattle.fdb_roles.proofs.Exports.{given-fault, refused-fault, one-item, read-there}
 use Rattle.fdb_core.proofs.refinement.shard.Failing.{shard-kept}
 use Rattle.fdb_core.proofs.refinement.shard.Steps.{shard-put, counted, forget-refused, forget-accepted, forgot}
 use Rattle.fdb_core.proofs.refinement.RestoringLemmas.{restored, restores-at, restores-set, flag-at, flags-same}

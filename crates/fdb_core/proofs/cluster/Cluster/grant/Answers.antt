@@ -1,19 +1,21 @@
-use Rattle.std.proofs.Common.{◌≡◌, ◌∙◌, refl, sym, ap, ap₂, subst, ℕ, List, map, fold, true, false, Some, slice_get, slice_set}
+use Rattle.std.proofs.Common.{◌≡◌, ◌∙◌, refl, sym, ap, ap₂, subst, ℕ, List, map, fold, true, false, Some, slice_get}
+use Rattle.std.proofs.Common.{slice_set}
 use Rattle.std.proofs.Common.{arith, rules}
 use Rattle.std.specs.List.{AllByRecursion, list_any}
 use Rattle.std.specs.Vec.{with_item}
 use Rattle.fdb_proxy.specs.Askers.{Asker, granted}
-use Rattle.fdb_core.specs.declared.step.Answered.TheVariants as answered
-use Rattle.fdb_core.specs.declared.step.Step.TheVariants as step
-use Rattle.fdb_core.specs.machine.GrvProxySteps.{has_no_number}
-use Rattle.fdb_core.specs.machine.Sessions.{Sessions, serve}
+use Rattle.fdb_machine.specs.declared.step.Answered.TheVariants as answered
+use Rattle.fdb_machine.specs.declared.step.Step.TheVariants as step
+use Rattle.fdb_machine.specs.machine.GrvProxySteps.{has_no_number}
+use Rattle.fdb_machine.specs.machine.Sessions.{Sessions, serve}
 use Rattle.fdb_core.specs.refinement.Cluster.{machine_of, HasSeenNone, sessions_of}
 use Rattle.fdb_core.specs.refinement.commit_proxy.Ties.{ReadsWithin}
-use Rattle.fdb_core.specs.refinement.client.Sessions.{AreKnown}
-use Rattle.fdb_core.proofs.common.ListLemmas.{map-at, map-set, one-item, read-there}
-use Rattle.fdb_core.proofs.machine.SessionLemmas.{open-served}
+use Rattle.fdb_machine.specs.machine.Acting.{AreKnown}
+use Rattle.fdb_roles.proofs.Exports.{map-at, map-set, one-item, read-there}
+use Rattle.fdb_machine.proofs.Exports.{open-served}
 use Rattle.fdb_core.proofs.refinement.grv_proxy.Granting.{grv_proxies-set, used_up-is, granted-is, served-is}
-use Rattle.fdb_core.proofs.refinement.grv_proxy.Granting.{askers-known, granted-known, grants-exhausted, grants-transition}
+use Rattle.fdb_core.proofs.refinement.grv_proxy.Granting.{askers-known, granted-known, grants-exhausted}
+use Rattle.fdb_core.proofs.refinement.grv_proxy.Granting.{grants-transition}
 use Rattle.fdb_core.proofs.refinement.RestoringLemmas.{keeps-roles, restored}
 use Rattle.fdb_core.proofs.refinement.StepLemmas.{accepted, kept, refuses}
 use Rattle.fdb_core.proofs.refinement.client.Sessions.{refines-sessions}

@@ -3,11 +3,11 @@ use Rattle.std.proofs.lemmas.List.{length-map}
 use Rattle.fdb_core.specs.declared.cluster.Cluster.{Cluster}
 use Rattle.fdb_core.specs.declared.roles.log.LogRole.{LogRole}
 use Rattle.fdb_core.specs.declared.roles.resolver.ResolverRole.{ResolverRole}
-use Rattle.fdb_core.specs.machine.CommitProxySteps.{is_idle}
-use Rattle.fdb_core.specs.machine.Machine.{is_set}
+use Rattle.fdb_machine.specs.machine.CommitProxySteps.{is_idle}
+use Rattle.fdb_machine.specs.machine.Machine.{is_set}
 use Rattle.fdb_core.specs.refinement.Restoring.{Tied, failures_of, proxy_failed}
 use Rattle.fdb_core.specs.refinement.commit_proxy.Ties.{known_to, seen_as}
-use Rattle.fdb_core.proofs.common.ListLemmas.{map-at, read-there}
+use Rattle.fdb_roles.proofs.Exports.{map-at, read-there}
 use Rattle.fdb_core.proofs.refinement.RestoringLemmas.{flag-at, restores-count}
 use Rattle.fdb_core.proofs.refinement.commit_proxy.Failing.{proxy-was}
 use Rattle.fdb_core.proofs.refinement.commit_proxy.Ties.{idle-seen}

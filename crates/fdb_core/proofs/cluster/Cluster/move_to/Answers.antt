@@ -1,10 +1,10 @@
 use Rattle.std.proofs.Common.{◌≡◌, refl, subst, Err, rules}
 use Rattle.fdb_keys.specs.Ranges.{Range}
 use Rattle.fdb_sequencer.specs.Sequencer.{move_fault}
-use Rattle.fdb_core.specs.declared.step.Step.TheVariants as step
+use Rattle.fdb_machine.specs.declared.step.Step.TheVariants as step
 use Rattle.fdb_core.specs.refinement.Cluster.{machine_of}
-use Rattle.fdb_core.specs.machine.SequencerSteps.{moves}
-use Rattle.fdb_core.proofs.common.FaultLemmas.{unless-fault}
+use Rattle.fdb_machine.specs.machine.SequencerSteps.{moves}
+use Rattle.fdb_machine.proofs.Exports.{unless-fault}
 use Rattle.fdb_core.proofs.refinement.RestoringLemmas.{keeps-roles, restored}
 use Rattle.fdb_core.proofs.refinement.sequencer.Moving.{moves-refused, refines-taken, sequencer-same}
 use Rattle.fdb_core.proofs.refinement.StepLemmas.{left, refused-restored}

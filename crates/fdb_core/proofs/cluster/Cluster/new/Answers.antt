@@ -4,11 +4,12 @@ use Rattle.fdb_core.specs.refinement.Cluster.{BookRefines, sessions_of}
 use Rattle.fdb_core.specs.refinement.commit_proxy.Ties.{ReadsWithin}
 use Rattle.fdb_core.specs.refinement.resolver.Resolving.{PartsRefine}
 use Rattle.fdb_core.specs.refinement.Restoring.{proxy_failed, resolver_failed, log_failed, shard_failed}
-use Rattle.fdb_core.proofs.machine.SessionLemmas.{open-new}
+use Rattle.fdb_machine.proofs.Exports.{open-new}
 use Rattle.fdb_core.proofs.refinement.RestoringLemmas.{all-tied}
 use Rattle.fdb_core.proofs.refinement.StartLemmas.{sequencer-start, logs-start, taken-start, progress-start}
 use Rattle.fdb_core.proofs.refinement.StartLemmas.{commit_proxies-start, seen-start, resolvers-start, taken_by-start}
-use Rattle.fdb_core.proofs.refinement.StartLemmas.{all-same, asked-start, grv_proxies-start, legal-from}
+use Rattle.fdb_core.proofs.refinement.StartLemmas.{all-same, asked-start, grv_proxies-start}
+use Rattle.fdb_roles.proofs.Exports.{legal-from}
 use Rattle.fdb_core.proofs.cluster.Cluster.new.Goals as goal
 
 pub returns-clause-state : goal.returns-clause-state

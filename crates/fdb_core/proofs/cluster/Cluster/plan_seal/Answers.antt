@@ -4,13 +4,12 @@ use Rattle.fdb_keys.specs.declared.refusal.Refusal.TheVariants.{BookFull, WrongS
 use Rattle.fdb_sequencer.specs.declared.ticket.Ticket.{Ticket}
 use Rattle.fdb_sequencer.specs.Sequencer.{plan_fault, planned}
 use Rattle.fdb_proxy.specs.CommitProxies.{is_idle as has_no_batch}
-use Rattle.fdb_core.specs.declared.step.Step.TheVariants as step
-use Rattle.fdb_core.specs.machine.CommitProxySteps.{is_idle}
-use Rattle.fdb_core.specs.machine.Machine.{is_set}
+use Rattle.fdb_machine.specs.declared.step.Step.TheVariants as step
+use Rattle.fdb_machine.specs.machine.CommitProxySteps.{is_idle}
+use Rattle.fdb_machine.specs.machine.Machine.{is_set}
 use Rattle.fdb_core.specs.refinement.Restoring.{failures_of, proxy_failed}
 use Rattle.fdb_core.specs.refinement.commit_proxy.Ties.{known_to, seen_as}
-use Rattle.fdb_core.proofs.common.FaultLemmas.{answers-fault}
-use Rattle.fdb_core.proofs.common.ListLemmas.{one-item, read-there}
+use Rattle.fdb_roles.proofs.Exports.{answers-fault, one-item, read-there}
 use Rattle.fdb_core.proofs.refinement.commit_proxy.Failing.{proxy-was, seals-there}
 use Rattle.fdb_core.proofs.refinement.commit_proxy.Sealing.{seals-busy, seals-unknown}
 use Rattle.fdb_core.proofs.refinement.commit_proxy.Ties.{idle-seen}

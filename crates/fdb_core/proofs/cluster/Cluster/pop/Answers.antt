@@ -3,12 +3,12 @@ use Rattle.std.specs.Vec.{with_item}
 use Rattle.fdb_log.specs.Logs.{tag_fault, HasPopped}
 use Rattle.fdb_core.specs.declared.roles.log.LogRole.{LogRole}
 use Rattle.fdb_core.specs.declared.roles.shard.ShardRole.{ShardRole}
-use Rattle.fdb_core.specs.declared.step.Step.TheVariants as step
-use Rattle.fdb_core.specs.machine.Roles.{ShardProgress}
+use Rattle.fdb_machine.specs.declared.step.Step.TheVariants as step
+use Rattle.fdb_machine.specs.machine.Roles.{ShardProgress}
 use Rattle.fdb_core.specs.refinement.Cluster.{machine_of}
 use Rattle.fdb_core.specs.refinement.Restoring.{failures_of, log_failed, shard_failed}
-use Rattle.fdb_core.proofs.common.FaultLemmas.{given-fault, never-refused}
-use Rattle.fdb_core.proofs.common.ListLemmas.{read-there}
+use Rattle.fdb_machine.proofs.Exports.{never-refused}
+use Rattle.fdb_roles.proofs.Exports.{given-fault, read-there}
 use Rattle.fdb_core.proofs.refinement.shard.Pulling.{Pulling, find-pulling, its-pop, log-within, log-used}
 use Rattle.fdb_core.proofs.refinement.shard.Steps.{counted, pop-faultless, pop-goes_on, pop-tied, pop-taken}
 use Rattle.fdb_core.proofs.refinement.RestoringLemmas.{restored, restores-set, flags-same}

@@ -4,13 +4,13 @@ use Rattle.std.specs.Vec.{with_item}
 use Rattle.fdb_log.specs.Logs.{peek_fault, peek_of}
 use Rattle.fdb_storage.specs.Shards.{apply_fault, HasApplied, HasFailed}
 use Rattle.fdb_core.specs.declared.roles.shard.ShardRole.{ShardRole}
-use Rattle.fdb_core.specs.declared.step.Answered.TheVariants as answered
-use Rattle.fdb_core.specs.declared.step.Step.TheVariants as step
-use Rattle.fdb_core.specs.machine.Roles.{ShardProgress}
+use Rattle.fdb_machine.specs.declared.step.Answered.TheVariants as answered
+use Rattle.fdb_machine.specs.declared.step.Step.TheVariants as step
+use Rattle.fdb_machine.specs.machine.Roles.{ShardProgress}
 use Rattle.fdb_core.specs.refinement.Cluster.{machine_of}
 use Rattle.fdb_core.specs.refinement.Restoring.{failures_of, shard_failed}
-use Rattle.fdb_core.proofs.common.FaultLemmas.{answers-fault, lacks-memory, left-or-failed}
-use Rattle.fdb_core.proofs.common.ListLemmas.{read-there}
+use Rattle.fdb_machine.proofs.Exports.{left-or-failed}
+use Rattle.fdb_roles.proofs.Exports.{answers-fault, lacks-memory, read-there}
 use Rattle.fdb_core.proofs.refinement.shard.Failing.{shard-left}
 use Rattle.fdb_core.proofs.refinement.shard.Pulling.{Pulling, find-pulling, its-log, its-pull, log-within}
 use Rattle.fdb_core.proofs.refinement.shard.Pulling.{log-used, shard-used}

@@ -1,17 +1,17 @@
-use Rattle.std.proofs.Common.{◌≡◌, ◌∙◌, refl, sym, ap, subst, ◌<◌, get_or, length, ℕ, Bool, List, Option, Some, slice_get}
+use Rattle.std.proofs.Common.{◌≡◌, ◌∙◌, refl, sym, ap, subst, ◌<◌, get_or, length, ℕ, Bool, List, Option, Some}
+use Rattle.std.proofs.Common.{slice_get}
 use Rattle.std.proofs.Common.{◌+◌, false, Err, arith, rules}
 use Rattle.std.specs.Vec.{with_item}
 use Rattle.fdb_log.specs.declared.message.LogMsg.{LogMsg}
 use Rattle.fdb_log.specs.Logs.{HasFailed, push_fault}
 use Rattle.fdb_core.specs.declared.roles.log.LogRole.{LogRole}
-use Rattle.fdb_core.specs.declared.step.Step.TheVariants as step
+use Rattle.fdb_machine.specs.declared.step.Step.TheVariants as step
 use Rattle.fdb_keys.specs.declared.refusal.Refusal.TheVariants.{Unknown}
-use Rattle.fdb_core.specs.machine.RoleSteps.{pushes}
+use Rattle.fdb_machine.specs.machine.RoleSteps.{pushes}
 use Rattle.fdb_core.specs.refinement.Cluster.{machine_of}
 use Rattle.fdb_core.specs.refinement.Restoring.{failures_of, log_failed}
-use Rattle.fdb_core.proofs.common.AllLemmas.{within-item}
-use Rattle.fdb_core.proofs.common.FaultLemmas.{unless-fault, answers-fault, left-or-failed}
-use Rattle.fdb_core.proofs.common.ListLemmas.{map-at, one-item, read-there}
+use Rattle.fdb_roles.proofs.Exports.{within-item, answers-fault, map-at, one-item, read-there}
+use Rattle.fdb_machine.proofs.Exports.{unless-fault, left-or-failed}
 use Rattle.fdb_core.proofs.refinement.log.Failing.{log-kept, log-left}
 use Rattle.fdb_core.proofs.refinement.log.Pushing.{Pushing, pushing, enough, undecided, refused as push-refused}
 use Rattle.fdb_core.proofs.refinement.log.Pushing.{accepted as goes_on, counted, room, tied, message-rises}

@@ -5,22 +5,22 @@ use Rattle.fdb_core.specs.declared.cluster.Cluster.{Cluster}
 use Rattle.fdb_core.specs.declared.roles.client.read.Read.{Read}
 use Rattle.fdb_core.specs.declared.roles.client.read.Read.TheVariants as read
 use Rattle.fdb_core.specs.declared.roles.shard.ShardRole.{ShardRole}
-use Rattle.fdb_core.specs.declared.step.Answered.{Answered}
-use Rattle.fdb_core.specs.machine.Roles.{ShardProgress}
-use Rattle.fdb_core.specs.machine.Sessions.{EachOpen, open_at}
-use Rattle.fdb_core.specs.machine.Steps.{ran_out}
+use Rattle.fdb_machine.specs.declared.step.Answered.{Answered}
+use Rattle.fdb_machine.specs.machine.Roles.{ShardProgress}
+use Rattle.fdb_machine.specs.machine.Sessions.{EachOpen, open_at}
+use Rattle.fdb_machine.specs.machine.Steps.{ran_out}
 use Rattle.fdb_core.specs.refinement.Cluster.{machine_of}
 use Rattle.fdb_core.specs.refinement.Restoring.{Tied, SameShard, failures_of}
 use Rattle.fdb_core.specs.refinement.Steps.{Takes, transition_of}
 use Rattle.fdb_core.specs.refinement.client.Reading.{operation_of, step_of}
 use Rattle.fdb_core.specs.refinement.commit_proxy.Ties.{ReadsWithin}
 use Rattle.fdb_core.specs.refinement.shard.Reads.{AreReadable}
-use Rattle.fdb_core.proofs.common.FaultLemmas.{unless-map}
-use Rattle.fdb_core.proofs.machine.OpenLemmas.{at-open}
+use Rattle.fdb_machine.proofs.Exports.{unless-map, at-open}
 use Rattle.fdb_core.proofs.refinement.client.ReadFaults.{read_step}
 use Rattle.fdb_core.proofs.refinement.client.Reading.{AnswersRun, are_readable, read-follows, same_reads}
 use Rattle.fdb_core.proofs.refinement.client.Sessions.{opened-with_op, refines-sessions, sessions-same}
-use Rattle.fdb_core.proofs.refinement.RestoringLemmas.{keeps-roles, restored, restores-count, restores-like, restores-at}
+use Rattle.fdb_core.proofs.refinement.RestoringLemmas.{keeps-roles, restored, restores-count, restores-like}
+use Rattle.fdb_core.proofs.refinement.RestoringLemmas.{restores-at}
 use Rattle.fdb_core.proofs.refinement.StepLemmas.{accepted, left}
 use Rattle.fdb_core.proofs.cluster.Cluster.read.Goals as goal
 

@@ -1,7 +1,7 @@
 use Rattle.std.proofs.Common.{◌≡◌, ◌∙◌, sym, ◌<◌, ◌≤◌, length, Some, None, refl, arith, rules}
 use Rattle.std.proofs.lemmas.Option.{slice_get_read}
 use Rattle.std.proofs.lemmas.List.{length-map}
-use Rattle.fdb_core.specs.machine.CommitProxySteps.{taken_by_sender}
+use Rattle.fdb_machine.specs.machine.CommitProxySteps.{taken_by_sender}
 use Rattle.fdb_core.specs.refinement.Cluster.{machine_of}
 use Rattle.fdb_core.specs.refinement.commit_proxy.Ties.{seen_as}
 use Rattle.fdb_core.specs.refinement.Views.{sender_of}

@@ -3,20 +3,17 @@ use Rattle.std.proofs.Common.{Some, Ok, ◌<◌, suc, true, false, arith, rules}
 use Rattle.fdb_txn.specs.book.Book.{last_version}
 use Rattle.fdb_sequencer.specs.Sequencer.{Sequencer}
 use Rattle.fdb_core.specs.declared.roles.commit_proxy.CommitProxyRole.{CommitProxyRole}
-use Rattle.fdb_core.specs.declared.step.Answered.TheVariants as answered
-use Rattle.fdb_core.specs.declared.step.Step.TheVariants as step
-use Rattle.fdb_core.specs.machine.Machine.{is_set}
+use Rattle.fdb_machine.specs.declared.step.Answered.TheVariants as answered
+use Rattle.fdb_machine.specs.declared.step.Step.TheVariants as step
+use Rattle.fdb_machine.specs.machine.Machine.{is_set}
 use Rattle.fdb_core.specs.refinement.Cluster.{machine_of}
 use Rattle.fdb_core.specs.refinement.Restoring.{failures_of, proxy_failed}
 use Rattle.fdb_core.specs.refinement.commit_proxy.Ties.{known_to, ReadsWithin, seen_as}
-use Rattle.fdb_core.proofs.common.FaultLemmas.{unless}
-use Rattle.fdb_core.proofs.common.ListLemmas.{one-item, read-there}
-use Rattle.fdb_core.proofs.machine.SessionLemmas.{open-weaken}
-use Rattle.fdb_core.proofs.refinement.BookLemmas.{below-last}
+use Rattle.fdb_machine.proofs.Exports.{unless, open-weaken}
+use Rattle.fdb_roles.proofs.Exports.{one-item, read-there, below-last, entries-rising}
 use Rattle.fdb_core.proofs.refinement.commit_proxy.Failing.{proxy-goes_on, proxy-was, reports-there}
 use Rattle.fdb_core.proofs.refinement.commit_proxy.Reporting.{IsReporting, its, refuses, passes}
 use Rattle.fdb_core.proofs.refinement.RestoringLemmas.{flag-at, restored}
-use Rattle.fdb_core.proofs.refinement.RunLaws.{entries-rising}
 use Rattle.fdb_core.proofs.refinement.StepLemmas as steps
 use Rattle.fdb_core.proofs.refinement.StepLemmas.{fails, kept, left, refused-restored}
 use Rattle.fdb_core.proofs.cluster.Cluster.report.Goals as goal

@@ -1,4 +1,5 @@
-use Rattle.std.proofs.Common.{◌≡◌, ◌∙◌, refl, sym, ap, ⊎_elim, subst, ℕ, Bool, false, Option, ◌<◌, ◌≤◌, true, length, map, List, []}
+use Rattle.std.proofs.Common.{◌≡◌, ◌∙◌, refl, sym, ap, ⊎_elim, subst, ℕ, Bool, false, Option, ◌<◌, ◌≤◌, true, length}
+use Rattle.std.proofs.Common.{map, List, []}
 use Rattle.std.proofs.Common.{◌∷◌, ◌++◌, take, Some, None, Err, slice_get, slice_set, arith, rules}
 use Rattle.std.specs.Vec.{with_item}
 use Rattle.std.proofs.lemmas.List.{length-append}
@@ -9,27 +10,27 @@ use Rattle.fdb_txn.specs.book.Book.{last_version}
 use Rattle.fdb_txn.specs.book.Transactions.{Transaction}
 use Rattle.fdb_sequencer.specs.declared.ticket.Ticket.{Ticket}
 use Rattle.fdb_sequencer.specs.Sequencer.{Sequencer, accept_fault, next_version, plan_fault, planned}
-use Rattle.fdb_sequencer.proofs.TicketLemmas.{planned_are_accepted}
+use Rattle.fdb_sequencer.proofs.Exports.{planned_are_accepted}
 use Rattle.fdb_log.specs.declared.message.LogMsg.{LogMsg}
 use Rattle.fdb_resolver.specs.declared.part.Part.{Part}
 use Rattle.fdb_keys.specs.declared.refusal.Refusal.TheVariants.{NoMemory}
 use Rattle.fdb_core.specs.declared.cluster.Cluster.{Cluster}
 use Rattle.fdb_core.specs.declared.roles.commit_proxy.CommitProxyRole.{CommitProxyRole}
-use Rattle.fdb_core.specs.declared.step.Answered.TheVariants as answered
-use Rattle.fdb_core.specs.declared.step.Step.TheVariants as step
-use Rattle.fdb_core.specs.machine.CommitProxySteps.{is_idle}
-use Rattle.fdb_core.specs.machine.Machine.{is_set}
+use Rattle.fdb_machine.specs.declared.step.Answered.TheVariants as answered
+use Rattle.fdb_machine.specs.declared.step.Step.TheVariants as step
+use Rattle.fdb_machine.specs.machine.CommitProxySteps.{is_idle}
+use Rattle.fdb_machine.specs.machine.Machine.{is_set}
 use Rattle.fdb_core.specs.refinement.Restoring.{failures_of, proxy_failed}
 use Rattle.fdb_core.specs.refinement.Cluster.{machine_of}
 use Rattle.fdb_core.specs.refinement.commit_proxy.Sealing.{IsTicketToSeal}
 use Rattle.fdb_core.specs.refinement.commit_proxy.Ties.{CommitProxyRefines, IsNextTicket, Seals, known_to, seen_as}
-use Rattle.fdb_core.specs.refinement.commit_proxy.Ties.{entry_of}
-use Rattle.fdb_core.proofs.common.FaultLemmas.{gives, unless, unless-lacked}
-use Rattle.fdb_core.proofs.common.ListLemmas.{map-at, map-set, read-there}
-use Rattle.fdb_core.proofs.machine.Sealing.{seals-transition, length-sealed}
+use Rattle.fdb_roles.specs.Entries.{entry_of}
+use Rattle.fdb_machine.proofs.Exports.{unless, unless-lacked, seals-transition, length-sealed}
+use Rattle.fdb_roles.proofs.Exports.{gives, map-at, map-set, read-there}
 use Rattle.fdb_core.proofs.refinement.BookPushes.{book-push, resolvers-push, parts-push, logs-push}
 use Rattle.fdb_core.proofs.refinement.commit_proxy.CoreSealing.{learns, ticket-for}
-use Rattle.fdb_core.proofs.refinement.commit_proxy.Sealing.{ticket_for, next-ticket, reads-below, entry-is, proxy-is, follows}
+use Rattle.fdb_core.proofs.refinement.commit_proxy.Sealing.{ticket_for, next-ticket, reads-below, entry-is, proxy-is}
+use Rattle.fdb_core.proofs.refinement.commit_proxy.Sealing.{follows}
 use Rattle.fdb_core.proofs.refinement.commit_proxy.Failing.{proxy-flags, proxy-tied, proxy-was}
 use Rattle.fdb_core.proofs.refinement.commit_proxy.Sealing.{parts-are, tied, sequencer-tied}
 use Rattle.fdb_core.proofs.refinement.commit_proxy.Unsealed.{room-left, seal-left}

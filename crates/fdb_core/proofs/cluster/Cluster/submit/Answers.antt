@@ -3,26 +3,25 @@ use Rattle.std.proofs.Common.{false, map, slice_get, slice_set, rules}
 use Rattle.fdb_keys.specs.declared.refusal.Refusal.TheVariants.{NoMemory}
 use Rattle.fdb_txn.specs.declared.spot.Spot.TheVariants as spot
 use Rattle.fdb_client.specs.declared.program.Transcript.{Transcript}
-use Rattle.fdb_core.specs.declared.roles.client.Placed.{Placed}
-use Rattle.fdb_core.specs.declared.step.Answered.TheVariants as answered
-use Rattle.fdb_core.specs.declared.step.Step.TheVariants as step
-use Rattle.fdb_core.specs.invariant.Invariant.{Invariant}
-use Rattle.fdb_core.specs.machine.Failures.{uses_failed}
-use Rattle.fdb_core.specs.machine.Sessions.{Idle, Waiting}
-use Rattle.fdb_core.specs.machine.Steps.{ran_out}
+use Rattle.fdb_roles.specs.declared.placed.Placed.{Placed}
+use Rattle.fdb_machine.specs.declared.step.Answered.TheVariants as answered
+use Rattle.fdb_machine.specs.declared.step.Step.TheVariants as step
+use Rattle.fdb_machine.specs.invariant.Invariant.{Invariant}
+use Rattle.fdb_machine.specs.machine.Failures.{uses_failed}
+use Rattle.fdb_machine.specs.machine.Sessions.{Idle, Waiting}
+use Rattle.fdb_machine.specs.machine.Steps.{ran_out}
 use Rattle.fdb_core.specs.refinement.Cluster.{machine_of}
 use Rattle.fdb_core.specs.refinement.Restoring.{failures_of, proxy_failed}
 use Rattle.fdb_core.specs.refinement.commit_proxy.Ties.{known_to, ReadsWithin, seen_as}
 use Rattle.fdb_core.specs.refinement.client.Submitting.{Submits}
-use Rattle.fdb_core.proofs.common.FaultLemmas.{unless-lacked, unless-map}
-use Rattle.fdb_core.proofs.common.ListLemmas.{map-at, one-item, read-there}
-use Rattle.fdb_core.proofs.machine.FinishLemmas.{unfinished}
-use Rattle.fdb_core.proofs.machine.SessionLemmas.{open-put}
+use Rattle.fdb_machine.proofs.Exports.{unless-lacked, unless-map, unfinished, open-put}
+use Rattle.fdb_roles.proofs.Exports.{map-at, one-item, read-there}
 use Rattle.fdb_core.proofs.refinement.RestoringLemmas.{flag-at, restored, same-machine}
 use Rattle.fdb_core.proofs.refinement.StepLemmas.{accepted, left, works}
 use Rattle.fdb_core.proofs.refinement.commit_proxy.Failing.{proxy-goes_on, proxy-was}
 use Rattle.fdb_core.proofs.refinement.client.Submitting.{nobody-comes, none-repeated, one-more, reads-within}
-use Rattle.fdb_core.proofs.refinement.client.Submitting.{refines-submitted, room-failed, room-kept, room-seen, room-tied}
+use Rattle.fdb_core.proofs.refinement.client.Submitting.{refines-submitted, room-failed, room-kept, room-seen}
+use Rattle.fdb_core.proofs.refinement.client.Submitting.{room-tied}
 use Rattle.fdb_core.proofs.refinement.client.Submitting.{submits-read_only, uses-working, waits}
 use Rattle.fdb_core.proofs.cluster.Cluster.submit.Goals as goal
 use Rattle.fdb_core.proofs.cluster.Cluster.submit.Goals.{After-index_mut-commit_proxy}

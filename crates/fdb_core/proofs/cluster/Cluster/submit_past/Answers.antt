@@ -2,17 +2,15 @@ use Rattle.std.proofs.Common.{◌≡◌, ◌∙◌, refl, sym, ap, true, [], ◌
 use Rattle.fdb_keys.specs.declared.refusal.Refusal.TheVariants.{NoMemory}
 use Rattle.fdb_txn.specs.declared.spot.Spot.TheVariants as spot
 use Rattle.fdb_client.specs.Programs.{is_read_only}
-use Rattle.fdb_core.specs.declared.roles.client.Placed.{Placed}
-use Rattle.fdb_core.specs.declared.step.Step.TheVariants as step
-use Rattle.fdb_core.specs.machine.Sessions.{Idle, open_at}
-use Rattle.fdb_core.specs.machine.Steps.{ran_out}
+use Rattle.fdb_roles.specs.declared.placed.Placed.{Placed}
+use Rattle.fdb_machine.specs.declared.step.Step.TheVariants as step
+use Rattle.fdb_machine.specs.machine.Sessions.{Idle, open_at}
+use Rattle.fdb_machine.specs.machine.Steps.{ran_out}
 use Rattle.fdb_core.specs.refinement.Cluster.{machine_of}
 use Rattle.fdb_core.specs.refinement.Restoring.{failures_of}
 use Rattle.fdb_core.specs.refinement.commit_proxy.Ties.{ReadsWithin, seen_as}
-use Rattle.fdb_core.proofs.common.FaultLemmas.{unless-map}
-use Rattle.fdb_core.proofs.common.ListLemmas.{map-at}
-use Rattle.fdb_core.proofs.machine.FinishLemmas.{unfinished}
-use Rattle.fdb_core.proofs.machine.SessionLemmas.{open-put}
+use Rattle.fdb_machine.proofs.Exports.{unless-map, unfinished, open-put}
+use Rattle.fdb_roles.proofs.Exports.{map-at}
 use Rattle.fdb_core.proofs.refinement.StepLemmas.{accepted, left, works}
 use Rattle.fdb_core.proofs.refinement.client.Submitting.{acknowledged-tied, finished-none, room-kept, submits-read_only}
 use Rattle.fdb_core.proofs.refinement.client.Submitting.{uses-none}

@@ -1,22 +1,20 @@
-use Rattle.std.proofs.Common.{◌≡◌, ◌∙◌, refl, sym, ap, subst, ◌<◌, length, false, List, Some, Err, slice_get, rules}
+use Rattle.std.proofs.Common.{◌≡◌, ◌∙◌, refl, sym, ap, subst, ◌<◌, length, List, Some, Err, slice_get, rules}
 use Rattle.std.specs.Prelude.{⊤}
-use Rattle.std.proofs.lemmas.Option.{slice_get_within}
 use Rattle.fdb_resolver.specs.declared.verdict.Verdicts.{Verdicts}
 use Rattle.fdb_core.specs.declared.roles.resolver.ResolverRole.{ResolverRole}
-use Rattle.fdb_core.specs.declared.step.Step.TheVariants as step
-use Rattle.fdb_core.specs.machine.Machine.{Machine}
-use Rattle.fdb_core.specs.machine.Failures.{tells_failed}
-use Rattle.fdb_core.specs.machine.Roles.{FromResolver}
+use Rattle.fdb_machine.specs.declared.step.Step.TheVariants as step
+use Rattle.fdb_machine.specs.machine.Roles.{FromResolver}
 use Rattle.fdb_core.specs.refinement.Cluster.{machine_of}
-use Rattle.fdb_core.specs.refinement.Restoring.{SameResolver, failures_of, proxy_failed}
-use Rattle.fdb_core.specs.refinement.commit_proxy.Receiving.{IsReceiver}
+use Rattle.fdb_core.specs.refinement.Restoring.{SameResolver}
 use Rattle.fdb_core.specs.refinement.commit_proxy.Ties.{known_to, seen_as}
-use Rattle.fdb_core.proofs.common.FaultLemmas.{unless}
-use Rattle.fdb_core.proofs.common.ListLemmas.{map-at, one-item}
-use Rattle.fdb_core.proofs.refinement.commit_proxy.Failing.{proxy-goes_on, proxy-kept, proxy-was, told-flag}
-use Rattle.fdb_core.proofs.refinement.commit_proxy.Receiving.{verdicts-stale, verdicts-awaited, was-sent, receiver-there}
+use Rattle.fdb_machine.proofs.Exports.{unless}
+use Rattle.fdb_roles.proofs.Exports.{map-at}
+use Rattle.fdb_core.proofs.refinement.commit_proxy.Failing.{ComesTo, comes-to, proxy-goes_on, proxy-kept}
+use Rattle.fdb_core.proofs.refinement.commit_proxy.Failing.{still-found, told-flag}
+use Rattle.fdb_core.proofs.refinement.commit_proxy.Receiving.{verdicts-stale, verdicts-awaited, was-sent}
+use Rattle.fdb_core.proofs.refinement.commit_proxy.Receiving.{receiver-there}
 use Rattle.fdb_core.proofs.refinement.commit_proxy.Receiving.{receives-there, resolver-there}
-use Rattle.fdb_core.proofs.refinement.RestoringLemmas.{restored, restores-like, same-machine}
+use Rattle.fdb_core.proofs.refinement.RestoringLemmas.{restored, restores-like}
 use Rattle.fdb_core.proofs.refinement.StepLemmas.{fails, kept, left, refused-restored, refuses, unknown}
 use Rattle.fdb_core.proofs.cluster.Cluster.verdict.Goals as goal
 use Rattle.fdb_core.proofs.cluster.Cluster.verdict.Goals.{After-verdict, After-index-2}
@@ -56,40 +54,21 @@ module _ (c : After-index-2) where
   sent-before = restores-like _ _ (λ x. (refl, refl)) c.args.self.now.resolvers.items
       c.requires.roles.resolvers.items c.requires.resolvers c.args.resolver c.index-2.result.now sender
 
-  received : IsReceiver (machine_of (restored c.args.self.now c.requires)) c.args.entry (FromResolver c.args.resolver)
-      c.in_ok-at.at
-  received = subst (λ (m : Machine). IsReceiver m c.args.entry (FromResolver c.args.resolver) c.in_ok-at.at)
-      (sym (same-machine c.args.self.now c.requires)) c.in_ok-at.ensures
-
 pub sent_on-requires : goal.sent_on-requires
 sent_on-requires c =
     let at = (goal.at.sent_on-requires c).After-index-2 in
     let before = sent-before at in
     subst (λ (sent : List Verdicts). c.args.entry < length sent) (sym before.2.1)
     (was-sent (restored c.args.self.now c.requires) c.requires.refines c.args.entry c.args.resolver c.in_ok-at.at
-    (received at) before.0 before.1)
+    (still-found c.args.self.now c.requires c.args.entry (FromResolver c.args.resolver) c.in_ok-at.at c.in_ok-at.ensures)
+    before.0 before.1)
 
 -- the proxy, which works
-module _ (c : After-verdict) where
-  here : slice_get c.args.self.now.commit_proxies.items c.in_ok-at.at ≡ Some c.index_mut-commit_proxy.result.now
-  here = receiver-there c.args.self.now c.args.entry (FromResolver c.args.resolver) c.in_ok-at.at
-      c.index_mut-commit_proxy.result.now c.in_ok-at.ensures c.index_mut-commit_proxy.ensures.value
-
-  working : proxy_failed c.index_mut-commit_proxy.result.now ≡ false
-  working =
-      let k = c.args.self.now in
-      let inside : c.in_ok-at.at < length k.commit_proxies.items = slice_get_within k.commit_proxies.items c.in_ok-at.at
-      c.index_mut-commit_proxy.result.now here in
-      ap proxy_failed (sym (one-item k.commit_proxies.items c.in_ok-at.at c.index.result.now
-      c.index_mut-commit_proxy.result.now inside c.index.ensures here)) ∙ sym c.if-is_failed.ensures
-
-  unused : tells_failed (machine_of c.args.self.now) (failures_of c.args.self.now)
-      (slice_get (machine_of c.args.self.now).entry_proxies c.args.entry) ≡ false
-  unused = told-flag c.args.self.now c.args.entry (FromResolver c.args.resolver) c.in_ok-at.at c.in_ok-at.ensures
-      c.index_mut-commit_proxy.result.now here ∙ working
-
-  was : slice_get c.requires.roles.commit_proxies.items c.in_ok-at.at ≡ Some c.index_mut-commit_proxy.result.now
-  was = proxy-was c.args.self.now c.requires c.in_ok-at.at c.index_mut-commit_proxy.result.now here working
+comes : (c : After-verdict) → ComesTo c.args.self.now c.requires c.args.entry (FromResolver c.args.resolver)
+    c.in_ok-at.at c.index_mut-commit_proxy.result.now
+comes c = comes-to c.args.self.now c.requires c.args.entry (FromResolver c.args.resolver) c.in_ok-at.at
+    c.index.result.now c.index_mut-commit_proxy.result.now c.in_ok-at.ensures c.index.ensures
+    c.index_mut-commit_proxy.ensures.value (sym c.if-is_failed.ensures)
 
 -- the proxy didn't wait for it
 pub returns-in_err-verdict : goal.returns-in_err-verdict
@@ -97,20 +76,20 @@ returns-in_err-verdict c =
     let k = c.args.self.now in
     let k0 = restored k c.requires in
     let verdict = step.Verdict c.args.entry c.args.resolver in
-    let at = (goal.at.returns-in_err-verdict c).After-verdict in
+    let at = comes (goal.at.returns-in_err-verdict c).After-verdict in
     let found = (goal.at.returns-in_err-verdict c).After-index-2 in
     let before = sent-before found in
     let role = c.index_mut-commit_proxy.result.now in
     let why = c.in_err-verdict.field-0.0 in
     left k verdict c.from_residual-in_err-verdict.result _ why (search rules)
-    (unless _ _ (refused-restored k verdict c.requires why (unused at)
-    (verdicts-stale k0 c.requires.refines c.args.entry c.args.resolver c.in_ok-at.at (received found) role
-    c.verdict.new.self (was at) before.0 before.1 c.in_ok-verdicts.verdicts
+    (unless _ _ (refused-restored k verdict c.requires why at.unused
+    (verdicts-stale k0 c.requires.refines c.args.entry c.args.resolver c.in_ok-at.at at.found role
+    c.verdict.new.self at.was before.0 before.1 c.in_ok-verdicts.verdicts
     (subst (λ (sent : List Verdicts). slice_get sent c.args.entry ≡ Some c.in_ok-verdicts.verdicts) before.2.1
     c.in_ok-verdicts.ensures) ⊤ why
     (λ e tied said. c.in_err-verdict.ensures.answers k.config k.book.items (known_to k.sequencer c.in_ok-at.at) e tied
     said))))
-    (proxy-kept k c.requires c.in_ok-at.at role c.verdict.new.self (here at) (working at)
+    (proxy-kept k c.requires c.in_ok-at.at role c.verdict.new.self at.here at.works
     c.in_err-verdict.ensures.refused)
 
 -- the proxy took it
@@ -118,14 +97,14 @@ pub returns : goal.returns
 returns c =
     let k = c.args.self.now in
     let k0 = restored k c.requires in
-    let at = (goal.at.returns c).After-verdict in
+    let at = comes (goal.at.returns c).After-verdict in
     let found = (goal.at.returns c).After-index-2 in
     let before = sent-before found in
     let role = c.index_mut-commit_proxy.result.now in
     proxy-goes_on k c.requires (step.Verdict c.args.entry c.args.resolver) c.in_ok-at.at role c.verdict.new.self _ _
-    (here at) (working at) refl refl refl refl (unused at)
-    (verdicts-awaited k0 c.requires.refines c.args.entry c.args.resolver c.in_ok-at.at (received found) role
-    c.verdict.new.self (was at) before.0 before.1 c.in_ok-verdicts.verdicts
+    at.here at.works refl refl refl refl at.unused
+    (verdicts-awaited k0 c.requires.refines c.args.entry c.args.resolver c.in_ok-at.at at.found role
+    c.verdict.new.self at.was before.0 before.1 c.in_ok-verdicts.verdicts
     (subst (λ (sent : List Verdicts). slice_get sent c.args.entry ≡ Some c.in_ok-verdicts.verdicts) before.2.1
     c.in_ok-verdicts.ensures) ⊤ c.in_ok-verdict.field-0
     (λ e tied said. c.in_ok-verdict.ensures.answers k.config k.book.items (known_to k.sequencer c.in_ok-at.at) e tied

@@ -1,7 +1,7 @@
 use Rattle.std.proofs.Common.{ℕ}
 use Rattle.fdb_core.specs.declared.roles.commit_proxy.CommitProxyRole.{CommitProxyRole}
 use Rattle.fdb_core.specs.refinement.commit_proxy.Ties.{IsNewCommitProxy}
-use Rattle.fdb_core.proofs.common.ListLemmas.{made-push}
+use Rattle.fdb_roles.proofs.Exports.{made-push}
 use Rattle.fdb_core.proofs.roles.commit_proxy.new_commit_proxies.Goals as goal
 
 pub loop-index-preserved : goal.loop-index-preserved

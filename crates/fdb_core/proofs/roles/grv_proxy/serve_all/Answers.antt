@@ -1,9 +1,9 @@
 use Rattle.std.proofs.Common.{◌∙◌, sym, ap, subst, get_or, rules}
 use Rattle.std.proofs.lemmas.List.Sums.{fold_more}
 use Rattle.fdb_proxy.specs.Askers.{Asker}
-use Rattle.fdb_core.specs.machine.Sessions.{Sessions, serve}
-use Rattle.fdb_core.specs.refinement.client.Sessions.{AreKnown}
-use Rattle.fdb_core.proofs.machine.SessionMaps.{all_known-put}
+use Rattle.fdb_machine.specs.machine.Sessions.{Sessions, serve}
+use Rattle.fdb_machine.specs.machine.Acting.{AreKnown}
+use Rattle.fdb_machine.proofs.Exports.{all_known-put}
 use Rattle.fdb_core.proofs.roles.grv_proxy.serve_all.Goals as goal
 
 pub loop-session-preserved : goal.loop-session-preserved

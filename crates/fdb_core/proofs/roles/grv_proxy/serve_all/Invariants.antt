@@ -1,7 +1,7 @@
 use Rattle.std.proofs.Common.{◌≡◌, fold, take}
 use Rattle.fdb_proxy.specs.Askers.{Asker}
-use Rattle.fdb_core.specs.machine.Sessions.{Sessions, serve}
-use Rattle.fdb_core.specs.refinement.client.Sessions.{AreKnown}
+use Rattle.fdb_machine.specs.machine.Sessions.{Sessions, serve}
+use Rattle.fdb_machine.specs.machine.Acting.{AreKnown}
 use Rattle.fdb_core.proofs.roles.grv_proxy.serve_all.Given as goal
 
 abbrev pub invariant-loop-session : goal.invariant-loop-session

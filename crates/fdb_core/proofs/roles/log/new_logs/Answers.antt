@@ -1,5 +1,5 @@
 use Rattle.std.proofs.Common.{refl}
-use Rattle.fdb_core.proofs.common.FaultLemmas.{answers-fault}
+use Rattle.fdb_roles.proofs.Exports.{answers-fault}
 use Rattle.fdb_core.proofs.refinement.StartLemmas.{no-logs, one-log}
 use Rattle.fdb_log.specs.Logs.{config_fault, IsNewLog}
 use Rattle.fdb_core.proofs.roles.log.new_logs.Goals as goal

@@ -1,5 +1,5 @@
 use Rattle.fdb_core.specs.refinement.Starts.{IsNewResolver}
-use Rattle.fdb_core.proofs.common.ListLemmas.{made-push}
+use Rattle.fdb_roles.proofs.Exports.{made-push}
 use Rattle.fdb_core.proofs.roles.resolver.new_resolvers.Goals as goal
 
 pub loop-index-preserved : goal.loop-index-preserved

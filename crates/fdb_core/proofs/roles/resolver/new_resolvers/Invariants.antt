@@ -1,5 +1,5 @@
 use Rattle.std.proofs.Common.{◌≡◌, length}
-use Rattle.fdb_core.specs.refinement.log.Ties.{Each}
+use Rattle.fdb_roles.specs.Lists.{Each}
 use Rattle.fdb_core.specs.refinement.Starts.{IsNewResolver}
 use Rattle.fdb_core.proofs.roles.resolver.new_resolvers.Given as goal
 

@@ -1,6 +1,6 @@
 use Rattle.std.proofs.Common.{◌≡◌, ◌∙◌, refl}
 use Rattle.fdb_txn.specs.rules.Splits.{piece, piece_fault}
-use Rattle.fdb_core.proofs.common.FaultLemmas.{answers-fault}
+use Rattle.fdb_roles.proofs.Exports.{answers-fault}
 use Rattle.fdb_core.proofs.refinement.StartLemmas.{no-shards, one-shard}
 use Rattle.fdb_core.proofs.roles.shard.new_shards.Goals as goal
 

@@ -1,8 +1,8 @@
 use Rattle.std.proofs.Common.{subst, suc, length}
 use Rattle.fdb_txn.specs.book.History.{IsBook}
-use Rattle.fdb_core.specs.headline.Serving.{System}
+use Rattle.fdb_machine.specs.headline.Serving.{System}
 use Rattle.fdb_core.specs.refinement.Cluster.{machine_of}
-use Rattle.fdb_core.proofs.invariant.LentLaws.{book-is}
+use Rattle.fdb_machine.proofs.Exports.{book-is}
 use Rattle.fdb_core.proofs.world.World.book.Goals as goal
 
 pub returns-clause-is_book : goal.returns-clause-is_book

@@ -1,6 +1,6 @@
 use Rattle.std.proofs.Common.{◌≡◌, subst, length, MatchResult}
-use Rattle.fdb_core.specs.declared.world.CheckFault.TheVariants.{NoMemory}
-use Rattle.fdb_core.specs.headline.Serving.{System}
+use Rattle.fdb_check.specs.declared.fault.CheckFault.TheVariants.{NoMemory}
+use Rattle.fdb_machine.specs.headline.Serving.{System}
 use Rattle.fdb_core.proofs.checking.SoundChecks.{few-shards, sound-finds}
 use Rattle.fdb_core.proofs.world.World.check.Goals as goal
 

@@ -1,9 +1,9 @@
 use Rattle.std.proofs.Common.{◌≡◌, ◌∙◌, sym, ap, subst, None, rules}
 use Rattle.fdb_proxy.specs.Configs.{config_fault}
-use Rattle.fdb_core.specs.invariant.Invariant.{Invariant}
-use Rattle.fdb_core.specs.machine.Failures.{State}
-use Rattle.fdb_core.proofs.headline.ServingLaws.{roles_keep}
-use Rattle.fdb_core.proofs.invariant.SoundLaws.{sound-start}
+use Rattle.fdb_machine.specs.invariant.Invariant.{Invariant}
+use Rattle.fdb_machine.specs.machine.Failures.{State}
+use Rattle.fdb_core.proofs.refinement.ServingLaws.{roles_keep}
+use Rattle.fdb_machine.proofs.Exports.{sound-start}
 use Rattle.fdb_core.proofs.world.World.new.Goals as goal
 
 pub returns-clause-roles : goal.returns-clause-roles

@@ -1,4 +1,4 @@
-use Rattle.fdb_core.proofs.headline.HeadlineLaws.{serializable-step}
+use Rattle.fdb_machine.proofs.Exports.{serializable-step}
 use Rattle.fdb_core.proofs.world.World.step.Goals as goal
 
 pub returns-clause-headline : goal.returns-clause-headline

@@ -4,18 +4,17 @@ use Rattle.fdb_keys.specs.declared.refusal.Refusal.{Refusal}
 use Rattle.fdb_keys.specs.declared.refusal.Refusal.TheVariants.{NoMemory}
 use Rattle.fdb_proxy.specs.Configs.{config_fault}
 use Rattle.fdb_core.specs.declared.cluster.Cluster.{Cluster}
-use Rattle.fdb_core.specs.declared.step.Answered.{Answered}
-use Rattle.fdb_core.specs.declared.step.Step.{Step}
-use Rattle.fdb_core.specs.headline.Serving.{System}
-use Rattle.fdb_core.specs.invariant.Invariant.{Invariant}
-use Rattle.fdb_core.specs.machine.Machine.{Machine}
-use Rattle.fdb_core.specs.machine.Worlds.{IsStep}
+use Rattle.fdb_machine.specs.declared.step.Answered.{Answered}
+use Rattle.fdb_machine.specs.declared.step.Step.{Step}
+use Rattle.fdb_machine.specs.headline.Serving.{System}
+use Rattle.fdb_machine.specs.invariant.Invariant.{Invariant}
+use Rattle.fdb_machine.specs.machine.Machine.{Machine}
+use Rattle.fdb_machine.specs.machine.Worlds.{IsStep}
 use Rattle.fdb_core.specs.refinement.Cluster.{machine_of}
 use Rattle.fdb_core.specs.refinement.Steps.{Takes}
 use Rattle.fdb_core.specs.refinement.Systems.{state_of}
-use Rattle.fdb_core.proofs.headline.HeadlineLaws.{sound-after}
-use Rattle.fdb_core.proofs.headline.ServingLaws.{roles_keep}
-use Rattle.fdb_core.proofs.readings.TraceReadings.{config-after}
+use Rattle.fdb_machine.proofs.Exports.{sound-after, config-after}
+use Rattle.fdb_core.proofs.refinement.ServingLaws.{roles_keep}
 use Rattle.fdb_core.proofs.refinement.StepLemmas.{left_or_stepped}
 use Rattle.fdb_core.proofs.world.World.take.Goals as goal
 

@@ -1,7 +1,7 @@
 use Rattle.std.proofs.Common.{◌≡◌, sym, true, rules}
 use Rattle.std.proofs.lemmas.Bool.{cond-false}
 use Rattle.fdb_keys.specs.Ranges.{in_range, is_empty_range}
-use Rattle.fdb_keys.proofs.InsertionLemmas.{in_range-empty}
+use Rattle.fdb_keys.proofs.Exports.{in_range-empty}
 use Rattle.fdb_interval.specs.Versions.{version_at}
 use Rattle.fdb_interval.proofs.VersionsLemmas.{marked-none}
 use Rattle.fdb_interval.proofs.last_commit.LastCommit.mark.Goals as goal

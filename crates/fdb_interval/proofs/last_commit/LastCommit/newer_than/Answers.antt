@@ -2,7 +2,7 @@ use Rattle.std.proofs.Common.{◌≡◌, ◌∙◌, sym, refl, subst, ℕ, ◌<�
 use Rattle.std.proofs.lemmas.Bool.{both_ways, lt-ltb, ltb-true, not-false, or_cases, or_left, or_right}
 use Rattle.fdb_keys.specs.Points.{Point, point_lt}
 use Rattle.fdb_keys.specs.Ranges.{Range, in_range, is_empty_range}
-use Rattle.fdb_keys.proofs.InsertionLemmas.{in_range-empty}
+use Rattle.fdb_keys.proofs.Exports.{in_range-empty}
 use Rattle.fdb_interval.specs.Breakpoints.{Breakpoints, value_from, breaks_inside}
 use Rattle.fdb_interval.specs.Versions.{version_at}
 use Rattle.fdb_interval.proofs.VersionsLemmas.{newer_from_begin, newer_from_inside, found_from_newer, any_newer}

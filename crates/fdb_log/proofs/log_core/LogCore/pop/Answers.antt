@@ -49,7 +49,8 @@ released : (c : goal.After-release) → c.release.new.self
           (places_above c.args.through (list_at c.self.inside.held.places c.args.tag));
       waiting =
           filter
-          (waits (λ (tag : ℕ). unwrap_or (slice_get (slice_set c.self.inside.popped.items c.args.tag c.max.result) tag) 0))
+          (waits (λ (tag : ℕ). unwrap_or (slice_get (slice_set c.self.inside.popped.items c.args.tag c.max.result) tag)
+          0))
           c.self.inside.held.waiting;
     }
 released c =

@@ -1,5 +1,5 @@
 use Rattle.std.proofs.Common.{◌≡◌, ◌∙◌, ap, ◌<◌, ◌≤◌, false, length, arith}
-use Rattle.fdb_txn.proofs.book.HistoryLemmas.{all-weaken}
+use Rattle.fdb_txn.proofs.Exports.{all-weaken}
 use Rattle.fdb_log.specs.Logs.{Log}
 use Rattle.fdb_log.specs.Waiting.{Waiting}
 use Rattle.fdb_log.proofs.FaultLemmas.{push_fault-none}
@@ -42,6 +42,7 @@ returns-in-Ok-clause-taken c =
     let free = push_fault-none c.args.self.now c.args.message.now _ c.in_ok-check_push.ensures in
     let here : c.self.inside.last ≡ c.args.self.now.last = ap (λ (core : Log). core.last) c.self.view_is in
     has_taken-seen _ c.args.self.now c.args.message.now _ c.take.new.held.waiting c.self.view_is
-    (takes-written _ c.args.message.now c.self.inside.queues.len c.take.new.queues c.deref_mut.result.now c.take.new.held.waiting
+    (takes-written _ c.args.message.now c.self.inside.queues.len c.take.new.queues c.deref_mut.result.now
+    c.take.new.held.waiting
     c.self.invariant.is_log (ap (λ (core : Log). core.is_failed) c.self.view_is ∙ free.0) (omega (arith, free.1))
     c.deref_mut.ensures.value c.take.auto.queues c.self.inside.queues.ok.0 c.in-Ok.ensures.kept c.in-Ok.ensures.waiting)

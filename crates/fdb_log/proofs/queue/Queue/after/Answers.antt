@@ -15,7 +15,8 @@ returns c =
     omega arith in
     IfOk-weaker c.copies_of.result _ _
     (λ given copies low rising.
-    let here : RiseAfter low messages = subst (λ (list : List TagMsg). RiseAfter low list) (sym c.self.view_is) rising in
+    let here : RiseAfter low messages = subst (λ (list : List TagMsg). RiseAfter low list)
+    (sym c.self.view_is) rising in
     copies
     ∙ ap (λ (n : ℕ). take n (drop start messages)) count
     ∙ next-are_given low c.args.version c.args.limit start messages here (c.count_through-start.ensures.count low here)

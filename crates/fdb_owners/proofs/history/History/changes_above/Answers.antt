@@ -13,7 +13,8 @@ returns c last within =
     c.count_differing.ensures
     ∙ ap (λ (owner : ℕ). differing owner above) c.latest_of.ensures
     ∙ count-above first above through c.args.floor last
-    (falling-front above through (subst AreFalling (sym c.as_slice.ensures ∙ c.split_by.ensures.parts) c.requires)) c.split_by.ensures.above
+    (falling-front above through (subst AreFalling (sym c.as_slice.ensures
+    ∙ c.split_by.ensures.parts) c.requires)) c.split_by.ensures.above
     (all-of_both (λ (change : Change). change.version ≤ last) above through
     (subst (AreUpTo last) (sym c.as_slice.ensures ∙ c.split_by.ensures.parts) within)).0
     c.split_by.ensures.through

@@ -15,7 +15,8 @@ returns-clause-kept c v from =
     ∙ take-append_seam above through in
     (λ i. owner_by (c.latest_of-first.ensures i) (left i) v)
     ∙ owner-cut c.args.self.now.first above through c.args.floor v c.split_by.ensures.through from
-    ∙ sym (ap (λ (changes : List Change). owner_by c.args.self.now.first changes v) (sym c.as_slice.ensures ∙ c.split_by.ensures.parts))
+    ∙ sym (ap (λ (changes : List Change). owner_by c.args.self.now.first changes v) (sym c.as_slice.ensures
+    ∙ c.split_by.ensures.parts))
 
 pub returns-clause-history : goal.returns-clause-history
 returns-clause-history c resolvers last kept =
@@ -27,5 +28,6 @@ returns-clause-history c resolvers last kept =
     ∙ take-append_seam above through in
     subst (IsHistory resolvers last) (λ i. record { first = sym c.latest_of-first.ensures i; changes = sym left i })
     (cut-is_history resolvers last c.args.self.now.first above through
-    (subst (λ (changes : List Change). IsHistory resolvers last (record { first = c.args.self.now.first; changes = changes }))
+    (subst (λ (changes : List Change). IsHistory resolvers last
+    (record { first = c.args.self.now.first; changes = changes }))
     (sym c.as_slice.ensures ∙ c.split_by.ensures.parts) kept))

@@ -17,4 +17,5 @@ returns-then-latest_of c is v from =
     ∙ (λ i. owner_by ((sym c.latest_of.ensures ∙ c.if-latest_of.true ∙ c.latest_of-2.ensures) i)
     (changes-same above other_above (sym c.eq.ensures ∙ is) i) v)
     ∙ owner-cut other_first other_above other_through c.args.floor v c.split_by-2.ensures.through from
-    ∙ sym (ap (λ (changes : List Change). owner_by other_first changes v) (sym c.as_slice-2.ensures ∙ c.split_by-2.ensures.parts))
+    ∙ sym (ap (λ (changes : List Change). owner_by other_first changes v) (sym c.as_slice-2.ensures
+    ∙ c.split_by-2.ensures.parts))

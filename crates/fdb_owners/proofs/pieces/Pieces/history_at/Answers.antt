@@ -1,5 +1,5 @@
 use Rattle.std.proofs.Common.{◌∙◌, sym}
-use Rattle.fdb_interval.proofs.BreaksLemmas.{value-last-some, value-last-none, rising_from_sorted}
+use Rattle.fdb_interval.proofs.Exports.{value-last-some, value-last-none, rising_from_sorted}
 use Rattle.fdb_owners.proofs.pieces.Pieces.history_at.Goals as goal
 
 pub returns-in-Some-clause-value : goal.returns-in-Some-clause-value

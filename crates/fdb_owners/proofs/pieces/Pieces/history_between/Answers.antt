@@ -1,7 +1,6 @@
 use Rattle.std.proofs.Common.{◌≡◌, ◌∙◌, sym, false, rules}
 use Rattle.fdb_keys.specs.Points.{point_lt}
-use Rattle.fdb_interval.proofs.BreaksLemmas.{rising_from_sorted}
-use Rattle.fdb_interval.proofs.ThroughoutLemmas.{value-throughout, none-inside, value-nowhere, none-anywhere}
+use Rattle.fdb_interval.proofs.Exports.{rising_from_sorted, value-throughout, none-inside, value-nowhere, none-anywhere}
 use Rattle.fdb_owners.proofs.pieces.Pieces.history_between.Goals as goal
 
 pub returns-in-Some-2-clause-history : goal.returns-in-Some-2-clause-history

@@ -1,7 +1,7 @@
 use Rattle.std.proofs.Common.{sym, ap, ◌∙◌, Ok}
 use Rattle.std.proofs.lemmas.Result.{err_from_is_err_and}
 use Rattle.fdb_play.proofs.lemmas.Script.{config_reading_stops, config_found, if_ok_map}
-use Rattle.fdb_play.specs.declared.play.stop.Stop.TheVariants.{NoMemory}
+use Rattle.fdb_print.specs.declared.stop.Stop.TheVariants.{NoMemory}
 use Rattle.fdb_play.proofs.play.script.first_config.Goals as goal
 
 pub returns-in_err-advance-clause-stops : goal.returns-in_err-advance-clause-stops

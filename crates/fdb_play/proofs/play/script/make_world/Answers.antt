@@ -1,8 +1,8 @@
 use Rattle.std.proofs.Common.{◌≡◌, Some}
 use Rattle.fdb_play.proofs.lemmas.Script.{refused_world}
 use Rattle.fdb_proxy.specs.Configs.{config_fault}
-use Rattle.fdb_core.specs.machine.Worlds.{first_state}
-use Rattle.fdb_core.proofs.common.FaultLemmas.{answers-fault}
+use Rattle.fdb_machine.specs.machine.Worlds.{first_state}
+use Rattle.fdb_roles.proofs.Exports.{answers-fault}
 use Rattle.fdb_play.proofs.play.script.make_world.Goals as goal
 
 pub returns-in-Err-clause-stops : goal.returns-in-Err-clause-stops

@@ -1,6 +1,6 @@
 use Rattle.std.proofs.Common.{◌∙◌, ap}
 use Rattle.std.proofs.lemmas.Result.{err_from_is_err_and}
-use Rattle.fdb_core.specs.headline.Serving.{System}
+use Rattle.fdb_machine.specs.headline.Serving.{System}
 use Rattle.fdb_play.proofs.lemmas.Script.{if_ok_map, if_err_map, run_out_at_once, run_unconfigured, run_refused}
 use Rattle.fdb_play.proofs.lemmas.Script.{run_played, run_stopped}
 use Rattle.fdb_play.proofs.play.script.run_to_end.Goals as goal

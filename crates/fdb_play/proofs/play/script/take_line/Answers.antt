@@ -1,5 +1,5 @@
 use Rattle.std.proofs.Common.{ap, refl, inl}
-use Rattle.fdb_play.specs.play.Scripts.{bad_line}
+use Rattle.fdb_print.specs.Stops.{bad_line}
 use Rattle.fdb_play.proofs.play.script.take_line.Goals as goal
 
 pub returns-in-Err-Bad-clause-stops : goal.returns-in-Err-Bad-clause-stops

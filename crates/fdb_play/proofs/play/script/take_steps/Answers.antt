@@ -4,7 +4,7 @@ use Rattle.fdb_play.proofs.lemmas.Script.{if_ok_map, if_err_map, steps_reading_s
 use Rattle.fdb_play.proofs.lemmas.Script.{steps_line_stops, steps_silent, steps_line}
 use Rattle.fdb_play.proofs.play.script.take_steps.Goals.{then-not-is_silent+in_ok-take_line+in_ok-write_all}
 use Rattle.fdb_play.proofs.play.script.take_steps.Goals.{else-not-is_silent}
-use Rattle.fdb_play.specs.declared.play.stop.Stop.TheVariants.{NoMemory}
+use Rattle.fdb_print.specs.declared.stop.Stop.TheVariants.{NoMemory}
 use Rattle.fdb_play.proofs.play.script.take_steps.Goals as goal
 
 pub returns-in_err-advance-clause-stops : goal.returns-in_err-advance-clause-stops

@@ -3,7 +3,8 @@ use Rattle.std.proofs.lemmas.Result.{err_from_is_err_and}
 use Rattle.fdb_keys.specs.Texts.{key_fault}
 use Rattle.fdb_play.specs.script.Operations.{operation_on}
 use Rattle.fdb_play.proofs.lemmas.Faults.{MatchFault-bad_alone}
-use Rattle.fdb_play.proofs.lemmas.WriteLines.{no_operation_text, no_operation_operand, operation_read, operation_refused}
+use Rattle.fdb_play.proofs.lemmas.WriteLines.{no_operation_text, no_operation_operand, operation_read}
+use Rattle.fdb_play.proofs.lemmas.WriteLines.{operation_refused}
 use Rattle.fdb_play.proofs.script.write_line.read_operation.Goals as goal
 
 pub returns-in_err-text : goal.returns-in_err-text

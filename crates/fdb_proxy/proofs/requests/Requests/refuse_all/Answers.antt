@@ -8,7 +8,11 @@ use Rattle.fdb_proxy.proofs.requests.Requests.refuse_all.Goals.{then-not-self, e
 
 pub push_ids-requires-2 : goal.push_ids-requires-2
 push_ids-requires-2 c =
-    elim c.if-not-self.branch [ then-not-self w ↦ grind (arith, common_steps) | else-not-self w ↦ grind (arith, common_steps) ]
+    elim c.if-not-self.branch [
+      | then-not-self w ↦ grind (arith, common_steps)
+      | else-not-self w ↦ grind
+          (arith, common_steps)
+    ]
 
 pub invariant_of-self : goal.invariant_of-self
 invariant_of-self c =

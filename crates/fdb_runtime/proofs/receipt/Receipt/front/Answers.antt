@@ -1,6 +1,6 @@
 use Rattle.std.proofs.Common.{suc, length, subst, sym}
 use Rattle.fdb_txn.specs.book.History.{AreEntries}
-use Rattle.fdb_txn.proofs.book.HistoryLemmas.{books_are_entries}
+use Rattle.fdb_txn.proofs.Exports.{books_are_entries}
 use Rattle.fdb_runtime.proofs.receipt.Receipt.front.Goals as goal
 
 pub returns-clause-book : goal.returns-clause-book

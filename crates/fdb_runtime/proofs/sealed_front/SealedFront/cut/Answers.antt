@@ -1,6 +1,6 @@
 use Rattle.std.proofs.Common.{suc, length, sym, subst}
 use Rattle.fdb_txn.specs.book.History.{AreEntries}
-use Rattle.fdb_core.proofs.refinement.BookLemmas.{entries-take}
+use Rattle.fdb_roles.proofs.Exports.{entries-take}
 use Rattle.fdb_runtime.proofs.sealed_front.SealedFront.cut.Goals as goal
 
 pub invariant_of-result : goal.invariant_of-result

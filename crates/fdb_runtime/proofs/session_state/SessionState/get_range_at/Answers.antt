@@ -12,8 +12,8 @@ use Rattle.fdb_client.specs.TxnState.{with_op}
 use Rattle.fdb_client.specs.declared.program.Op.TheVariants as operation
 use Rattle.fdb_client.specs.declared.program.Reply.TheVariants as answer
 use Rattle.fdb_client.specs.declared.program.Transcript.{Transcript}
-use Rattle.fdb_core.proofs.common.FaultLemmas.{given-fault}
-use Rattle.fdb_core.specs.refinement.client.Sessions.{OfOpen}
+use Rattle.fdb_roles.proofs.Exports.{given-fault}
+use Rattle.fdb_roles.specs.Sessions.{OfOpen}
 use Rattle.fdb_runtime.specs.LentShards.{LentShards, lent_shards, lending_fault}
 use Rattle.fdb_runtime.specs.Sessions.{Session, with_current}
 use Rattle.fdb_runtime.specs.ShardViews.{run_of}

@@ -3,7 +3,7 @@ use Rattle.fdb_txn.specs.declared.entry.Entry.{Entry}
 use Rattle.fdb_txn.specs.declared.spot.Spot.{Spot}
 use Rattle.fdb_txn.specs.book.Book.{last_version}
 use Rattle.fdb_txn.specs.book.Once.{NoIdTwice}
-use Rattle.fdb_core.proofs.common.FaultLemmas.{given-fault, refused-fault}
+use Rattle.fdb_roles.proofs.Exports.{given-fault, refused-fault}
 use Rattle.fdb_runtime.specs.Receipts.{OutcomeAtFront, IsReceipt, spot_told, settle_fault}
 use Rattle.fdb_runtime.specs.Sessions.{Session, IsOpenAt, seeing}
 use Rattle.fdb_runtime.proofs.SessionLemmas.{grown, stays-open}

@@ -8,7 +8,8 @@ pub returns-clause-ok : goal.returns-clause-ok
 returns-clause-ok c =
     let clients : rule_of c.help-clients.result ≡ option (codes "clients") (codes "4") (up_to 64) = search rules in
     let txns : rule_of c.help-txns.result ≡ option (codes "txns") (codes "100") (up_to 10000) = search rules in
-    let resolvers : rule_of c.help-resolvers.result ≡ option (codes "resolvers") (codes "2") (up_to 64) = search rules in
+    let resolvers : rule_of c.help-resolvers.result ≡ option (codes "resolvers") (codes "2")
+    (up_to 64) = search rules in
     let proxies : rule_of c.help-proxies.result ≡ option (codes "proxies") (codes "2") (up_to 16) = search rules in
     let first = c.in_ok-command.ensures.ok ∙ ap₂ with_rule refl clients in
     let second = c.in_ok-command-2.ensures.ok ∙ ap₂ with_rule first txns in

@@ -26,7 +26,8 @@ returns c =
       app.1,
       (
         ap (λ a. fault_of a words) (sym app.2) ∙ faults,
-        subst (λ found. IsAsked found c.task_of.result) (rows ∙ ap (λ a. subcommand_of a words) app.2) c.task_of.ensures,
+        subst (λ found. IsAsked found c.task_of.result) (rows
+            ∙ ap (λ a. subcommand_of a words) app.2) c.task_of.ensures,
       ),
     )
 

@@ -4,7 +4,7 @@ use Rattle.fdb_keys.specs.Answers.{Answers}
 use Rattle.fdb_keys.specs.Points.{Point}
 use Rattle.fdb_keys.specs.Ranges.{is_within}
 use Rattle.fdb_mutations.specs.Pairs.{first_of}
-use Rattle.fdb_storage.specs.declared.page.Page.{Page}
+use Rattle.fdb_mutations.specs.declared.page.Page.{Page}
 use Rattle.fdb_storage.specs.Shards.{Shard, IsPage, range_fault, read_fault, value_at}
 use Rattle.fdb_storage.proofs.FaultLemmas.{none-of, given-also, refused-as, read_fault-none}
 use Rattle.fdb_storage.proofs.PairsLemmas.{pairs-in_map}

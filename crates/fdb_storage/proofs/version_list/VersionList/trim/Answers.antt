@@ -8,7 +8,8 @@ pub invariant_of-self : goal.invariant_of-self
 invariant_of-self c =
     let left =
     trimmed c.args.floor c.count_newest.result c.self.inside.values.items c.split_by.result.0.now
-    c.split_by.result.1.now c.self.invariant (sym c.as_slice.ensures ∙ c.split_by.ensures.parts) c.split_by.ensures.through
+    c.split_by.result.1.now c.self.invariant (sym c.as_slice.ensures
+    ∙ c.split_by.ensures.parts) c.split_by.ensures.through
     c.split_by.ensures.above c.count_newest.ensures.value c.count_newest.ensures.within in
     subst IsVersionList (sym c.drop_first.ensures) left.list
 
@@ -16,7 +17,8 @@ pub returns-clause-kept : goal.returns-clause-kept
 returns-clause-kept c v from =
     let left =
     trimmed c.args.floor c.count_newest.result c.self.inside.values.items c.split_by.result.0.now
-    c.split_by.result.1.now c.self.invariant (sym c.as_slice.ensures ∙ c.split_by.ensures.parts) c.split_by.ensures.through
+    c.split_by.result.1.now c.self.invariant (sym c.as_slice.ensures
+    ∙ c.split_by.ensures.parts) c.split_by.ensures.through
     c.split_by.ensures.above c.count_newest.ensures.value c.count_newest.ensures.within in
     ap (value_up_to v) c.drop_first.ensures ∙ left.kept v from ∙ ap (value_up_to v) c.self.view_is
 
@@ -24,8 +26,10 @@ pub returns-clause-fewest : goal.returns-clause-fewest
 returns-clause-fewest c high from within =
     let left =
     trimmed c.args.floor c.count_newest.result c.self.inside.values.items c.split_by.result.0.now
-    c.split_by.result.1.now c.self.invariant (sym c.as_slice.ensures ∙ c.split_by.ensures.parts) c.split_by.ensures.through
+    c.split_by.result.1.now c.self.invariant (sym c.as_slice.ensures
+    ∙ c.split_by.ensures.parts) c.split_by.ensures.through
     c.split_by.ensures.above c.count_newest.ensures.value c.count_newest.ensures.within in
     ap length c.drop_first.ensures
     ∙ left.fewest high from (subst (AreUpTo high) (sym c.self.view_is) within)
-    ∙ ap (λ (values : List VersionedValue). kept_from (λ (v : ℕ). value_up_to v values) c.args.floor high) c.self.view_is
+    ∙ ap (λ (values : List VersionedValue). kept_from (λ (v : ℕ). value_up_to v values) c.args.floor high)
+    c.self.view_is

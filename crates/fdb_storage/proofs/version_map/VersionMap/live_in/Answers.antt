@@ -1,7 +1,7 @@
 use Rattle.std.proofs.Common.{◌∙◌, sym, ap, ◌++◌}
 use Rattle.std.proofs.lemmas.List.{append-nil}
 use Rattle.fdb_storage.specs.VersionMaps.{VersionedKeys}
-use Rattle.fdb_mutations.proofs.MapsLemmas.{forward-bounds}
+use Rattle.fdb_mutations.proofs.Exports.{forward-bounds}
 use Rattle.fdb_storage.proofs.BetweenLemmas.{live-collected, live_keys}
 use Rattle.fdb_storage.proofs.version_map.VersionMap.live_in.Goals as goal
 

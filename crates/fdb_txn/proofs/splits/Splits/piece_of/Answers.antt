@@ -1,6 +1,6 @@
 use Rattle.std.proofs.Common.{◌≡◌, subst, ◌≤◌, true, length, List, rules}
 use Rattle.fdb_keys.specs.Points.{Point}
-use Rattle.fdb_keys.proofs.TextsLemmas.{before_ff-key}
+use Rattle.fdb_keys.proofs.Exports.{before_ff-key}
 use Rattle.fdb_txn.specs.rules.Owners.{first_owner}
 use Rattle.fdb_txn.specs.rules.Splits.{are_splits}
 use Rattle.fdb_txn.proofs.rules.SplitsLemmas.{in-own-piece, only-own-piece}

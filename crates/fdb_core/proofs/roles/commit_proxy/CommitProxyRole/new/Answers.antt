@@ -1,6 +1,6 @@
 use Rattle.std.proofs.Common.{false}
 use Rattle.fdb_proxy.specs.CommitProxies.{IsNewProxy, ProxyWithRoom, new_fault}
-use Rattle.fdb_core.proofs.common.FaultLemmas.{answers-fault}
+use Rattle.fdb_roles.proofs.Exports.{answers-fault}
 use Rattle.fdb_core.proofs.refinement.StartLemmas.{commit_proxy-start}
 use Rattle.fdb_core.proofs.roles.commit_proxy.CommitProxyRole.new.Goals as goal
 

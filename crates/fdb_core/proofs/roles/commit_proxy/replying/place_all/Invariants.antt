@@ -4,7 +4,7 @@ use Rattle.std.specs.Iterator.Adapters.{enumerate_source, enumerate_count}
 use Rattle.std.specs.Vec.Iter.{into_iter_items}
 use Rattle.fdb_txn.specs.declared.txn_id.TxnId.{TxnId}
 use Rattle.fdb_proxy.specs.declared.outcome.Outcome.{Outcome}
-use Rattle.fdb_core.specs.machine.CommitProxySteps.{placed_from}
+use Rattle.fdb_machine.specs.machine.CommitProxySteps.{placed_from}
 use Rattle.fdb_core.proofs.roles.commit_proxy.replying.place_all.Given as goal
 
 -- what became of each place

@@ -1,8 +1,8 @@
 use Rattle.std.proofs.Common.{◌∙◌, sym, ap, subst, take}
 use Rattle.std.proofs.lemmas.List.Sums.{fold_more}
-use Rattle.fdb_core.specs.machine.Sessions.{Sessions, tell, tell_all}
-use Rattle.fdb_core.specs.refinement.client.Sessions.{HaveActed}
-use Rattle.fdb_core.proofs.machine.SessionMaps.{all_acted-put}
+use Rattle.fdb_machine.specs.machine.Sessions.{Sessions, tell, tell_all}
+use Rattle.fdb_machine.specs.machine.Acting.{HaveActed}
+use Rattle.fdb_machine.proofs.Exports.{all_acted-put}
 use Rattle.fdb_core.proofs.roles.commit_proxy.replying.tell_all.Goals as goal
 
 pub loop-transcript-preserved : goal.loop-transcript-preserved

@@ -6,10 +6,10 @@ use Rattle.fdb_keys.specs.declared.refusal.Refused.{Refused}
 use Rattle.fdb_client.specs.declared.program.Transcript.{Transcript}
 use Rattle.fdb_client.specs.Programs.{commit_request_of, is_read_only}
 use Rattle.fdb_proxy.specs.CommitProxies.{submit_fault as core_fault, submitting}
-use Rattle.fdb_core.specs.machine.ClientSteps.{submit_fault}
-use Rattle.fdb_core.specs.machine.Sessions.{Sessions, Idle, Waiting, open_at, with_state}
+use Rattle.fdb_roles.specs.Sessions.{submit_fault}
+use Rattle.fdb_machine.specs.machine.Sessions.{Sessions, Idle, Waiting, open_at, with_state}
 use Rattle.std.specs.FinMap.{get}
-use Rattle.fdb_core.proofs.machine.SessionMaps.{put-there, state-again}
+use Rattle.fdb_machine.proofs.Exports.{put-there, state-again}
 use Rattle.fdb_core.proofs.refinement.client.Submitting.{finished-some}
 use Rattle.fdb_core.proofs.roles.commit_proxy.submitting.take_in.Goals as goal
 use Rattle.fdb_core.proofs.roles.commit_proxy.submitting.take_in.Goals.{After-sealed}

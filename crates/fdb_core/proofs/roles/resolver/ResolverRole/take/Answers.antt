@@ -3,7 +3,8 @@ use Rattle.fdb_resolver.specs.declared.part.Item.{Item}
 use Rattle.fdb_resolver.specs.declared.verdict.Verdict.{Verdict}
 use Rattle.fdb_resolver.specs.declared.verdict.Verdicts.{Verdicts}
 use Rattle.fdb_resolver.specs.Resolvers.{HasFailed, IsAnswer, part_fault}
-use Rattle.fdb_core.proofs.common.FaultLemmas.{answers-fault, left-or-failed}
+use Rattle.fdb_machine.proofs.Exports.{left-or-failed}
+use Rattle.fdb_roles.proofs.Exports.{answers-fault}
 use Rattle.fdb_core.proofs.refinement.resolver.Failing.{as-many}
 use Rattle.fdb_core.proofs.refinement.resolver.Resolving.{lacks-memory-alone, takes-next}
 use Rattle.fdb_core.proofs.roles.resolver.ResolverRole.take.Goals as goal

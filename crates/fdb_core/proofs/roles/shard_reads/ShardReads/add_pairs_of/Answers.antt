@@ -1,7 +1,8 @@
 use Rattle.std.proofs.Common.{◌≡◌, ◌∙◌, sym, ap, rules, ◌++◌, ℕ, List, length, Some}
 use Rattle.fdb_keys.specs.Points.{Point}
-use Rattle.fdb_core.specs.refinement.shard.Reads.{left_of, pairs_held}
-use Rattle.fdb_core.proofs.refinement.shard.Pages.{first-left}
+use Rattle.fdb_core.specs.refinement.shard.Reads.{pairs_held}
+use Rattle.fdb_roles.specs.Wanted.{left_of}
+use Rattle.fdb_roles.proofs.Exports.{first-left}
 use Rattle.fdb_core.proofs.roles.shard_reads.ShardReads.add_pairs_of.Goals as goal
 
 pub returns-in_ok-append : goal.returns-in_ok-append

@@ -1,15 +1,19 @@
-use Rattle.std.proofs.Common.{◌≡◌, ◌<◌, ◌∙◌, ◌-◌, sym, ap, refl, subst, rules, true, false, length, Some, Err, slice_get, arith}
+use Rattle.std.proofs.Common.{◌≡◌, ◌<◌, ◌∙◌, ◌-◌, sym, ap, refl, subst, rules, true, false, length, Some, Err}
+use Rattle.std.proofs.Common.{slice_get, arith}
 use Rattle.std.specs.Prelude.{slice_index_or}
 use Rattle.std.proofs.lemmas.Bool.{cond-true, cond-false}
 use Rattle.std.proofs.lemmas.Option.{slice_get_read}
 use Rattle.fdb_keys.specs.declared.refusal.Refusal.TheVariants.{NoMemory}
 use Rattle.fdb_mutations.specs.Pairs.{first_of}
 use Rattle.fdb_core.specs.declared.roles.shard.ShardRole.{ShardRole}
-use Rattle.fdb_core.specs.refinement.shard.Reads.{ShardReads, AreReadable, AreFew}
-use Rattle.fdb_core.proofs.refinement.shard.Pages.{read_next, pairs_read, pairs-none, pairs-all, first-none, first-few}
+use Rattle.fdb_core.specs.refinement.shard.Reads.{ShardReads, AreReadable}
+use Rattle.fdb_roles.specs.Wanted.{AreFew}
+use Rattle.fdb_core.proofs.refinement.shard.Pages.{read_next, pairs_read, pairs-none, pairs-all}
+use Rattle.fdb_roles.proofs.Exports.{first-none, first-few}
 use Rattle.fdb_core.proofs.refinement.shard.Pages.{first-read}
 use Rattle.fdb_core.proofs.roles.shard_reads.ShardReads.first_pairs.Goals as goal
-use Rattle.fdb_core.proofs.roles.shard_reads.ShardReads.first_pairs.Goals.{After-index-self-number, then-reverse, else-reverse}
+use Rattle.fdb_core.proofs.roles.shard_reads.ShardReads.first_pairs.Goals.{After-index-self-number, then-reverse}
+use Rattle.fdb_core.proofs.roles.shard_reads.ShardReads.first_pairs.Goals.{else-reverse}
 
 readable : (c : After-index-self-number) → AreReadable c.args.self.now
 readable c = subst AreReadable c.self.view_is c.self.invariant.1
@@ -43,7 +47,8 @@ there : (c : After-index-self-number)
     → slice_get c.args.self.now.shards c.if-reverse.number
     ≡ Some (slice_index_or c.self.inside.shards.now c.if-reverse.number c.index-self-number.result)
 there c =
-    (subst (λ (it : ShardReads). slice_get it.shards c.if-reverse.number ≡ Some c.index-self-number.result) c.self.view_is
+    (subst (λ (it : ShardReads). slice_get it.shards c.if-reverse.number ≡ Some c.index-self-number.result)
+    c.self.view_is
     (slice_get_read c.self.inside.shards.now (length c.self.inside.shards.now) c.if-reverse.number
     c.index-self-number.result refl (number-within c) c.index-self-number.is))
     ∙ ap (λ (role : ShardRole). Some role) c.index-self-number.is

@@ -6,7 +6,7 @@ use Rattle.fdb_storage.specs.Shards.{IsPage, HasValuesOf}
 use Rattle.fdb_storage.specs.Shards as storage
 use Rattle.fdb_core.specs.refinement.shard.Reads.{ShardReads, AreReadable, run_map}
 use Rattle.fdb_core.proofs.refinement.shard.Reads.{page-served, has-values, pairs-of-part, none-held}
-use Rattle.fdb_core.proofs.refinement.shard.Pages.{first-none}
+use Rattle.fdb_roles.proofs.Exports.{first-none}
 use Rattle.fdb_core.proofs.roles.shard_reads.ShardReads.pairs_of.Goals as goal
 
 pub returns-in_err-page-in-Some : goal.returns-in_err-page-in-Some

@@ -2,8 +2,7 @@ use Rattle.std.proofs.Common.{◌∙◌, ap, ℕ}
 use Rattle.std.specs.Prelude.{⊤}
 use Rattle.fdb_mutations.specs.Pairs.{first_of, pairs_in}
 use Rattle.fdb_core.specs.refinement.shard.Reads.{range_fault, run_map}
-use Rattle.fdb_core.proofs.common.FaultLemmas.{given-fault}
-use Rattle.fdb_core.proofs.refinement.shard.Pages.{page-first}
+use Rattle.fdb_roles.proofs.Exports.{given-fault, page-first}
 use Rattle.fdb_core.proofs.roles.shard_reads.ShardReadsSnapshot.page.Goals as goal
 
 pub returns : goal.returns

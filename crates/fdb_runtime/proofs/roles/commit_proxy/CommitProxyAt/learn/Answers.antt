@@ -1,7 +1,7 @@
 use Rattle.std.proofs.Common.{◌≡◌, ◌∙◌, sym, subst, rules, List, Err}
 use Rattle.fdb_txn.specs.book.Transactions.{Transaction}
 use Rattle.fdb_proxy.specs.CommitProxies.{learn_fault}
-use Rattle.fdb_core.proofs.common.FaultLemmas.{answers-fault}
+use Rattle.fdb_roles.proofs.Exports.{answers-fault}
 use Rattle.fdb_runtime.specs.CommitProxiesAtFronts.{CommitProxyAtFront}
 use Rattle.fdb_runtime.specs.Ticketing.{IsTicketOf, AnswersTicket}
 use Rattle.fdb_runtime.proofs.TicketingLemmas.{may-learn, is-there, refused-as, refused-there}

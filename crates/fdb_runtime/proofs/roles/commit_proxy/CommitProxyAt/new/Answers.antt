@@ -1,6 +1,6 @@
 use Rattle.std.proofs.Common.{sym, subst}
 use Rattle.fdb_proxy.specs.CommitProxies.{ProxyWithRoom, IsNewProxy, new_fault}
-use Rattle.fdb_core.proofs.common.FaultLemmas.{answers-fault}
+use Rattle.fdb_roles.proofs.Exports.{answers-fault}
 use Rattle.fdb_runtime.proofs.CommitProxyLemmas.{begins}
 use Rattle.fdb_runtime.proofs.roles.commit_proxy.CommitProxyAt.new.Goals as goal
 

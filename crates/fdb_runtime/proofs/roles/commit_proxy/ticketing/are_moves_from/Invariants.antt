@@ -1,7 +1,7 @@
 use Rattle.std.proofs.Common.{◌≡◌, drop}
 use Rattle.std.specs.Cmp.Lexicographic.{pointwise}
 use Rattle.fdb_sequencer.specs.Equality.{dated_eq}
-use Rattle.fdb_core.specs.machine.SequencerSteps.{dated_moves}
+use Rattle.fdb_roles.specs.Entries.{dated_moves}
 use Rattle.fdb_runtime.proofs.roles.commit_proxy.ticketing.are_moves_from.Given as goal
 
 -- what is left agrees with the entries that are left as all does with all

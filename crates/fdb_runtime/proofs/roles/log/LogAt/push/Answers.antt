@@ -3,7 +3,7 @@ use Rattle.std.proofs.lemmas.Result.{err_from_is_err_and}
 use Rattle.fdb_txn.specs.declared.entry.Entry.{Entry}
 use Rattle.fdb_log.specs.declared.message.LogAck.{LogAck}
 use Rattle.fdb_log.specs.Logs.{push_fault}
-use Rattle.fdb_core.proofs.common.FaultLemmas.{answers-fault, given-fault}
+use Rattle.fdb_roles.proofs.Exports.{answers-fault, given-fault}
 use Rattle.fdb_runtime.specs.Turns.{front_fault, HasOneMore}
 use Rattle.fdb_runtime.proofs.TurnLemmas.{where-refused}
 use Rattle.fdb_runtime.proofs.LogLemmas.{IsLogThere, rises, log-there, log-stays, takes-its-own, refused-push}

@@ -2,7 +2,7 @@ use Rattle.std.proofs.Common.{sym, subst, List}
 use Rattle.std.proofs.lemmas.Result.{err_from_is_err_and}
 use Rattle.fdb_txn.specs.declared.entry.Entry.{Entry}
 use Rattle.fdb_resolver.specs.Resolvers.{part_fault, IsAnswer}
-use Rattle.fdb_core.proofs.common.FaultLemmas.{answers-fault, given-fault}
+use Rattle.fdb_roles.proofs.Exports.{answers-fault, given-fault}
 use Rattle.fdb_runtime.specs.Messages.{AreLastVerdicts}
 use Rattle.fdb_runtime.specs.Turns.{front_fault, HasOneMore}
 use Rattle.fdb_runtime.proofs.TurnLemmas.{where-refused}

@@ -1,7 +1,7 @@
 use Rattle.std.proofs.Common.{◌≡◌, ◌∙◌, length}
 use Rattle.fdb_sequencer.specs.declared.ticket.Ticket.{Ticket}
 use Rattle.fdb_sequencer.specs.Sequencer.{plan_fault, planned}
-use Rattle.fdb_core.proofs.common.FaultLemmas.{answers-fault}
+use Rattle.fdb_roles.proofs.Exports.{answers-fault}
 use Rattle.fdb_runtime.proofs.IssueLemmas.{accepted-there, read-below-it, its-moves, planned-accepted}
 use Rattle.fdb_runtime.proofs.roles.sequencer.SequencerAt.issue.Goals as goal
 

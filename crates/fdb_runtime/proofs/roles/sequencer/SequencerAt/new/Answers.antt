@@ -1,6 +1,6 @@
 use Rattle.std.proofs.Common.{◌≡◌}
 use Rattle.fdb_sequencer.specs.Sequencer.{Sequencer, new_fault, fresh}
-use Rattle.fdb_core.proofs.common.FaultLemmas.{answers-fault}
+use Rattle.fdb_roles.proofs.Exports.{answers-fault}
 use Rattle.fdb_runtime.proofs.IssueLemmas.{starts}
 use Rattle.fdb_runtime.proofs.roles.sequencer.SequencerAt.new.Goals as goal
 

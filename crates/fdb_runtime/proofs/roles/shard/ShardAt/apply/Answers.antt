@@ -1,7 +1,7 @@
 use Rattle.std.proofs.Common.{◌≡◌, ◌∙◌, refl, sym, subst, rules, arith, Err, IsNone, Option}
 use Rattle.fdb_keys.specs.declared.refusal.Refusal.{Refusal}
 use Rattle.fdb_storage.specs.Shards.{apply_fault}
-use Rattle.fdb_core.proofs.common.FaultLemmas.{answers-fault, given-fault, hands-on}
+use Rattle.fdb_roles.proofs.Exports.{answers-fault, given-fault, hands-on}
 use Rattle.fdb_runtime.specs.ShardsAtFronts.{peek_fault}
 use Rattle.fdb_runtime.proofs.ShardLemmas.{takes, within, goes-on, has-gone-on, answers-on, failed-there, core-takes}
 use Rattle.fdb_runtime.proofs.roles.shard.ShardAt.apply.Goals as goal

@@ -21,7 +21,8 @@ returns-in_ok-check_next-in-len1-up g t c =
     let at = c.first-item.result.now in
     let end : c.end.result.now ≡ at.shard.range.end = search rules in
     subst (λ (shards : List ShardAtFront).
-    AnswersExactly {T = Unit {0}} c.check_row.result (row_fault c.args.version c.args.until.now c.args.from.now shards) (λ _. ⊤))
+    AnswersExactly {T = Unit {0}} c.check_row.result (row_fault c.args.version c.args.until.now c.args.from.now shards)
+    (λ _. ⊤))
     (sym (lent-first c.args.kept.now c.first-item.result c.in-len1-up.len_at_least c.first-item.is))
     (has-next (next_fault c.args.version c.args.from.now at) _ c.in_ok-check_next-in-len1-up.field-0 c.check_row.result
     _ _ c.in_ok-check_next-in-len1-up.ensures (rw end at c.check_row.ensures))

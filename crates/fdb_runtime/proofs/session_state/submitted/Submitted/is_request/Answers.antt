@@ -1,5 +1,5 @@
 use Rattle.std.proofs.Common.{◌∙◌, sym, subst, IsTrue}
-use Rattle.fdb_txn.specs.Equality.{sealed_eq_decides}
+use Rattle.fdb_txn.proofs.Exports.{sealed_eq_decides}
 use Rattle.fdb_runtime.proofs.session_state.submitted.Submitted.is_request.Goals as goal
 
 pub returns : goal.returns

@@ -1,5 +1,5 @@
 use Rattle.std.proofs.Common.{◌∙◌}
-use Rattle.fdb_txn.proofs.CloneLemmas.{same_sealed}
+use Rattle.fdb_txn.proofs.Exports.{same_sealed}
 use Rattle.fdb_runtime.proofs.session_state.submitted.Submitted.new.Goals as goal
 
 pub invariant_of-result : goal.invariant_of-result

@@ -2,9 +2,9 @@ use Rattle.std.proofs.Common.{◌∙◌, ap, ap₂, ℕ, cond, Option}
 use Rattle.std.specs.BTreeMap.{is_at}
 use Rattle.std.specs.FinMap.{insert}
 use Rattle.std.specs.Ordering.{nat_cmp}
-use Rattle.fdb_txn.proofs.NumberMaps.{at_number, one_put}
-use Rattle.fdb_core.specs.machine.Sessions.{Session, Sessions, Asking}
-use Rattle.fdb_core.proofs.machine.SessionMaps.{put_back-same}
+use Rattle.fdb_txn.proofs.Exports.{at_number, one_put}
+use Rattle.fdb_machine.specs.machine.Sessions.{Session, Sessions, Asking}
+use Rattle.fdb_machine.proofs.Exports.{put_back-same}
 use Rattle.fdb_core.proofs.roles.client.sessions.Sessions.ask.Goals as goal
 
 pub returns-in-Ok-clause-answers : goal.returns-in-Ok-clause-answers

@@ -1,6 +1,6 @@
 use Rattle.std.proofs.Common.{refl, rules}
-use Rattle.fdb_core.proofs.machine.OpenLemmas.{of-open, given-follows, refused-follows, open-none, open-known}
-use Rattle.fdb_core.proofs.machine.OpenLemmas.{state-put, state-kept}
+use Rattle.fdb_machine.proofs.Exports.{of-open, given-follows, refused-follows, open-none, open-known, state-put}
+use Rattle.fdb_machine.proofs.Exports.{state-kept}
 use Rattle.fdb_core.proofs.roles.client.sessions.Sessions.finish.Goals as goal
 
 pub returns-in_default-clause-answers : goal.returns-in_default-clause-answers

@@ -1,6 +1,6 @@
 use Rattle.std.proofs.Common.{◌∙◌, sym, ap}
 use Rattle.std.specs.FinMap.{get}
-use Rattle.fdb_txn.proofs.NumberMaps.{get-pairs}
+use Rattle.fdb_txn.proofs.Exports.{get-pairs}
 use Rattle.fdb_core.proofs.roles.client.sessions.Sessions.known.Goals as goal
 
 pub returns : goal.returns

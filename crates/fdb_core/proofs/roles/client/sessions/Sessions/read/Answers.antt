@@ -1,6 +1,6 @@
 use Rattle.std.proofs.Common.{refl, rules}
-use Rattle.fdb_core.proofs.machine.OpenLemmas.{of-open, answers-follow, refused-follows, some-follows, open-none}
-use Rattle.fdb_core.proofs.machine.OpenLemmas.{open-known, state-put, state-kept}
+use Rattle.fdb_machine.proofs.Exports.{of-open, answers-follow, refused-follows, some-follows, open-none, open-known}
+use Rattle.fdb_machine.proofs.Exports.{state-put, state-kept}
 use Rattle.fdb_core.proofs.roles.client.sessions.Sessions.read.Goals as goal
 
 pub read-requires : goal.read-requires

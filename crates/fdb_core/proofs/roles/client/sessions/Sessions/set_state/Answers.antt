@@ -1,9 +1,9 @@
 use Rattle.std.proofs.Common.{◌∙◌, sym, ap, ap₂, ℕ, Option}
 use Rattle.std.specs.FinMap.{get, insert}
-use Rattle.fdb_core.specs.machine.Sessions.{Session, Sessions}
+use Rattle.fdb_machine.specs.machine.Sessions.{Session, Sessions}
 use Rattle.fdb_core.specs.refinement.Views.{state_of}
-use Rattle.fdb_txn.proofs.NumberMaps.{get-pairs, one_put}
-use Rattle.fdb_core.proofs.machine.OpenLemmas.{anyhow}
+use Rattle.fdb_txn.proofs.Exports.{get-pairs, one_put}
+use Rattle.fdb_machine.proofs.Exports.{anyhow}
 use Rattle.fdb_core.proofs.roles.client.sessions.Sessions.set_state.Goals as goal
 
 pub returns-clause-ok : goal.returns-clause-ok

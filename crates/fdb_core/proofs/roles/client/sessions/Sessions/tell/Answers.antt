@@ -1,6 +1,5 @@
 use Rattle.std.proofs.Common.{rules}
-use Rattle.fdb_core.proofs.machine.OpenLemmas.{state-put}
-use Rattle.fdb_core.proofs.machine.SessionMaps.{acted-there}
+use Rattle.fdb_machine.proofs.Exports.{state-put, acted-there}
 use Rattle.fdb_core.proofs.roles.client.sessions.Sessions.tell.Goals as goal
 
 -- the session has an entry

@@ -1,5 +1,5 @@
 use Rattle.std.proofs.Common.{◌≡◌, ◌∙◌, sym, rules, true}
-use Rattle.fdb_client.specs.declared.snapshot.Page.{Page}
+use Rattle.fdb_mutations.specs.declared.page.Page.{Page}
 use Rattle.fdb_runtime.specs.LentShards.{LentShards, lent_shards}
 use Rattle.fdb_runtime.proofs.LentShardLemmas.{gives-page}
 use Rattle.fdb_runtime.proofs.roles.shard.lent_shards.LentShardsSnapshot.page.Goals as goal

@@ -3,11 +3,12 @@ use Rattle.std.proofs.Common.{None, Bor}
 use Rattle.fdb_keys.specs.Points.{Point}
 use Rattle.fdb_mutations.specs.Maps.{Map}
 use Rattle.fdb_mutations.specs.Pairs.{first_of}
-use Rattle.fdb_core.proofs.common.FaultLemmas.{answers-by}
+use Rattle.fdb_roles.proofs.Exports.{answers-by}
 use Rattle.fdb_runtime.specs.LentShards.{lent_shards, pairs_at, pairs_held}
 use Rattle.fdb_runtime.specs.ShardsAtFronts.{ShardAtFront}
 use Rattle.fdb_runtime.specs.ShardViews.{run_of}
-use Rattle.fdb_runtime.proofs.LentShardLemmas.{lent-first, held-forward, held-backward, none-held, few-are-first, added-again}
+use Rattle.fdb_runtime.proofs.LentShardLemmas.{lent-first, held-forward, held-backward, none-held, few-are-first}
+use Rattle.fdb_runtime.proofs.LentShardLemmas.{added-again}
 use Rattle.fdb_runtime.proofs.roles.shard.reader.Reader.+add_pairs.Goals as goal
 
 -- what is lent behind the first shard

@@ -1,7 +1,7 @@
 use Rattle.std.proofs.Common.{◌≡◌, ◌∙◌, sym, ap, rules, ◌++◌, ℕ, List, length, Some}
 use Rattle.fdb_keys.specs.Points.{Point}
-use Rattle.fdb_core.specs.refinement.shard.Reads.{left_of}
-use Rattle.fdb_core.proofs.refinement.shard.Pages.{first-left}
+use Rattle.fdb_roles.specs.Wanted.{left_of}
+use Rattle.fdb_roles.proofs.Exports.{first-left}
 use Rattle.fdb_runtime.specs.LentShards.{pairs_at}
 use Rattle.fdb_runtime.specs.ShardViews.{run_of}
 use Rattle.fdb_runtime.proofs.roles.shard.reader.Reader.add_pairs_of.Goals as goal

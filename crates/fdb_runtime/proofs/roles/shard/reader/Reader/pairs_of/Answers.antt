@@ -2,8 +2,7 @@ use Rattle.std.proofs.Common.{◌≡◌, ◌∙◌, sym, ap, Bool, Some, None}
 use Rattle.fdb_keys.specs.Clipping.{clipped_range}
 use Rattle.fdb_mutations.specs.Pairs.{first_of, pairs_in}
 use Rattle.fdb_storage.specs.Shards.{read_fault}
-use Rattle.fdb_core.proofs.common.FaultLemmas.{answers-by}
-use Rattle.fdb_core.proofs.refinement.shard.Pages.{first-none}
+use Rattle.fdb_roles.proofs.Exports.{answers-by, first-none}
 use Rattle.fdb_runtime.specs.ShardViews.{ShardView, range_fault, run_map, run_of}
 use Rattle.fdb_runtime.proofs.LentShardLemmas.{part-within, part-pairs, no-pairs}
 use Rattle.fdb_runtime.proofs.roles.shard.reader.Reader.pairs_of.Goals as goal
@@ -23,7 +22,8 @@ returns-in-Some g c =
     ∙ c.requires in
     answers-by c.first_pairs.result (range_fault view part) None _ _ none
     (λ _ pairs is. is
-    ∙ ap (λ (it : ShardView). first_of c.args.limit (pairs_in (run_map config it) part c.args.reverse)) c.new-view.ensures
+    ∙ ap (λ (it : ShardView). first_of c.args.limit (pairs_in (run_map config it) part c.args.reverse))
+    c.new-view.ensures
     ∙ ap (first_of c.args.limit) (part-pairs range shard.range part clipped
     (run_of config c.args.self.now.version c.args.self.now.front.now) c.args.reverse))
     c.first_pairs.ensures

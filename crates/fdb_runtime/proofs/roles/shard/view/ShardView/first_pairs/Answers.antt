@@ -1,5 +1,5 @@
 use Rattle.std.proofs.Common.{◌≡◌, ◌∙◌, rules, Err}
-use Rattle.fdb_core.proofs.common.FaultLemmas.{hands-on}
+use Rattle.fdb_roles.proofs.Exports.{hands-on}
 use Rattle.fdb_storage.specs.Shards as shards
 use Rattle.fdb_runtime.specs.ShardViews.{range_fault}
 use Rattle.fdb_runtime.proofs.ShardViewLemmas.{fault-is, gives-first}

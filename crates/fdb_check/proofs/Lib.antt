@@ -1,0 +1,8 @@
+pub mod Exports
+mod JudgedLemmas
+mod JudgingLemmas
+mod ReplayLemmas
+mod RunningLemmas
+mod SpotLemmas
+mod StandingLemmas
+mod VisitLemmas

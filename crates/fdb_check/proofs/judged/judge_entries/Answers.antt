@@ -1,0 +1,44 @@
+use Rattle.std.proofs.Common.{◌≡◌, ◌∙◌, ◌+◌, ◌<◌, ap, refl, ℕ, take, length, Some, slice_get, rules, arith}
+use Rattle.std.proofs.lemmas.List.{length_push}
+use Rattle.std.proofs.lemmas.Option.{slice_get_read}
+use Rattle.std.proofs.lemmas.Result.{err_from_is_err_and}
+use Rattle.fdb_check.proofs.JudgedLemmas.{judged-next, judged-all}
+use Rattle.fdb_check.proofs.RunningLemmas.{entries-front}
+use Rattle.fdb_check.proofs.judged.judge_entries.Goals as goal
+
+pub returns-in_err-outcomes : goal.returns-in_err-outcomes
+returns-in_err-outcomes c splits entries at =
+    let book = c.args.book.now in
+    let i = c.loop-entry.entry-index in
+    let entry = c.entry-item.result in
+    let within : i < length book = search rules in
+    let there : slice_get book i ≡ Some entry = slice_get_read book (length book) i entry refl within c.entry-item.is in
+    let so_far = c.loop-entry.invariant.1 splits entries at in
+    let left = err_from_is_err_and c.from_residual.result c.from_residual.ensures.1 in
+    rw (left.1, left.2)
+    (c.in_err-outcomes.ensures.outcomes splits (take i book) so_far.at
+    (entries-front splits book entries i entry there))
+
+pub loop-entry-preserved : goal.loop-entry-preserved
+loop-entry-preserved c =
+    let book = c.args.book.now in
+    let i = c.loop-entry.entry-index in
+    let entry = c.entry-item.result in
+    let within : i < length book = search rules in
+    let there : slice_get book i ≡ Some entry = slice_get_read book (length book) i entry refl within c.entry-item.is in
+    let old = c.loop-entry.judged in
+    let outcomes = c.in_ok-outcomes.outcomes in
+    rw c.in_ok-push.ensures.ok (
+      length_push old outcomes ∙ ap (λ (n : ℕ). n + 1) c.loop-entry.invariant.0,
+      λ splits entries at.
+          let so_far = c.loop-entry.invariant.1 splits entries at in
+          judged-next splits book i entry there old outcomes c.take.new.self c.loop-entry.invariant.0 so_far.each
+          (c.in_ok-outcomes.ensures.outcomes splits (take i book) so_far.at
+          (entries-front splits book entries i entry there)),
+    )
+
+pub returns : goal.returns
+returns c splits entries at =
+    let count = c.loop-entry.invariant.0 in
+    judged-all splits c.args.book.now c.loop-entry.judged (omega (arith, count))
+    (c.loop-entry.invariant.1 splits entries at).each

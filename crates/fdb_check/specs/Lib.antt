@@ -1,0 +1,6 @@
+pub mod Checking
+pub mod Judged
+pub mod Judging
+pub mod Running
+pub mod Spots
+pub mod Versions

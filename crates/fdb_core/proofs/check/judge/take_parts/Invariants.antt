@@ -1,5 +1,0 @@
-use Rattle.fdb_core.specs.check.Judging.{HaveSaid}
-use Rattle.fdb_core.proofs.check.judge.take_parts.Given as goal
-
-abbrev pub invariant-loop-number : goal.invariant-loop-number
-invariant-loop-number l = HaveSaid l.number l.initial.resolvers.items l.parts l.resolvers.items l.said

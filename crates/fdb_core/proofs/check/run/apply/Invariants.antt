@@ -1,6 +1,0 @@
-use Rattle.std.proofs.Common.{◌≡◌, take}
-use Rattle.fdb_mutations.specs.Mutations.{effects}
-use Rattle.fdb_core.proofs.check.run.apply.Given as goal
-
-abbrev pub invariant-loop-mutation : goal.invariant-loop-mutation
-invariant-loop-mutation l = l.map ≡ effects l.initial.map (take l.mutation-index l.mutations)

@@ -1,6 +1,0 @@
-use Rattle.std.proofs.Common.{refl}
-use Rattle.fdb_core.proofs.checking.RunningLemmas.{comes-in}
-use Rattle.fdb_core.proofs.check.run.new_run.Goals as goal
-
-pub returns : goal.returns
-returns c splits book judged = comes-in splits book 0 _ refl refl judged c.new.ensures

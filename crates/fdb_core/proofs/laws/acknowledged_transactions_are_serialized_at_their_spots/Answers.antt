@@ -1,5 +1,0 @@
-use Rattle.fdb_core.proofs.readings.TraceReadings.{acknowledged_serialized}
-use Rattle.fdb_core.proofs.laws.acknowledged_transactions_are_serialized_at_their_spots.Goals as goal
-
-pub returns : goal.returns
-returns c = acknowledged_serialized

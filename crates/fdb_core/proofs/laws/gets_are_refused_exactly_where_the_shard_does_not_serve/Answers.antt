@@ -1,5 +1,0 @@
-use Rattle.fdb_core.proofs.headline.PromiseLaws.{gets_refused}
-use Rattle.fdb_core.proofs.laws.gets_are_refused_exactly_where_the_shard_does_not_serve.Goals as goal
-
-pub returns : goal.returns
-returns c = gets_refused

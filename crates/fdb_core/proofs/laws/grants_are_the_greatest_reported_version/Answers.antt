@@ -1,6 +1,0 @@
-use Rattle.fdb_core.proofs.headline.PromiseLaws.{grants_committed}
-use Rattle.fdb_core.proofs.readings.TraceReadings.{committed_is_greatest_reported}
-use Rattle.fdb_core.proofs.laws.grants_are_the_greatest_reported_version.Goals as goal
-
-pub returns : goal.returns
-returns c = record { granted = grants_committed; greatest = committed_is_greatest_reported }

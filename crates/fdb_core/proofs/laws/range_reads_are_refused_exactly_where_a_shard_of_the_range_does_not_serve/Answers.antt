@@ -1,5 +1,0 @@
-use Rattle.fdb_core.proofs.headline.PromiseLaws.{range_reads_refused}
-use Rattle.fdb_core.proofs.laws.range_reads_are_refused_exactly_where_a_shard_of_the_range_does_not_serve.Goals as goal
-
-pub returns : goal.returns
-returns c = range_reads_refused

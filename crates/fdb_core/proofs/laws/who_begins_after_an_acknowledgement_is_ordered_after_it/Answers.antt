@@ -1,5 +1,0 @@
-use Rattle.fdb_core.proofs.readings.TraceReadings.{real_time}
-use Rattle.fdb_core.proofs.laws.who_begins_after_an_acknowledgement_is_ordered_after_it.Goals as goal
-
-pub returns : goal.returns
-returns c = real_time

@@ -1,0 +1,6 @@
+pub mod Exports
+mod common
+mod headline
+mod invariant
+mod machine
+mod readings

@@ -1,0 +1,11 @@
+pub mod AnswerExamplesLemmas
+pub mod ExamplesLemmas
+pub mod FailureExamplesLemmas
+pub mod FailureLemmas
+pub mod HeadlineLaws
+pub mod MoveExamplesLemmas
+pub mod PromiseLaws
+pub mod RunsLemmas
+pub mod ScriptExamplesLemmas
+pub mod ScriptLemmas
+pub mod TraceLaws

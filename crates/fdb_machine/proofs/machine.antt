@@ -1,0 +1,11 @@
+pub mod AcceptedTransitions
+pub mod FinishLemmas
+pub mod LogLemmas
+pub mod OpenLemmas
+pub mod RangeFaultLemmas
+pub mod RoleChanges
+pub mod Sealing
+pub mod SessionLemmas
+pub mod SessionMaps
+pub mod Steps
+pub mod Transitions

@@ -1,0 +1,16 @@
+pub mod AnswerExamples
+pub mod Answers
+pub mod Books
+pub mod Due
+pub mod Examples
+pub mod FailureExamples
+pub mod Headline
+pub mod MoveExamples
+pub mod Promises
+pub mod ReadingExamples
+pub mod Readings
+pub mod RealTime
+pub mod ScriptExamples
+pub mod Serving
+pub mod Sessions
+pub mod Traces

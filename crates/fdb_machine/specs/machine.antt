@@ -1,0 +1,13 @@
+pub mod Acting
+pub mod ClientSteps
+pub mod CommitProxySteps
+pub mod Failures
+pub mod GrvProxySteps
+pub mod InFlight
+pub mod Machine
+pub mod RoleSteps
+pub mod Roles
+pub mod SequencerSteps
+pub mod Sessions
+pub mod Steps
+pub mod Worlds

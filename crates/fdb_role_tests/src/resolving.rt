@@ -1,0 +1,183 @@
+// Parts with known verdicts.
+ghost use Rattle.std.specs.Prelude.{◌≡◌, true, IfOk};
+ghost use Rattle.std.specs.List.{AllByRecursion};
+ghost use Rattle.fdb_txn.specs.rules.Admission.{has_points};
+ghost use Rattle.fdb_resolver.specs.Parts.{AreRising, IsPart};
+
+use crate::asserting::same;
+use fdb_keys::{Items, RangeSet, Refusal};
+use fdb_making::{numbers_of, one_key, shared};
+use fdb_resolver::{Item, Part, ResolverCore, Verdict};
+use std::alloc::Global;
+
+/// A place: its read version, the key that it reads, if there is one, and the key that it writes.
+pub type Place = (u64, Option<&'static [u8]>, &'static [u8]);
+
+/// A part of the entry with index 7: the resolver, the version and the previous version, and the places. Then the
+/// verdicts, and whether they are given, or the code of the refusal and the number that it names.
+pub type Row = (
+    u32,
+    [u64; 2],
+    &'static [Place],
+    &'static [(u32, Verdict)],
+    Result<bool, (u32, u64)>,
+);
+
+// Each list is taken by a new resolver 0.
+const CASES: &[&[Row]] = &[
+    // A later place conflicts with an earlier one.
+    &[(
+        0,
+        [100, 0],
+        &[(0, Some(b"a"), b"a"), (0, Some(b"a"), b"a")],
+        &[(0, Verdict::Yes), (1, Verdict::Conflict)],
+        Ok(true),
+    )],
+    // A read of what an earlier entry wrote conflicts.
+    &[
+        (
+            0,
+            [100, 0],
+            &[(0, Some(b"a"), b"z")],
+            &[(0, Verdict::Yes)],
+            Ok(true),
+        ),
+        (
+            0,
+            [200, 100],
+            &[(0, Some(b"z"), b"z")],
+            &[(0, Verdict::Conflict)],
+            Ok(true),
+        ),
+    ],
+    // Reads below the window are old.
+    &[
+        (0, [100, 0], &[], &[], Ok(true)),
+        (
+            0,
+            [5_000_100, 100],
+            &[(100, Some(b"a"), b"b")],
+            &[(0, Verdict::Yes)],
+            Ok(true),
+        ),
+        (
+            0,
+            [5_000_101, 5_000_100],
+            &[(100, Some(b"a"), b"c"), (100, None, b"d")],
+            &[(0, Verdict::Old), (1, Verdict::Yes)],
+            Ok(true),
+        ),
+    ],
+    // Parts out of turn are refused.
+    &[
+        (
+            0,
+            [100, 0],
+            &[(0, Some(b"a"), b"z")],
+            &[(0, Verdict::Yes)],
+            Ok(true),
+        ),
+        (0, [100, 0], &[(0, Some(b"a"), b"z")], &[], Err((9003, 0))),
+        (
+            0,
+            [200, 150],
+            &[(0, Some(b"z"), b"z")],
+            &[],
+            Err((9002, 150)),
+        ),
+    ],
+    // Refused parts change nothing.
+    &[
+        (1, [100, 0], &[(0, Some(b"a"), b"z")], &[], Err((9016, 0))),
+        (
+            0,
+            [100, 0],
+            &[(0, Some(b"z"), b"a")],
+            &[(0, Verdict::Yes)],
+            Ok(true),
+        ),
+    ],
+];
+
+fn item(alloc: Global, place: u32, of: &Place) -> Result<Item, Refusal>
+    ensures place { IfOk result (λ item. item.place ≡ place) }
+    ensures reads { IfOk result (λ item. has_points item.reads ≡ true → item.has_reads ≡ true) }
+{
+    let (read_version, key, write) = *of;
+    let writes = one_key(alloc, write)?;
+    match key {
+        Some(key) => {
+            let reads = one_key(alloc, key)?;
+            Ok(Item {
+                place,
+                read_version,
+                has_reads: true,
+                reads,
+                writes,
+            })
+        }
+        None => Ok(Item {
+            place,
+            read_version,
+            has_reads: false,
+            reads: RangeSet::new(alloc),
+            writes,
+        }),
+    }
+}
+
+// At most two.
+fn items_of(alloc: Global, places: &[Place]) -> Result<Items<Item>, Refusal>
+    ensures rising { IfOk result (λ items. AreRising items) }
+    ensures reads { IfOk result (λ items.
+        AllByRecursion (λ (item : Item). has_points item.reads ≡ true → item.has_reads ≡ true) items) }
+{
+    let mut items = Items::new(alloc);
+    if let Some(first) = places.get(0) {
+        items.push(item(alloc, 0, first)?)?;
+        if let Some(second) = places.get(1) {
+            items.push(item(alloc, 1, second)?)?;
+        }
+    }
+    Ok(items)
+}
+
+/// The part.
+pub fn part(alloc: Global, row: &Row) -> Result<Part, Refusal>
+    ensures { IfOk result (λ part. IsPart part) }
+{
+    let (resolver, [version, prev], places, _, _) = *row;
+    let items = shared(alloc, items_of(alloc, places)?)?;
+    if prev >= version {
+        return Err(Refusal::Chain);
+    }
+    Ok(Part {
+        resolver,
+        index: 7,
+        version,
+        prev,
+        items,
+    })
+}
+
+// Whether it gives the verdicts.
+fn take(core: &mut ResolverCore, alloc: Global, row: &Row) -> Result<bool, Refusal> {
+    let part = part(alloc, row)?;
+    let verdicts = core.take(&part)?;
+    let numbers = (verdicts.resolver, verdicts.index);
+    Ok(numbers == (0, 7) && verdicts.answers.as_slice() == row.3)
+}
+
+#[test]
+fn parts_have_verdicts(rt: HostRuntime) {
+    for rows in CASES {
+        let mut core = ResolverCore::new(rt.alloc(), 0);
+        for row in *rows {
+            let told = match take(&mut core, rt.alloc(), row) {
+                Ok(gives) => Ok(gives),
+                Err(why) => Err(numbers_of(why)),
+            };
+            same(&rt, told, row.4);
+        }
+    }
+}

@@ -1,0 +1,275 @@
+-- The batch of an entry of a book, while its commit proxy learns the ticket, hears verdicts, decides and hears logs.
+use Rattle.std.proofs.Common.{◌≡◌, ◌∙◌, refl, sym, ap, ap₂, subst, ⊎_elim, ℕ, zero, suc, ◌<◌, Bool, true, false, ◌&&◌}
+use Rattle.std.proofs.Common.{List, [], ◌∷◌, ◌++◌, length, take, replicate, Option, Some, None, slice_get, slice_set}
+use Rattle.std.proofs.Common.{if◌then◌else◌, arith}
+use Rattle.std.specs.Prelude.{nat_le}
+use Rattle.std.specs.List.{AllByRecursion, list_any}
+use Rattle.std.proofs.lemmas.Bool.{cases_eq, lt-leb}
+use Rattle.std.proofs.lemmas.List.{length-append, length-set, length-replicate}
+use Rattle.std.proofs.lemmas.Option.{same_Some, slice_get_within}
+use Rattle.fdb_keys.specs.Points.{Point}
+use Rattle.fdb_txn.specs.declared.entry.Entry.{Entry}
+use Rattle.fdb_txn.specs.book.Book.{Seen, add_entry, seen_of, seen_before}
+use Rattle.fdb_txn.specs.book.History.{AreEntries, IsHistory}
+use Rattle.fdb_txn.specs.book.Transactions.{Transaction}
+use Rattle.fdb_txn.proofs.Exports.{places_are_history, seen_of-push}
+use Rattle.fdb_owners.specs.OwnersLaws.{AgreesWith}
+use Rattle.fdb_resolver.specs.declared.part.Part.{Part}
+use Rattle.fdb_resolver.specs.declared.verdict.Verdicts.{Verdicts}
+use Rattle.fdb_sequencer.specs.declared.ticket.Ticket.{Ticket}
+use Rattle.fdb_sequencer.specs.TicketLaws.{GoToResolvers, MayBeLearnt}
+use Rattle.fdb_sequencer.specs.Moves.{Dated}
+use Rattle.fdb_log.specs.declared.message.LogAck.{LogAck}
+use Rattle.fdb_storage.specs.LogMessages.{log_messages}
+use Rattle.fdb_proxy.specs.declared.config.Config.{Config}
+use Rattle.fdb_proxy.specs.declared.logging.Logging.{Logging as Decided}
+use Rattle.fdb_proxy.specs.declared.outcome.Outcome.{Outcome}
+use Rattle.fdb_proxy.specs.declared.position.Position.{Position}
+use Rattle.fdb_proxy.specs.declared.resolving.Resolving.{Resolving as Unheard}
+use Rattle.fdb_proxy.specs.declared.stage.Stage.TheVariants as core
+use Rattle.fdb_proxy.specs.CommitProxies.{CommitProxy as Core, IsTicketFor, HasLearntTicket, learn_fault, is_sealed}
+use Rattle.fdb_proxy.specs.CommitProxies.{moves_with, position_of}
+use Rattle.fdb_proxy.specs.Deciding.{Said, outcomes_by}
+use Rattle.fdb_proxy.specs.Logging.{answers_by, messages_by, with_acknowledgement}
+use Rattle.fdb_proxy.specs.Parting.{AreParts}
+use Rattle.fdb_proxy.specs.Resolving.{with_verdicts, has_not_come, asks, first_missing}
+use Rattle.fdb_proxy.specs.Verdicts.{moves_through, verdicts_on, is_needed, outcomes_on}
+use Rattle.fdb_proxy.specs.VerdictLaws.{AreByTheRule}
+use Rattle.fdb_proxy.proofs.Exports.{messages_hold_the_committed, entries_are_decided_by_the_rule, items_where_asked}
+use Rattle.fdb_roles.specs.ProxyStages.{IsStageAt, IsCommitProxyAt, IsBatchOf, IsResolving, IsLogging, IsSaid}
+use Rattle.fdb_roles.specs.Entries.{dated_moves, entry_of}
+use Rattle.fdb_roles.proofs.AllLemmas.{within-item}
+use Rattle.fdb_roles.proofs.ListLemmas.{last-at, set-here, set-other}
+use Rattle.fdb_roles.proofs.BookLemmas.{entries-take, last-push, seen-before-last, seen_before-next}
+use Rattle.fdb_roles.proofs.MoveLemmas.{moves-append, moves-of-book}
+
+-- moves that are all above a version
+fresh-moves : (last : ℕ) (moves : List Dated) → AllByRecursion (λ (of : Dated). last < of.0) moves
+    → list_any (λ (of : Dated). nat_le of.0 last) moves ≡ false
+fresh-moves last [] above = refl
+fresh-moves last (of ∷ moves) above = rw (lt-leb of.0 last above.0) (fresh-moves last moves above.1)
+
+-- A ticket that may be learnt by who had one of a version.
+module _ (splits : List Point) (p : Core) (ticket : Ticket) (same : p.owners.splits ≡ splits)
+    (may : MayBeLearnt (suc (length splits)) p.last ticket) where
+  -- is for a proxy that had it, where it is above what the batch read at
+  pub ticket-fits : AllByRecursion (λ (t : Transaction). t.read < ticket.version) p.batch → IsTicketFor p ticket
+  ticket-fits later = record {
+    targets = subst (λ (ss : List Point). GoToResolvers (suc (length ss)) ticket.moves) (sym same) may.targets;
+    rising = may.rising;
+    later = later;
+  }
+
+  -- and isn't refused where the batch is sealed
+  pub ticket-learns : p.is_failed ≡ false → is_sealed p.stage ≡ true → learn_fault p ticket ≡ None
+  ticket-learns works sealed =
+      rw (works, sealed, lt-leb ticket.version p.last may.later, fresh-moves p.last ticket.moves may.above) refl
+
+-- nothing came yet
+none-came : (n r : ℕ) (said : Said) → slice_get (replicate n None) r ≡ Some (Some said) → ⊥
+none-came zero r said there = cc
+none-came (suc n) zero said there = cc
+none-came (suc n) (suc r) said there = none-came n r said there
+
+-- What stands once a proxy learnt the ticket of the entry that comes after these: it has the entry too, its batch waits
+-- for verdicts, and it has the entry's parts.
+pub record IsLearnt (config : Config) (before : List Entry) (old new : Core) (ticket : Ticket)
+    (resolving : Unheard) : Type 0 where
+  pub at : IsCommitProxyAt config (before ++ entry_of ticket old.batch ∷ []) new
+  pub stage : new.stage ≡ core.Resolving resolving
+  pub parts : AreParts config.resolver_splits (moves_through (seen_of before) (entry_of ticket old.batch))
+      (position_of ticket) old.batch resolving.parts
+
+-- A proxy that has some of these entries learnt a ticket with the moves of the others.
+module _ (config : Config) (front before : List Entry) (old new : Core) (ticket : Ticket)
+    (had : IsCommitProxyAt config front old) (learnt : HasLearntTicket old ticket new)
+    (number : ticket.index ≡ length before)
+    (all : dated_moves front ++ ticket.moves ≡ dated_moves (before ++ entry_of ticket old.batch ∷ [])) where
+  abbrev splits : List Point
+  splits = config.resolver_splits
+
+  abbrev entry : Entry
+  entry = entry_of ticket old.batch
+
+  abbrev grown : List Entry
+  grown = before ++ entry ∷ []
+
+  splits-learnt : new.owners.splits ≡ splits
+  splits-learnt = learnt.learnt.splits ∙ had.splits
+
+  owners-grown : AgreesWith new.owners (seen_of grown).moves
+  owners-grown = subst (AgreesWith new.owners)
+      (ap (moves_with ticket.moves) (sym (moves-of-book front))
+      ∙ sym (moves-append (dated_moves front) ticket.moves [])
+      ∙ ap (λ (moves : List Dated). moves_with moves []) all ∙ moves-of-book grown)
+      (learnt.learnt.moves (seen_of front).moves had.owners)
+
+  owners-through : AgreesWith new.owners (moves_through (seen_of before) entry)
+  owners-through = subst (AgreesWith new.owners) (ap (λ (s : Seen). s.moves) (seen_of-push before entry)) owners-grown
+
+  parts-learnt : AreParts splits (moves_through (seen_of before) entry) (position_of ticket) old.batch
+      learnt.resolving.parts
+  parts-learnt = subst (λ (ss : List Point). AreParts ss (moves_through (seen_of before) entry) (position_of ticket)
+      old.batch learnt.resolving.parts) splits-learnt
+      (learnt.without_verdicts.parts (moves_through (seen_of before) entry) owners-through)
+
+  at : learnt.resolving.position ≡ position_of ticket
+  at = ap (λ (r : Unheard). r.position) learnt.without_verdicts.rest
+
+  waits-learnt : IsResolving splits grown (length before) entry learnt.resolving
+  waits-learnt = record {
+    parts = subst (λ (n : ℕ). AreParts splits (moves_through (seen_before grown (length before)) entry)
+        (record { index = n; version = ticket.version; prev = ticket.prev }) old.batch learnt.resolving.parts) number
+        (subst (λ (s : Seen). AreParts splits (moves_through s entry) (position_of ticket) old.batch
+        learnt.resolving.parts) (sym (seen-before-last before entry)) parts-learnt);
+    count = ap (λ (r : Unheard). length r.verdicts) learnt.without_verdicts.rest
+        ∙ length-replicate (length learnt.resolving.parts) None ∙ parts-learnt.count;
+    came = λ r said there. absurd (none-came (length learnt.resolving.parts) r said
+        (sym (ap (λ (of : Unheard). slice_get of.verdicts r) learnt.without_verdicts.rest) ∙ there));
+  }
+
+  stage-learnt : new.stage ≡ core.Resolving learnt.resolving
+  stage-learnt = ap (λ (p : Core). p.stage) learnt.rest
+
+  at-grown : IsCommitProxyAt config grown new
+  at-grown = record {
+    works = ap (λ (p : Core). p.is_failed) learnt.rest ∙ had.works;
+    logs = ap (λ (p : Core). p.logs) learnt.rest ∙ had.logs;
+    shard_splits = ap (λ (p : Core). p.shard_splits) learnt.rest ∙ had.shard_splits;
+    splits = splits-learnt;
+    owners = owners-grown;
+    last = ap (λ (p : Core). p.last) learnt.rest ∙ sym (last-push before entry);
+    stage = subst (IsStageAt config grown new.batch) (sym stage-learnt) (
+      length before,
+      entry,
+      (let count = length-append before (entry ∷ []) in omega (arith, count)),
+      record {
+        there = last-at before entry;
+        index = ap (λ (p : Position). p.index) at ∙ number;
+        version = ap (λ (p : Position). p.version) at;
+        prev = ap (λ (p : Position). p.prev) at;
+        places = ap (λ (p : Core). p.batch) learnt.rest;
+      },
+      waits-learnt,
+    );
+  }
+
+  pub is-learnt : IsLearnt config before old new ticket learnt.resolving
+  is-learnt = record { at = at-grown; stage = stage-learnt; parts = parts-learnt }
+
+-- where none is missing, who was asked has said something
+none-missing : (n : ℕ) (parts : List Part) (verdicts : List (Option Said)) (i : ℕ) (part : Part)
+    → first_missing n parts verdicts ≡ None → slice_get verdicts i ≡ Some None
+    → slice_get parts i ≡ Some part → asks part ≡ false
+none-missing n [] verdicts i part none silent there = cc
+none-missing n (first ∷ parts) [] i part none silent there = cc
+none-missing n (first ∷ parts) (of ∷ verdicts) zero part none silent there =
+    let same : first ≡ part = cc in
+    let quiet : of ≡ None = cc in
+    by_test (asks part) (rw (same, quiet) at none)
+  where
+    by_test : (b : Bool) → (if b && true then Some n else
+        first_missing (suc n) parts verdicts) ≡ None → b ≡ false
+    by_test true is = cc
+    by_test false is = refl
+none-missing n (first ∷ parts) (of ∷ verdicts) (suc i) part none silent there =
+    by_test (asks first && has_not_come (Some of)) none
+    (λ later. none-missing (suc n) parts verdicts i part later silent there)
+  where
+    by_test : (b : Bool) → (if b then Some n else first_missing (suc n) parts verdicts) ≡ None
+        → (first_missing (suc n) parts verdicts ≡ None → asks part ≡ false) → asks part ≡ false
+    by_test true is others = cc
+    by_test false is others = others is
+
+-- the batch of an entry that waits for verdicts
+module _ (splits : List Point) (book : List Entry) (i : ℕ) (entry : Entry) (there : slice_get book i ≡ Some entry)
+    (batch : Unheard) (is : IsResolving splits book i entry batch) where
+  abbrev before : Seen
+  before = seen_before book i
+
+  -- one more resolver's came
+  pub resolving-heard : (verdicts : Verdicts) (other : Entry) → IsSaid splits book verdicts other → i ≡ verdicts.index
+      → IsResolving splits book i entry (with_verdicts batch verdicts)
+  resolving-heard verdicts other said same =
+      let exists = said.exists in
+      let count = is.count in
+      record {
+        parts = is.parts;
+        count = length-set batch.verdicts verdicts.resolver (Some verdicts.answers) ∙ is.count;
+        came = λ r one came. ⊎_elim
+            (λ equal.
+            let here : Some verdicts.answers ≡ Some one = same_Some (Some verdicts.answers) (Some one)
+            (sym (ap (slice_get (slice_set batch.verdicts verdicts.resolver (Some verdicts.answers))) equal
+            ∙ set-here batch.verdicts verdicts.resolver (Some verdicts.answers) (omega (arith, exists, count)))
+            ∙ came) in
+            sym (same_Some verdicts.answers one here) ∙ said.answers
+            ∙ (λ k. verdicts_on splits (sym equal k) (seen_before book (sym same k)) (entry_is k)))
+            (λ differs. is.came r one
+            (sym (set-other batch.verdicts verdicts.resolver r (Some verdicts.answers) differs) ∙ came))
+            (cases_eq r verdicts.resolver);
+      }
+    where
+      entry_is : other ≡ entry
+      entry_is = same_Some other entry (sym said.there ∙ ap (slice_get book) (sym same) ∙ there)
+
+  -- a part asks where its resolver is asked about some place
+  pub asked : (r : ℕ) (part : Part) → slice_get batch.parts r ≡ Some part → asks part ≡ is_needed splits r before entry
+  asked r part at = items_where_asked splits (moves_through before entry) r entry.version 0 entry.batch part.items
+      (is.parts.each r part at).items
+
+  history : AreEntries (suc (length splits)) 0 book → IsHistory (suc (length splits)) (add_entry before entry).places
+  history entries = subst (λ (seen : Seen). IsHistory (suc (length splits)) seen.places)
+      (seen_before-next book i entry there)
+      (places_are_history (suc (length splits)) (take (suc i) book)
+      (entries-take (suc (length splits)) 0 (suc i) book entries))
+
+  by-the-rule : first_missing 0 batch.parts batch.verdicts ≡ None
+      → AreByTheRule splits entry.version (moves_through before entry) entry.batch before.places batch.verdicts
+  by-the-rule none = record {
+    count = is.count;
+    came = is.came;
+    silent = λ r silent.
+        let within = slice_get_within batch.verdicts r None silent in
+        let count = is.count in
+        let parts_count = is.parts.count in
+        let part = within-item batch.parts r (omega (arith, within, count, parts_count)) in
+        sym (asked r part.0 part.1) ∙ none-missing 0 batch.parts batch.verdicts r part.0 none silent part.1;
+  }
+
+  -- once those of each that is asked came, they decide the entry by the rule
+  module _ (transactions : List Transaction) (its : IsBatchOf book i transactions batch.position entry)
+      (entries : AreEntries (suc (length splits)) 0 book)
+      (none : first_missing 0 batch.parts batch.verdicts ≡ None) where
+    abbrev outcomes : List Outcome
+    outcomes = outcomes_by batch.position.version batch.verdicts (length transactions)
+
+    pub outcomes-decided : outcomes ≡ outcomes_on splits before entry
+    outcomes-decided = rw (its.version, its.places)
+        (entries_are_decided_by_the_rule splits before entry batch.verdicts (history entries) (by-the-rule none))
+
+    pub answers-decided : answers_by transactions outcomes ≡ answers_by entry.batch (outcomes_on splits before entry)
+    answers-decided = ap₂ answers_by its.places outcomes-decided
+
+-- the batch of an entry that is decided
+module _ (config : Config) (book : List Entry) (i : ℕ) (entry : Entry) (decided : Decided)
+    (is : IsLogging config book i entry decided) where
+  -- one more log's acknowledgement came
+  pub logging-heard : (ack : LogAck) → IsLogging config book i entry (with_acknowledgement decided ack)
+  logging-heard ack = record {
+    answers = is.answers;
+    count = length-set decided.acknowledged ack.log true ∙ is.count;
+  }
+
+  -- its messages are the entry's
+  pub messages-decided : (shard_splits : List Point) (logs : ℕ) (batch : List Transaction)
+      → shard_splits ≡ config.shard_splits → logs ≡ config.logs → IsBatchOf book i batch decided.position entry
+      → messages_by shard_splits logs batch decided
+      ≡ log_messages config.resolver_splits config.shard_splits config.logs i (seen_before book i) entry
+  messages-decided shard_splits logs batch splits_are logs_are its =
+      (λ k. messages_by (splits_are k) (logs_are k) (its.places k) (record {
+        position = record { index = its.index k; version = its.version k; prev = its.prev k };
+        answers = is.answers k;
+        acknowledged = decided.acknowledged;
+      }))
+      ∙ messages_hold_the_committed config.resolver_splits config.shard_splits config.logs i (seen_before book i) entry
+      decided.acknowledged

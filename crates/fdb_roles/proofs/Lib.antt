@@ -1,0 +1,25 @@
+pub mod Exports
+mod AllLemmas
+mod BatchStages
+mod BodyLemmas
+mod BookLemmas
+mod CommittedLaws
+mod ExtendsLemmas
+mod FaultLemmas
+mod FrontLaws
+mod ListLemmas
+mod LogLemmas
+mod MoveLemmas
+mod PageLemmas
+mod PlaceLemmas
+mod ProxyExamplesLemmas
+mod ProxyLaws
+mod ReplayLaws
+mod ResolverLemmas
+mod RoleExamplesLemmas
+mod RoleLaws
+mod RoleStartLaws
+mod RunLaws
+mod StartLemmas
+mod TakenLemmas
+mod ValueLemmas

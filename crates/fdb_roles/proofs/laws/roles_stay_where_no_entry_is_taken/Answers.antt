@@ -1,0 +1,10 @@
+use Rattle.fdb_roles.proofs.RoleStartLaws.{sequencer_reports, sequencer_moves, log_pops, shard_forgets}
+use Rattle.fdb_roles.proofs.laws.roles_stay_where_no_entry_is_taken.Goals as goal
+
+pub returns : goal.returns
+returns c = record {
+  reports = sequencer_reports;
+  moves = sequencer_moves;
+  log = log_pops;
+  shard = shard_forgets;
+}

@@ -1,0 +1,2 @@
+-- The lemmas that proofs of other crates cite, and no others.
+pub use Rattle.fdb_storage.proofs.LogMessagesLemmas.{logs_are_sent_the_messages, messages_above_a_version}

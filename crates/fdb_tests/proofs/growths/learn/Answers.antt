@@ -1,4 +1,0 @@
-use Rattle.fdb_tests.proofs.growths.learn.Goals as goal
-
-pub learn-requires : goal.learn-requires
-learn-requires c = c.ticket.ensures c.args.core.now.proxy c.requires

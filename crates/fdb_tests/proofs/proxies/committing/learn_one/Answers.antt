@@ -1,4 +1,0 @@
-use Rattle.fdb_tests.proofs.proxies.committing.learn_one.Goals as goal
-
-pub learn-requires : goal.learn-requires
-learn-requires c = c.ticket.ensures c.seal_four.new.core.proxy c.in_ok-seal_four.ensures
